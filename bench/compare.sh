@@ -63,60 +63,82 @@ SOME = {
 
 # ---- shapes, as docs and `gw_shapes` have them: a side is whether the field may be absent, and its least and greatest number
 
-NOTHING, SOME_NUMBER, PERHAPS = (True, None), (False, (0, MOST)), (True, (0, MOST))
+NOTHING = (True, None)
+# The least and the greatest number that a datagram can carry in a field.
+BOUNDS = {
+    "source": (0, 2**48 - 1), "sender": (0, 2**48 - 1), "station": (0, 2**48 - 1), "destination": (1, 65535),
+    "object_type": (0, 1023), "instance": (0, 2**22 - 1), "property": (0, 2**22 - 1), "priority": (1, 16),
+}
+NETWORK, NETWORKS = (False, (1, 65534)), (True, (1, 65534))
+REQUEST_OR_MESSAGE, ANSWER = (True, (0, 767)), (False, (1026, 1031))
+
+
+def some(field):
+    return (False, BOUNDS[field])
+
+
+def perhaps(field):
+    return (True, BOUNDS[field])
 
 
 def only(low, high=None):
     return (False, (low, low if high is None else high))
 
 
-def shape(origin, operation, service, destination=NOTHING, named=False, priority=NOTHING, station=NOTHING):
-    port, network, sender = origin
-    some = SOME_NUMBER if named else NOTHING
-    sides = [only(NUMBER[operation]), port, network, PERHAPS, destination, service, some, some, some, priority, sender, station]
-    return dict(zip(FIELDS, sides))
+def shape(origin, operation, service, destination=NOTHING, named=False, station=NOTHING, **others):
+    port, network, source, sender = origin
+    names = [some(it) if named else NOTHING for it in ("object_type", "instance", "property")]
+    priority = some("priority") if named and operation == "write" else NOTHING
+    sides = [only(NUMBER[operation]), port, network, source, destination, service, *names, priority, sender, station]
+    return {**dict(zip(FIELDS, sides)), **others}
 
 
 def shapes_of(form):
     third = form == 3
-    some_in, perhaps_in = (SOME_NUMBER, PERHAPS) if third else (NOTHING, NOTHING)
+    sender = some("sender") if third else NOTHING
+    aimed = perhaps("station") if third else NOTHING
 
     def tables(it):
         yield shape(it, "write-table", only(769))
         yield shape(it, "read-table", only(770))
         yield shape(it, "register", only(773))
         yield shape(it, "read-table", only(774))
-        yield shape(it, "delete", only(776), station=some_in)
+        yield shape(it, "delete", only(776), station=some("station") if third else NOTHING)
+
+    def near(it):
+        yield shape(it, "learn", only(513), NETWORK)
+        yield shape(it, "network", only(530))
 
     def messages(it):
-        yield shape(it, "cast", PERHAPS, PERHAPS, station=perhaps_in)
-        yield shape(it, "route", PERHAPS, SOME_NUMBER, station=perhaps_in)
-        yield shape(it, "learn", only(513), SOME_NUMBER)
-        yield shape(it, "network", only(512), PERHAPS)
-        yield shape(it, "network", only(530))
-        for operation, service, priority in [("read", 12, NOTHING), ("read", 14, NOTHING), ("write", 15, SOME_NUMBER), ("list", 263, NOTHING), ("list", 264, NOTHING)]:
-            yield shape(it, operation, only(service), only(DEVICE), True, priority)
+        for services in (REQUEST_OR_MESSAGE, ANSWER):
+            yield shape(it, "cast", services, perhaps("destination"), station=aimed)
+            yield shape(it, "route", services, NETWORK, station=aimed)
+        yield shape(it, "network", only(512), NETWORKS)
+        for operation, service in [("read", 12), ("read", 14), ("write", 15)]:
+            yield shape(it, operation, only(service), only(DEVICE), True)
+        yield shape(it, "list", only(263), only(DEVICE), True, property=only(77))
+        yield shape(it, "list", only(264), only(DEVICE), True, object_type=only(8), property=only(75))
 
     def requests(it):
         if form == 1:
             return
-        to = PERHAPS if third else SOME_NUMBER
-        yield shape(it, "read", only(12, 14), to, station=perhaps_in)
-        yield shape(it, "read", only(12, 14), to, True, station=perhaps_in)
-        yield shape(it, "write", only(15), to, station=perhaps_in)
-        yield shape(it, "write", only(15), to, True, SOME_NUMBER, perhaps_in)
+        to = perhaps("destination") if third else NETWORK
+        for operation, service in [("read", 12), ("read", 14), ("write", 15)]:
+            yield shape(it, operation, only(service), to, station=aimed)
+            yield shape(it, operation, only(service), to, True, aimed)
 
     for number, network in enumerate(PORTS, 1):
-        it = (only(number), only(network), some_in)
+        it = (only(number), only(network), some("source"), sender)
         yield from tables(it)
         if third:
             yield shape(it, "enter", NOTHING)
+        yield from near(it)
         yield from messages(it)
         yield from requests(it)
-    start = 0
-    for network in [*sorted({*PORTS, DEVICE}), MOST + 1]:
+    start = 1
+    for network in [*sorted({*PORTS, DEVICE}), 65535]:
         if start < network:
-            it = (only(1, len(PORTS)), only(start, network - 1), some_in)
+            it = (only(1, len(PORTS)), only(start, network - 1), perhaps("source"), sender)
             if third:
                 yield shape(it, "claim", NOTHING)
             yield from messages(it)

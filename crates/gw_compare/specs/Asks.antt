@@ -1,15 +1,31 @@
 -- The regions of the asks that the gateways of two configurations may raise.
-use Rattle.std.specs.Prelude.{◌≡◌, ◌⊎◌, true, List, ◌++◌, map}
+use Rattle.std.specs.Prelude.{◌≡◌, ◌⊎◌, Bool, true, not, ◌&&◌, ◌==◌, if◌then◌else◌, List, [], ◌∷◌, ◌++◌, map}
+use Rattle.std.specs.List.{flat_map, list_any}
 use Rattle.gw_configuration.specs.Configuration.{Configuration}
 use Rattle.gw_regions.specs.Regions.{Region, lies_in_one}
 use Rattle.gw_rules.specs.Ask.{Ask}
+use Rattle.gw_rules.specs.Fields.{value_of}
+use Rattle.gw_rules.specs.Rule.{each_field}
 use Rattle.gw_shapes.specs.Regions.{region_of}
-use Rattle.gw_shapes.specs.Shape.{LiesInOne}
+use Rattle.gw_shapes.specs.Shape.{LiesInOne, Shape}
 use Rattle.gw_shapes.specs.Shapes.{shapes}
+use Rattle.gw_shapes.specs.declared.side.Side.{Side}
 
--- those of the shapes of both configurations
+-- two sides are the same, and two shapes
+abbrev pub is_same_side : Side → Side → Bool
+is_same_side a b =
+    (if a.absent then b.absent else not b.absent) && (a.range.low == b.range.low && a.range.high == b.range.high)
+
+abbrev pub is_same : Shape → Shape → Bool
+is_same a b = each_field (λ field. is_same_side (value_of field a) (value_of field b))
+
+-- the region of a shape, unless the shape is among these
+abbrev pub other_region : List Shape → Shape → List Region
+other_region known shape = if list_any (is_same shape) known then [] else region_of shape ∷ []
+
+-- those of the shapes of both configurations, each once
 abbrev pub asks_of : Configuration → Configuration → List Region
-asks_of old new = map region_of (shapes old) ++ map region_of (shapes new)
+asks_of old new = map region_of (shapes old) ++ flat_map (other_region (shapes old)) (shapes new)
 
 -- ---- what they have
 

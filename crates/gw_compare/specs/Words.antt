@@ -3,22 +3,25 @@ use Rattle.std.specs.Prelude.{ℕ, Bool, ◌==◌, nat_lt, if◌then◌else◌, 
 use Rattle.std.specs.Prelude.{decimal}
 use Rattle.std.specs.Int.{w64, to_be_bytes}
 use Rattle.std.specs.List.{flat_map, list_all}
+use Rattle.std.specs.Option.{option_to_list}
 use Rattle.gw_addr.specs.Address.{address_in, text_of}
 use Rattle.gw_audit.specs.Words.{name_text}
 use Rattle.gw_names.specs.Names.{object_type_name, property_name, service_name}
+use Rattle.gw_regions.specs.Ranges.{both}
 use Rattle.gw_regions.specs.Regions.{Region}
 use Rattle.gw_regions.specs.Values.{has, is_any}
 use Rattle.gw_regions.specs.declared.values.Values.{Values}
+use Rattle.gw_rules.specs.Bounds.{bounds}
 use Rattle.gw_rules.specs.Fields.{value_of}
 use Rattle.gw_rules.specs.Operation.{operation_name, operation_number}
 use Rattle.gw_rules.specs.declared.field.FieldName.{FieldName}
 use Rattle.gw_rules.specs.declared.field.FieldName.TheVariants.{Operation, Port, SourceNetwork, SourceKey}
 use Rattle.gw_rules.specs.declared.field.FieldName.TheVariants.{DestinationNetwork, Service, ObjectType, Instance}
 use Rattle.gw_rules.specs.declared.field.FieldName.TheVariants.{Property, Priority, Sender, Station}
+use Rattle.gw_rules.specs.declared.format.Format.TheVariants.{Three}
 use Rattle.gw_rules.specs.declared.operation.Operation.{Operation as SpecOperation}
 use Rattle.gw_rules.specs.declared.operation.TheConstants.Operation.{ALL}
 use Rattle.gw_rules.specs.declared.range.Range.{Range}
-use Rattle.gw_shapes.specs.Pieces.{most}
 
 -- texts of items with ` or ` between them
 abbrev pub any_of : {A : Type 0} → (A → List ℕ) → List A → List ℕ
@@ -92,11 +95,18 @@ named_text ObjectType number = name_text (object_type_name number)
 named_text Property number = name_text (property_name number)
 named_text _ number = []
 
--- `7`, `7..9` or `7 or more`, and a single number also by its name
+-- the values without numbers that the field can't have
+abbrev pub possible : FieldName → Values → Values
+possible field values = record {
+  absent = values.absent;
+  ranges = flat_map (λ range. option_to_list (both range (bounds Three field))) values.ranges;
+}
+
+-- `7`, `7..9`, or `7 or more` if it ends with the greatest number of the field, and a single number also by its name
 abbrev pub range_text : FieldName → Range → List ℕ
 range_text field range =
     if range.low == range.high then end_text field range.low ++ named_text field range.low
-    else if nat_lt range.high most then end_text field range.low ++ (codes ".." ++ end_text field range.high)
+    else if nat_lt range.high (bounds Three field).high then end_text field range.low ++ (codes ".." ++ end_text field range.high)
     else end_text field range.low ++ codes " or more"
 
 -- some numbers, and absent if the field may be so
@@ -112,7 +122,7 @@ values_text field values =
 -- `, ` and the values of a field, unless it may have any
 abbrev pub item_text : Region → FieldName → List ℕ
 item_text region field =
-    if is_any (value_of field region) then [] else codes ", " ++ values_text field (value_of field region)
+    if is_any (value_of field region) then [] else codes ", " ++ values_text field (possible field (value_of field region))
 
 -- the order in which fields are named
 abbrev pub items : List FieldName

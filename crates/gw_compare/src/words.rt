@@ -1,15 +1,17 @@
 //! The words for the asks of a region.
 ghost use Rattle.std.specs.Prelude.{◌≡◌, ◌++◌, ◌∷◌, [], codes, option_map, if◌then◌else◌, IfOk, OnOk, Some};
 ghost use Rattle.std.specs.List.{flat_map, list_all};
+ghost use Rattle.std.specs.Option.{option_to_list};
 ghost use Rattle.gw_audit.specs.Words.{name_text};
+ghost use Rattle.gw_regions.specs.Ranges.{both};
 ghost use Rattle.gw_rules.specs.Operation.{operation_name};
 ghost use Rattle.gw_rules.specs.declared.operation.TheConstants.Operation.{ALL};
-ghost use Rattle.gw_compare.specs.Words.{any_of, end_text, has_operation, item_text, items, named_text, noun_of, numbers_text, operations_of, operations_text, range_text, region_text, station_text, values_text, word_of};
+ghost use Rattle.gw_compare.specs.Words.{any_of, end_text, has_operation, item_text, items, named_text, noun_of, numbers_text, operations_of, operations_text, possible, range_text, region_text, station_text, values_text, word_of};
 
-use gw_addr::{BipAddr, put_decimal};
+use gw_addr::{BipAddr, Sequence, put_decimal};
 use gw_names::{object_type_name, property_name, service_name};
 use gw_regions::{Region, Values};
-use gw_rules::{FieldName, Operation, Range};
+use gw_rules::{FieldName, Format, Operation, Range};
 use std::alloc::{AllocError, Global};
 
 /// The least number that is no key of a station's address: those have 48 bits.
@@ -39,7 +41,7 @@ pub(crate) fn put_region(
     ensures { OnOk result (out.new.items ≡ out.old.items ++ region_text region.now) }
 {
     put_operations(alloc, out, &region.operation)?;
-    put_items(out, region, &ITEMS)
+    put_items(alloc, out, region, &ITEMS)
 }
 
 fn has_operation(values: &Values, operation: Operation) -> bool
@@ -120,18 +122,28 @@ fn put_name(out: &mut Vec<u8>, operation: Operation) -> Result<(), AllocError>
 }
 
 /// Appends the values of these fields.
-fn put_items(out: &mut Vec<u8>, region: &Region, fields: &[FieldName]) -> Result<(), AllocError>
+fn put_items(
+    alloc: Global,
+    out: &mut Vec<u8>,
+    region: &Region,
+    fields: &[FieldName],
+) -> Result<(), AllocError>
     ensures { OnOk result (out.new.items ≡
         out.old.items ++ flat_map (item_text region.now) fields.now) }
 {
     for field in fields {
-        put_item(out, region, *field)?;
+        put_item(alloc, out, region, *field)?;
     }
     Ok(())
 }
 
 /// Appends the values of a field, unless it may have any.
-fn put_item(out: &mut Vec<u8>, region: &Region, field: FieldName) -> Result<(), AllocError>
+fn put_item(
+    alloc: Global,
+    out: &mut Vec<u8>,
+    region: &Region,
+    field: FieldName,
+) -> Result<(), AllocError>
     ensures { OnOk result (out.new.items ≡ out.old.items ++ item_text region.now field) }
 {
     let values = region.get(field);
@@ -139,7 +151,57 @@ fn put_item(out: &mut Vec<u8>, region: &Region, field: FieldName) -> Result<(), 
         return Ok(());
     }
     out.extend_from_slice(b", ")?;
-    put_values(out, field, values)
+    let values = possible(alloc, field, values)?;
+    put_values(out, field, &values)
+}
+
+/// The numbers of both ranges, if there are some.
+fn both(a: &Range, b: &Range) -> Option<Range>
+    ensures { result ≡ both a.now b.now }
+{
+    let low = if a.low < b.low { b.low } else { a.low };
+    let high = if b.high < a.high { b.high } else { a.high };
+    if low <= high {
+        Some(Range { low, high })
+    } else {
+        None
+    }
+}
+
+/// Appends the numbers of both ranges, if there are some.
+fn push_both(out: &mut Sequence<Range>, a: &Range, b: &Range) -> Result<(), AllocError>
+    ensures { OnOk result (out.new ≡ out.old ++ option_to_list (both a.now b.now)) }
+{
+    if let Some(range) = both(a, b) {
+        out.push(range)?;
+    }
+    Ok(())
+}
+
+/// The numbers of the ranges that a range has too.
+fn ranges_within(
+    alloc: Global,
+    ranges: &[Range],
+    outer: &Range,
+) -> Result<Sequence<Range>, AllocError>
+    ensures { IfOk result (λ list. list ≡ flat_map (λ range. option_to_list (both range outer.now)) ranges.now) }
+{
+    let mut out = Sequence::new(alloc);
+    for range in ranges {
+        push_both(&mut out, range, outer)?;
+    }
+    Ok(out)
+}
+
+/// The values without numbers that the field can't have.
+fn possible(alloc: Global, field: FieldName, values: &Values) -> Result<Values, AllocError>
+    ensures { IfOk result (λ made. made ≡ possible field values.now) }
+{
+    let bounds = field.bounds(Format::Three);
+    Ok(Values {
+        absent: values.absent,
+        ranges: ranges_within(alloc, values.ranges.as_slice(), &bounds)?,
+    })
 }
 
 fn put_values(out: &mut Vec<u8>, field: FieldName, values: &Values) -> Result<(), AllocError>
@@ -206,7 +268,7 @@ fn put_range(out: &mut Vec<u8>, field: FieldName, range: &Range) -> Result<(), A
     if range.low == range.high {
         return put_named(out, field, range.low);
     }
-    if range.high < u64::MAX {
+    if range.high < field.bounds(Format::Three).high {
         out.extend_from_slice(b"..")?;
         return put_end(out, field, range.high);
     }

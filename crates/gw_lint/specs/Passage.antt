@@ -13,7 +13,7 @@ use Rattle.gw_rules.specs.declared.operation.Operation.TheVariants as operations
 use Rattle.gw_rules.specs.declared.rule.Rule.{Rule}
 use Rattle.gw_shapes.specs.Cover.{takes_side}
 use Rattle.gw_shapes.specs.Meeting.{has_number, meets}
-use Rattle.gw_shapes.specs.Pieces.{most, numbers}
+use Rattle.gw_shapes.specs.Pieces.{numbers}
 use Rattle.gw_shapes.specs.Shape.{Shape}
 use Rattle.gw_shapes.specs.Shapes.{aimed, bound, only, own}
 use Rattle.gw_shapes.specs.declared.side.Side.{Side}
@@ -78,5 +78,5 @@ towards networks shape = record shape { destination_network = networks }
 -- and so it is for those to another network than the device's, which is below that or above it
 abbrev pub opens_beyond : List Rule → ℕ → ℕ → Shape → Bool
 opens_beyond rules device number shape =
-    opens rules number (towards (numbers 0 (device - 1)) shape)
-    || opens rules number (towards (numbers (device + 1) most) shape)
+    opens rules number (towards (numbers shape.destination_network.range.low (device - 1)) shape)
+    || opens rules number (towards (numbers (device + 1) shape.destination_network.range.high) shape)

@@ -130,10 +130,8 @@ pub(crate) fn opens_beyond(rules: &RuleList, device: NetNum, number: u16, shape:
     ensures { result ≡ opens_beyond rules.now device number shape.now }
 {
     let device = u64::from(device.get());
-    opens(rules, number, &towards(numbers(0, device - 1), shape))
-        || opens(
-            rules,
-            number,
-            &towards(numbers(device + 1, u64::MAX), shape),
-        )
+    let networks = shape.destination_network.range;
+    let below = towards(numbers(networks.low, device - 1), shape);
+    let above = towards(numbers(device + 1, networks.high), shape);
+    opens(rules, number, &below) || opens(rules, number, &above)
 }

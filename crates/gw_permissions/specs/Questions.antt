@@ -1,31 +1,25 @@
--- The shapes of the asks of which a line tells who may raise them. Each is a shape of a configuration of format 3, or a part of one
--- (`Shapes.antt` of gw_shapes).
+-- The shapes of the asks of which a line says who may raise them. Each holds shapes of a configuration of format 3, or parts of
+-- them (`Shapes.antt` of gw_shapes).
 use Rattle.std.specs.Prelude.{ℕ}
 use Rattle.gw_rules.specs.declared.format.Format.TheVariants.{Three}
 use Rattle.gw_rules.specs.declared.operation.Operation.TheVariants as operations
 use Rattle.gw_shapes.specs.Pieces.{numbers}
 use Rattle.gw_shapes.specs.Shape.{Shape}
-use Rattle.gw_shapes.specs.Shapes.{bound, nothing, only, own, some}
-use Rattle.gw_shapes.specs.declared.shapes.Origin.{Origin}
-use Rattle.gw_shapes.specs.declared.side.Side.{Side}
+use Rattle.gw_shapes.specs.Shapes.{bound, foreign, network as any_network, nothing, only, own}
 use Rattle.gw_permissions.specs.declared.questions.Point.{Point}
 
 -- to enter by the port of this number, which has this network
 abbrev pub entering : ℕ → ℕ → Shape
 entering number network = bound (own Three number network) operations.Enter nothing nothing
 
--- from a network, or several, by any of so many ports
-abbrev pub by_any : ℕ → Side → Origin
-by_any ports networks = record { port = numbers 1 ports; network = networks; sender = some }
-
 -- to speak for any network, by any of so many ports
 abbrev pub claiming : ℕ → Shape
-claiming ports = bound (by_any ports some) operations.Claim nothing nothing
+claiming ports = bound (foreign Three ports any_network) operations.Claim nothing nothing
 
 -- to read a property of an object of the device, which has this network, by claims of another network and any of so many ports
 abbrev pub reading : (ports device network : ℕ) → Point → Shape
 reading ports device network point =
-    record (bound (by_any ports (only network)) operations.Read (numbers 12 14) (only device)) {
+    record (bound (foreign Three ports (only network)) operations.Read (numbers 12 14) (only device)) {
       object_type = only point.kind;
       instance = only point.instance;
       property = only point.property;

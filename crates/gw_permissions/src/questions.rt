@@ -1,6 +1,6 @@
 //! The shapes of the asks of which a line tells who may raise them.
 ghost use Rattle.std.specs.Prelude.{◌≡◌};
-ghost use Rattle.gw_permissions.specs.Questions.{by_any, claiming, entering, reading};
+ghost use Rattle.gw_permissions.specs.Questions.{claiming, entering, reading};
 
 use gw_rules::{Format, Operation, Range};
 use gw_shapes::{Origin, Shape, Side, bound, numbers, only};
@@ -22,12 +22,12 @@ const NOTHING: Side = Side {
     range: Range { low: 1, high: 0 },
 };
 
-/// Any number.
-const SOME: Side = Side {
+/// Any network (clause 6).
+const ANY_NETWORK: Side = Side {
     absent: false,
     range: Range {
-        low: 0,
-        high: u64::MAX,
+        low: 1,
+        high: 65534,
     },
 };
 
@@ -39,22 +39,12 @@ pub(crate) fn entering(number: u64, network: u64) -> Shape
     bound(&from, Operation::Enter, NOTHING, NOTHING)
 }
 
-/// From these networks, by any of so many ports.
-fn by_any(ports: u64, network: Side) -> Origin
-    ensures { result ≡ by_any ports network }
-{
-    Origin {
-        port: numbers(1, ports),
-        network,
-        sender: SOME,
-    }
-}
-
 /// Asks to speak for any network, by any of so many ports.
 pub(crate) fn claiming(ports: u64) -> Shape
     ensures { result ≡ claiming ports }
 {
-    bound(&by_any(ports, SOME), Operation::Claim, NOTHING, NOTHING)
+    let from = Origin::foreign(Format::Three, ports, &ANY_NETWORK);
+    bound(&from, Operation::Claim, NOTHING, NOTHING)
 }
 
 /// Asks to read a property of an object of the device, which has this network, by claims of another
@@ -62,7 +52,7 @@ pub(crate) fn claiming(ports: u64) -> Shape
 pub(crate) fn reading(ports: u64, device: u64, network: u64, point: Point) -> Shape
     ensures { result ≡ reading ports device network point }
 {
-    let from = by_any(ports, only(network));
+    let from = Origin::foreign(Format::Three, ports, &only(network));
     Shape {
         object_type: only(point.kind),
         instance: only(point.instance),

@@ -16,6 +16,9 @@ two_appended out a b x y e f = f ∙ ap (λ (xs : List Shape). xs ++ b) e ∙ ap
 pub three_appended : (out a b c x y z : List Shape) → x ≡ out ++ a → y ≡ x ++ b → z ≡ y ++ c → z ≡ out ++ (a ++ (b ++ c))
 three_appended out a b c x y z e f g = two_appended out a (b ++ c) x z e (two_appended x b c y z f g)
 
+pub four_appended : (out a b c d x y z w : List Shape) → x ≡ out ++ a → y ≡ x ++ b → z ≡ y ++ c → w ≡ z ++ d → w ≡ out ++ (a ++ (b ++ (c ++ d)))
+four_appended out a b c d x y z w e f g h = two_appended out a (b ++ (c ++ d)) x w e (three_appended x b c d y z w f g h)
+
 step_on : (out new all a rest tail : List Shape) → new ≡ out ++ a → tail ≡ a ++ rest → out ++ tail ≡ all → new ++ rest ≡ all
 step_on out new all a rest tail e f is =
     ap (λ (xs : List Shape). xs ++ rest) e ∙ append_assoc out a rest ∙ ap (λ (xs : List Shape). out ++ xs) (sym f) ∙ is

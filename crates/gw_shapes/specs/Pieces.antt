@@ -3,10 +3,6 @@ use Rattle.std.specs.Prelude.{ℕ, ◌+◌, ◌-◌, false, nat_lt, if◌then◌
 use Rattle.gw_rules.specs.declared.range.Range.{Range}
 use Rattle.gw_shapes.specs.declared.side.Side.{Side}
 
--- the greatest number of 64 bits
-abbrev pub most : ℕ
-most = 18446744073709551615
-
 -- numbers alone
 abbrev pub numbers : ℕ → ℕ → Side
 numbers low high = record { absent = false; range = record { low = low; high = high } }

@@ -3,12 +3,12 @@
 ghost use Rattle.std.specs.Prelude.{◌≡◌, ◌≤◌, ◌++◌, [], ◌∷◌, IfOk, OnOk, length};
 ghost use Rattle.std.specs.List.{flat_map};
 ghost use Rattle.std.specs.Option.{option_to_list};
-ghost use Rattle.gw_shapes.specs.Shapes.{aimed, bound, claim_shapes, enter_shapes, foreign, foreign_shapes, gaps, gaps_between, message_shapes, named, only, own, own_shapes, passed_shapes, perhaps_in, plain, request_shapes, shapes, shapes_beyond, shapes_from, shapes_within, some_in, split, table_shapes};
+ghost use Rattle.gw_shapes.specs.Shapes.{aimed, bound, claim_shapes, enter_shapes, foreign, foreign_shapes, gaps, gaps_between, message_shapes, named, near_shapes, network, only, own, own_shapes, passed_reads, passed_shapes, passed_writes, perhaps, perhaps_in, plain, request_shapes, shapes, shapes_beyond, shapes_from, shapes_within, some, some_in, split, table_shapes};
 
 use crate::piece::{NO_RANGE, above, below, numbers};
 use crate::{Shape, Side};
 use gw_configuration::{Config, Port};
-use gw_rules::{Fields, Format, Operation, Range};
+use gw_rules::{FieldName, Fields, Format, Operation, Range};
 use std::alloc::{AllocError, Global};
 
 /// Whence asks come: by which ports, from which networks, and who sends them.
@@ -18,18 +18,11 @@ pub struct Origin {
     pub port: Side,
     /// The source networks.
     pub network: Side,
+    /// The addresses of the sources: absent, if one doesn't have six octets.
+    pub key: Side,
     /// The senders, of whom asks tell in format 3 alone.
     pub sender: Side,
 }
-
-/// Any number.
-const SOME: Side = Side {
-    absent: false,
-    range: Range {
-        low: 0,
-        high: u64::MAX,
-    },
-};
 
 /// An absent field.
 const NOTHING: Side = Side {
@@ -37,14 +30,58 @@ const NOTHING: Side = Side {
     range: NO_RANGE,
 };
 
-/// Either.
-const PERHAPS: Side = Side {
-    absent: true,
+/// A network (clause 6).
+const NETWORK: Side = Side {
+    absent: false,
     range: Range {
-        low: 0,
-        high: u64::MAX,
+        low: 1,
+        high: 65534,
     },
 };
+
+/// A network, or all of them.
+const NETWORKS: Side = Side {
+    absent: true,
+    range: Range {
+        low: 1,
+        high: 65534,
+    },
+};
+
+/// A request or a network layer message, or an APDU that can't be read.
+const REQUEST_OR_MESSAGE: Side = Side {
+    absent: true,
+    range: Range { low: 0, high: 767 },
+};
+
+/// An APDU that answers, by its type (clause 20.1).
+const ANSWER: Side = Side {
+    absent: false,
+    range: Range {
+        low: 1026,
+        high: 1031,
+    },
+};
+
+/// A number that the field can have, as rules of format 3 name it; the field may not be absent.
+fn some(field: FieldName) -> Side
+    ensures { result ≡ some field }
+{
+    Side {
+        absent: false,
+        range: field.bounds(Format::Three),
+    }
+}
+
+/// Such a number, or an absent field.
+fn perhaps(field: FieldName) -> Side
+    ensures { result ≡ perhaps field }
+{
+    Side {
+        absent: true,
+        range: field.bounds(Format::Three),
+    }
+}
 
 /// The one number; the field may not be absent.
 pub fn only(number: u64) -> Side
@@ -53,23 +90,23 @@ pub fn only(number: u64) -> Side
     numbers(number, number)
 }
 
-/// A number in format 3, and an absent field in the others.
-fn some_in(format: Format) -> Side
-    ensures { result ≡ some_in format }
+/// A station in format 3, and an absent field in the others.
+fn some_in(format: Format, field: FieldName) -> Side
+    ensures { result ≡ some_in format field }
 {
     if format.names_stations() {
-        SOME
+        some(field)
     } else {
         NOTHING
     }
 }
 
 /// Either in format 3, and an absent field in the others.
-fn perhaps_in(format: Format) -> Side
-    ensures { result ≡ perhaps_in format }
+fn perhaps_in(format: Format, field: FieldName) -> Side
+    ensures { result ≡ perhaps_in format field }
 {
     if format.names_stations() {
-        PERHAPS
+        perhaps(field)
     } else {
         NOTHING
     }
@@ -83,18 +120,20 @@ impl Origin {
         Origin {
             port: only(number),
             network: only(network),
-            sender: some_in(format),
+            key: some(FieldName::SourceKey),
+            sender: some_in(format, FieldName::Sender),
         }
     }
 
     /// A station of another network, by any of so many ports.
-    fn foreign(format: Format, ports: u64, network: &Side) -> Self
-        ensures { result ≡ foreign format ports network.now }
+    pub fn foreign(format: Format, ports: u64, networks: &Side) -> Self
+        ensures { result ≡ foreign format ports networks.now }
     {
         Origin {
             port: numbers(1, ports),
-            network: *network,
-            sender: some_in(format),
+            network: *networks,
+            key: perhaps(FieldName::SourceKey),
+            sender: some_in(format, FieldName::Sender),
         }
     }
 }
@@ -107,7 +146,7 @@ fn plain(from: &Origin, operation: Operation, service: Side) -> Shape
         operation: only(operation.number()),
         port: from.port,
         source_network: from.network,
-        source_key: PERHAPS,
+        source_key: from.key,
         destination_network: NOTHING,
         service,
         object_type: NOTHING,
@@ -140,9 +179,9 @@ fn named(
     ensures { result ≡ named from.now operation service destination priority }
 {
     Fields {
-        object_type: SOME,
-        instance: SOME,
-        property: SOME,
+        object_type: some(FieldName::ObjectType),
+        instance: some(FieldName::Instance),
+        property: some(FieldName::Property),
         priority,
         ..bound(from, operation, service, destination)
     }
@@ -153,7 +192,7 @@ pub fn aimed(format: Format, shape: &Shape) -> Shape
     ensures { result ≡ aimed format shape.now }
 {
     Fields {
-        station: perhaps_in(format),
+        station: perhaps_in(format, FieldName::Station),
         ..*shape
     }
 }
@@ -168,50 +207,91 @@ fn table_shapes(format: Format, from: &Origin) -> [Shape; 5]
         plain(from, Operation::Register, only(773)),
         plain(from, Operation::ReadTable, only(774)),
         Fields {
-            station: some_in(format),
+            station: some_in(format, FieldName::Station),
             ..plain(from, Operation::Delete, only(776))
         },
     ]
 }
 
-/// What a message raises: broadcasts, routing, network messages, and requests to the device on this
-/// network.
+/// Messages that name no source, so they come from the port's own network: the networks of a router, and the
+/// question for the number of the network.
+fn near_shapes(from: &Origin) -> [Shape; 2]
+    ensures { result ≡ near_shapes from.now }
+{
+    [
+        bound(from, Operation::Learn, only(513), NETWORK),
+        bound(from, Operation::Network, only(530), NOTHING),
+    ]
+}
+
+/// What a message raises: broadcasts, routing, the question for routers, and requests to the device on this
+/// network, of which lists are of Object_Name, and of the device's Object_Identifier.
 fn message_shapes(format: Format, device: u64, from: &Origin) -> [Shape; 10]
     ensures { result ≡ message_shapes format device from.now }
 {
     let here = only(device);
+    let anywhere = perhaps(FieldName::DestinationNetwork);
     [
-        aimed(format, &bound(from, Operation::Cast, PERHAPS, PERHAPS)),
-        aimed(format, &bound(from, Operation::Route, PERHAPS, SOME)),
-        bound(from, Operation::Learn, only(513), SOME),
-        bound(from, Operation::Network, only(512), PERHAPS),
-        bound(from, Operation::Network, only(530), NOTHING),
+        aimed(format, &bound(from, Operation::Cast, REQUEST_OR_MESSAGE, anywhere)),
+        aimed(format, &bound(from, Operation::Cast, ANSWER, anywhere)),
+        aimed(format, &bound(from, Operation::Route, REQUEST_OR_MESSAGE, NETWORK)),
+        aimed(format, &bound(from, Operation::Route, ANSWER, NETWORK)),
+        bound(from, Operation::Network, only(512), NETWORKS),
         named(from, Operation::Read, only(12), here, NOTHING),
         named(from, Operation::Read, only(14), here, NOTHING),
-        named(from, Operation::Write, only(15), here, SOME),
-        named(from, Operation::List, only(263), here, NOTHING),
-        named(from, Operation::List, only(264), here, NOTHING),
+        named(from, Operation::Write, only(15), here, some(FieldName::Priority)),
+        Fields {
+            property: only(77),
+            ..named(from, Operation::List, only(263), here, NOTHING)
+        },
+        Fields {
+            object_type: only(8),
+            property: only(75),
+            ..named(from, Operation::List, only(264), here, NOTHING)
+        },
     ]
 }
 
-/// Requests that are passed on to such a destination, by what they name.
-fn passed_shapes(format: Format, destination: Side, from: &Origin) -> [Shape; 4]
-    ensures { result ≡ passed_shapes format destination from.now }
+/// Reads by this service that are passed on to such a destination: of what isn't seen, and of a property.
+fn passed_reads(format: Format, service: u64, destination: Side, from: &Origin) -> [Shape; 2]
+    ensures { result ≡ passed_reads format service destination from.now }
 {
-    let reads = numbers(12, 14);
-    let writes = only(15);
+    let service = only(service);
     [
-        aimed(format, &bound(from, Operation::Read, reads, destination)),
+        aimed(format, &bound(from, Operation::Read, service, destination)),
         aimed(
             format,
-            &named(from, Operation::Read, reads, destination, NOTHING),
-        ),
-        aimed(format, &bound(from, Operation::Write, writes, destination)),
-        aimed(
-            format,
-            &named(from, Operation::Write, writes, destination, SOME),
+            &named(from, Operation::Read, service, destination, NOTHING),
         ),
     ]
+}
+
+/// Writes that are passed on to such a destination.
+fn passed_writes(format: Format, destination: Side, from: &Origin) -> [Shape; 2]
+    ensures { result ≡ passed_writes format destination from.now }
+{
+    let (service, priority) = (only(15), some(FieldName::Priority));
+    [
+        aimed(format, &bound(from, Operation::Write, service, destination)),
+        aimed(
+            format,
+            &named(from, Operation::Write, service, destination, priority),
+        ),
+    ]
+}
+
+/// Appends the requests that are passed on to such a destination, by what they name.
+fn push_passed(
+    out: &mut Vec<Shape>,
+    format: Format,
+    destination: Side,
+    from: &Origin,
+) -> Result<(), AllocError>
+    ensures { OnOk result (out.new.items ≡ out.old.items ++ passed_shapes format destination from.now) }
+{
+    out.extend_from_slice(&passed_reads(format, 12, destination, from))?;
+    out.extend_from_slice(&passed_reads(format, 14, destination, from))?;
+    out.extend_from_slice(&passed_writes(format, destination, from))
 }
 
 /// Appends the shapes of requests that are judged by what they name: in format 1 none that are passed
@@ -221,8 +301,11 @@ fn push_requests(out: &mut Vec<Shape>, format: Format, from: &Origin) -> Result<
 {
     match format {
         Format::One => Ok(()),
-        Format::Two => out.extend_from_slice(&passed_shapes(Format::Two, SOME, from)),
-        Format::Three => out.extend_from_slice(&passed_shapes(Format::Three, PERHAPS, from)),
+        Format::Two => push_passed(out, Format::Two, NETWORK, from),
+        Format::Three => {
+            let anywhere = perhaps(FieldName::DestinationNetwork);
+            push_passed(out, Format::Three, anywhere, from)
+        }
     }
 }
 
@@ -272,6 +355,7 @@ fn push_within(
 {
     out.extend_from_slice(&table_shapes(format, from))?;
     push_enter(out, format, from)?;
+    out.extend_from_slice(&near_shapes(from))?;
     push_from(out, format, device, from)
 }
 
@@ -343,7 +427,7 @@ fn split_all(alloc: Global, number: u64, sides: &[Side]) -> Result<Vec<Side>, Al
 fn gaps(alloc: Global, device: u64, ports: &[Port]) -> Result<Vec<Side>, AllocError>
     ensures { IfOk result (λ sides. sides.items ≡ gaps device ports.now) }
 {
-    let mut sides = split_all(alloc, device, &[SOME])?;
+    let mut sides = split_all(alloc, device, &[NETWORK])?;
     for port in ports {
         sides = split_all(alloc, u64::from(port.network.get()), &sides)?;
     }

@@ -1,6 +1,5 @@
 -- What the text of a comparison says is true of every event.
-use Rattle.std.proofs.Common.{◌≡◌, inl, inr, subst, List}
-use Rattle.std.specs.Prelude.{◌⊎◌, true}
+use Rattle.std.proofs.Common.{◌≡◌, inl, inr, true}
 use Rattle.std.specs.List.{AllByRecursion}
 use Rattle.gw_configuration.specs.Configuration.{Configuration}
 use Rattle.gw_compare.specs.Laws.{IsAskOf}
@@ -13,19 +12,17 @@ use Rattle.gw_rules.specs.Ask.{Ask}
 use Rattle.gw_rules.proofs.EachAsk.{each_weaker}
 use Rattle.gw_shapes.specs.Shape.{LiesInOne}
 use Rattle.gw_shapes.specs.Shapes.{shapes}
-use Rattle.gw_verdicts.specs.Compared.{EventsAreAlike, EventsAreCompared, LinesAreTrueOfEvents, OfEachAsk}
-use Rattle.gw_verdicts.specs.Laws.{IsOfNumbers}
+use Rattle.gw_verdicts.specs.Compared.{EventsAreAlike, EventsAreCompared, LinesAreTrueOfEvents, OfBoth}
 use Rattle.gw_verdicts.proofs.ShapeLaw.{asks_lie_in_shapes}
 
-of_one : (old new c : Configuration) (ask : Ask) → (c ≡ old) ⊎ (c ≡ new) → LiesInOne (shapes c) ask → IsAskOf old new ask
-of_one old new c ask (inl is) lies = inl (subst (λ (d : Configuration). LiesInOne (shapes d) ask) is lies)
-of_one old new c ask (inr is) lies = inr (subst (λ (d : Configuration). LiesInOne (shapes d) ask) is lies)
-
 -- what holds of each ask of the shapes holds of each ask that is raised
-raised : (old new : Configuration) (Holds : Ask → Type 0) → ((ask : Ask) → IsAskOf old new ask → Holds ask) → OfEachAsk old new Holds
-raised old new Holds so c which k h e =
-    each_weaker (λ ask. IsOfNumbers ask → LiesInOne (shapes c) ask) (λ ask. IsOfNumbers ask → Holds ask)
-    (λ ask lies small. so ask (of_one old new c ask which (lies small))) (asks (state_after c k h) e) (asks_lie_in_shapes c k h e)
+raised : (old new : Configuration) (Holds : Ask → Type 0) → ((ask : Ask) → IsAskOf old new ask → Holds ask) → OfBoth old new Holds
+raised old new Holds so = (
+  λ numbered k h e is. each_weaker (LiesInOne (shapes old)) Holds (λ ask lies. so ask (inl lies)) (asks (state_after old k h) e)
+      (asks_lie_in_shapes old numbered k h e is),
+  λ numbered k h e is. each_weaker (LiesInOne (shapes new)) Holds (λ ask lies. so ask (inr lies)) (asks (state_after new k h) e)
+      (asks_lie_in_shapes new numbered k h e is),
+)
 
 pub events_are_compared : EventsAreCompared
 events_are_compared old new most made text told finished =

@@ -8,9 +8,9 @@ use Rattle.gw_configuration.specs.declared.port.Port.{Port as ConfiguredPort}
 use Rattle.gw_relay.specs.History.{Acts as PortActs}
 use Rattle.gw_relay.specs.History.{all_after, ports_from}
 use Rattle.gw_rules.specs.Range.{holds}
-use Rattle.gw_shapes.specs.Pieces.{above, below, most}
+use Rattle.gw_shapes.specs.Pieces.{above, below}
 use Rattle.gw_shapes.specs.Shape.{IsWithin}
-use Rattle.gw_shapes.specs.Shapes.{gaps, gaps_between, only, some, split}
+use Rattle.gw_shapes.specs.Shapes.{gaps, gaps_between, network, only, split}
 use Rattle.gw_shapes.specs.declared.side.Side.{Side}
 
 -- a network that none of the links has is none of the ports'
@@ -76,7 +76,7 @@ between (p ∷ ports) sides n none is =
     between ports (flat_map (split p.network) sides) n none.1 (split_each p.network sides n none.0 is)
 
 -- a network that is none of the direct ones lies in a gap
-pub in_gap : (device : ℕ) (ports : List ConfiguredPort) (n : ℕ) → n ≤ most → n ≢ device → AllByRecursion (λ p. n ≢ p.network) ports
+pub in_gap : (device : ℕ) (ports : List ConfiguredPort) (n : ℕ) → IsWithin network (Some n) → n ≢ device → AllByRecursion (λ p. n ≢ p.network) ports
     → WithinOne (gaps device ports) n
-in_gap device ports n small other none =
-    between ports (flat_map (split device) (some ∷ [])) n none (split_each device (some ∷ []) n other (inl (omega arith, small)))
+in_gap device ports n is other none =
+    between ports (flat_map (split device) (network ∷ [])) n none (split_each device (network ∷ []) n other (inl is))

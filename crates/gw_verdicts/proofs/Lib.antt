@@ -1,7 +1,10 @@
+pub mod Brought
 pub mod ComparedLaw
 pub mod DeviceAsks
 pub mod FoundLaw
 pub mod Gaps
+pub mod Knowing
+pub mod Octets
 pub mod Parts
 pub mod Raised
 pub mod RelayAsks

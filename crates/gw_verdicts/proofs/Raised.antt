@@ -1,53 +1,69 @@
 -- The asks of a message lie in the shapes of whence it comes.
-use Rattle.std.proofs.Common.{◌≡◌, ◌≤◌, sym, refl, subst, ℕ, Bool, true, false, List, [], ◌∷◌, Option, Some, None, inl, inr, arith}
-use Rattle.std.specs.Prelude.{if◌then◌else◌, IfSome}
+use Rattle.std.proofs.Common.{◌≡◌, ◌≤◌, ◌∙◌, ◌⊎◌, sym, ap, refl, subst, ℕ, Bool, true, false, List, [], ◌∷◌, length, nat_le, Option, Some, None, inl, inr, arith}
+use Rattle.std.specs.Prelude.{◌==◌, ◌||◌, if◌then◌else◌, IfSome}
 use Rattle.std.specs.List.{AllByRecursion}
+use Rattle.std.specs.Option.{option_map, option_map_or}
+use Rattle.std.proofs.lemmas.Bool.{and_parts, eq-eqb, eqb-true, leb-true}
 use Rattle.gw_addr.specs.declared.bip.BipAddr.{BipAddr}
-use Rattle.gw_addr.specs.Address.{big_endian, octets_of}
+use Rattle.gw_addr.specs.Address.{IsAddress, big_endian, octets_of}
+use Rattle.gw_addr.specs.Reading.{AreOctets}
+use Rattle.gw_addr.specs.Station.{is_network, key_of}
+use Rattle.gw_addr.proofs.Addresses.{key_below, keys_below, length-address}
+use Rattle.gw_bvll.specs.Bvll.{HasFields}
 use Rattle.gw_bvll.specs.Bvll.{Message as Frame}
 use Rattle.gw_bvll.specs.Bvll as bvll
+use Rattle.gw_npdu.specs.Npdu.{Destination, Fields, Payload, apdu, payload_octets}
+use Rattle.gw_npdu.specs.Npdu.{message as network_message}
 use Rattle.gw_rules.specs.declared.format.Format.{Format}
 use Rattle.gw_rules.specs.declared.format.Format.TheVariants.{One, Two, Three}
 use Rattle.gw_rules.specs.Format.{names_stations}
 use Rattle.gw_rules.specs.Ask.{Ask}
-use Rattle.gw_rules.specs.declared.field.FieldName.TheVariants.{SourceKey, DestinationNetwork, Service, ObjectType, Instance, Property, Priority, Sender, Station}
+use Rattle.gw_rules.specs.Operation.{operation_number}
+use Rattle.gw_rules.specs.declared.field.FieldName.TheVariants as fields
 use Rattle.gw_rules.specs.declared.operation.Operation.{Operation}
 use Rattle.gw_rules.specs.declared.operation.Operation.TheVariants as operations
 use Rattle.gw_rules.specs.declared.rule.Rule.{Rule}
 use Rattle.gw_rules.proofs.EachAsk.{each_weaker}
-use Rattle.gw_objects.specs.Objects.{Database}
+use Rattle.gw_services.specs.Limits.{last_property}
+use Rattle.gw_tags.specs.Object.{IsObject, Object}
+use Rattle.gw_objects.specs.Objects.{Database, device_id}
 use Rattle.gw_relay.specs.Cast.{cast_ask}
 use Rattle.gw_relay.specs.Entry.{claim_ask, enter_ask, entry_asks}
 use Rattle.gw_relay.specs.Asks as table
+use Rattle.gw_relay.specs.Asks.{service_of}
+use Rattle.gw_relay.specs.Manage.{learn_ask, network_ask}
 use Rattle.gw_relay.specs.Message.{Message}
-use Rattle.gw_npdu.specs.Npdu.{Fields}
+use Rattle.gw_relay.specs.Named.{named_ask, unnamed_ask}
 use Rattle.gw_relay.specs.Route.{route_ask}
 use Rattle.gw_relay.specs.State.{Relay}
 use Rattle.gw_relay.specs.declared.port.Port.{Port}
 use Rattle.gw_core.specs.Asks.{apdu_asks, asks_for}
 use Rattle.gw_core.specs.Receive.{message}
-use Rattle.gw_core.specs.Reply.{apdu_for, context_of}
+use Rattle.gw_core.specs.Reply.{apdu_for, apdu_of, apdu_towards, context_of, is_broadcast, is_device}
 use Rattle.gw_core.specs.State.{device_network}
-use Rattle.gw_verdicts.specs.Laws.{IsOfNumbers}
-use Rattle.gw_shapes.specs.Pieces.{most, numbers}
 use Rattle.gw_shapes.specs.Shape.{IsWithin, LiesIn, LiesInOne, Shape}
-use Rattle.gw_shapes.specs.Shapes.{aimed, bound, claim_shapes, enter_shapes, message_shapes, named, nothing, only, own, passed_shapes, perhaps, perhaps_in, plain, request_shapes, shapes_from, some, some_in, table_shapes}
+use Rattle.gw_shapes.specs.Shapes.{aimed, answer, bound, claim_shapes, enter_shapes, message_shapes, named, near_shapes, network as any_network, nothing, only, own, passed_shapes, perhaps, perhaps_in, plain, request_or_message, request_shapes, shapes_from, some, some_in, table_shapes}
 use Rattle.gw_shapes.specs.declared.shapes.Origin.{Origin}
 use Rattle.gw_shapes.specs.declared.side.Side.{Side}
-use Rattle.gw_verdicts.proofs.DeviceAsks.{DeviceCases, each_device}
 use Rattle.gw_shapes.proofs.Lying.{in_front, in_rest, lies_by}
+use Rattle.gw_verdicts.proofs.Brought.{IsBrought}
+use Rattle.gw_verdicts.proofs.DeviceAsks.{DeviceCases, DeviceKnown, each_device}
+use Rattle.gw_verdicts.proofs.Knowing.{bounds_known}
+use Rattle.gw_verdicts.proofs.Octets.{AreNamed, IsAskedFor, IsPlace, IsRead, payload_asks}
 use Rattle.gw_verdicts.proofs.Parts.{each_part}
-use Rattle.gw_verdicts.proofs.RelayAsks.{CastCases, JudgesRequests, NamedCases, NetworkCases, RouteCases, each_cast, each_network, each_route}
+use Rattle.gw_verdicts.proofs.RelayAsks.{CastCases, JudgesRequests, NamedCases, NetworkCases, Reached, RouteCases, each_cast, each_network, each_route}
 
 -- what is to be shown of each ask
 abbrev pub Lies : Format → ℕ → Origin → Ask → Type 0
-Lies format device from ask = IsOfNumbers ask → LiesInOne (shapes_from format device from) ask
+Lies format device from ask = LiesInOne (shapes_from format device from) ask
 
 -- a message comes from there
 pub record Comes (format : Format) (from : Origin) (m : Message) : Type 0 where
   pub port : IsWithin from.port (Some m.here.port.number)
   pub network : IsWithin from.network (Some m.claim.net)
-  pub sender : from.sender ≡ some_in format
+  pub key : IsWithin from.key (key_of m.claim.mac)
+  pub sender : from.sender ≡ some_in format fields.Sender
+  pub brought : IsBrought m
 
 -- ---- sides
 
@@ -57,34 +73,69 @@ exactly n = (omega arith, omega arith)
 is_exactly : (n : ℕ) (value : Option ℕ) → value ≡ Some n → IsWithin (only n) value
 is_exactly n value is = subst (IsWithin (only n)) (sym is) (exactly n)
 
-within_some : (n : ℕ) → n ≤ most → IsWithin some (Some n)
-within_some n below = (omega arith, below)
+-- the key of an address, and of a station whose address may have any length
+address_key : (a : BipAddr) → IsAddress a → IsWithin (some fields.SourceKey) (Some (big_endian (octets_of a)))
+address_key a is =
+    let small = keys_below a is in
+    (omega arith, omega (arith, small))
 
-anything : (value : Option ℕ) → IfSome value (λ n. n ≤ most) → IsWithin perhaps value
-anything None small = refl
-anything (Some n) small = (omega arith, small)
+pub six_octets : (a : BipAddr) → IsAddress a → IsWithin (some fields.SourceKey) (key_of (octets_of a))
+six_octets a is = rw (eq-eqb (length (octets_of a)) 6 (length-address a is)) (address_key a is)
 
--- the sender of a datagram, where the format names stations
-key_within : (b : Bool) (key : ℕ) → IfSome (if b then Some key else None) (λ n. n ≤ most)
-    → IsWithin (if b then some else nothing) (if b then Some key else None)
-key_within true key small = within_some key small
-key_within false key small = refl
+pub any_octets : (mac : List ℕ) → AreOctets mac → IsWithin (perhaps fields.SourceKey) (key_of mac)
+any_octets mac fits = by (length mac == 6) refl
+  where
+    by : (b : Bool) → (length mac == 6) ≡ b → IsWithin (perhaps fields.SourceKey) (if b then Some (big_endian mac) else None)
+    by true e =
+        let small = key_below mac (eqb-true (length mac) 6 e) fits in
+        (omega arith, omega (arith, small))
+    by false e = refl
 
-sent : (format : Format) (side : Side) (sender : BipAddr) → side ≡ some_in format → IfSome (table.sender_of format sender) (λ n. n ≤ most)
+-- an address as a station, where the format names stations
+key_within : (b : Bool) (a : BipAddr) → IsAddress a
+    → IsWithin (if b then some fields.Sender else nothing) (if b then Some (big_endian (octets_of a)) else None)
+key_within true a is = address_key a is
+key_within false a is = refl
+
+sent : (format : Format) (side : Side) (sender : BipAddr) → side ≡ some_in format fields.Sender → IsAddress sender
     → IsWithin side (table.sender_of format sender)
-sent format side sender is small =
-    subst (λ (s : Side). IsWithin s (table.sender_of format sender)) (sym is)
-    (key_within (names_stations format) (big_endian (octets_of sender)) small)
+sent format side sender is address =
+    subst (λ (s : Side). IsWithin s (table.sender_of format sender)) (sym is) (key_within (names_stations format) sender address)
 
 -- the one station that a message is bound for
-aim_within : (b : Bool) (value : Option ℕ) → IfSome (if b then value else None) (λ n. n ≤ most)
-    → IsWithin (if b then perhaps else nothing) (if b then value else None)
-aim_within true value small = anything value small
-aim_within false value small = refl
+at_station : (format : Format) (npdu : Fields) → IsRead npdu → IsWithin (perhaps_in format fields.Station) (table.station_of format npdu)
+at_station format npdu read = by (names_stations format) npdu.destination read.destination
+  where
+    by : (b : Bool) (d : Option Destination) → IfSome d (λ d. IsPlace d.address)
+        → IsWithin (if b then perhaps fields.Station else nothing) (if b then option_map_or (λ d. key_of d.address.mac) d None else None)
+    by true None place = refl
+    by true (Some d) place = any_octets d.address.mac place.1.1
+    by false d place = refl
 
-at_station : (format : Format) (npdu : Fields) → IfSome (table.station_of format npdu) (λ n. n ≤ most)
-    → IsWithin (perhaps_in format) (table.station_of format npdu)
-at_station format npdu small = aim_within (names_stations format) _ small
+-- the network that it is bound for
+bound_within : (npdu : Fields) → IsRead npdu → IsWithin (perhaps fields.DestinationNetwork) (table.bound_for npdu)
+bound_within npdu read = by npdu.destination read.destination
+  where
+    by : (d : Option Destination) → IfSome d (λ d. IsPlace d.address)
+        → IsWithin (perhaps fields.DestinationNetwork) (option_map (λ d. d.address.network) d)
+    by None place = refl
+    by (Some d) place = (place.0, place.1.0)
+
+-- a network of the standard
+net_within : (n : ℕ) → is_network n ≡ true → IsWithin any_network (Some n)
+net_within n e =
+    let both = and_parts (nat_le 1 n) (nat_le n 65534) e in
+    (leb-true 1 n both.0, leb-true n 65534 both.1)
+
+net_or_none : (network : Option ℕ) → IfSome network (λ n. is_network n ≡ true) → IsWithin (record any_network { absent = true }) network
+net_or_none None net = refl
+net_or_none (Some n) net = net_within n net
+
+-- what a message asks for
+asked_for : (value : Option ℕ) → IsAskedFor value → IsWithin request_or_message value ⊎ IsWithin answer value
+asked_for None is = inl refl
+asked_for (Some n) (inl small) = inl (omega arith, small)
+asked_for (Some n) (inr both) = inr both
 
 -- ---- places in the lists
 
@@ -100,147 +151,230 @@ in_request format device from to ask is lies =
 
 -- ---- requests that are passed on
 
--- a service of a read
-read_service : (service : ℕ) (value : Option ℕ) → value ≡ Some service → 12 ≤ service → service ≤ 14 → IsWithin (numbers 12 14) value
-read_service service value is low high = subst (IsWithin (numbers 12 14)) (sym is) (low, high)
+-- an object and a property, as a request names them
+object_kind : (object : Object) → IsObject object → IsWithin (some fields.ObjectType) (Some object.kind)
+object_kind object is =
+    let small = is.kind in
+    (omega arith, omega (arith, small))
+
+object_instance : (object : Object) → IsObject object → IsWithin (some fields.Instance) (Some object.instance)
+object_instance object is =
+    let small = is.instance in
+    (omega arith, omega (arith, small))
+
+property_within : (p : ℕ) → p ≤ last_property → IsWithin (some fields.Property) (Some p)
+property_within p small = (omega arith, omega (arith, small))
 
 -- after an ask of a message that is passed on to a network, or to none
 named_cases : (format : Format) (device : ℕ) (from : Origin) (to : Side) (m : Message) (operation : Operation) (network : Option ℕ)
-    → Comes format from m → request_shapes format from ≡ passed_shapes format to from
-    → (IfSome network (λ n. n ≤ most) → IsWithin to network)
-    → NamedCases (Lies format device from) (table.passing_ask format operation m network)
+    → Comes format from m → request_shapes format from ≡ passed_shapes format to from → IsWithin to network
+    → NamedCases (Lies format device from) bounds_known (table.passing_ask format operation m network)
 named_cases format device from to m operation network comes is bound_to = record {
-  unnamed_read = λ service at low high small. in_request format device from to _ is (inl
-      (lies_by (aimed format (bound from operations.Read (numbers 12 14) to)) _
-      (exactly 9) comes.port comes.network (anything _ (small SourceKey)) (bound_to (small DestinationNetwork))
-      (read_service service _ at low high) refl refl refl refl
-      (sent format from.sender m.from comes.sender (small Sender)) (at_station format m.npdu (small Station))));
-  named_read = λ service at low high object p small. in_request format device from to _ is (inr (inl
-      (lies_by (aimed format (named from operations.Read (numbers 12 14) to nothing)) _
-      (exactly 9) comes.port comes.network (anything _ (small SourceKey)) (bound_to (small DestinationNetwork))
-      (read_service service _ at low high) (within_some object.kind (small ObjectType)) (within_some object.instance (small Instance))
-      (within_some p (small Property)) refl
-      (sent format from.sender m.from comes.sender (small Sender)) (at_station format m.npdu (small Station)))));
-  unnamed_write = λ at small. in_request format device from to _ is (inr (inr (inl
-      (lies_by (aimed format (bound from operations.Write (only 15) to)) _
-      (exactly 10) comes.port comes.network (anything _ (small SourceKey)) (bound_to (small DestinationNetwork))
-      (is_exactly 15 _ at) refl refl refl refl
-      (sent format from.sender m.from comes.sender (small Sender)) (at_station format m.npdu (small Station))))));
-  named_write = λ at object p priority small. in_request format device from to _ is (inr (inr (inr (inl
-      (lies_by (aimed format (named from operations.Write (only 15) to some)) _
-      (exactly 10) comes.port comes.network (anything _ (small SourceKey)) (bound_to (small DestinationNetwork))
-      (is_exactly 15 _ at) (within_some object.kind (small ObjectType)) (within_some object.instance (small Instance))
-      (within_some p (small Property)) (within_some priority (small Priority))
-      (sent format from.sender m.from comes.sender (small Sender)) (at_station format m.npdu (small Station)))))));
+  unnamed_read = λ service at reading. in_request format device from to _ is (elim reading [
+    | inl first ↦ inl (unnamed 12 (at ∙ ap (λ (n : ℕ). Some n) first))
+    | inr second ↦ inr (inr (inl (unnamed 14 (at ∙ ap (λ (n : ℕ). Some n) second))))
+  ]);
+  named_read = λ service at reading object p known. in_request format device from to _ is (elim reading [
+    | inl first ↦ inr (inl (of_property 12 object p (at ∙ ap (λ (n : ℕ). Some n) first) known))
+    | inr second ↦ inr (inr (inr (inl (of_property 14 object p (at ∙ ap (λ (n : ℕ). Some n) second) known))))
+  ]);
+  unnamed_write = λ at. in_request format device from to _ is (inr (inr (inr (inr (inl
+      (lies_by (aimed format (bound from operations.Write (only 15) to)) (unnamed_ask route operations.Write)
+      (exactly 10) comes.port comes.network comes.key bound_to (is_exactly 15 route.service at) refl refl refl refl
+      (sent format from.sender m.from comes.sender comes.brought.from) (at_station format m.npdu comes.brought.npdu)))))));
+  named_write = λ at object p priority known rank. in_request format device from to _ is (inr (inr (inr (inr (inr (inl
+      (lies_by (aimed format (named from operations.Write (only 15) to (some fields.Priority)))
+      (named_ask route operations.Write object p (Some priority))
+      (exactly 10) comes.port comes.network comes.key bound_to (is_exactly 15 route.service at)
+      (object_kind object known.0) (object_instance object known.0) (property_within p known.1) rank
+      (sent format from.sender m.from comes.sender comes.brought.from) (at_station format m.npdu comes.brought.npdu))))))));
 }
+  where
+    route : Ask
+    route = table.passing_ask format operation m network
+
+    unnamed : (service : ℕ) → (table.passing_ask format operation m network).service ≡ Some service
+        → LiesIn (aimed format (bound from operations.Read (only service) to)) (unnamed_ask (table.passing_ask format operation m network) operations.Read)
+    unnamed service at =
+        lies_by (aimed format (bound from operations.Read (only service) to)) (unnamed_ask (table.passing_ask format operation m network) operations.Read)
+        (exactly 9) comes.port comes.network comes.key bound_to (is_exactly service _ at) refl refl refl refl
+        (sent format from.sender m.from comes.sender comes.brought.from) (at_station format m.npdu comes.brought.npdu)
+
+    of_property : (service : ℕ) (object : Object) (p : ℕ) → (table.passing_ask format operation m network).service ≡ Some service
+        → AreNamed object p
+        → LiesIn (aimed format (named from operations.Read (only service) to nothing))
+        (named_ask (table.passing_ask format operation m network) operations.Read object p None)
+    of_property service object p at known =
+        lies_by (aimed format (named from operations.Read (only service) to nothing))
+        (named_ask (table.passing_ask format operation m network) operations.Read object p None)
+        (exactly 9) comes.port comes.network comes.key bound_to (is_exactly service _ at)
+        (object_kind object known.0) (object_instance object known.0) (property_within p known.1) refl
+        (sent format from.sender m.from comes.sender comes.brought.from) (at_station format m.npdu comes.brought.npdu)
 
 -- ---- the relay's asks
 
 cast_follows : (format : Format) (device : ℕ) (from : Origin) (m : Message) → Comes format from m → names_stations format ≡ true
-    → NamedCases (Lies format device from) (cast_ask format m)
+    → NamedCases (Lies format device from) bounds_known (cast_ask format m)
 cast_follows One device from m comes e = absurd cc
 cast_follows Two device from m comes e = absurd cc
 cast_follows Three device from m comes e =
-    named_cases Three device from perhaps m operations.Cast (table.bound_for m.npdu) comes refl (λ small. anything (table.bound_for m.npdu) small)
+    named_cases Three device from (perhaps fields.DestinationNetwork) m operations.Cast (table.bound_for m.npdu) comes refl
+    (bound_within m.npdu comes.brought.npdu)
 
-cast_cases : (format : Format) (device : ℕ) (from : Origin) (m : Message) → Comes format from m → CastCases (Lies format device from) format m
+-- a message that is passed on, by what it asks for
+passes : (format : Format) (from : Origin) (m : Message) (operation : Operation) (network : Option ℕ) (services to : Side)
+    → Comes format from m → IsWithin (only (operation_number operation)) (Some (operation_number operation)) → IsWithin to network
+    → IsWithin services (table.service_of m.npdu.payload)
+    → LiesIn (aimed format (bound from operation services to)) (table.passing_ask format operation m network)
+passes format from m operation network services to comes at bound_to asked =
+    lies_by (aimed format (bound from operation services to)) (table.passing_ask format operation m network)
+    at comes.port comes.network comes.key bound_to asked refl refl refl refl
+    (sent format from.sender m.from comes.sender comes.brought.from) (at_station format m.npdu comes.brought.npdu)
+
+service_read : (m : Message) → IsBrought m → IsWithin request_or_message (table.service_of m.npdu.payload) ⊎ IsWithin answer (table.service_of m.npdu.payload)
+service_read m is = asked_for (table.service_of m.npdu.payload) (payload_asks m.npdu.payload is.npdu.fits is.npdu.octets)
+
+cast_cases : (format : Format) (device : ℕ) (from : Origin) (m : Message) → Comes format from m
+    → CastCases (Lies format device from) bounds_known format m
 cast_cases format device from m comes = record {
-  cast = λ small. in_message format device from (cast_ask format m) (inl
-      (lies_by (aimed format (bound from operations.Cast perhaps perhaps)) (cast_ask format m)
-      (exactly 1) comes.port comes.network (anything _ (small SourceKey)) (anything _ (small DestinationNetwork)) (anything _ (small Service))
-      refl refl refl refl (sent format from.sender m.from comes.sender (small Sender)) (at_station format m.npdu (small Station))));
+  cast = in_message format device from (cast_ask format m) (elim (service_read m comes.brought) [
+    | inl asked ↦ inl (passes format from m operations.Cast (table.bound_for m.npdu) request_or_message (perhaps fields.DestinationNetwork) comes
+        (exactly 1) (bound_within m.npdu comes.brought.npdu) asked)
+    | inr asked ↦ inr (inl (passes format from m operations.Cast (table.bound_for m.npdu) answer (perhaps fields.DestinationNetwork) comes
+        (exactly 1) (bound_within m.npdu comes.brought.npdu) asked))
+  ]);
   follows = cast_follows format device from m comes;
 }
 
-network_cases : (format : Format) (device : ℕ) (from : Origin) (m : Message) → Comes format from m
-    → NetworkCases (Lies format device from) format m
-network_cases format device from m comes = record {
-  learn = λ is network small. in_message format device from _ (inr (inr (inl
-      (lies_by (bound from operations.Learn (only 513) some) (table.message_ask format operations.Learn m (Some network))
-      (exactly 7) comes.port comes.network (anything _ (small SourceKey)) (within_some network (small DestinationNetwork)) (is_exactly 513 _ is)
-      refl refl refl refl (sent format from.sender m.from comes.sender (small Sender)) refl))));
-  question = λ is network small. in_message format device from _ (inr (inr (inr (inl
-      (lies_by (bound from operations.Network (only 512) perhaps) (table.message_ask format operations.Network m network)
-      (exactly 8) comes.port comes.network (anything _ (small SourceKey)) (anything network (small DestinationNetwork)) (is_exactly 512 _ is)
-      refl refl refl refl (sent format from.sender m.from comes.sender (small Sender)) refl)))));
-  number = λ is small. in_message format device from _ (inr (inr (inr (inr (inl
-      (lies_by (plain from operations.Network (only 530)) (table.message_ask format operations.Network m None)
-      (exactly 8) comes.port comes.network (anything _ (small SourceKey)) refl (is_exactly 530 _ is)
-      refl refl refl refl (sent format from.sender m.from comes.sender (small Sender)) refl))))));
+-- what a message that names no source asks
+pub record NearCases (P : Ask → Type 0) (format : Format) (m : Message) : Type 0 where
+  pub learn : service_of m.npdu.payload ≡ Some 513 → m.npdu.source ≡ None → (network : ℕ) → is_network network ≡ true → P (learn_ask format m network)
+  pub number : service_of m.npdu.payload ≡ Some 530 → m.npdu.source ≡ None → P (network_ask format m None)
+
+question_lies : (format : Format) (device : ℕ) (from : Origin) (m : Message) → Comes format from m → service_of m.npdu.payload ≡ Some 512
+    → (network : Option ℕ) → IfSome network (λ n. is_network n ≡ true) → Lies format device from (network_ask format m network)
+question_lies format device from m comes is network net =
+    in_message format device from _ (inr (inr (inr (inr (inl
+    (lies_by (bound from operations.Network (only 512) (record any_network { absent = true })) (network_ask format m network)
+    (exactly 8) comes.port comes.network comes.key (net_or_none network net) (is_exactly 512 _ is)
+    refl refl refl refl (sent format from.sender m.from comes.sender comes.brought.from) refl))))))
+
+pub near_cases : (format : Format) (from : Origin) (m : Message) → Comes format from m → NearCases (LiesInOne (near_shapes from)) format m
+near_cases format from m comes = record {
+  learn = λ is silent network net. inl
+      (lies_by (bound from operations.Learn (only 513) any_network) (learn_ask format m network)
+      (exactly 7) comes.port comes.network comes.key (net_within network net) (is_exactly 513 _ is)
+      refl refl refl refl (sent format from.sender m.from comes.sender comes.brought.from) refl);
+  number = λ is silent. inr (inl
+      (lies_by (bound from operations.Network (only 530) nothing) (network_ask format m None)
+      (exactly 8) comes.port comes.network comes.key refl (is_exactly 530 _ is)
+      refl refl refl refl (sent format from.sender m.from comes.sender comes.brought.from) refl));
 }
 
-route_follows : (format : Format) (device : ℕ) (from : Origin) (m : Message) (network : ℕ) → Comes format from m → JudgesRequests format
-    → NamedCases (Lies format device from) (route_ask format m (Some network))
-route_follows One device from m network comes judges = absurd judges
-route_follows Two device from m network comes judges =
-    named_cases Two device from some m operations.Route (Some network) comes refl (λ small. within_some network small)
-route_follows Three device from m network comes judges =
-    named_cases Three device from perhaps m operations.Route (Some network) comes refl (λ small. anything (Some network) small)
+route_follows : (format : Format) (device : ℕ) (from : Origin) (m : Message) (network : ℕ) → Comes format from m
+    → (1 ≤ network) × (network ≤ 65534) → JudgesRequests format
+    → NamedCases (Lies format device from) bounds_known (route_ask format m (Some network))
+route_follows One device from m network comes net judges = absurd judges
+route_follows Two device from m network comes net judges =
+    named_cases Two device from any_network m operations.Route (Some network) comes refl net
+route_follows Three device from m network comes net judges =
+    named_cases Three device from (perhaps fields.DestinationNetwork) m operations.Route (Some network) comes refl (net.0, at_most net.1)
+  where
+    at_most : network ≤ 65534 → network ≤ 65535
+    at_most below = omega (arith, below)
 
-route_cases : (format : Format) (device : ℕ) (from : Origin) (m : Message) → Comes format from m → RouteCases (Lies format device from) format m
+route_cases : (format : Format) (device : ℕ) (from : Origin) (m : Message) → Comes format from m
+    → RouteCases (Lies format device from) bounds_known format m
 route_cases format device from m comes = record {
-  route = λ network small. in_message format device from _ (inr (inl
-      (lies_by (aimed format (bound from operations.Route perhaps some)) (route_ask format m (Some network))
-      (exactly 2) comes.port comes.network (anything _ (small SourceKey)) (within_some network (small DestinationNetwork))
-      (anything _ (small Service)) refl refl refl refl
-      (sent format from.sender m.from comes.sender (small Sender)) (at_station format m.npdu (small Station)))));
-  follows = λ network judges. route_follows format device from m network comes judges;
+  route = λ network net. in_message format device from (route_ask format m (Some network)) (elim (service_read m comes.brought) [
+    | inl asked ↦ inr (inr (inl (passes format from m operations.Route (Some network) request_or_message any_network comes (exactly 2) net asked)))
+    | inr asked ↦ inr (inr (inr (inl (passes format from m operations.Route (Some network) answer any_network comes (exactly 2) net asked))))
+  ]);
+  follows = λ network net judges. route_follows format device from m network comes net judges;
 }
 
 -- ---- the device's asks
 
 device_cases : (format : Format) (from : Origin) (d : Database) (m : Message) → Comes format from m
-    → DeviceCases (Lies format (device_network d) from) d (context_of format (device_network d) m)
-device_cases format from d m comes =
+    → IsObject (device_id d.configured.device)
+    → DeviceCases (Lies format (device_network d) from) bounds_known d (context_of format (device_network d) m)
+device_cases format from d m comes own =
     let device = device_network d in record {
-      read = λ object p small. in_message format device from _ (inr (inr (inr (inr (inr (inl
+      read = λ object p known. in_message format device from _ (inr (inr (inr (inr (inr (inl
           (lies_by (named from operations.Read (only 12) (only device) nothing) _
-          (exactly 9) comes.port comes.network (anything _ (small SourceKey)) (exactly device) (exactly 12)
-          (within_some object.kind (small ObjectType)) (within_some object.instance (small Instance)) (within_some p (small Property)) refl
-          (sent format from.sender m.from comes.sender (small Sender)) refl)))))));
-      multi = λ object p small. in_message format device from _ (inr (inr (inr (inr (inr (inr (inl
+          (exactly 9) comes.port comes.network comes.key (exactly device) (exactly 12)
+          (object_kind object known.0) (object_instance object known.0) (property_within p known.1) refl
+          (sent format from.sender m.from comes.sender comes.brought.from) refl)))))));
+      multi = λ object p known. in_message format device from _ (inr (inr (inr (inr (inr (inr (inl
           (lies_by (named from operations.Read (only 14) (only device) nothing) _
-          (exactly 9) comes.port comes.network (anything _ (small SourceKey)) (exactly device) (exactly 14)
-          (within_some object.kind (small ObjectType)) (within_some object.instance (small Instance)) (within_some p (small Property)) refl
-          (sent format from.sender m.from comes.sender (small Sender)) refl))))))));
-      write = λ object p priority small. in_message format device from _ (inr (inr (inr (inr (inr (inr (inr (inl
-          (lies_by (named from operations.Write (only 15) (only device) some) _
-          (exactly 10) comes.port comes.network (anything _ (small SourceKey)) (exactly device) (exactly 15)
-          (within_some object.kind (small ObjectType)) (within_some object.instance (small Instance)) (within_some p (small Property))
-          (within_some priority (small Priority)) (sent format from.sender m.from comes.sender (small Sender)) refl)))))))));
-      who_has = λ object p small. in_message format device from _ (inr (inr (inr (inr (inr (inr (inr (inr (inl
-          (lies_by (named from operations.List (only 263) (only device) nothing) _
-          (exactly 11) comes.port comes.network (anything _ (small SourceKey)) (exactly device) (exactly 263)
-          (within_some object.kind (small ObjectType)) (within_some object.instance (small Instance)) (within_some p (small Property)) refl
-          (sent format from.sender m.from comes.sender (small Sender)) refl))))))))));
-      who_is = λ object p small. in_message format device from _ (inr (inr (inr (inr (inr (inr (inr (inr (inr (inl
-          (lies_by (named from operations.List (only 264) (only device) nothing) _
-          (exactly 11) comes.port comes.network (anything _ (small SourceKey)) (exactly device) (exactly 264)
-          (within_some object.kind (small ObjectType)) (within_some object.instance (small Instance)) (within_some p (small Property)) refl
-          (sent format from.sender m.from comes.sender (small Sender)) refl)))))))))));
+          (exactly 9) comes.port comes.network comes.key (exactly device) (exactly 14)
+          (object_kind object known.0) (object_instance object known.0) (property_within p known.1) refl
+          (sent format from.sender m.from comes.sender comes.brought.from) refl))))))));
+      write = λ object p priority known rank. in_message format device from _ (inr (inr (inr (inr (inr (inr (inr (inl
+          (lies_by (named from operations.Write (only 15) (only device) (some fields.Priority)) _
+          (exactly 10) comes.port comes.network comes.key (exactly device) (exactly 15)
+          (object_kind object known.0) (object_instance object known.0) (property_within p known.1) rank
+          (sent format from.sender m.from comes.sender comes.brought.from) refl)))))))));
+      who_has = λ object known. in_message format device from _ (inr (inr (inr (inr (inr (inr (inr (inr (inl
+          (lies_by (record (named from operations.List (only 263) (only device) nothing) { property = only 77 }) _
+          (exactly 11) comes.port comes.network comes.key (exactly device) (exactly 263)
+          (object_kind object known) (object_instance object known) (exactly 77) refl
+          (sent format from.sender m.from comes.sender comes.brought.from) refl))))))))));
+      who_is = in_message format device from _ (inr (inr (inr (inr (inr (inr (inr (inr (inr (inl
+          (lies_by (record (named from operations.List (only 264) (only device) nothing) { object_type = only 8; property = only 75 }) _
+          (exactly 11) comes.port comes.network comes.key (exactly device) (exactly 264)
+          (exactly 8) (object_instance (device_id d.configured.device) own) (exactly 75) refl
+          (sent format from.sender m.from comes.sender comes.brought.from) refl)))))))))));
     }
 
-device_lies : (format : Format) (rules : List Rule) (d : Database) (from : Origin) (m : Message) (apdu : Option (List ℕ)) → Comes format from m
-    → AllByRecursion (Lies format (device_network d) from) (apdu_asks rules d (context_of format (device_network d) m) apdu)
-device_lies format rules d from m None comes = tt
-device_lies format rules d from m (Some octets) comes =
-    each_device (Lies format (device_network d) from) rules d (context_of format (device_network d) m) octets (device_cases format from d m comes)
+device_lies : (format : Format) (rules : List Rule) (d : Database) (from : Origin) (m : Message) → Comes format from m
+    → DeviceKnown bounds_known d.configured
+    → AllByRecursion (Lies format (device_network d) from) (apdu_asks rules d (context_of format (device_network d) m) (apdu_for (device_network d) m.npdu))
+device_lies format rules d from m comes own =
+    by (apdu_for (device_network d) m.npdu) (towards (device_network d) m.npdu.payload m.npdu.destination comes.brought.npdu.octets)
+  where
+    -- the APDU is the payload's octets
+    of_payload : (payload : Payload) → AreOctets (payload_octets payload) → IfSome (apdu_of payload) AreOctets
+    of_payload (apdu octets) fits = fits
+    of_payload (network_message other) fits = tt
+
+    if_to : (b : Bool) (payload : Payload) → AreOctets (payload_octets payload) → IfSome (if b then apdu_of payload else None) AreOctets
+    if_to true payload fits = of_payload payload fits
+    if_to false payload fits = tt
+
+    towards : (network : ℕ) (payload : Payload) (d : Option Destination) → AreOctets (payload_octets payload)
+        → IfSome (apdu_towards network payload d) AreOctets
+    towards network payload None fits = tt
+    towards network payload (Some d) fits = if_to (is_device network d || is_broadcast network d) payload fits
+
+    by : (apdu : Option (List ℕ)) → IfSome apdu AreOctets
+        → AllByRecursion (Lies format (device_network d) from) (apdu_asks rules d (context_of format (device_network d) m) apdu)
+    by None fits = tt
+    by (Some octets) fits =
+        each_device (Lies format (device_network d) from) bounds_known rules d (context_of format (device_network d) m) octets
+        (device_cases format from d m comes own.device) own fits
 
 -- ---- all of a message
 
--- what holds of what lies there holds of each of its asks, if it holds of those before it is taken
+-- what holds of what lies there holds of each of its asks, if it holds of those before it is taken, and of those of a message
+-- that names no source
 pub message_lies : (rules : List Rule) (relay : Relay) (d : Database) (from : Origin) (m : Message) (P : Ask → Type 0)
-    → Comes relay.format from m → ((ask : Ask) → Lies relay.format (device_network d) from ask → P ask)
+    → Comes relay.format from m → Reached bounds_known relay m → DeviceKnown bounds_known d.configured
+    → ((ask : Ask) → Lies relay.format (device_network d) from ask → P ask) → NearCases P relay.format m
     → AllByRecursion P (entry_asks rules relay m) → AllByRecursion P (asks_for rules relay d (message m))
-message_lies rules relay d from m P comes so entered =
+message_lies rules relay d from m P comes reached own so near entered =
     let format = relay.format in
     let device = device_network d in
     let L = Lies format device from in
     each_part P rules relay d m entered
-    (each_weaker L P so _ (each_cast L format m (cast_cases format device from m comes)))
-    (each_weaker L P so _ (each_route L relay m (route_cases format device from m comes)))
-    (each_weaker L P so _ (each_network L relay m (network_cases format device from m comes)))
-    (each_weaker L P so _ (device_lies format rules d from m (apdu_for device m.npdu) comes))
+    (each_weaker L P so _ (each_cast L bounds_known format m (cast_cases format device from m comes) comes.brought.npdu.octets))
+    (each_weaker L P so _ (each_route L bounds_known relay m (route_cases format device from m comes) reached))
+    (each_network P relay m (record {
+      learn = near.learn;
+      question = λ is network net. so (network_ask format m network) (question_lies format device from m comes is network net);
+      number = near.number;
+    }))
+    (each_weaker L P so _ (device_lies format rules d from m comes own))
 
 -- ---- who enters and who claims
 
@@ -248,66 +382,74 @@ in_if : (b : Bool) (shape : Shape) (ask : Ask) → b ≡ true → LiesIn shape a
 in_if true shape ask e lies = inl lies
 in_if false shape ask e lies = absurd cc
 
-pub enter_lies : (format : Format) (from : Origin) (m : Message) → names_stations format ≡ true
-    → IsWithin from.port (Some m.here.port.number) → IsWithin from.network (Some m.here.port.network) → from.sender ≡ some_in format
-    → IsOfNumbers (enter_ask format m) → LiesInOne (enter_shapes format from) (enter_ask format m)
-enter_lies format from m names at net is small =
+pub enter_lies : (format : Format) (number network : ℕ) (m : Message) → names_stations format ≡ true → number ≡ m.here.port.number
+    → network ≡ m.here.port.network → IsBrought m → LiesInOne (enter_shapes format (own format number network)) (enter_ask format m)
+enter_lies format number network m names at net brought =
+    let from = own format number network in
     in_if (names_stations format) (plain from operations.Enter nothing) (enter_ask format m) names
-    (lies_by (plain from operations.Enter nothing) (enter_ask format m) (exactly 12) at net (anything _ (small SourceKey))
-    refl refl refl refl refl refl (sent format from.sender m.from is (small Sender)) refl)
+    (lies_by (plain from operations.Enter nothing) (enter_ask format m) (exactly 12) (omega (arith, at), omega (arith, at))
+    (omega (arith, net), omega (arith, net)) (six_octets m.link brought.link)
+    refl refl refl refl refl refl (sent format from.sender m.from refl brought.from) refl)
 
 pub claim_lies : (format : Format) (from : Origin) (m : Message) → names_stations format ≡ true → Comes format from m
-    → IsOfNumbers (claim_ask format m) → LiesInOne (claim_shapes format from) (claim_ask format m)
-claim_lies format from m names comes small =
+    → LiesInOne (claim_shapes format from) (claim_ask format m)
+claim_lies format from m names comes =
     in_if (names_stations format) (plain from operations.Claim nothing) (claim_ask format m) names
-    (lies_by (plain from operations.Claim nothing) (claim_ask format m) (exactly 13) comes.port comes.network (anything _ (small SourceKey))
-    refl refl refl refl refl refl (sent format from.sender m.from comes.sender (small Sender)) refl)
+    (lies_by (plain from operations.Claim nothing) (claim_ask format m) (exactly 13) comes.port comes.network comes.key
+    refl refl refl refl refl refl (sent format from.sender m.from comes.sender comes.brought.from) refl)
 
 -- ---- frames that manage a table
 
-table_lies : (format : Format) (from : Origin) (port : Port) (sender : BipAddr) (frame : Frame) → IsWithin from.port (Some port.number)
-    → IsWithin from.network (Some port.network) → from.sender ≡ some_in format
-    → AllByRecursion (λ ask. IsOfNumbers ask → LiesInOne (table_shapes format from) ask) (table.link_asks format port sender frame)
-table_lies format from port sender (bvll.write_bdt entries) at net is = (
-  λ small. inl (lies_by (plain from operations.WriteTable (only 769)) _
-      (exactly 6) at net (anything (Some (big_endian (octets_of sender))) (small SourceKey)) refl (exactly 769) refl refl refl refl
-      (sent format from.sender sender is (small Sender)) refl),
-  tt,
-)
-table_lies format from port sender bvll.read_bdt at net is = (
-  λ small. inr (inl (lies_by (plain from operations.ReadTable (only 770)) _
-      (exactly 5) at net (anything (Some (big_endian (octets_of sender))) (small SourceKey)) refl (exactly 770) refl refl refl refl
-      (sent format from.sender sender is (small Sender)) refl)),
-  tt,
-)
-table_lies format from port sender (bvll.register time_to_live) at net is = (
-  λ small. inr (inr (inl (lies_by (plain from operations.Register (only 773)) _
-      (exactly 3) at net (anything (Some (big_endian (octets_of sender))) (small SourceKey)) refl (exactly 773) refl refl refl refl
-      (sent format from.sender sender is (small Sender)) refl))),
-  tt,
-)
-table_lies format from port sender bvll.read_fdt at net is = (
-  λ small. inr (inr (inr (inl (lies_by (plain from operations.ReadTable (only 774)) _
-      (exactly 5) at net (anything (Some (big_endian (octets_of sender))) (small SourceKey)) refl (exactly 774) refl refl refl refl
-      (sent format from.sender sender is (small Sender)) refl)))),
-  tt,
-)
-table_lies format from port sender (bvll.delete address) at net is = (
-  λ small. inr (inr (inr (inr (inl (lies_by (record (plain from operations.Delete (only 776)) { station = some_in format }) _
-      (exactly 4) at net (anything (Some (big_endian (octets_of sender))) (small SourceKey)) refl (exactly 776) refl refl refl refl
-      (sent format from.sender sender is (small Sender)) (sent format (some_in format) address refl (small Station))))))),
-  tt,
-)
-table_lies format from port sender (bvll.result_code code) at net is = tt
-table_lies format from port sender (bvll.read_bdt_ack entries) at net is = tt
-table_lies format from port sender (bvll.forwarded originator npdu) at net is = tt
-table_lies format from port sender (bvll.read_fdt_ack entries) at net is = tt
-table_lies format from port sender (bvll.distribute npdu) at net is = tt
-table_lies format from port sender (bvll.original_unicast npdu) at net is = tt
-table_lies format from port sender (bvll.original_broadcast npdu) at net is = tt
+table_lies : (format : Format) (number network : ℕ) (port : Port) (sender : BipAddr) (frame : Frame) → number ≡ port.number → network ≡ port.network
+    → IsAddress sender → HasFields frame
+    → AllByRecursion (LiesInOne (table_shapes format (own format number network))) (table.link_asks format port sender frame)
+table_lies format number network port sender frame at net is fits = each frame fits
+  where
+    each : (frame : Frame) → HasFields frame
+        → AllByRecursion (LiesInOne (table_shapes format (own format number network))) (table.link_asks format port sender frame)
+    each (bvll.write_bdt entries) fits = (
+      inl
+          (lies_by (plain (own format number network) operations.WriteTable (only 769)) _
+          (exactly 6) (omega (arith, at), omega (arith, at)) (omega (arith, net), omega (arith, net)) (address_key sender is) refl (exactly 769) refl refl refl refl
+          (sent format (some_in format fields.Sender) sender refl is) refl),
+      tt,
+    )
+    each bvll.read_bdt fits = (
+      inr (inl
+          (lies_by (plain (own format number network) operations.ReadTable (only 770)) _
+          (exactly 5) (omega (arith, at), omega (arith, at)) (omega (arith, net), omega (arith, net)) (address_key sender is) refl (exactly 770) refl refl refl refl
+          (sent format (some_in format fields.Sender) sender refl is) refl)),
+      tt,
+    )
+    each (bvll.register time_to_live) fits = (
+      inr (inr (inl
+          (lies_by (plain (own format number network) operations.Register (only 773)) _
+          (exactly 3) (omega (arith, at), omega (arith, at)) (omega (arith, net), omega (arith, net)) (address_key sender is) refl (exactly 773) refl refl refl refl
+          (sent format (some_in format fields.Sender) sender refl is) refl))),
+      tt,
+    )
+    each bvll.read_fdt fits = (
+      inr (inr (inr (inl
+          (lies_by (plain (own format number network) operations.ReadTable (only 774)) _
+          (exactly 5) (omega (arith, at), omega (arith, at)) (omega (arith, net), omega (arith, net)) (address_key sender is) refl (exactly 774) refl refl refl refl
+          (sent format (some_in format fields.Sender) sender refl is) refl)))),
+      tt,
+    )
+    each (bvll.delete address) fits = (
+      inr (inr (inr (inr (inl
+          (lies_by (record (plain (own format number network) operations.Delete (only 776)) { station = some_in format fields.Station }) _
+          (exactly 4) (omega (arith, at), omega (arith, at)) (omega (arith, net), omega (arith, net)) (address_key sender is) refl (exactly 776) refl refl refl refl
+          (sent format (some_in format fields.Sender) sender refl is) (key_within (names_stations format) address fits)))))),
+      tt,
+    )
+    each (bvll.result_code code) fits = tt
+    each (bvll.read_bdt_ack entries) fits = tt
+    each (bvll.forwarded originator npdu) fits = tt
+    each (bvll.read_fdt_ack entries) fits = tt
+    each (bvll.distribute npdu) fits = tt
+    each (bvll.original_unicast npdu) fits = tt
+    each (bvll.original_broadcast npdu) fits = tt
 
-pub link_lies : (format : Format) (port : Port) (sender : BipAddr) (frame : Frame)
-    → AllByRecursion (λ ask. IsOfNumbers ask → LiesInOne (table_shapes format (own format port.number port.network)) ask)
-    (table.link_asks format port sender frame)
-link_lies format port sender frame =
-    table_lies format (own format port.number port.network) port sender frame (exactly port.number) (exactly port.network) refl
+pub link_lies : (format : Format) (port : Port) (sender : BipAddr) (frame : Frame) → IsAddress sender → HasFields frame
+    → AllByRecursion (LiesInOne (table_shapes format (own format port.number port.network))) (table.link_asks format port sender frame)
+link_lies format port sender frame is fits = table_lies format port.number port.network port sender frame refl refl is fits

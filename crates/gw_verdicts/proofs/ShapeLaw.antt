@@ -1,18 +1,34 @@
 -- Every ask that a gateway raises lies in a shape of its configuration.
-use Rattle.std.proofs.Common.{◌≡◌, ◌≢◌, ◌∙◌, inl, inr, sym, ap, refl, subst, ℕ, ◌+◌, ◌≤◌, Bool, true, false, List, [], ◌∷◌, ◌++◌, length, nat_le, Option, Some, None, arith}
-use Rattle.std.specs.Prelude.{◌==◌, ◌&&◌, ◌||◌, not, IfSome}
-use Rattle.std.specs.List.{AllByRecursion, flat_map, list_any}
+use Rattle.std.proofs.Common.{◌≡◌, ◌≢◌, ◌∙◌, inl, inr, sym, ap, refl, subst, ℕ, ◌+◌, ◌≤◌, ◌<◌, Bool, true, false, List, [], ◌∷◌, ◌++◌, length, map, nat_le, Option, Some, None, arith}
+use Rattle.std.specs.Prelude.{◌==◌, ◌&&◌, ◌||◌, ◌^◌, not, if◌then◌else◌, IfSome}
+use Rattle.std.specs.List.{AllByRecursion, flat_map, list_all, list_any}
 use Rattle.std.specs.Option.{option_map_or}
-use Rattle.std.proofs.lemmas.Bool.{both_ways, eqb-false, le-leb, leb-true, or_parts}
+use Rattle.std.proofs.lemmas.Bool.{and_parts, eqb-false, leb-true, or_parts}
 use Rattle.gw_addr.specs.declared.bip.BipAddr.{BipAddr}
+use Rattle.gw_addr.specs.declared.station.Source.{Source}
+use Rattle.gw_addr.specs.Address.{IsAddress}
 use Rattle.gw_addr.specs.Station.{key_of}
+use Rattle.gw_bvll.specs.Bvll.{HasFields}
 use Rattle.gw_bvll.specs.Bvll.{Message as Frame}
-use Rattle.gw_npdu.specs.Npdu.{Address}
-use Rattle.gw_objects.specs.declared.configured.Configured.{Configured}
+use Rattle.gw_npdu.specs.Npdu.{Address, Destination}
 use Rattle.gw_configuration.specs.Configuration.{Configuration}
-use Rattle.gw_rules.specs.declared.format.Format.{Format}
+use Rattle.gw_configuration.specs.declared.object.Object.{Object as ConfigurationObject}
 use Rattle.gw_configuration.specs.declared.port.Port.{Port as ConfiguredPort}
+use Rattle.gw_objects.specs.declared.configured.Configured.{Configured}
+use Rattle.gw_objects.specs.declared.configured.ConfiguredObject.{ConfiguredObject}
+use Rattle.gw_objects.specs.declared.property.ObjectType.{ObjectType}
+use Rattle.gw_objects.specs.declared.property.ObjectType.TheVariants as types
+use Rattle.gw_objects.specs.declared.property.ObjectType.TheVariants.{BinaryValue, CharacterStringValue, Device, IntegerValue, MultiStateValue, PositiveIntegerValue}
+use Rattle.gw_objects.specs.declared.property.Property.{Property}
+use Rattle.gw_objects.specs.declared.property.PropertySet.{PropertySet}
+use Rattle.gw_objects.specs.declared.property.PropertySet.TheVariants.{All, Optional, Required}
+use Rattle.gw_objects.specs.Identifier.{type_of}
+use Rattle.gw_objects.specs.Objects.{configured_of, database_of, device_id, id, object_id_of}
+use Rattle.gw_objects.specs.Property.{properties, property_number, type_number}
+use Rattle.gw_device.specs.Asks.{named_object}
+use Rattle.gw_rules.specs.declared.format.Format.{Format}
 use Rattle.gw_relay.specs.Asks as table
+use Rattle.gw_relay.specs.Claim.{claimed_by, local_source, remote_source}
 use Rattle.gw_relay.specs.Entry.{claim_ask, comes_by_route, enter_ask, enters, entry_asks, is_stranger, speaks_for_others}
 use Rattle.gw_relay.specs.History.{all_after, ports_from}
 use Rattle.gw_relay.specs.Message.{Message}
@@ -20,12 +36,15 @@ use Rattle.gw_relay.specs.declared.port.Port.{Port}
 use Rattle.gw_relay.specs.declared.port.PortState.{PortState}
 use Rattle.gw_relay.specs.State.{Relay}
 use Rattle.gw_relay.specs.Stations.{is_station}
-use Rattle.gw_rules.specs.Ask.{Ask, IsFrom}
+use Rattle.gw_routes.specs.declared.route.TheConstants.{EVERYWHERE}
+use Rattle.gw_rules.specs.Ask.{Ask}
 use Rattle.gw_rules.specs.Format.{names_stations}
-use Rattle.gw_rules.specs.declared.field.FieldName.TheVariants.{SourceNetwork}
+use Rattle.gw_rules.specs.declared.field.FieldName.TheVariants as fields
 use Rattle.gw_rules.specs.RuleList.{first}
 use Rattle.gw_rules.proofs.EachAsk.{each_weaker}
 use Rattle.gw_script.specs.Event.{Event}
+use Rattle.gw_services.specs.Limits.{last_property}
+use Rattle.gw_tags.specs.Object.{IsObject, Object}
 use Rattle.gw_core.specs.Asks.{asks, asks_for}
 use Rattle.gw_core.specs.History.{port_acts, state_after}
 use Rattle.gw_core.specs.Receive.{Received, barred, dropped, managed, message, receive, unregistered}
@@ -36,15 +55,19 @@ use Rattle.gw_core.proofs.HistoryLemmas.{configuration_stays, ports_stay}
 use Rattle.gw_core.proofs.RespondLemmas.{four_none}
 use Rattle.gw_core.proofs.StandLemmas.{acts_leave_the_tables}
 use Rattle.gw_core.proofs.Whence.{Heard, InPorts, IsHeard, all_links, heard_at, port_bounds}
-use Rattle.gw_verdicts.specs.Laws.{AsksLieInShapes, IsOfNumbers, NeverFirstNeverDecides}
-use Rattle.gw_shapes.specs.Pieces.{most}
+use Rattle.gw_verdicts.specs.Laws.{AsksLieInShapes, IsCarried, IsInstance, IsNumbered, IsOnNetwork, NeverFirstNeverDecides}
 use Rattle.gw_shapes.specs.Shape.{IsWithin, LiesInOne, Shape}
-use Rattle.gw_shapes.specs.Shapes.{claim_shapes, enter_shapes, foreign, foreign_shapes, gaps, own, own_shapes, shapes, shapes_from, shapes_of, shapes_within, table_shapes}
+use Rattle.gw_shapes.specs.Shapes.{claim_shapes, enter_shapes, foreign, foreign_shapes, gaps, near_shapes, network, own, own_shapes, perhaps, shapes, shapes_from, shapes_of, shapes_within, some, table_shapes}
 use Rattle.gw_shapes.specs.declared.side.Side.{Side}
 use Rattle.gw_shapes.proofs.Lying.{in_front, in_rest}
-use Rattle.gw_verdicts.proofs.Parts.{each_claimed, each_entry}
-use Rattle.gw_verdicts.proofs.Raised.{Comes, claim_lies, enter_lies, link_lies, message_lies}
+use Rattle.gw_verdicts.proofs.Brought.{Brought, IsBrought, brought_at}
+use Rattle.gw_verdicts.proofs.DeviceAsks.{DeviceKnown}
 use Rattle.gw_verdicts.proofs.Gaps.{WithinOne, apart, in_gap}
+use Rattle.gw_verdicts.proofs.Knowing.{bounds_known}
+use Rattle.gw_verdicts.proofs.Octets.{AreNamed, IsPlace, IsStation}
+use Rattle.gw_verdicts.proofs.Parts.{each_entry}
+use Rattle.gw_verdicts.proofs.RelayAsks.{Reached}
+use Rattle.gw_verdicts.proofs.Raised.{Comes, any_octets, claim_lies, enter_lies, link_lies, message_lies, near_cases, six_octets}
 
 -- ---- in the list of all shapes
 
@@ -82,7 +105,7 @@ gap_of make (side ∷ sides) n (inr later) =
 -- ---- of what is received
 
 abbrev LiesThere : Format → ℕ → List ConfiguredPort → Ask → Type 0
-LiesThere format device ports ask = IsOfNumbers ask → LiesInOne (shapes_of format device ports) ask
+LiesThere format device ports ask = LiesInOne (shapes_of format device ports) ask
 
 abbrev others : Format → ℕ → List ConfiguredPort → List Shape
 others format device ports = flat_map (foreign_shapes format device (length ports)) (gaps device ports)
@@ -94,13 +117,13 @@ here_lies format device ports port ask there lies =
     in_front (own_shapes format device 1 ports) (others format device ports) ask (in_own format device 1 ports port ask there lies)
 
 managed_lies : (format : Format) (device : ℕ) (ports : List ConfiguredPort) (port : Port) (from : BipAddr) (frame : Frame) → InPorts 1 ports port
-    → AllByRecursion (LiesThere format device ports) (table.link_asks format port from frame)
-managed_lies format device ports port from frame there =
+    → IsAddress from → HasFields frame → AllByRecursion (LiesThere format device ports) (table.link_asks format port from frame)
+managed_lies format device ports port from frame there is fits =
     let at = own format port.number port.network in
-    each_weaker (λ ask. IsOfNumbers ask → LiesInOne (table_shapes format at) ask) (LiesThere format device ports)
-    (λ ask lies small. here_lies format device ports port ask there
-    (in_front (table_shapes format at) (enter_shapes format at ++ shapes_from format device at) ask (lies small)))
-    (table.link_asks format port from frame) (link_lies format port from frame)
+    each_weaker (LiesInOne (table_shapes format at)) (LiesThere format device ports)
+    (λ ask lies. here_lies format device ports port ask there
+    (in_front (table_shapes format at) (enter_shapes format at ++ (near_shapes at ++ shapes_from format device at)) ask lies))
+    (table.link_asks format port from frame) (link_lies format port from frame is fits)
 
 -- whoever enters a port
 stranger_names : (format : Format) (m : Message) → is_stranger format m ≡ true → names_stations format ≡ true
@@ -113,80 +136,124 @@ stranger_names format m e =
     by true false none station registered e = absurd cc
     by false false none station registered e = absurd cc
 
-entering_lies : (format : Format) (device : ℕ) (ports : List ConfiguredPort) (m : Message) → InPorts 1 ports m.here.port
+entering_lies : (format : Format) (device : ℕ) (ports : List ConfiguredPort) (m : Message) → InPorts 1 ports m.here.port → IsBrought m
     → is_stranger format m ≡ true → LiesThere format device ports (enter_ask format m)
-entering_lies format device ports m there e small =
+entering_lies format device ports m there brought e =
     let port = m.here.port in
     let at = own format port.number port.network in
     here_lies format device ports port (enter_ask format m) there
-    (in_rest (table_shapes format at) (enter_shapes format at ++ shapes_from format device at) (enter_ask format m)
-    (in_front (enter_shapes format at) (shapes_from format device at) (enter_ask format m)
-    (enter_lies format at m (stranger_names format m e) (omega arith, omega arith) (omega arith, omega arith) refl small)))
+    (in_rest (table_shapes format at) (enter_shapes format at ++ (near_shapes at ++ shapes_from format device at)) (enter_ask format m)
+    (in_front (enter_shapes format at) (near_shapes at ++ shapes_from format device at) (enter_ask format m)
+    (enter_lies format port.number port.network m (stranger_names format m e) refl refl brought)))
 
--- from a station of a port's own network
-own_lies : (w : State) (ports : List ConfiguredPort) (m : Message) → InPorts 1 ports m.here.port → m.claim.net ≡ m.here.port.network
+-- ---- of a port's own network
+
+-- a message that names no source is of the link source
+own_claim : (m : Message) → IsBrought m → m.npdu.source ≡ None → m.claim ≡ local_source m.here.port.network m.link
+own_claim m brought none = brought.claim ∙ ap (claimed_by (local_source m.here.port.network m.link)) none
+
+own_comes : (format : Format) (m : Message) → IsBrought m → m.npdu.source ≡ None → Comes format (own format m.here.port.number m.here.port.network) m
+own_comes format m brought none =
+    let is = own_claim m brought none in
+    let net : m.claim.net ≡ m.here.port.network = ap (λ (c : Source). c.net) is in
+    record {
+      port = (omega arith, omega arith);
+      network = (omega (arith, net), omega (arith, net));
+      key = subst (λ (c : Source). IsWithin (some fields.SourceKey) (key_of c.mac)) (sym is) (six_octets m.link brought.link);
+      sender = refl;
+      brought = brought;
+    }
+
+own_lies : (w : State) (ports : List ConfiguredPort) (m : Message) → InPorts 1 ports m.here.port → m.npdu.source ≡ None → IsBrought m
+    → Reached bounds_known w.relay m → DeviceKnown bounds_known w.device.configured
     → AllByRecursion (LiesThere w.relay.format (device_network w.device) ports) (entry_asks w.rules w.relay m)
     → AllByRecursion (LiesThere w.relay.format (device_network w.device) ports) (asks_for w.rules w.relay w.device (message m))
-own_lies w ports m there is entered =
+own_lies w ports m there none brought reached device_known entered =
     let format = w.relay.format in
     let device = device_network w.device in
     let port = m.here.port in
     let at = own format port.number port.network in
-    let comes : Comes format at m = record { port = (omega arith, omega arith); network = (omega (arith, is), omega (arith, is)); sender = refl } in
-    message_lies w.rules w.relay w.device at m (LiesThere format device ports) comes
-    (λ ask lies small. here_lies format device ports port ask there
-    (in_rest (table_shapes format at) (enter_shapes format at ++ shapes_from format device at) ask
-    (in_rest (enter_shapes format at) (shapes_from format device at) ask (lies small)))) entered
+    let comes = own_comes format m brought none in
+    let near = near_cases format at m comes in
+    let behind : (ask : Ask) → LiesInOne (near_shapes at ++ shapes_from format device at) ask → LiesThere format device ports ask =
+    λ ask lies. here_lies format device ports port ask there
+    (in_rest (table_shapes format at) (enter_shapes format at ++ (near_shapes at ++ shapes_from format device at)) ask
+    (in_rest (enter_shapes format at) (near_shapes at ++ shapes_from format device at) ask lies)) in
+    message_lies w.rules w.relay w.device at m (LiesThere format device ports) comes reached device_known
+    (λ ask lies. behind ask (in_rest (near_shapes at) (shapes_from format device at) ask lies))
+    (record {
+      learn = λ is silent network net. behind _ (in_front (near_shapes at) (shapes_from format device at) _ (near.learn is silent network net));
+      number = λ is silent. behind _ (in_front (near_shapes at) (shapes_from format device at) _ (near.number is silent));
+    }) entered
 
--- from another network
-comes_foreign : (format : Format) (ports : List ConfiguredPort) (m : Message) (side : Side) → InPorts 1 ports m.here.port
-    → IsWithin side (Some m.claim.net) → Comes format (foreign format (length ports) side) m
-comes_foreign format ports m side there within =
+-- ---- of another network
+
+-- what a message says of a source that it names
+record NamesSource (m : Message) : Type 0 where
+  net : IsWithin network (Some m.claim.net)
+  key : IsWithin (perhaps fields.SourceKey) (key_of m.claim.mac)
+
+names_source : (m : Message) → IsBrought m → m.npdu.source ≢ None → NamesSource m
+names_source m brought named = by m.npdu.source refl
+  where
+    by : (source : Option Address) → m.npdu.source ≡ source → NamesSource m
+    by None is = absurd (named is)
+    by (Some s) is =
+        let claim : m.claim ≡ remote_source s = brought.claim ∙ ap (claimed_by (local_source m.here.port.network m.link)) is in
+        let station = subst (λ (x : Option Address). IfSome x IsStation) is brought.npdu.source in
+        record {
+          net = subst (λ (c : Source). IsWithin network (Some c.net)) (sym claim) (station.0, station.1.0);
+          key = subst (λ (c : Source). IsWithin (perhaps fields.SourceKey) (key_of c.mac)) (sym claim) (any_octets s.mac station.1.1);
+        }
+
+-- a message from a network that none of the ports has names its source
+not_own : (number : ℕ) (ports : List ConfiguredPort) (port : Port) (n : ℕ) → InPorts number ports port → AllByRecursion (λ p. n ≢ p.network) ports
+    → n ≢ port.network
+not_own number [] port n there none e = there
+not_own number (p ∷ ports) port n (inl is) none e = none.0 (e ∙ ap (λ (q : Port). q.network) is)
+not_own number (p ∷ ports) port n (inr later) none e = not_own (number + 1) ports port n later none.1 e
+
+far : (m : Message) (ports : List ConfiguredPort) → IsBrought m → InPorts 1 ports m.here.port → AllByRecursion (λ p. m.claim.net ≢ p.network) ports
+    → m.npdu.source ≢ None
+far m ports brought there none silent =
+    not_own 1 ports m.here.port m.claim.net there none (ap (λ (c : Source). c.net) (own_claim m brought silent))
+
+comes_foreign : (format : Format) (ports : List ConfiguredPort) (m : Message) (side : Side) → InPorts 1 ports m.here.port → IsBrought m
+    → NamesSource m → IsWithin side (Some m.claim.net) → Comes format (foreign format (length ports) side) m
+comes_foreign format ports m side there brought named within =
     let bounds = port_bounds 1 ports m.here.port there in
     let low = bounds.0 in
-    let high = bounds.1 in record { port = (low, omega (arith, high)); network = within; sender = refl }
+    let high = bounds.1 in
+    record { port = (low, omega (arith, high)); network = within; key = named.key; sender = refl; brought = brought }
 
-foreign_lies : (w : State) (ports : List ConfiguredPort) (m : Message) → InPorts 1 ports m.here.port
-    → WithinOne (gaps (device_network w.device) ports) m.claim.net
+foreign_lies : (w : State) (ports : List ConfiguredPort) (m : Message) → InPorts 1 ports m.here.port → IsBrought m
+    → m.claim.net ≢ device_network w.device → AllByRecursion (λ p. m.claim.net ≢ p.network) ports
+    → Reached bounds_known w.relay m → DeviceKnown bounds_known w.device.configured
     → AllByRecursion (LiesThere w.relay.format (device_network w.device) ports) (entry_asks w.rules w.relay m)
     → AllByRecursion (LiesThere w.relay.format (device_network w.device) ports) (asks_for w.rules w.relay w.device (message m))
-foreign_lies w ports m there is entered =
+foreign_lies w ports m there brought other none reached device_known entered =
     let format = w.relay.format in
     let device = device_network w.device in
-    let gap = gap_of (foreign_shapes format device (length ports)) (gaps device ports) m.claim.net is in
+    let silent = far m ports brought there none in
+    let named = names_source m brought silent in
+    let gap = gap_of (foreign_shapes format device (length ports)) (gaps device ports) m.claim.net (in_gap device ports m.claim.net named.net other none) in
     let at = foreign format (length ports) gap.side in
-    message_lies w.rules w.relay w.device at m (LiesThere format device ports) (comes_foreign format ports m gap.side there gap.within)
-    (λ ask lies small. in_rest (own_shapes format device 1 ports) (others format device ports) ask
-    (gap.lies ask (in_rest (claim_shapes format at) (shapes_from format device at) ask (lies small)))) entered
+    message_lies w.rules w.relay w.device at m (LiesThere format device ports)
+    (comes_foreign format ports m gap.side there brought named gap.within) reached device_known
+    (λ ask lies. in_rest (own_shapes format device 1 ports) (others format device ports) ask
+    (gap.lies ask (in_rest (claim_shapes format at) (shapes_from format device at) ask lies)))
+    (record { learn = λ is none network net. absurd (silent none); number = λ is none. absurd (silent none) }) entered
 
-claiming_lies : (format : Format) (device : ℕ) (ports : List ConfiguredPort) (m : Message) → InPorts 1 ports m.here.port
+claiming_lies : (format : Format) (device : ℕ) (ports : List ConfiguredPort) (m : Message) → InPorts 1 ports m.here.port → IsBrought m
     → names_stations format ≡ true → m.claim.net ≢ device → AllByRecursion (λ p. m.claim.net ≢ p.network) ports
     → LiesThere format device ports (claim_ask format m)
-claiming_lies format device ports m there names other none small =
-    let gap = gap_of (foreign_shapes format device (length ports)) (gaps device ports) m.claim.net
-    (in_gap device ports m.claim.net (small SourceNetwork) other none) in
+claiming_lies format device ports m there brought names other none =
+    let named = names_source m brought (far m ports brought there none) in
+    let gap = gap_of (foreign_shapes format device (length ports)) (gaps device ports) m.claim.net (in_gap device ports m.claim.net named.net other none) in
     let at = foreign format (length ports) gap.side in
     in_rest (own_shapes format device 1 ports) (others format device ports) (claim_ask format m)
     (gap.lies (claim_ask format m) (in_front (claim_shapes format at) (shapes_from format device at) (claim_ask format m)
-    (claim_lies format at m names (comes_foreign format ports m gap.side there gap.within) small)))
-
--- an ask of a source of more than 64 bits is none of the code's
-too_great : (n : ℕ) (key : Option ℕ) (ask : Ask) → nat_le n most ≡ false → IsFrom n key ask → IsOfNumbers ask → ⊥
-too_great n key ask e from small =
-    let at : IfSome (Some n) (λ number. number ≤ most) = subst (λ (value : Option ℕ). IfSome value (λ number. number ≤ most)) from.source_network
-    (small SourceNetwork) in
-    let t = le-leb n most at in
-    both_ways (nat_le n most) e t
-
-claimed_lies : (w : State) (ports : List ConfiguredPort) (m : Message) (b : Bool) → nat_le m.claim.net most ≡ b
-    → InPorts 1 ports m.here.port → m.claim.net ≢ device_network w.device → AllByRecursion (λ p. m.claim.net ≢ p.network) ports
-    → AllByRecursion (LiesThere w.relay.format (device_network w.device) ports) (entry_asks w.rules w.relay m)
-    → AllByRecursion (LiesThere w.relay.format (device_network w.device) ports) (asks_for w.rules w.relay w.device (message m))
-claimed_lies w ports m true e there other none entered =
-    foreign_lies w ports m there (in_gap (device_network w.device) ports m.claim.net (leb-true m.claim.net most e) other none) entered
-claimed_lies w ports m false e there other none entered =
-    each_claimed (LiesThere w.relay.format (device_network w.device) ports) w.rules w.relay w.device m
-    (λ ask is small. absurd (too_great m.claim.net (key_of m.claim.mac) ask e is small)) entered
+    (claim_lies format at m names (comes_foreign format ports m gap.side there brought named gap.within))))
 
 -- no link is of a network, so no port is
 abbrev Apart : State → List ConfiguredPort → Type 0
@@ -210,65 +277,164 @@ speaker_names relay m e = by (names_stations relay.format) _ e
     by false rest e = absurd cc
 
 entry_lies : (w : State) (ports : List ConfiguredPort) (m : Message)
-    → IsHeard w.relay.links (device_network w.device) (InPorts 1 ports) m → Apart w ports
+    → IsHeard w.relay.links (device_network w.device) (InPorts 1 ports) m → IsBrought m → Apart w ports
     → AllByRecursion (LiesThere w.relay.format (device_network w.device) ports) (entry_asks w.rules w.relay m)
-entry_lies w ports m heard apart =
+entry_lies w ports m heard brought apart =
     let format = w.relay.format in
     let device = device_network w.device in
-    each_entry (LiesThere format device ports) w.rules w.relay m (λ e. entering_lies format device ports m heard.port e)
+    each_entry (LiesThere format device ports) w.rules w.relay m (λ e. entering_lies format device ports m heard.port brought e)
     (λ e. elim heard.claim [
       | inl none ↦ absurd (silent_claim w.relay m none.0 e)
       | inr other ↦
           let parts = or_parts (m.claim.net == device) (list_any (λ link. link.port.network == m.claim.net) w.relay.links) other in
-          claiming_lies format device ports m heard.port (speaker_names w.relay m e) (eqb-false m.claim.net device parts.0)
+          claiming_lies format device ports m heard.port brought (speaker_names w.relay m e) (eqb-false m.claim.net device parts.0)
           (apart m.claim.net parts.1)
     ])
 
+-- the networks that a message can go to
+reached_by : (w : State) (m : Message) → IsBrought m → AllByRecursion (λ link. bounds_known.IsNet link.port.network) w.relay.links
+    → Reached bounds_known w.relay m
+reached_by w m brought nets = record {
+  ports = nets;
+  bound = λ d is other. below d (subst (λ (x : Option Destination). IfSome x (λ d. IsPlace d.address)) is brought.npdu.destination) other;
+  text = brought.npdu.octets;
+}
+  where
+    below : (d : Destination) → IsPlace d.address → d.address.network ≢ EVERYWHERE → (1 ≤ d.address.network) × (d.address.network ≤ 65534)
+    below d place other =
+        let most = place.1.0 in
+        (place.0, omega (arith, most, other))
+
 received_lies : (w : State) (ports : List ConfiguredPort) (received : Received)
-    → Heard w.relay.links (device_network w.device) (InPorts 1 ports) received → Apart w ports
+    → Heard w.relay.links (device_network w.device) (InPorts 1 ports) received → Brought received → Apart w ports
+    → AllByRecursion (λ link. bounds_known.IsNet link.port.network) w.relay.links → DeviceKnown bounds_known w.device.configured
     → AllByRecursion (LiesThere w.relay.format (device_network w.device) ports) (asks_for w.rules w.relay w.device received)
-received_lies w ports dropped heard apart = tt
-received_lies w ports (unregistered m) heard apart = tt
-received_lies w ports (managed on sender frame) heard apart =
+received_lies w ports dropped heard brought apart nets known = tt
+received_lies w ports (unregistered m) heard brought apart nets known = tt
+received_lies w ports (managed on sender frame) heard brought apart nets known =
     let format = w.relay.format in
     let P = LiesThere format (device_network w.device) ports in
     let raised = table.link_asks format on.port sender frame in
-    subst (AllByRecursion P) (sym (four_none raised)) (managed_lies format (device_network w.device) ports on.port sender frame heard)
-received_lies w ports (barred m) heard apart =
+    subst (AllByRecursion P) (sym (four_none raised))
+    (managed_lies format (device_network w.device) ports on.port sender frame heard brought.0 brought.1)
+received_lies w ports (barred m) heard brought apart nets known =
     let P = LiesThere w.relay.format (device_network w.device) ports in
-    subst (AllByRecursion P) (sym (four_none (entry_asks w.rules w.relay m))) (entry_lies w ports m heard apart)
-received_lies w ports (message m) heard apart = elim heard.claim [
-  | inl is ↦ own_lies w ports m heard.port is.1 (entry_lies w ports m heard apart)
-  | inr other ↦
-      let parts = or_parts (m.claim.net == device_network w.device) (list_any (λ link. link.port.network == m.claim.net) w.relay.links) other in
-      claimed_lies w ports m (nat_le m.claim.net most) refl heard.port (eqb-false m.claim.net (device_network w.device) parts.0)
-      (apart m.claim.net parts.1) (entry_lies w ports m heard apart)
-]
+    subst (AllByRecursion P) (sym (four_none (entry_asks w.rules w.relay m))) (entry_lies w ports m heard brought apart)
+received_lies w ports (message m) heard brought apart nets known =
+    let reached = reached_by w m brought nets in
+    let entered = entry_lies w ports m heard brought apart in
+    elim heard.claim [
+      | inl is ↦ own_lies w ports m heard.port is.0 brought reached known entered
+      | inr other ↦
+          let parts = or_parts (m.claim.net == device_network w.device) (list_any (λ link. link.port.network == m.claim.net) w.relay.links) other in
+          foreign_lies w ports m heard.port brought (eqb-false m.claim.net (device_network w.device) parts.0) (apart m.claim.net parts.1)
+          reached known entered
+    ]
+
+-- ---- what is known of the configuration
+
+-- the networks of the ports
+port_net : (number : ℕ) (ports : List ConfiguredPort) (port : Port) → AllByRecursion IsOnNetwork ports
+    → InPorts number ports port → bounds_known.IsNet port.network
+port_net number [] port each there = absurd there
+port_net number (p ∷ ports) port each (inl is) = subst (λ (q : Port). bounds_known.IsNet q.network) (sym is) each.0
+port_net number (p ∷ ports) port each (inr later) = port_net (number + 1) ports port each.1 later
+
+type_below : (kind : ObjectType) → type_number kind < 2 ^ 10
+type_below kind = elim kind as (λ k. type_number k < 2 ^ 10) [ BinaryValue ↦ omega arith | CharacterStringValue ↦ omega arith | Device ↦ omega arith | IntegerValue ↦ omega arith | MultiStateValue ↦ omega arith | PositiveIntegerValue ↦ omega arith ]
+
+an_id : (kind : ObjectType) (instance : ℕ) → instance ≤ 4194302 → IsObject (id kind instance)
+an_id kind instance small = record { kind = type_below kind; instance = omega (arith, small) }
+
+their_ids : (objects : List ConfiguredObject) → AllByRecursion (λ o. o.instance ≤ 4194302) objects
+    → AllByRecursion (λ o. IsObject (object_id_of o)) objects
+their_ids [] each = tt
+their_ids (o ∷ os) each = (an_id (type_of o.details) o.instance each.0, their_ids os each.1)
+
+own_object : (c : Configured) (object : Object) → IsObject (device_id c.device) → IsObject object → IsObject (named_object c object)
+own_object c object own is = by _
+  where
+    by : (b : Bool) → IsObject (if b then device_id c.device else object)
+    by true = own
+    by false = is
+
+-- the properties that the device has are properties
+small : Property → Bool
+small q = nat_le (property_number q) last_property
+
+all_small : (kind : ObjectType) (set : PropertySet) → list_all small (properties kind set) ≡ true
+unfolding small
+all_small BinaryValue All = refl
+all_small BinaryValue Required = refl
+all_small BinaryValue Optional = refl
+all_small CharacterStringValue All = refl
+all_small CharacterStringValue Required = refl
+all_small CharacterStringValue Optional = refl
+all_small Device All = refl
+all_small Device Required = refl
+all_small Device Optional = refl
+all_small IntegerValue All = refl
+all_small IntegerValue Required = refl
+all_small IntegerValue Optional = refl
+all_small MultiStateValue All = refl
+all_small MultiStateValue Required = refl
+all_small MultiStateValue Optional = refl
+all_small PositiveIntegerValue All = refl
+all_small PositiveIntegerValue Required = refl
+all_small PositiveIntegerValue Optional = refl
+
+each_small : (object : Object) (ps : List Property) → IsObject object → list_all small ps ≡ true → AllByRecursion (λ q. AreNamed object (property_number q)) ps
+unfolding small
+each_small object [] is e = tt
+each_small object (p ∷ ps) is e =
+    let both = and_parts (small p) (list_all small ps) e in
+    ((is, leb-true (property_number p) last_property both.0), each_small object ps is both.1)
+
+device_known : (c : Configured) → c.device.instance ≤ 4194302 → AllByRecursion (λ o. o.instance ≤ 4194302) c.objects → DeviceKnown bounds_known c
+device_known c small each =
+    let own = an_id types.Device c.device.instance small in record {
+      device = own;
+      objects = their_ids c.objects each;
+      named = λ object p known. (own_object c object own known.0, known.1);
+      listed = λ object p kind set known. each_small object (properties kind set) known.0 (all_small kind set);
+    }
+
+configured_small : (objects : List ConfigurationObject) → AllByRecursion IsInstance objects
+    → AllByRecursion (λ o. o.instance ≤ 4194302) (map configured_of objects)
+configured_small [] each = tt
+configured_small (o ∷ os) each = (each.0, configured_small os each.1)
 
 -- ---- the laws
 
-there_after : (c : Configuration) (k : Counts) (h : List Event) (e : Event) (w : State) → w ≡ state_after c k h
+there_after : (c : Configuration) (k : Counts) (h : List Event) (e : Event) (w : State) → w ≡ state_after c k h → IsNumbered c → IsCarried e
     → AllByRecursion (LiesThere w.relay.format (device_network w.device) c.ports) (asks w e)
 unfolding asks
-there_after c k h e w is =
+there_after c k h e w is numbered carried =
     let acts = port_acts c k h in
     let stand : w.relay.links ≡ all_after (ports_from 1 c.ports) acts = ap (λ (v : State). v.relay.links) is ∙ acts_leave_the_tables c k h in
     let each = subst (λ (links : List PortState). AllByRecursion (λ link. InPorts 1 c.ports link.port) links) (sym stand) (all_links 1 c.ports acts) in
+    let nets = each_weaker (λ link. InPorts 1 c.ports link.port) (λ link. bounds_known.IsNet link.port.network)
+    (λ link there. port_net 1 c.ports link.port numbered.networks there) w.relay.links each in
+    let configured : w.device.configured ≡ (database_of c).configured =
+    ap (λ (v : State). v.device.configured) is ∙ configuration_stays c k h in
+    let known = subst (λ (x : Configured). DeviceKnown bounds_known x) (sym configured)
+    (device_known (database_of c).configured numbered.device (configured_small c.objects numbered.objects)) in
     let len : length (all_after (ports_from 1 c.ports) acts) ≡ length c.ports =
     ap (λ (links : List PortState). length links) (sym stand) ∙ ap (λ (v : State). length v.relay.links) is ∙ ports_stay c k h in
-    received_lies w c.ports (receive w e) (heard_at w (InPorts 1 c.ports) e each)
+    received_lies w c.ports (receive w e) (heard_at w (InPorts 1 c.ports) e each) (brought_at w e carried)
     (λ n none. apart 1 c.ports acts n len (sym (ap (λ (links : List PortState). list_any (λ link. link.port.network == n) links) stand) ∙ none))
+    nets known
 
 pub asks_lie_in_shapes : AsksLieInShapes
-asks_lie_in_shapes c k h e =
+asks_lie_in_shapes c numbered k h e carried =
     let w = state_after c k h in
     let raised = asks w e in
     let device : device_network w.device ≡ c.device.network = ap (λ (x : Configured). x.device.network) (configuration_stays c k h) in
     each_weaker (LiesThere w.relay.format (device_network w.device) c.ports) (LiesThere c.format c.device.network c.ports)
-    (λ ask lies small. subst (λ (format : Format). LiesInOne (shapes_of format c.device.network c.ports) ask) (format_stays c k h)
-    (subst (λ (n : ℕ). LiesInOne (shapes_of w.relay.format n c.ports) ask) device (lies small))) raised (there_after c k h e w refl)
+    (λ ask lies. subst (λ (format : Format). LiesInOne (shapes_of format c.device.network c.ports) ask) (format_stays c k h)
+    (subst (λ (n : ℕ). LiesInOne (shapes_of w.relay.format n c.ports) ask) device lies)) raised (there_after c k h e w refl numbered carried)
 
 pub never_first_never_decides : NeverFirstNeverDecides
-never_first_never_decides c number never k h e =
-    each_weaker (λ ask. IsOfNumbers ask → LiesInOne (shapes c) ask) (λ ask. IsOfNumbers ask → first c.rules ask ≡ Some number → ⊥)
-    (λ ask lies small is. never ask (lies small) is) (asks (state_after c k h) e) (asks_lie_in_shapes c k h e)
+never_first_never_decides c number never numbered k h e carried =
+    each_weaker (LiesInOne (shapes c)) (λ ask. first c.rules ask ≡ Some number → ⊥)
+    (λ ask lies is. never ask lies is) (asks (state_after c k h) e) (asks_lie_in_shapes c numbered k h e carried)

@@ -1,6 +1,6 @@
 -- A line of the log tells which rule denied it.
 use Rattle.std.proofs.Common.{◌≡◌, ◌∙◌, ◌⊎◌, inl, inr, sym, ap, refl, subst, ℕ, ◌+◌, ◌-◌, ◌≤◌, Bool, true, false, List, [], ◌∷◌, ◌++◌, length, Option, Some, None, Result, Ok, Err, arith, length-append}
-use Rattle.std.specs.Prelude.{◌==◌, not, if◌then◌else◌, slice_get, codes, filter, map}
+use Rattle.std.specs.Prelude.{◌==◌, not, if◌then◌else◌, slice_get, codes, filter, map, ⊤}
 use Rattle.std.specs.Int.{w16, to_be_bytes}
 use Rattle.std.specs.List.{AllByRecursion}
 use Rattle.std.specs.Option.{option_and_then, option_map}
@@ -20,6 +20,8 @@ use Rattle.gw_bvll.specs.Bvll as bvll
 use Rattle.gw_bvll.specs.Reading.{bvll_at}
 use Rattle.gw_npdu.specs.Npdu.{Fields}
 use Rattle.gw_objects.specs.Objects.{Database}
+use Rattle.gw_objects.specs.Property.{properties}
+use Rattle.gw_objects.specs.declared.configured.Configured.{Configured}
 use Rattle.gw_rules.specs.declared.format.Format.{Format}
 use Rattle.gw_relay.specs.Cast.{accepts, is_unregistered}
 use Rattle.gw_relay.specs.Entry.{admits, entry_asks}
@@ -48,9 +50,10 @@ use Rattle.gw_core.specs.State.{State, device_network}
 use Rattle.gw_verdicts.specs.Laws.{IsSent, NamesTheRule, WhyNamesTheRule, denied_by}
 use Rattle.gw_core.specs.Explained.{by_text}
 use Rattle.gw_verdicts.specs.Why.{answer, answer_to, note_text}
-use Rattle.gw_verdicts.proofs.DeviceAsks.{DeviceCases, each_device}
+use Rattle.gw_verdicts.proofs.DeviceAsks.{DeviceCases, DeviceKnown, each_device}
+use Rattle.gw_verdicts.proofs.Knowing.{nothing_known}
 use Rattle.gw_verdicts.proofs.Parts.{each_entry, each_part}
-use Rattle.gw_verdicts.proofs.RelayAsks.{CastCases, NamedCases, NetworkCases, RouteCases, each_cast, each_network, each_route}
+use Rattle.gw_verdicts.proofs.RelayAsks.{CastCases, NamedCases, NetworkCases, Reached, RouteCases, each_cast, each_network, each_route}
 use Rattle.gw_core.proofs.RespondLemmas.{four_none}
 
 -- ---- the origin of an ask
@@ -105,46 +108,61 @@ so m = Carries (message_origin m)
 
 network_so : (format : Format) (m : Message) → NetworkCases (so m) format m
 network_so format m = record {
-  learn = λ is network. record { port = refl; network = refl; key = refl; station = λ e. refl };
-  question = λ is network. record { port = refl; network = refl; key = refl; station = λ e. refl };
-  number = λ is. record { port = refl; network = refl; key = refl; station = λ e. refl };
+  learn = λ is silent network net. record { port = refl; network = refl; key = refl; station = λ e. refl };
+  question = λ is network net. record { port = refl; network = refl; key = refl; station = λ e. refl };
+  number = λ is silent. record { port = refl; network = refl; key = refl; station = λ e. refl };
 }
 
 named_so : (format : Format) (m : Message) (operation : Operation) (network : Option ℕ)
-    → NamedCases (so m) (table.passing_ask format operation m network)
+    → NamedCases (so m) nothing_known (table.passing_ask format operation m network)
 named_so format m operation network = record {
-  unnamed_read = λ service is low high. record { port = refl; network = refl; key = refl; station = no_station format m.from _ };
-  named_read = λ service is low high object p. record { port = refl; network = refl; key = refl; station = no_station format m.from _ };
+  unnamed_read = λ service is reading. record { port = refl; network = refl; key = refl; station = no_station format m.from _ };
+  named_read = λ service is reading object p known. record { port = refl; network = refl; key = refl; station = no_station format m.from _ };
   unnamed_write = λ is. record { port = refl; network = refl; key = refl; station = no_station format m.from _ };
-  named_write = λ is object p priority. record { port = refl; network = refl; key = refl; station = no_station format m.from _ };
+  named_write = λ is object p priority known rank. record { port = refl; network = refl; key = refl; station = no_station format m.from _ };
 }
 
-cast_so : (format : Format) (m : Message) → CastCases (so m) format m
+cast_so : (format : Format) (m : Message) → CastCases (so m) nothing_known format m
 cast_so format m = record {
   cast = record { port = refl; network = refl; key = refl; station = no_station format m.from _ };
   follows = λ e. named_so format m operations.Cast (table.bound_for m.npdu);
 }
 
-route_so : (format : Format) (m : Message) → RouteCases (so m) format m
+route_so : (format : Format) (m : Message) → RouteCases (so m) nothing_known format m
 route_so format m = record {
-  route = λ network. record { port = refl; network = refl; key = refl; station = no_station format m.from _ };
-  follows = λ network judges. named_so format m operations.Route (Some network);
+  route = λ network net. record { port = refl; network = refl; key = refl; station = no_station format m.from _ };
+  follows = λ network net judges. named_so format m operations.Route (Some network);
 }
 
-device_so : (format : Format) (d : Database) (m : Message) → DeviceCases (so m) d (context_of format (device_network d) m)
+device_so : (format : Format) (d : Database) (m : Message) → DeviceCases (so m) nothing_known d (context_of format (device_network d) m)
 device_so format d m = record {
-  read = λ object p. record { port = refl; network = refl; key = refl; station = λ e. refl };
-  multi = λ object p. record { port = refl; network = refl; key = refl; station = λ e. refl };
-  write = λ object p priority. record { port = refl; network = refl; key = refl; station = λ e. refl };
-  who_is = λ object p. record { port = refl; network = refl; key = refl; station = λ e. refl };
-  who_has = λ object p. record { port = refl; network = refl; key = refl; station = λ e. refl };
+  read = λ object p known. record { port = refl; network = refl; key = refl; station = λ e. refl };
+  multi = λ object p known. record { port = refl; network = refl; key = refl; station = λ e. refl };
+  write = λ object p priority known rank. record { port = refl; network = refl; key = refl; station = λ e. refl };
+  who_is = record { port = refl; network = refl; key = refl; station = λ e. refl };
+  who_has = λ object known. record { port = refl; network = refl; key = refl; station = λ e. refl };
 }
+
+each_unknown : {A : Type 0} (xs : List A) → AllByRecursion (λ x. ⊤) xs
+each_unknown [] = tt
+each_unknown (x ∷ xs) = (tt, each_unknown xs)
+
+own_unknown : (c : Configured) → DeviceKnown nothing_known c
+own_unknown c = record {
+  device = tt;
+  objects = each_unknown c.objects;
+  named = λ object p known. tt;
+  listed = λ object p kind set known. each_unknown (properties kind set);
+}
+
+reached_unknown : (relay : Relay) (m : Message) → Reached nothing_known relay m
+reached_unknown relay m = record { ports = each_unknown relay.links; bound = λ d is other. tt; text = tt }
 
 apdu_so : (rules : List Rule) (format : Format) (d : Database) (m : Message) (apdu : Option (List ℕ))
     → AllByRecursion (so m) (apdu_asks rules d (context_of format (device_network d) m) apdu)
 apdu_so rules format d m None = tt
 apdu_so rules format d m (Some octets) =
-    each_device (so m) rules d (context_of format (device_network d) m) octets (device_so format d m)
+    each_device (so m) nothing_known rules d (context_of format (device_network d) m) octets (device_so format d m) (own_unknown d.configured) tt
 
 -- an ask to enter is of the link source
 entry_so : (rules : List Rule) (relay : Relay) (m : Message) → AllByRecursion (so m) (entry_asks rules relay m)
@@ -155,8 +173,8 @@ entry_so rules relay m =
 message_so : (rules : List Rule) (relay : Relay) (d : Database) (m : Message) → AllByRecursion (so m) (asks_for rules relay d (message m))
 message_so rules relay d m =
     let P = so m in
-    each_part P rules relay d m (entry_so rules relay m) (each_cast P relay.format m (cast_so relay.format m))
-    (each_route P relay m (route_so relay.format m)) (each_network P relay m (network_so relay.format m))
+    each_part P rules relay d m (entry_so rules relay m) (each_cast P nothing_known relay.format m (cast_so relay.format m) tt)
+    (each_route P nothing_known relay m (route_so relay.format m) (reached_unknown relay m)) (each_network P relay m (network_so relay.format m))
     (apdu_so rules relay.format d m (apdu_for (device_network d) m.npdu))
 
 -- ---- what is received comes from an address

@@ -1,38 +1,33 @@
 -- What the text of a comparison of two configurations says of every event of a gateway of either.
-use Rattle.std.specs.Prelude.{◌≡◌, ◌≢◌, ◌⊎◌, ℕ, true, List}
+use Rattle.std.specs.Prelude.{◌≡◌, ◌≢◌, ℕ, true, List}
 use Rattle.std.specs.List.{AllByRecursion}
 use Rattle.gw_configuration.specs.Configuration.{Configuration}
 use Rattle.gw_compare.specs.Comparison.{IsComparisonText}
 use Rattle.gw_compare.specs.declared.comparison.Compared.{Compared}
 use Rattle.gw_compare.specs.declared.comparison.Compared.TheVariants as compared
-use Rattle.gw_core.specs.Asks.{asks}
-use Rattle.gw_core.specs.History.{state_after}
-use Rattle.gw_core.specs.declared.event.Counts.{Counts}
 use Rattle.gw_regions.specs.Comparing.{IsDecided, differs, is_found}
 use Rattle.gw_regions.specs.Regions.{lies}
 use Rattle.gw_rules.specs.Ask.{Ask}
 use Rattle.gw_rules.specs.RuleList.{allows}
-use Rattle.gw_script.specs.Event.{Event}
-use Rattle.gw_verdicts.specs.Laws.{IsOfNumbers}
+use Rattle.gw_verdicts.specs.Laws.{OfEachAsk}
 
 -- this holds of each ask of every event of a gateway of the old or of the new configuration, whatever came before
-abbrev pub OfEachAsk : Configuration → Configuration → (Ask → Type 0) → Type 0
-OfEachAsk old new Holds = (c : Configuration) → (c ≡ old) ⊎ (c ≡ new) → (k : Counts) (h : List Event) (e : Event) →
-    AllByRecursion (λ ask. IsOfNumbers ask → Holds ask) (asks (state_after c k h) e)
+abbrev pub OfBoth : Configuration → Configuration → (Ask → Type 0) → Type 0
+OfBoth old new Holds = OfEachAsk old Holds × OfEachAsk new Holds
 
 -- Unless the comparison isn't finished, it is decided otherwise exactly if it lies in a region that was found.
 abbrev pub EventsAreCompared : Type 0
 EventsAreCompared = (old new : Configuration) (most : ℕ) (made : Compared) (text : List ℕ)
     (told : IsComparisonText old new most made text) → made ≢ compared.Unfinished
-    → OfEachAsk old new (λ ask. differs old.rules new.rules ask ≡ is_found told.found ask)
+    → OfBoth old new (λ ask. differs old.rules new.rules ask ≡ is_found told.found ask)
 
 -- If the text says that no ask is decided otherwise, none is.
 abbrev pub EventsAreAlike : Type 0
 EventsAreAlike = (old new : Configuration) (most : ℕ) (text : List ℕ) → IsComparisonText old new most compared.Alike text
-    → OfEachAsk old new (λ ask. allows old.rules ask ≡ allows new.rules ask)
+    → OfBoth old new (λ ask. allows old.rules ask ≡ allows new.rules ask)
 
 -- Finished or not: it is decided as the line of each region says in which it lies.
 abbrev pub LinesAreTrueOfEvents : Type 0
 LinesAreTrueOfEvents = (old new : Configuration) (most : ℕ) (made : Compared) (text : List ℕ)
     (told : IsComparisonText old new most made text)
-    → OfEachAsk old new (λ ask. AllByRecursion (λ f. lies f.region ask ≡ true → IsDecided old.rules new.rules f ask) told.found)
+    → OfBoth old new (λ ask. AllByRecursion (λ f. lies f.region ask ≡ true → IsDecided old.rules new.rules f ask) told.found)

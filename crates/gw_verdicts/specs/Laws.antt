@@ -1,20 +1,20 @@
 -- Every ask that a gateway raises lies in a shape of its configuration, so a rule that no ask of
 -- the shapes comes to never decides, nor does one of which a lint finds so. And what the log shows of
 -- a denied ask is enough to tell which rule denied it.
-use Rattle.std.specs.Prelude.{◌≡◌, ◌⊎◌, ℕ, ◌+◌, ◌≤◌, Bool, true, false, List, [], ◌∷◌, ◌++◌, None, Some, IfSome, codes, ⊤}
+use Rattle.std.specs.Prelude.{◌≡◌, ◌⊎◌, ℕ, ◌+◌, ◌≤◌, Bool, true, false, List, [], ◌∷◌, ◌++◌, None, Some, codes, ⊤}
 use Rattle.std.specs.Fmt.{decimal}
 use Rattle.std.specs.List.{AllByRecursion}
 use Rattle.gw_addr.specs.Address.{IsAddress}
+use Rattle.gw_addr.specs.Reading.{AreOctets}
 use Rattle.gw_addr.specs.declared.bip.BipAddr.{BipAddr}
 use Rattle.gw_audit.specs.Entry.{IsLineOf, IsShowable, TellsAsk}
 use Rattle.gw_audit.specs.declared.denial.Denial.{Denial}
 use Rattle.gw_audit.specs.declared.entry.ShownAsk.{ShownAsk}
 use Rattle.gw_rules.specs.Ask.{Ask}
-use Rattle.gw_rules.specs.Fields.{value_of}
 use Rattle.gw_rules.specs.RuleList.{HasNumber, first}
-use Rattle.gw_rules.specs.declared.field.FieldName.{FieldName}
 use Rattle.gw_bvll.specs.Bvll.{register}
 use Rattle.gw_configuration.specs.Configuration.{Configuration}
+use Rattle.gw_configuration.specs.declared.object.Object.{Object}
 use Rattle.gw_configuration.specs.declared.port.Port.{Port}
 use Rattle.gw_relay.specs.Asks.{link_asks}
 use Rattle.gw_relay.specs.Initial.{port_of}
@@ -28,26 +28,42 @@ use Rattle.gw_core.specs.declared.event.Counts.{Counts}
 use Rattle.gw_lint.specs.Finding.{Tells}
 use Rattle.gw_lint.specs.declared.finding.Finding.{Finding}
 use Rattle.gw_lint.specs.declared.finding.Finding.TheVariants as finding
-use Rattle.gw_shapes.specs.Pieces.{most}
 use Rattle.gw_shapes.specs.Search.{IsNeverFirst}
 use Rattle.gw_shapes.specs.Shape.{LiesInOne}
 use Rattle.gw_shapes.specs.Shapes.{shapes}
 use Rattle.gw_verdicts.specs.Why.{answer_to, note_text}
 use Rattle.gw_warnings.specs.Warnings.{register_ask}
 
--- Its numbers have 64 bits, as those of each ask of the code have by their type.
-abbrev pub IsOfNumbers : Ask → Type 0
-IsOfNumbers ask = (field : FieldName) → IfSome (value_of field ask) (λ number. number ≤ most)
+-- a datagram of octets from an address, or a tick, as each event of the code is
+abbrev pub IsCarried : Event → Type 0
+IsCarried (Datagram port from octets) = IsAddress from × AreOctets octets
+IsCarried Tick = ⊤
 
--- For every configuration, history and event each ask of that event lies in a shape.
+-- a port on a network (clause 6), and an object of an instance (clause 20.2.14)
+abbrev pub IsOnNetwork : Port → Type 0
+IsOnNetwork port = (1 ≤ port.network) × (port.network ≤ 65534)
+
+abbrev pub IsInstance : Object → Type 0
+IsInstance object = object.instance ≤ 4194302
+
+-- the ports are on networks, and the device and the objects have instances, as those of each configuration of the code are
+pub record IsNumbered (c : Configuration) : Type 0 where
+  pub networks : AllByRecursion IsOnNetwork c.ports
+  pub device : c.device.instance ≤ 4194302
+  pub objects : AllByRecursion IsInstance c.objects
+
+-- this holds of each ask of every event of a gateway of the configuration, whatever came before
+abbrev pub OfEachAsk : Configuration → (Ask → Type 0) → Type 0
+OfEachAsk c Holds =
+    IsNumbered c → (k : Counts) (h : List Event) (e : Event) → IsCarried e → AllByRecursion Holds (asks (state_after c k h) e)
+
+-- Each ask lies in a shape.
 abbrev pub AsksLieInShapes : Type 0
-AsksLieInShapes = (c : Configuration) (k : Counts) (h : List Event) (e : Event) →
-    AllByRecursion (λ ask. IsOfNumbers ask → LiesInOne (shapes c) ask) (asks (state_after c k h) e)
+AsksLieInShapes = (c : Configuration) → OfEachAsk c (λ ask. LiesInOne (shapes c) ask)
 
--- No ask of any event has the rule of this number as its first.
+-- no ask of any event has the rule of this number as its first
 abbrev pub NeverDecides : Configuration → ℕ → Type 0
-NeverDecides c number = (k : Counts) (h : List Event) (e : Event) →
-    AllByRecursion (λ ask. IsOfNumbers ask → first c.rules ask ≡ Some number → ⊥) (asks (state_after c k h) e)
+NeverDecides c number = OfEachAsk c (λ ask. first c.rules ask ≡ Some number → ⊥)
 
 -- So a rule that is never the first of an ask of the shapes decides nothing that the gateway does.
 abbrev pub NeverFirstNeverDecides : Type 0

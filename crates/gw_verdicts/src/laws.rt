@@ -1,7 +1,13 @@
 //! The theorems by which what a lint says is true of the gateway, and that of the answers. The
 //! functions do nothing: their contracts are the laws.
+ghost use Rattle.std.specs.List.{AllByRecursion};
+ghost use Rattle.gw_addr.specs.Reading.{AreOctets};
+ghost use Rattle.gw_script.specs.Event.{event_view};
 ghost use Rattle.gw_verdicts.specs.Compared.{EventsAreAlike, EventsAreCompared, LinesAreTrueOfEvents};
-ghost use Rattle.gw_verdicts.specs.Laws.{AsksLieInShapes, FoundNeverDecides, NeverFirstNeverDecides, PeersRaiseTheAsk, WhyNamesTheRule};
+ghost use Rattle.gw_verdicts.specs.Laws.{AsksLieInShapes, FoundNeverDecides, IsCarried, IsInstance, IsNumbered, IsOnNetwork, NeverFirstNeverDecides, PeersRaiseTheAsk, WhyNamesTheRule};
+
+use gw_configuration::{Config, Object, Port};
+use gw_script::Event;
 
 /// What a lint says of a rule is true of the gateway: a rule that matches nothing or is taken, as it
 /// finds over the shapes, decides no ask of any event.
@@ -35,3 +41,57 @@ pub fn comparisons()
     ensures alike { EventsAreAlike }
     ensures lines { LinesAreTrueOfEvents }
 {}
+
+/// What these laws ask of an event holds of each: a datagram has octets, and comes from an address.
+pub fn events(event: &Event<'_>)
+    ensures { IsCarried (event_view event.now) }
+{
+    if let Event::Datagram { from, octets, .. } = event {
+        gw_addr::laws::fits(*from);
+        are_octets(octets);
+    }
+}
+
+fn are_octets(octets: &[u8])
+    ensures { AreOctets octets.now }
+{
+    let _len = octets.len();
+}
+
+/// What they ask of a configuration holds of each: its ports are on networks, and the device and the objects
+/// have instances.
+pub fn configurations(config: &Config)
+    ensures { IsNumbered config.now }
+{
+    let _instance = config.device().instance.get();
+    are_on_networks(config.ports());
+    have_instances(config.objects());
+}
+
+fn are_on_networks(ports: &[Port])
+    ensures { AllByRecursion IsOnNetwork ports.now }
+{
+    for port in ports {
+        is_on_network(port);
+    }
+}
+
+fn is_on_network(port: &Port)
+    ensures { IsOnNetwork port.now }
+{
+    let _network = port.network.get();
+}
+
+fn have_instances(objects: &[Object])
+    ensures { AllByRecursion IsInstance objects.now }
+{
+    for object in objects {
+        is_instance(object);
+    }
+}
+
+fn is_instance(object: &Object)
+    ensures { IsInstance object.now }
+{
+    let _instance = object.instance.get();
+}
