@@ -6,7 +6,8 @@ ghost use Rattle.gw_state_text.specs.Text.{state_text};
 ghost use Rattle.gw_serving.specs.Keeping.{HasPassed, Holds, IsHeld, IsTried, KeepsAtTick, KeepsChanged, Tries, failing_of, is_due, is_kept, nothing_kept, one_more};
 
 use crate::alike::{Part, is_same};
-use crate::guard::{Guard, Seen};
+use crate::guard::Guard;
+use crate::seen::Seen;
 use crate::store::{Store, StoreFault};
 use gw_core::Gateway;
 use gw_saved::{Origin, Saved};

@@ -10,7 +10,8 @@ ghost use Rattle.gw_serving.specs.Stretch.{CanCount, moment, wire_counts};
 ghost use Rattle.gw_serving.specs.Wire.{Tells, failures_of, receive_call};
 ghost use Rattle.gw_relay.specs.Sends.{sendings_of};
 
-use crate::guard::{Guard, Unguarded, take_seen};
+use crate::guard::{Guard, Unguarded};
+use crate::seen::take_seen;
 use crate::tally::Tally;
 use crate::wire::{Got, RECEIVE_ROOM, Wire, WireFault};
 use gw_audit::{Denials, line};
