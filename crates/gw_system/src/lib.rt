@@ -5,11 +5,8 @@
 //! and clock are a wire of `gw_ports`.
 #![tactic(auto)]
 
-<<<<<<< HEAD
 mod folder;
-=======
 mod file_log;
->>>>>>> audit/main
 mod host;
 mod named_log;
 mod opening;
@@ -20,11 +17,8 @@ mod store;
 mod system_clock;
 mod udp;
 
-<<<<<<< HEAD
 pub use folder::{Folder, SystemFolder};
-=======
 pub use file_log::{FileLog, LogFile, LogFiles};
->>>>>>> audit/main
 pub use host::{Host, SystemHost, open_at_line};
 pub use named_log::{NamedFiles, NamedLog};
 pub use opening::{FailedStep, LogFailure, OpenFailure, Reason, SocketFailure, Step, note_of};
