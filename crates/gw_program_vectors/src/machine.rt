@@ -348,6 +348,18 @@ fn text_if(alloc: Global, is_there: bool, text: &str) -> Result<Option<Vec<u8>>,
     }
 }
 
+/// The text of the state that a section has: one that is cut, one with more after its end, one whose counts and port
+/// are none, or none.
+fn state_of(alloc: Global, lines: &str) -> Result<Option<Vec<u8>>, AllocError> {
+    if has_line(lines, "state more") {
+        return text_if(alloc, true, "bacgw state 1\ncounts 0 0 0\nend\nmore");
+    }
+    if has_line(lines, "state counts") {
+        return text_if(alloc, true, "bacgw state 1\ncounts 2 1 0\nport 1 nowhere\nend\n");
+    }
+    text_if(alloc, has_line(lines, "state cut"), "bacgw state 1\n")
+}
+
 /// The text that a section's request has: that of the configuration, one that is none, or nothing if it can't be read.
 fn reload_of(alloc: Global, lines: &str, config: &str) -> Result<Option<Vec<u8>>, AllocError> {
     if has_line(lines, "reload same") {
@@ -394,7 +406,7 @@ fn run_with(alloc: Global, config: &str, section: &str, room: usize) -> Result<L
         is_cut: has_line(lines, "cut log"),
         failing: number_behind(lines, '\n', "failing port "),
         routes: has_line(lines, "routes ip"),
-        state: text_if(alloc, has_line(lines, "state cut"), "bacgw state 1\n")?,
+        state: state_of(alloc, lines)?,
         unkept: if has_line(lines, "store full") {
             Some(StoreFault::NoSpace)
         } else {

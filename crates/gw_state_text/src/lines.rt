@@ -4,6 +4,7 @@ ghost use Rattle.std.specs.Prelude.{◌≡◌, ℕ, List, IfSome};
 ghost use Rattle.std.specs.Option.{IsSomeAnd};
 ghost use Rattle.gw_state_text.specs.internal.Put.{IsPut};
 ghost use Rattle.gw_addr.specs.Entry.{IsBdtEntry};
+ghost use Rattle.gw_saved.specs.Saved.{are_countable};
 ghost use Rattle.gw_state_text.specs.Text.{counts_line, device_line, entry_line, port_line, route_line};
 ghost use Rattle.gw_state_text.specs.internal.Lines.{counts_on, device_on, entry_on, port_on, route_on};
 ghost use Rattle.gw_state_text.specs.Fit.{AreCounts, IsDevice, IsPlace, IsRoute};
@@ -12,7 +13,7 @@ use crate::words::{address_to, after_word, mask_to, network_to, number_to, octet
 use gw_addr::{BdtEntry, BipAddr, Mask, NetNum, put_decimal, put_octet, put_slice};
 use gw_bdt_fdt::KeptDevice;
 use gw_routes::Route;
-use gw_saved::SavedCounts;
+use gw_saved::{MAX_COUNT, SavedCounts};
 use std::alloc::AllocError;
 
 /// Appends the counts.
@@ -45,6 +46,13 @@ pub(crate) fn counts_at(text: &[u8]) -> Option<(SavedCounts, &[u8])>
         denials,
     };
     Some((counts, rest))
+}
+
+/// Whether a gateway can have these counts.
+pub(crate) fn are_countable(counts: SavedCounts) -> bool
+    ensures { result ≡ are_countable counts }
+{
+    counts.since <= counts.ticks && counts.ticks <= MAX_COUNT && counts.denials <= MAX_COUNT
 }
 
 /// Appends the line of a port.

@@ -8,7 +8,7 @@ ghost use Rattle.gw_state_text.specs.internal.Stop.{StopsIn};
 
 use crate::block::read_all;
 use crate::fault::{FaultKind, StateFault, Stop};
-use crate::lines::counts_at;
+use crate::lines::{are_countable, counts_at};
 use crate::object::Objects;
 use crate::port::Ports;
 use crate::tables::Routes;
@@ -47,16 +47,16 @@ fn line_of(text: &[u8], left: usize) -> u64
     lines as u64 + 1
 }
 
-/// What is wrong with the line at which reading stopped: a line without its end is `Cut`, unless there was
-/// no memory.
+/// What is wrong with the line at which reading stopped: a line without its line feed is `Cut`, unless it
+/// comes after the last, or memory was refused.
 fn kind_at(text: &[u8], stop: Stop) -> FaultKind
     requires { stop.left ≤ length text.now }
 {
-    let rest = &text[text.len() - stop.left..];
-    let ends = rest.iter().any(|c| *c == b'\n');
+    let (front, rest) = text.split_at(text.len() - stop.left);
+    let is_whole = front.ends_with(b"\nend\n") || rest.iter().any(|c| *c == b'\n');
     match stop.kind {
         FaultKind::Memory => FaultKind::Memory,
-        kind => { if ends { kind } else { FaultKind::Cut } }
+        kind => { if is_whole { kind } else { FaultKind::Cut } }
     }
 }
 
@@ -72,6 +72,9 @@ fn state_at(alloc: Global, text: &[u8]) -> Result<Saved, Stop>
     let Some((counts, lines_of_ports)) = counts_at(lines) else {
         return Err(Stop::at(lines, FaultKind::Line));
     };
+    if !are_countable(counts) {
+        return Err(Stop::at(lines, FaultKind::Range));
+    }
     let (ports, lines_of_routes) = match read_all(alloc, &Ports, lines_of_ports) {
         Ok(read) => read,
         Err(stop) => return Err(stop),

@@ -45,3 +45,7 @@ returns-in-Ok-new-clause-found c =
 pub returns-in-Err-Counts-clause-stop : goal.returns-in-Err-Counts-clause-stop
 returns-in-Err-Counts-clause-stop c =
     stops_so _ _ _ c.at-in-Err-Counts.ensures.left (at_counts c.args.text.now c.in-Some.lines.now c.in-Some.ensures.found)
+
+pub returns-then-not-are_countable-clause-stop : goal.returns-then-not-are_countable-clause-stop
+returns-then-not-are_countable-clause-stop c =
+    stops_so _ _ _ c.at-then-not-are_countable.ensures.left (at_counts c.args.text.now c.in-Some.lines.now c.in-Some.ensures.found)
