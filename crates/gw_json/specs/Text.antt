@@ -36,19 +36,27 @@ sender_of ask = option_map (λ s. s.sender) ask.stations
 abbrev pub station_of : ShownAsk → Option ℕ
 station_of ask = option_and_then (λ s. s.station) ask.stations
 
--- who asks
+-- where it comes in, and who asks
+abbrev pub entry_text : ShownAsk → List ℕ
+entry_text ask = codes ",\"port\":" ++ decimal ask.port
+
+abbrev pub network_text : ShownAsk → List ℕ
+network_text ask = codes ",\"source_network\":" ++ decimal ask.source.net
+
 abbrev pub source_text : ShownAsk → List ℕ
-source_text ask =
-    codes ",\"port\":" ++ decimal ask.port
-    ++ codes ",\"source_network\":" ++ decimal ask.source.net
-    ++ codes ",\"source\":" ++ quoted (station_word ask.source.mac)
+source_text ask = entry_text ask ++ network_text ask ++ codes ",\"source\":" ++ quoted (station_word ask.source.mac)
 
 -- for what, and where it goes
-abbrev pub request_text : ShownAsk → List ℕ
-request_text ask =
-    codes ",\"operation\":" ++ operation_text (is_some ask.stations) ask.operation
-    ++ codes ",\"destination\":" ++ number_text ask.destination_network
+abbrev pub way_text : ShownAsk → List ℕ
+way_text ask =
+    codes ",\"destination\":" ++ number_text ask.destination_network
     ++ codes ",\"service\":" ++ number_text ask.service
+
+abbrev pub asked_text : ShownAsk → List ℕ
+asked_text ask = operation_text (is_some ask.stations) ask.operation
+
+abbrev pub request_text : ShownAsk → List ℕ
+request_text ask = codes ",\"operation\":" ++ asked_text ask ++ way_text ask
 
 -- what it is about
 abbrev pub object_text : ShownAsk → List ℕ

@@ -30,13 +30,17 @@ shown_note note = option_map_or noted_text note (codes "null")
 abbrev pub note_at : List (List ℕ) → Option ℕ → Option (List ℕ)
 note_at notes by = option_and_then (λ n. slice_get notes (n - 1)) by
 
--- `{"allow":false,"rule":"hide","rule_number":1,"note":null`
+-- `{"allow":false,"rule":"hide"`, and then `,"rule_number":1,"note":null`
+abbrev pub ruling_text : List Rule → Bool → Option ℕ → List ℕ
+ruling_text rules is_allowed by =
+    codes "{\"allow\":" ++ truth_text is_allowed ++ codes ",\"rule\":" ++ name_text (rule_at rules by)
+
+abbrev pub grounds_text : List (List ℕ) → Option ℕ → List ℕ
+grounds_text notes by =
+    codes ",\"rule_number\":" ++ number_text by ++ codes ",\"note\":" ++ shown_note (note_at notes by)
+
 abbrev pub verdict_text : List Rule → List (List ℕ) → Bool → Option ℕ → List ℕ
-verdict_text rules notes is_allowed by =
-    codes "{\"allow\":" ++ truth_text is_allowed
-    ++ codes ",\"rule\":" ++ name_text (rule_at rules by)
-    ++ codes ",\"rule_number\":" ++ number_text by
-    ++ codes ",\"note\":" ++ shown_note (note_at notes by)
+verdict_text rules notes is_allowed by = ruling_text rules is_allowed by ++ grounds_text notes by
 
 -- what the policy says of an ask, and the ask
 abbrev pub answer_line : List Rule → List (List ℕ) → ShownAsk → List ℕ

@@ -1,7 +1,7 @@
 //! The twelve fields of an ask.
 
 ghost use Rattle.std.specs.Prelude.{◌≡◌, ◌++◌, OnOk};
-ghost use Rattle.gw_json.specs.Text.{ask_text, object_text, property_text, request_text, source_text, station_of, stations_text, target_text};
+ghost use Rattle.gw_json.specs.Text.{ask_text, asked_text, entry_text, network_text, object_text, property_text, request_text, source_text, station_of, stations_text, target_text, way_text};
 
 use crate::value::{put_field, put_number, put_operation, put_station, put_station_of};
 use gw_addr::put_slice;
@@ -22,14 +22,23 @@ pub(crate) fn put_ask(alloc: Global, out: &mut Vec<u8>, ask: &ShownAsk) -> Resul
 fn put_source(alloc: Global, out: &mut Vec<u8>, ask: &ShownAsk) -> Result<(), AllocError>
     ensures { OnOk result (out.new.items ≡ out.old.items ++ source_text ask.now) }
 {
-    put_number(out, b",\"port\":", u64::from(ask.port))?;
-    put_number(
-        out,
-        b",\"source_network\":",
-        u64::from(ask.source.net.get()),
-    )?;
+    put_entry(out, ask)?;
+    put_network(out, ask)?;
     put_slice(out, b",\"source\":")?;
     put_station(alloc, out, &ask.source.mac)
+}
+
+fn put_entry(out: &mut Vec<u8>, ask: &ShownAsk) -> Result<(), AllocError>
+    ensures { OnOk result (out.new.items ≡ out.old.items ++ entry_text ask.now) }
+{
+    put_number(out, b",\"port\":", u64::from(ask.port))
+}
+
+fn put_network(out: &mut Vec<u8>, ask: &ShownAsk) -> Result<(), AllocError>
+    ensures { OnOk result (out.new.items ≡ out.old.items ++ network_text ask.now) }
+{
+    put_slice(out, b",\"source_network\":")?;
+    ask.source.net.put_text(out)
 }
 
 /// Appends what for, and where it goes.
@@ -37,7 +46,19 @@ fn put_request(alloc: Global, out: &mut Vec<u8>, ask: &ShownAsk) -> Result<(), A
     ensures { OnOk result (out.new.items ≡ out.old.items ++ request_text ask.now) }
 {
     put_slice(out, b",\"operation\":")?;
-    put_operation(alloc, out, ask.operation, ask.stations.is_some())?;
+    put_asked(alloc, out, ask)?;
+    put_way(out, ask)
+}
+
+fn put_asked(alloc: Global, out: &mut Vec<u8>, ask: &ShownAsk) -> Result<(), AllocError>
+    ensures { OnOk result (out.new.items ≡ out.old.items ++ asked_text ask.now) }
+{
+    put_operation(alloc, out, ask.operation, ask.stations.is_some())
+}
+
+fn put_way(out: &mut Vec<u8>, ask: &ShownAsk) -> Result<(), AllocError>
+    ensures { OnOk result (out.new.items ≡ out.old.items ++ way_text ask.now) }
+{
     put_field(out, b",\"destination\":", ask.destination_network)?;
     put_field(out, b",\"service\":", ask.service)
 }

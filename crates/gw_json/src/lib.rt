@@ -4,6 +4,7 @@
 #![tactic(auto)]
 
 mod ask;
+pub mod laws;
 mod log;
 mod value;
 mod why;

@@ -82,12 +82,7 @@ fn denial(alloc: Global, shown: &Shown<'_>) -> Result<Vec<u8>, AllocError>
 }
 
 /// Appends a label, a text in quotes, and the end of the object.
-fn put_last(
-    alloc: Global,
-    out: &mut Vec<u8>,
-    label: &[u8],
-    text: &str,
-) -> Result<(), AllocError>
+fn put_last(alloc: Global, out: &mut Vec<u8>, label: &[u8], text: &str) -> Result<(), AllocError>
     ensures { OnOk result (out.new.items ≡ out.old.items ++ label.now ++ quoted text.now ++ codes "}\n") }
 {
     put_slice(out, label)?;

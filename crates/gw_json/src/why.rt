@@ -3,7 +3,8 @@
 ghost use Rattle.std.specs.Prelude.{◌≡◌, ◌+◌, ◌-◌, ◌*◌, ◌<◌, ◌++◌, ℕ, List, Some, length, codes, option_map, slice_get, IfOk, IsErrOf, OnOk};
 ghost use Rattle.std.specs.Option.{option_and_then};
 ghost use Rattle.gw_script.specs.Known.{OnKnown};
-ghost use Rattle.gw_json.specs.Why.{IsAnswerIn, LeavesVerdicts, SaysNoAsk, answer_line, name_text, noted_text, shown_note, truth_text, verdict_text};
+ghost use Rattle.gw_json.specs.Text.{number_text};
+ghost use Rattle.gw_json.specs.Why.{IsAnswerIn, LeavesVerdicts, SaysNoAsk, answer_line, grounds_text, name_text, noted_text, ruling_text, shown_note, truth_text, verdict_text};
 
 use crate::ask::put_ask;
 use crate::value::{NULL, put_field, put_quoted};
@@ -78,7 +79,12 @@ impl Answers<'_> {
     {
         let judged = ask.ask();
         let mut text = Vec::with_capacity(alloc, OBJECT_ROOM)?;
-        self.put_verdict(alloc, &mut text, self.rules.allows(&judged), self.rules.first(&judged))?;
+        self.put_verdict(
+            alloc,
+            &mut text,
+            self.rules.allows(&judged),
+            self.rules.first(&judged),
+        )?;
         put_ask(alloc, &mut text, ask)?;
         put_slice(&mut text, b"}\n")?;
         Ok(text)
@@ -95,11 +101,42 @@ impl Answers<'_> {
         ensures { OnOk result (out.new.items ≡ out.old.items
             ++ verdict_text self.now.rules.now self.now.notes.now is_allowed by) }
     {
-        put_truth(out, is_allowed)?;
-        put_name(alloc, out, item_at(self.rules.rules(), by))?;
-        put_field(out, b",\"rule_number\":", number_of(by))?;
-        put_note(alloc, out, item_at(self.notes, by))
+        put_ruling(alloc, out, self.rules.rules(), is_allowed, by)?;
+        put_grounds(alloc, out, self.notes, by)
     }
+}
+
+/// Appends whether an ask is allowed, and the name of the rule that says so.
+fn put_ruling(
+    alloc: Global,
+    out: &mut Vec<u8>,
+    rules: &[Rule],
+    is_allowed: bool,
+    by: Option<u16>,
+) -> Result<(), AllocError>
+    ensures { OnOk result (out.new.items ≡ out.old.items ++ ruling_text rules.now is_allowed by) }
+{
+    put_truth(out, is_allowed)?;
+    put_name(alloc, out, item_at(rules, by))
+}
+
+/// Appends the number of that rule, and its note.
+fn put_grounds(
+    alloc: Global,
+    out: &mut Vec<u8>,
+    notes: &[Text],
+    by: Option<u16>,
+) -> Result<(), AllocError>
+    ensures { OnOk result (out.new.items ≡ out.old.items ++ grounds_text notes.now by) }
+{
+    put_rule_number(out, by)?;
+    put_note(alloc, out, item_at(notes, by))
+}
+
+fn put_rule_number(out: &mut Vec<u8>, by: Option<u16>) -> Result<(), AllocError>
+    ensures { OnOk result (out.new.items ≡ out.old.items ++ codes ",\"rule_number\":" ++ number_text by) }
+{
+    put_field(out, b",\"rule_number\":", number_of(by))
 }
 
 /// The item of a number, which counts from 1.

@@ -54,12 +54,7 @@ fn put_heading(out: &mut Vec<u8>) -> Result<(), AllocError>
     )
 }
 
-fn put_rules(
-    out: &mut Vec<u8>,
-    rules: &[Rule],
-    tally: &Tally,
-    most: u64,
-) -> Result<(), AllocError>
+fn put_rules(out: &mut Vec<u8>, rules: &[Rule], tally: &Tally, most: u64) -> Result<(), AllocError>
     requires { length tally.now ≡ length rules.now + 1 }
     ensures { OnOk result (out.new.items ≡ out.old.items
         ++ in_order (rule_row tally.now most) 1 rules.now) }

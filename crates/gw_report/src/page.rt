@@ -53,8 +53,14 @@ fn put_front(alloc: Global, config: &Config, out: &mut Vec<u8>) -> Result<(), Al
 fn put_head(out: &mut Vec<u8>, name: &[u8]) -> Result<(), AllocError>
     ensures { OnOk result (out.new.items ≡ out.old.items ++ head name.now) }
 {
-    put_slice(out, b"<!DOCTYPE html>\n<html lang='en'><head><meta charset='utf-8'>")?;
-    put_slice(out, b"<meta name='viewport' content='width=device-width'>\n")?;
+    put_slice(
+        out,
+        b"<!DOCTYPE html>\n<html lang='en'><head><meta charset='utf-8'>",
+    )?;
+    put_slice(
+        out,
+        b"<meta name='viewport' content='width=device-width'>\n",
+    )?;
     put_style(out)?;
     put_name(out, b"<title>", name)?;
     put_name(out, b"</title></head>\n<body><h1>", name)?;
@@ -78,7 +84,7 @@ fn put_style(out: &mut Vec<u8>) -> Result<(), AllocError>
     )?;
     put_slice(
         out,
-        b".site{display:block;width:100%;font-size:14px}.name{font-weight:bold}rect{fill:#eef3f8;stroke:#345}",
+        b".site{display:block;width:100%;max-width:480px;font-size:14px}.name{font-weight:bold}rect{fill:#eef3f8;stroke:#345}",
     )?;
     put_slice(
         out,
