@@ -1,0 +1,3 @@
+mod Entries
+pub mod Plain
+pub mod Reading

@@ -1,0 +1,178 @@
+-- What a reader of JSON finds in a line.
+use Rattle.std.proofs.Common.{◌≡◌, ◌≢◌, ◌⊎◌, inl, inr, ℕ, zero, suc, ◌+◌, ◌<◌, ◌≤◌, ◌/◌, ◌%◌, ◌^◌, ◌==◌, Bool, true, false, cond, List, [], ◌∷◌, ◌++◌, length, Some, None, Option, decimal, refl, sym, ap, ◌∙◌, arith, rules, subst}
+use Rattle.std.specs.Prelude.{⊤, All, get_or, nat_lt, flat_map, slice_index, ◌||◌, ◌&&◌}
+use Rattle.std.specs.Char.{digit_char}
+use Rattle.std.proofs.lemmas.Fmt.{decimal_is_IsNumeral}
+use Rattle.std.proofs.lemmas.Str.Parse.{digit_at}
+use Rattle.json.specs.Json.{Json, null, boolean, number, string, array, object, Items, no_items, item, Members, no_members, member, document, max_depth}
+use Rattle.json.specs.Print.{escape, escape_byte, escape_letter, print, print_from, quoted, separator, token_text, ends, begins}
+use Rattle.json.specs.Token.{Token}
+use Rattle.json.specs.Tree.{json_tokens, items_tokens, members_tokens, depth, members_depth, HasNumbers, MembersHaveNumbers}
+use Rattle.json.proofs.Printed.Decimals.{IsNumber-decimal}
+use Rattle.json.proofs.Printed.Trees.{document-print}
+use Rattle.gw_json.specs.Laws.{ReadsAs}
+
+-- ---- texts without control octets
+
+abbrev pub Each : {A : Type 0} → (A → Type 0) → List A → Type 0
+Each P [] = ⊤
+Each P (x ∷ xs) = P x × Each P xs
+
+each_append : {A : Type 0} (P : A → Type 0) (xs ys : List A) → Each P xs → Each P ys → Each P (xs ++ ys)
+each_append P [] ys front rest = rest
+each_append P (x ∷ xs) ys front rest = (front.0, each_append P xs ys front.1 rest)
+
+abbrev pub IsPlain : List ℕ → Type 0
+IsPlain text = Each (λ octet. 32 ≤ octet) text
+
+all_plain : (text : List ℕ) → IsPlain text → (k d : ℕ) → k < length text → 32 ≤ get_or text k d
+all_plain [] plain k d within = absurd (omega arith)
+all_plain (x ∷ text) plain zero d within = plain.0
+all_plain (x ∷ text) plain (suc k) d within = all_plain text plain.1 k d (omega arith)
+
+chosen : (b : Bool) (xs ys : List ℕ) → (b ≡ true → IsPlain xs) → (b ≡ false → IsPlain ys) → IsPlain (cond b xs ys)
+chosen true xs ys first other = first refl
+chosen false xs ys first other = other refl
+
+big : (b : Bool) (x y : ℕ) → (b ≡ true → 32 ≤ x) → ((32 ≤ y) ⊎ (y ≡ 0)) → (32 ≤ cond b x y) ⊎ (cond b x y ≡ 0)
+big true x y first rest = inl (first refl)
+big false x y first rest = rest
+
+quote_big : (x : ℕ) → ((x == 34) || (x == 92)) ≡ true → 32 ≤ x
+quote_big x is = grind (arith, is)
+
+letter_big : (x : ℕ) → (32 ≤ escape_letter x) ⊎ (escape_letter x ≡ 0)
+letter_big x =
+    big ((x == 34) || (x == 92)) x _ (quote_big x)
+    (big (x == 8) 98 _ (λ _. omega arith)
+    (big (x == 12) 102 _ (λ _. omega arith)
+    (big (x == 10) 110 _ (λ _. omega arith)
+    (big (x == 13) 114 _ (λ _. omega arith)
+    (big (x == 9) 116 _ (λ _. omega arith) (inr refl))))))
+
+letter_plain : (n : ℕ) → ((32 ≤ n) ⊎ (n ≡ 0)) → nat_lt 0 n ≡ true → IsPlain (92 ∷ n ∷ [])
+letter_plain n (inl most) some = (omega arith, (most, tt))
+letter_plain n (inr none) some = absurd (grind (arith, none, some))
+
+glyph_big : (n : ℕ) → 32 ≤ digit_char n
+glyph_big n = grind arith
+
+byte_plain : (x : ℕ) → IsPlain (escape_byte x)
+unfolding escape_byte
+byte_plain x =
+    let hex : IsPlain (92 ∷ 117 ∷ 48 ∷ 48 ∷ digit_char (x / 16) ∷ digit_char (x % 16) ∷ []) = (omega arith, (omega arith, (omega arith, (omega arith, (glyph_big (x / 16), (glyph_big (x % 16), tt)))))) in
+    let itself : nat_lt x 32 ≡ false → IsPlain (x ∷ []) = λ most. (grind (arith, most), tt) in
+    chosen (nat_lt 0 (escape_letter x)) (92 ∷ escape_letter x ∷ []) _ (letter_plain (escape_letter x) (letter_big x))
+    (λ _. chosen (nat_lt x 32) _ (x ∷ []) (λ _. hex) itself)
+
+escape_plain : (s : List ℕ) → IsPlain (escape s)
+escape_plain [] = tt
+escape_plain (x ∷ s) = each_append (λ octet. 32 ≤ octet) (escape_byte x) (escape s) (byte_plain x) (escape_plain s)
+
+quoted_plain : (s : List ℕ) → IsPlain (quoted s)
+quoted_plain s = (omega arith, each_append (λ octet. 32 ≤ octet) (escape s) (34 ∷ []) (escape_plain s) (omega arith, tt))
+
+digits_plain : (ds : List ℕ) → ((i : ℕ) → i < length ds → 32 ≤ slice_index ds i) → IsPlain ds
+digits_plain [] each = tt
+digits_plain (d ∷ ds) each = (each 0 (omega arith), digits_plain ds (λ i within. each (suc i) (omega arith)))
+
+decimal_plain : (n : ℕ) → n < 2 ^ 64 → IsPlain (decimal n)
+decimal_plain n fits = digits_plain (decimal n) (λ i within. omega (arith, digit_at (decimal n) i (decimal_is_IsNumeral n fits).0.1 within))
+
+-- ---- tokens
+
+-- a token whose number, if it has one, is plain
+abbrev pub IsPlainToken : Token → Type 0
+IsPlainToken Token.begin_object = ⊤
+IsPlainToken Token.end_object = ⊤
+IsPlainToken Token.begin_array = ⊤
+IsPlainToken Token.end_array = ⊤
+IsPlainToken (Token.key s) = ⊤
+IsPlainToken (Token.string s) = ⊤
+IsPlainToken (Token.number s) = IsPlain s
+IsPlainToken (Token.boolean b) = ⊤
+IsPlainToken Token.null = ⊤
+IsPlainToken Token.bad = ⊤
+
+token_plain : (t : Token) → IsPlainToken t → IsPlain (token_text t)
+token_plain Token.begin_object is = (omega arith, tt)
+token_plain Token.end_object is = (omega arith, tt)
+token_plain Token.begin_array is = (omega arith, tt)
+token_plain Token.end_array is = (omega arith, tt)
+token_plain (Token.key s) is = each_append (λ octet. 32 ≤ octet) (quoted s) (58 ∷ []) (quoted_plain s) (omega arith, tt)
+token_plain (Token.string s) is = quoted_plain s
+token_plain (Token.number s) is = is
+token_plain (Token.boolean true) is = (omega arith, (omega arith, (omega arith, (omega arith, tt))))
+token_plain (Token.boolean false) is = (omega arith, (omega arith, (omega arith, (omega arith, (omega arith, tt)))))
+token_plain Token.null is = (omega arith, (omega arith, (omega arith, (omega arith, tt))))
+token_plain Token.bad is = tt
+
+separator_plain : (b : Bool) (t : Token) → IsPlain (separator b t)
+separator_plain b t = chosen (b && begins t) _ _ (λ _. (omega arith, tt)) (λ _. tt)
+
+print_plain : (b : Bool) (ts : List Token) → Each IsPlainToken ts → IsPlain (print_from b ts)
+unfolding print_from
+print_plain b [] are = tt
+print_plain b (t ∷ ts) are =
+    each_append (λ octet. 32 ≤ octet) (separator b t) (token_text t ++ print_from (ends t) ts) (separator_plain b t)
+    (each_append (λ octet. 32 ≤ octet) (token_text t) (print_from (ends t) ts) (token_plain t are.0) (print_plain (ends t) ts are.1))
+
+-- ---- objects whose values are single tokens
+
+-- a value without parts, and a number that fits 64 bits if it is one
+abbrev pub IsSingle : Json → Type 0
+IsSingle null = ⊤
+IsSingle (boolean b) = ⊤
+IsSingle (number s) = (n : ℕ) × (s ≡ decimal n) × (n < 2 ^ 64)
+IsSingle (string s) = ⊤
+IsSingle (array js) = ⊥
+IsSingle (object ms) = ⊥
+
+abbrev pub AreSingle : Members → Type 0
+AreSingle no_members = ⊤
+AreSingle (member k j ms) = IsSingle j × AreSingle ms
+
+single_numbers : (j : Json) → IsSingle j → HasNumbers j
+single_numbers null is = tt
+single_numbers (boolean b) is = tt
+single_numbers (number s) is = subst (λ (t : List ℕ). HasNumbers (number t)) (sym is.1) (IsNumber-decimal is.0 is.2)
+single_numbers (string s) is = tt
+single_numbers (array js) is = absurd is
+single_numbers (object ms) is = absurd is
+
+single_depth : (j : Json) → IsSingle j → depth j ≡ 0
+single_depth null is = refl
+single_depth (boolean b) is = refl
+single_depth (number s) is = refl
+single_depth (string s) is = refl
+single_depth (array js) is = absurd is
+single_depth (object ms) is = absurd is
+
+single_plain : (j : Json) → IsSingle j → Each IsPlainToken (json_tokens j)
+single_plain null is = (tt, tt)
+single_plain (boolean b) is = (tt, tt)
+single_plain (number s) is = (subst IsPlain (sym is.1) (decimal_plain is.0 is.2), tt)
+single_plain (string s) is = (tt, tt)
+single_plain (array js) is = absurd is
+single_plain (object ms) is = absurd is
+
+members_numbers : (ms : Members) → AreSingle ms → MembersHaveNumbers ms
+members_numbers no_members are = tt
+members_numbers (member k j ms) are = (single_numbers j are.0, members_numbers ms are.1)
+
+members_depth_0 : (ms : Members) → AreSingle ms → members_depth ms ≡ 0
+members_depth_0 no_members are = refl
+members_depth_0 (member k j ms) are = rw (single_depth j are.0, members_depth_0 ms are.1) refl
+
+members_plain : (ms : Members) → AreSingle ms → Each IsPlainToken (members_tokens ms)
+members_plain no_members are = (tt, tt)
+members_plain (member k j ms) are = (tt, each_append IsPlainToken (json_tokens j) (members_tokens ms) (single_plain j are.0) (members_plain ms are.1))
+
+-- a reader of JSON reads the object, and the line has no control octet
+pub reads : (ms : Members) → AreSingle ms → ReadsAs (print (json_tokens (object ms)) ++ 10 ∷ []) (object ms)
+reads ms are = record {
+  text = print (json_tokens (object ms));
+  ends = refl;
+  plain = all_plain (print (json_tokens (object ms))) (print_plain false (json_tokens (object ms)) (tt, members_plain ms are));
+  reads = document-print (object ms) (members_numbers ms are) (omega (arith, members_depth_0 ms are));
+}

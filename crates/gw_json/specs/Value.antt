@@ -1,0 +1,65 @@
+-- The values that a reader of JSON finds in the lines.
+use Rattle.std.specs.Prelude.{ℕ, ◌==◌, Bool, is_some, if◌then◌else◌, List, length, codes, decimal, Option}
+use Rattle.std.specs.Option.{option_map_or}
+use Rattle.hex.specs.Hex.{encode_upper}
+use Rattle.json.specs.Json.{Json, null, boolean, number, string, object, Members, no_members, member}
+use Rattle.gw_audit.specs.Entry.{ask_shown, shown_ask}
+use Rattle.gw_audit.specs.Line.{key_octets, operation_named}
+use Rattle.gw_audit.specs.declared.denial.Denial.{Denial}
+use Rattle.gw_audit.specs.declared.entry.ShownAsk.{ShownAsk}
+use Rattle.gw_json.specs.Text.{sender_of, station_of, station_word}
+use Rattle.gw_json.specs.Why.{note_at, rule_at}
+use Rattle.gw_rules.specs.Operation.{operation_name}
+use Rattle.gw_rules.specs.RuleList.{allows, first}
+use Rattle.gw_rules.specs.declared.rule.Rule.{Rule}
+
+abbrev pub number_value : Option ℕ → Json
+number_value value = option_map_or (λ n. number (decimal n)) value null
+
+abbrev pub named_value : Bool → ℕ → Json
+named_value has_sender n =
+    option_map_or (λ operation. string (operation_name operation)) (operation_named has_sender n) (number (decimal n))
+
+abbrev pub operation_value : Bool → Option ℕ → Json
+operation_value has_sender value = option_map_or (named_value has_sender) value null
+
+abbrev pub station_value : Option ℕ → Json
+station_value key = option_map_or (λ k. string (station_word (key_octets k))) key null
+
+-- the fields of an ask, and then other members
+abbrev pub stations_members : ShownAsk → Members → Members
+stations_members ask rest =
+    member (codes "sender") (station_value (sender_of ask)) (member (codes "station") (station_value (station_of ask)) rest)
+
+abbrev pub target_members : ShownAsk → Members → Members
+target_members ask rest =
+    member (codes "object_type") (number_value ask.object_type)
+    (member (codes "instance") (number_value ask.instance)
+    (member (codes "property") (number_value ask.property)
+    (member (codes "priority") (number_value ask.priority) rest)))
+
+abbrev pub request_members : ShownAsk → Members → Members
+request_members ask rest =
+    member (codes "operation") (operation_value (is_some ask.stations) ask.operation)
+    (member (codes "destination") (number_value ask.destination_network)
+    (member (codes "service") (number_value ask.service) rest))
+
+abbrev pub ask_members : ShownAsk → Members → Members
+ask_members ask rest =
+    member (codes "port") (number (decimal ask.port))
+    (member (codes "source_network") (number (decimal ask.source.net))
+    (member (codes "source") (string (station_word ask.source.mac))
+    (request_members ask (target_members ask (stations_members ask rest)))))
+
+abbrev pub denial_value : Denial → Json
+denial_value d =
+    object
+    (member (codes "number") (number (decimal d.number))
+    (member (codes "tick") (number (decimal d.tick))
+    (ask_members (shown_ask d) (member (codes "rule") (string d.rule) no_members))))
+
+abbrev pub text_value : List ℕ → Json
+text_value line = object (member (codes "line") (string line) no_members)
+
+abbrev pub octets_value : List ℕ → Json
+octets_value line = object (member (codes "octets") (string (encode_upper line)) no_members)

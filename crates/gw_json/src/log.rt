@@ -1,0 +1,118 @@
+//! A log as JSON objects, one a line.
+
+ghost use Rattle.std.specs.Prelude.{◌≡◌, ◌+◌, ◌*◌, ◌<◌, ◌++◌, ℕ, List, length, Some, codes, IfOk, IsErrOf, OnOk};
+ghost use Rattle.json.specs.Print.{quoted};
+ghost use Rattle.gw_script.specs.Known.{OnKnown};
+ghost use Rattle.gw_json.specs.Log.{IsEntryIn, IsOther, LeavesEntries, octets_line, shown_line};
+
+use crate::ask::put_ask;
+use crate::value::{put_number, put_quoted};
+use gw_addr::put_slice;
+use gw_audit::{Shown, read_line};
+use gw_script::{LineTeller, LinesFault, OctetSink, OctetSource, tell_lines};
+use std::alloc::{AllocError, Global};
+
+/// How many octets of an object there is room for at the start.
+const OBJECT_ROOM: usize = 512;
+
+/// Writes each line of a log as a JSON object, in order, before it takes up the next line: that of a denial by what it
+/// shows, another as a text, or as hexadecimal digits if it isn't UTF-8. The writer isn't flushed.
+///
+/// A line ends with a line feed, which the last may lack. It has at most 4096 octets without it: a longer one ends the
+/// writing.
+///
+/// ```text
+/// {"number":1,"tick":0,"port":1,"source_network":1,"source":"192.168.1.5:47808","operation":"read","destination":100,"service":12,"object_type":5,"instance":2,"property":85,"priority":null,"sender":null,"station":null,"rule":"hide"}
+/// {"line":"bacgw: write failed"}
+/// {"octets":"FF00"}
+/// ```
+pub fn log_in_json<R: OctetSource, W: OctetSink>(
+    alloc: Global,
+    reader: &mut R,
+    writer: &mut W,
+) -> Result<(), LinesFault>
+    // What is written then, if the octets of the reader and the writer are known.
+    ensures entries { OnKnown (R.left reader.old) (W.held writer.old) (W.held writer.new)
+        (LeavesEntries result) }
+    // What never fails doesn't end the writing: a reader, of a text of less than 2 GiB, and a writer.
+    ensures sure_reader { R.NeverFails reader.old → (text : List ℕ) →
+        R.left reader.old ≡ Some text → 2 * length text + 1 < 4294967295 →
+        ¬ (IsErrOf result LinesFault.Read) }
+    ensures sure_writer { W.NeverFails writer.old → ¬ (IsErrOf result LinesFault.Write) }
+{
+    tell_lines(alloc, &Entries {}, reader, writer)
+}
+
+/// Makes the objects of the lines of a log.
+#[derive(Drop)]
+struct Entries {}
+
+impl LineTeller for Entries {
+    ghost Tells = { λ _ line text. IsEntryIn line text };
+
+    ghost Refuses = { λ _ _. ⊥ };
+
+    fn tell(&self, alloc: Global, line: &[u8], text: &mut Vec<u8>) -> Result<bool, AllocError> {
+        *text = entry(alloc, line)?;
+        Ok(true)
+    }
+}
+
+/// The object of a line of a log, with a line feed.
+fn entry(alloc: Global, line: &[u8]) -> Result<Vec<u8>, AllocError>
+    ensures { IfOk result (λ text. IsEntryIn line.now text.items) }
+{
+    match read_line(line) {
+        Some(shown) => denial(alloc, &shown),
+        None => other(alloc, line),
+    }
+}
+
+/// The object of a denial.
+fn denial(alloc: Global, shown: &Shown<'_>) -> Result<Vec<u8>, AllocError>
+    ensures { IfOk result (λ text. text.items
+        ≡ shown_line shown.now.number shown.now.tick shown.now.ask shown.now.rule.now) }
+{
+    let mut text = Vec::with_capacity(alloc, OBJECT_ROOM)?;
+    put_number(&mut text, b"{\"number\":", shown.number)?;
+    put_number(&mut text, b",\"tick\":", shown.tick)?;
+    put_ask(alloc, &mut text, &shown.ask)?;
+    put_last(alloc, &mut text, b",\"rule\":", shown.rule)?;
+    Ok(text)
+}
+
+/// Appends a label, a text in quotes, and the end of the object.
+fn put_last(alloc: Global, out: &mut Vec<u8>, label: &[u8], text: &str) -> Result<(), AllocError>
+    ensures { OnOk result (out.new.items ≡ out.old.items ++ label.now ++ quoted text.now ++ codes "}\n") }
+{
+    put_slice(out, label)?;
+    put_quoted(alloc, out, text)?;
+    put_slice(out, b"}\n")
+}
+
+/// The object of a line that no denial has.
+fn other(alloc: Global, line: &[u8]) -> Result<Vec<u8>, AllocError>
+    ensures { IfOk result (λ text. IsOther line.now text.items) }
+{
+    match str::from_utf8(line) {
+        Ok(text) => object_of(alloc, b"{\"line\":", text),
+        Err(_) => octets(alloc, line),
+    }
+}
+
+/// The object of a line by its octets.
+fn octets(alloc: Global, line: &[u8]) -> Result<Vec<u8>, AllocError>
+    ensures { IfOk result (λ text. text.items ≡ octets_line line.now) }
+{
+    let digits = hex::encode_upper(alloc, line)?;
+    object_of(alloc, b"{\"octets\":", digits.as_str())
+}
+
+/// The object of one text, after this label.
+fn object_of(alloc: Global, label: &[u8], text: &str) -> Result<Vec<u8>, AllocError>
+    ensures { IfOk result (λ octets. octets.items ≡ label.now ++ quoted text.now ++ codes "}\n") }
+{
+    let mut octets = Vec::new(alloc);
+    put_last(alloc, &mut octets, label, text)?;
+    Ok(octets)
+}
