@@ -62,14 +62,14 @@ steps_lost held front chosen naming b c w (e ∷ events) p none =
 record IsWhole {C S : Type 0} (held : S → Option (List ℕ)) (text : List ℕ) (b c : Beside C S) : Type 0 where
   choice : c.choice ≡ b.choice
   cut : c.is_cut ≡ false
-  text : Appends (held b.sink) (held c.sink) text
+  lines : Appends (held b.sink) (held c.sink) text
 
 recorded_whole : {C S : Type 0} (held : S → Option (List ℕ)) (front : List ℕ) (due : List Denial) (b c : Beside C S)
     → IsRecorded held front due b c → c.lost ≡ 0 → b.is_cut ≡ false
     → IsWhole held (lines_behind front due) b c × (c.number ≡ last_number b.number due)
 recorded_whole held front [] b c p none uncut =
     subst (λ (x : Beside _ _). IsWhole held [] b x × (x.number ≡ b.number)) (sym p)
-    (record { choice = refl; cut = uncut; text = Appends-nil (held b.sink) }, refl)
+    (record { choice = refl; cut = uncut; lines = Appends-nil (held b.sink) }, refl)
 recorded_whole held front (d ∷ due) b c p none uncut = by p.text
   where
     by : IsWritten held (ended b.is_cut ++ lines_behind front (d ∷ due)) b c
@@ -79,7 +79,7 @@ recorded_whole held front (d ∷ due) b c p none uncut = by p.text
       record {
         choice = p.choice;
         cut = written.cut;
-        text = subst (λ (cut : Bool). Appends (held b.sink) (held c.sink) (ended cut ++ lines_behind front (d ∷ due))) uncut written.text;
+        lines = subst (λ (cut : Bool). Appends (held b.sink) (held c.sink) (ended cut ++ lines_behind front (d ∷ due))) uncut written.text;
       },
       p.number,
     )
@@ -101,7 +101,7 @@ steps_whole {C} {S} held front chosen naming b c w (e ∷ events) p none uncut =
     ap (λ (x : C). run_records (chosen x) (naming x) p.0.number (next w e) events) now.0.choice
     ∙ ap (λ (n : ℕ). run_records (chosen b.choice) (naming b.choice) n (next w e) events) now.1 in
     subst (λ (t : List ℕ). Appends (held b.sink) (held c.sink) t) (sym (lines_along front due rest))
-    (Appends-trans (held b.sink) (held p.0.sink) (held c.sink) (lines_behind front due) (lines_behind front rest) now.0.text
+    (Appends-trans (held b.sink) (held p.0.sink) (held c.sink) (lines_behind front due) (lines_behind front rest) now.0.lines
     (subst (λ (l : List Denial). Appends (held p.0.sink) (held c.sink) (lines_behind front l)) same later))
 
 -- ---- a watcher, event by event

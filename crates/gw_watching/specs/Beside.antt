@@ -13,10 +13,10 @@ abbrev pub start : ℕ → Put
 start last = record { last = last; count = 0; is_whole = true }
 
 -- The lines of these records are made, unless a growth is refused.
-pub record IsPut (front : List ℕ) (due : List Denial) (before : Put) (text then : List ℕ) (after : Put) : Type 0 where
+pub record IsPut (front : List ℕ) (due : List Denial) (before : Put) (old new : List ℕ) (after : Put) : Type 0 where
   pub last : after.last ≡ last_number before.last due
   pub count : after.count ≡ before.count + length due
-  pub whole : after.is_whole ≡ true → (before.is_whole ≡ true) × (then ≡ text ++ lines_behind front due)
+  pub whole : after.is_whole ≡ true → (before.is_whole ≡ true) × (new ≡ old ++ lines_behind front due)
 
 -- ---- in the log
 

@@ -42,13 +42,15 @@ record_of rules number tick a by = record {
   rule = rule_name rules by;
 }
 
--- the asks that are chosen, in order, each numbered one more than the one before
+-- an ask that is chosen is recorded in front of the records after it, numbered one more than the last
+abbrev pub recorded : Option (Option ℕ) → List Rule → ℕ → ℕ → Asked → (ℕ → List Denial) → List Denial
+recorded None rules last tick a later = later last
+recorded (Some by) rules last tick a later = record_of rules (one_more last) tick a by ∷ later (one_more last)
+
+-- the asks that are chosen, in order
 abbrev pub records : (Asked → Option (Option ℕ)) → List Rule → ℕ → ℕ → List Asked → List Denial
 records chosen rules last tick [] = []
-records chosen rules last tick (a ∷ asked) = elim (chosen a) [
-  | Some by ↦ record_of rules (one_more last) tick a by ∷ records chosen rules (one_more last) tick asked
-  | None ↦ records chosen rules last tick asked
-]
+records chosen rules last tick (a ∷ asked) = recorded (chosen a) rules last tick a (λ number. records chosen rules number tick asked)
 
 -- the number of the last record
 abbrev pub last_number : ℕ → List Denial → ℕ

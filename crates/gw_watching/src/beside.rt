@@ -66,9 +66,10 @@ impl<C: Choice, S: OctetSink> Beside<C, S> {
             tick: gateway.counts().ticks,
         };
         let put = writing.put_all(self.number, asked, text);
-        if put.count > 0 {
-            self.end_lines(is_begun && put.is_whole, put, text);
+        if put.count == 0 {
+            return;
         }
+        self.end_lines(is_begun, put, text);
     }
 
     /// Appends the line feed that ends a cut line. It answers whether there was memory for it.
@@ -84,14 +85,14 @@ impl<C: Choice, S: OctetSink> Beside<C, S> {
         }
     }
 
-    /// Writes the lines of some records, if they are whole; else they are lost.
-    fn end_lines(&mut self, is_whole: bool, put: Put, text: &[u8])
-        ensures { (due : List ℕ) → (is_whole ≡ true → text.now ≡ due) →
+    /// Writes the lines of some records, if their text is begun and whole; else they are lost.
+    fn end_lines(&mut self, is_begun: bool, put: Put, text: &[u8])
+        ensures { (due : List ℕ) → (is_begun ≡ true → put.is_whole ≡ true → text.now ≡ due) →
             IsEnded S.held due put.last put.count self.old self.new }
     {
         self.number = put.last;
         self.is_cut = true;
-        if is_whole && write_whole(&mut self.sink, text).is_ok() {
+        if is_begun && put.is_whole && write_whole(&mut self.sink, text).is_ok() {
             self.is_cut = false;
         } else {
             self.lost = self.lost.saturating_add(put.count);

@@ -10,8 +10,8 @@ use Rattle.gw_watching.proofs.writing.Writing.put_all.Goals as goal
 pub loop-one-init : goal.loop-one-init
 loop-one-init g c = put_none g.C.Choice.front c.args.text.now.items (start c.args.last)
 
-pub put_next-requires : goal.put_next-requires
-put_next-requires g c =
+pub put_next-put-requires : goal.put_next-put-requires
+put_next-put-requires g c =
     let w = c.args.self.now in
     let i = c.loop-one.one-index in
     let asked = c.args.asked.now in
@@ -33,6 +33,6 @@ loop-one-preserved g c =
     let taken : take (i + 1) asked ≡ done ++ one ∷ [] =
     ap (λ (n : ℕ). take n asked) next ∙ take-suc asked i one c.loop-one-test.true ∙ ap (λ a. done ++ a ∷ []) (sym c.one-item.is) in
     subst (λ (l : List Asked). IsPut g.C.Choice.front (records chosen rules c.args.last w.tick l) (start c.args.last) c.args.text.now.items
-    c.put_next.new.text.items c.put_next.result) (sym taken)
-    (put_next g.C.Choice.front chosen rules c.args.last w.tick done one (start c.args.last) c.loop-one.put c.put_next.result c.args.text.now.items
-    c.loop-one.text.items c.put_next.new.text.items refl c.loop-one.invariant c.put_next.ensures)
+    c.put_next-put.new.text.items c.put_next-put.result) (sym taken)
+    (put_next g.C.Choice.front chosen rules c.args.last w.tick done one (start c.args.last) c.loop-one.put c.put_next-put.result c.args.text.now.items
+    c.loop-one.text.items c.put_next-put.new.text.items refl c.loop-one.invariant c.put_next-put.ensures)
