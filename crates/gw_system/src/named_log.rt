@@ -2,7 +2,7 @@
 
 ghost use Rattle.std.specs.Prelude.{◌≡◌, ◌≤◌, ◌<◌, ℕ, List, Option, length, IfOk, IfSome};
 ghost use Rattle.std.specs.Io.KnownBytes.{Keeps, WriteAppends};
-ghost use Rattle.gw_system.specs.NamedLog.{IsEmpty, joined};
+ghost use Rattle.gw_system.specs.NamedLog.{BeginsEmpty, joined};
 
 use gw_script::{OctetSink, WriteFailed};
 use std::mem;
@@ -19,7 +19,8 @@ pub trait NamedFiles {
     /// can be opened.
     fn renewed(&mut self, file: &Self::File) -> Option<Self::File>
         ensures left { left self.new ≡ left self.old }
-        ensures empty { IfSome result (λ next. IsEmpty (Self.File.held next)) };
+        ensures empty { IfSome result (λ next. BeginsEmpty (joined (left self.old) (Self.File.held file.now))
+            (Self.File.held next)) };
 
     /// Leaves a file.
     fn leave(&mut self, file: Self::File)
