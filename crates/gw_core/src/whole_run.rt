@@ -8,9 +8,9 @@ ghost use Rattle.gw_core.specs.Effects.{NeedsNoMemory, effects_at, passes_end};
 ghost use Rattle.gw_core.specs.Lasting.{lasts};
 ghost use Rattle.gw_core.specs.History.{HasTaken, StopsAtEnd, next, run_from, state_from};
 
+use crate::asked::AllAsked;
 use crate::effects::Effects;
 use crate::fault::StepFault;
-use crate::asked::AllAsked;
 use crate::gateway::{Gateway, Taken, Watched};
 use gw_script::Event;
 use std::alloc::Global;

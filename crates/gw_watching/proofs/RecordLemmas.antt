@@ -51,8 +51,7 @@ put_along front one two a b c old mid new p q = record {
   count = omega (arith, p.count, q.count, length-append one two);
   whole = λ whole.
       let second = q.whole whole in
-      let first = p.whole second.0 in
-      (
+      let first = p.whole second.0 in (
         first.0,
         second.1 ∙ ap (λ (t : List ℕ). t ++ lines_behind front two) first.1
             ∙ append_assoc old (lines_behind front one) (lines_behind front two)

@@ -11,6 +11,7 @@ use Rattle.gw_core.specs.State.{State}
 use Rattle.gw_core.specs.declared.asked.Asked.{Asked}
 use Rattle.gw_rules.specs.declared.rule.Rule.{Rule}
 use Rattle.gw_script.specs.Event.{Event}
+use Rattle.gw_serving.specs.Both.{LetsAllGo}
 use Rattle.gw_serving.specs.Serve.{Turn, empty_turn, events_of, failed_turn, lost_event, taken_event, turn_events}
 use Rattle.gw_serving.specs.Stretch.{AreGuarded, GoOn, GuardsTurn, Moment}
 use Rattle.gw_watching.specs.Beside.{IsEnded, IsRecorded, IsWritten, IsLost, ended}
@@ -181,8 +182,7 @@ run_watched {T} {A} trial audit g h w (turn ∷ turns) p on none =
     still : (turn : Turn) → turn_events turn ≡ [] → p.0 ≡ g → AreGuarded (HasWatched trial audit) p.0 w turns h → Later g w
         → AreWatched trial audit g w (events_of (turn ∷ turns)) h × (g.unseen ≡ 0)
     still turn nothing same rest goes =
-        let later = goes (subst (λ (x : Watching T A). AreGuarded (HasWatched trial audit) x w turns h) same rest) on none in
-        (
+        let later = goes (subst (λ (x : Watching T A). AreGuarded (HasWatched trial audit) x w turns h) same rest) on none in (
           subst (λ (l : List Event). AreWatched trial audit g w l h)
               (sym (flat_map-cons turn_events turn turns ∙ ap (λ (l : List Event). l ++ events_of turns) nothing)) later.0,
           later.1,
@@ -196,8 +196,7 @@ run_watched {T} {A} trial audit g h w (turn ∷ turns) p on none =
     by (lost_event event) same rest goes = still (lost_event event) refl same rest (goes g w)
     by (taken_event event tries) passed rest goes =
         let later = goes p.0 (next w event) rest (stays_watching trial audit g p.0 w event passed ∙ on) none in
-        let now = event_watched trial audit g p.0 w event passed on later.1 in
-        (
+        let now = event_watched trial audit g p.0 w event passed on later.1 in (
           subst (λ (l : List Event). AreWatched trial audit g w l h) (sym (flat_map-cons turn_events (taken_event event tries) turns))
               (p.0, now.0, later.0),
           now.1,
@@ -300,3 +299,6 @@ counts_are_whole trial audit before after turns b c went first last seen k withi
     let w = before.scene.gateway in
     let watched = run_watched trial audit before.guard after.guard w turns went.guarded (watching_counts before.guard b first) seen in
     run_counted trial audit before.guard after.guard w (events_of turns) b c watched.0 first last k within
+
+pub lets_all_go : {T A : Type 0} (trial : T → Option (List ℕ)) (audit : A → Option (List ℕ)) → LetsAllGo (HasWatched trial audit)
+lets_all_go trial audit g h w event p = true≢false (sym p.0)
