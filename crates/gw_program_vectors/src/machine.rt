@@ -355,7 +355,11 @@ fn state_of(alloc: Global, lines: &str) -> Result<Option<Vec<u8>>, AllocError> {
         return text_if(alloc, true, "bacgw state 1\ncounts 0 0 0\nend\nmore");
     }
     if has_line(lines, "state counts") {
-        return text_if(alloc, true, "bacgw state 1\ncounts 2 1 0\nport 1 nowhere\nend\n");
+        return text_if(
+            alloc,
+            true,
+            "bacgw state 1\ncounts 2 1 0\nport 1 nowhere\nend\n",
+        );
     }
     text_if(alloc, has_line(lines, "state cut"), "bacgw state 1\n")
 }
