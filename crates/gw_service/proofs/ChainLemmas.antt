@@ -1,8 +1,9 @@
 -- Links one after the other, and what they told.
-use Rattle.std.proofs.Common.{◌≡◌, ◌∙◌, ℕ, ◌+◌, ◌<◌, ◌≤◌, List, [], ◌∷◌, ◌++◌, Option, Some, None, refl, sym, ap, subst, append_assoc, length, arith, rules, ◌⊎◌, inr, IfSome, option_map_or}
+use Rattle.std.proofs.Common.{◌≡◌, ◌∙◌, ℕ, ◌+◌, ◌<◌, ◌≤◌, List, [], ◌∷◌, ◌++◌, Option, Some, None, refl, sym, ap, subst, append_assoc, length, arith, rules, ◌⊎◌, inr}
 use Rattle.std.specs.Io.KnownBytes.{Appends}
 use Rattle.std.proofs.lemmas.List.{append-nil, flat_map_more, length-append}
-use Rattle.std.specs.Prelude.{Result, Ok, Err, Bool}
+use Rattle.std.specs.Option.{option_map_or}
+use Rattle.std.specs.Prelude.{Result, Ok, Err, Bool, IfSome}
 use Rattle.std.specs.Global.{Vec}
 use Rattle.gw_configuration.specs.Configuration.{Configuration}
 use Rattle.gw_core.specs.Resumed.{carried, saved, saved_of}

@@ -1,7 +1,6 @@
 //! What is reported of a configuration that is read again.
 
-ghost use Rattle.std.specs.Prelude.{◌≡◌, IfOk, IfSome, None};
-ghost use Rattle.gw_explanation.specs.Explanation.{ExplainsText};
+ghost use Rattle.std.specs.Prelude.{◌≡◌, IfOk, IfSome, Ok, Some};
 ghost use Rattle.gw_service.specs.Reload.{IsRefusalLine, located_line, name_of, refusal_line, refusal_words, reload_line};
 ghost use Rattle.gw_system.specs.Requests.{text_found};
 

@@ -1,7 +1,8 @@
 //! A gateway that runs by stretches: each is served to a tick, and then its state is kept, and its configuration read again
 //! if that was asked for.
 
-ghost use Rattle.std.specs.Prelude.{◌≡◌, ◌+◌, ◌≤◌, ◌<◌, ◌^◌, ◌∷◌, [], ℕ, List, Option, IfOk, IsErrOf, Ok, OnOk, option_map_or};
+ghost use Rattle.std.specs.Prelude.{◌≡◌, ◌+◌, ◌≤◌, ◌<◌, ◌^◌, ◌∷◌, [], ℕ, List, Option, IfOk, IsErrOf, Ok, OnOk};
+ghost use Rattle.std.specs.Option.{option_map_or};
 ghost use Rattle.std.specs.Io.KnownBytes.{Appends};
 ghost use Rattle.gw_configuration.specs.Configuration.{Configuration};
 ghost use Rattle.gw_saved.specs.Saved.{origin_of};
@@ -170,7 +171,8 @@ impl<K: StateKeeper, Q: Requests> Running<K, Q> {
             let before = stage c (moment (scene self.old.gateway (L.held log.old) (W.calls wire.old)) self.old.keeper
             self.old.state.served self.old.state.tally) (Q.told self.old.requests) self.old.counts self.old.told in
             (d : Configuration) × (text : List ℕ) × (self.new.origin ≡ origin_of d)
-            × Advances (manner K.Passes K.Ticks K.Adopts K.failing (due_stats K.unkept (reporting schedule.now.seconds schedule.now.start schedule.now.reloads))) turns before result text
+            × Advances (manner K.Passes K.Ticks K.Adopts K.failing
+            (due_stats K.unkept (reporting schedule.now.seconds schedule.now.start schedule.now.reloads))) turns before result text
             (stage d (moment (scene self.new.gateway (L.held log.new) (W.calls wire.new)) self.new.keeper
             self.new.state.served self.new.state.tally) (Q.told self.new.requests) self.new.counts self.new.told)
             × (E.NeverFails errors.old → Appends (E.held errors.old) (E.held errors.new) text) }
@@ -224,7 +226,8 @@ impl<K: StateKeeper, Q: Requests> Running<K, Q> {
             let before = stage c (moment (scene self.old.gateway (L.held log.old) (W.calls wire.old)) self.old.keeper
             self.old.state.served self.old.state.tally) (Q.told self.old.requests) self.old.counts self.old.told in
             (d : Configuration) × (links : List Link) × (self.new.origin ≡ origin_of d)
-            × Runs (manner K.Passes K.Ticks K.Adopts K.failing (due_stats K.unkept (reporting schedule.now.seconds schedule.now.start schedule.now.reloads))) turns before result links
+            × Runs (manner K.Passes K.Ticks K.Adopts K.failing
+            (due_stats K.unkept (reporting schedule.now.seconds schedule.now.start schedule.now.reloads))) turns before result links
             (stage d (moment (scene self.new.gateway (L.held log.new) (W.calls wire.new)) self.new.keeper
             self.new.state.served self.new.state.tally) (Q.told self.new.requests) self.new.counts self.new.told)
             × (E.NeverFails errors.old → Appends (E.held errors.old) (E.held errors.new) (chain_text links)) }

@@ -1,7 +1,7 @@
 //! Reports of a run, each so many seconds and at its end.
 
 ghost use Rattle.std.proofs.Props.{props};
-ghost use Rattle.std.specs.Prelude.{◌≡◌, ◌++◌, ◌-◌, ◌%◌, ◌==◌, ◌<◌, ◌≤◌, IfSome, IsOk, IsTrue, OnOk, decimal, if◌then◌else◌, [], List, ℕ};
+ghost use Rattle.std.specs.Prelude.{◌≡◌, ◌++◌, ◌-◌, ◌%◌, ◌==◌, ◌<◌, ◌≤◌, IfSome, IsOk, IsTrue, OnOk, decimal, if◌then◌else◌, [], List, ℕ, true};
 ghost use Rattle.std.specs.Io.KnownBytes.{Appends};
 ghost use Rattle.gw_serving.specs.ReportTurn.{HasGoneOn};
 ghost use Rattle.gw_service.specs.Stats.{due_stats, end_stats, has_gone_on, is_due, reloads_text, reporting, stats_text, unkept_text};

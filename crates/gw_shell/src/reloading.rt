@@ -1,7 +1,7 @@
 //! A running gateway is asked to read its configuration again.
 
-ghost use Rattle.std.specs.Prelude.{◌≡◌, []};
-ghost use Rattle.gw_shell.specs.Ending.{IsAnswerTo, answers_by, outcome_of_answer};
+ghost use Rattle.std.specs.Prelude.{◌≡◌, MatchResult};
+ghost use Rattle.gw_shell.specs.Ending.{IsAnswerTo, IsUnanswered, answers_by, outcome_of_answer};
 ghost use Rattle.gw_shell.specs.Files.{result_map};
 
 use crate::fault::Fault;
@@ -24,7 +24,7 @@ pub fn ask<H: Host>(alloc: Global, request: &str, host: &H) -> Result<Vec<u8>, F
 
 /// Waits for the answer to a request. Faults: `NoAnswer`, and `Memory`.
 fn answer<H: Host>(alloc: Global, asked: &H::Asked, host: &H) -> Result<Vec<u8>, Fault>
-    ensures { IsAnswerTo (λ _. H.Answers asked.now) [] (result_map (λ octets. octets.items) result) }
+    ensures { MatchResult result (λ answer. H.Answers asked.now answer.items) IsUnanswered }
 {
     match host.await_answer(alloc, asked, MAX_WAIT) {
         Ok(Some(answer)) => Ok(answer),
