@@ -232,14 +232,26 @@ fn message_shapes(format: Format, device: u64, from: &Origin) -> [Shape; 10]
     let here = only(device);
     let anywhere = perhaps(FieldName::DestinationNetwork);
     [
-        aimed(format, &bound(from, Operation::Cast, REQUEST_OR_MESSAGE, anywhere)),
+        aimed(
+            format,
+            &bound(from, Operation::Cast, REQUEST_OR_MESSAGE, anywhere),
+        ),
         aimed(format, &bound(from, Operation::Cast, ANSWER, anywhere)),
-        aimed(format, &bound(from, Operation::Route, REQUEST_OR_MESSAGE, NETWORK)),
+        aimed(
+            format,
+            &bound(from, Operation::Route, REQUEST_OR_MESSAGE, NETWORK),
+        ),
         aimed(format, &bound(from, Operation::Route, ANSWER, NETWORK)),
         bound(from, Operation::Network, only(512), NETWORKS),
         named(from, Operation::Read, only(12), here, NOTHING),
         named(from, Operation::Read, only(14), here, NOTHING),
-        named(from, Operation::Write, only(15), here, some(FieldName::Priority)),
+        named(
+            from,
+            Operation::Write,
+            only(15),
+            here,
+            some(FieldName::Priority),
+        ),
         Fields {
             property: only(77),
             ..named(from, Operation::List, only(263), here, NOTHING)
