@@ -10,8 +10,8 @@ ghost use Rattle.gw_system.specs.Requests.{text_found};
 ghost use Rattle.gw_system.specs.declared.reading.ReadFailure.{ReadFailure};
 ghost use Rattle.gw_serving.specs.declared.store.StoreFault.{StoreFault};
 
-use crate::folder::{Folder, SystemFolder};
 use crate::file_log::{self, FileLog};
+use crate::folder::{Folder, SystemFolder};
 use crate::opening::{LogFailure, SocketFailure, Step};
 use crate::poll_waiter::PollWaiter;
 use crate::reading::{ReadFailure, read_file, read_last_line};

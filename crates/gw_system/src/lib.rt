@@ -5,8 +5,8 @@
 //! and clock are a wire of `gw_ports`.
 #![tactic(auto)]
 
-mod folder;
 mod file_log;
+mod folder;
 mod host;
 mod named_log;
 mod opening;
@@ -17,8 +17,8 @@ mod store;
 mod system_clock;
 mod udp;
 
-pub use folder::{Folder, SystemFolder};
 pub use file_log::{FileLog, LogFile, LogFiles};
+pub use folder::{Folder, SystemFolder};
 pub use host::{Host, SystemHost, open_at_line};
 pub use named_log::{NamedFiles, NamedLog};
 pub use opening::{FailedStep, LogFailure, OpenFailure, Reason, SocketFailure, Step, note_of};
