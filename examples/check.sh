@@ -139,6 +139,27 @@ refused() {
     agrees "words: $*" 2 /dev/null "$work/refusal"
 }
 
+# A log as JSON objects, which jq reads back: nothing in it ends a string or a line.
+command -v jq > /dev/null || { echo 'this wants jq: apt-get install jq' >&2; exit 1; }
+printf '1 0 1 1:C0A80105BAC0 read dst=100 svc=12 obj=5,2 prop=85 prio=- rule=hide\n"} \\ \0 \033[31m\n\377\n' > "$work/hostile"
+"$program" log --json < "$work/hostile" > "$work/out" 2> "$work/err"
+status=$?
+same 'a hostile log as objects' "$status $(jq -c '[.rule, .line, .octets]' "$work/out" | tr '\n' ' ')" \
+    '0 ["hide",null,null] [null,"\"} \\ \u0000 \u001b[31m",null] [null,null,"FF"] '
+head -c 10000000 /dev/zero > "$work/long"
+"$program" log --json < "$work/long" > "$work/out" 2> "$work/err"
+status=$?
+tells 'a line of 10 MB' 2 'bacgw: line 1'
+head -1 "$work/hostile" | "$program" why --config "$here/routed.toml" --json > "$work/out" 2> "$work/err"
+status=$?
+same 'an answer as an object' "$status $(jq -c '[.allow, .rule, .source]' "$work/out")" '0 [false,"no-doors","192.168.1.5:47808"]'
+
+# The page of a site: no text of the configuration is a tag.
+sed 's/^name = "gateway"/name = "<b>\&"/' "$here/routed.toml" > "$work/named.toml"
+head -1 "$work/hostile" | "$program" report --config "$work/named.toml" --count > "$work/out" 2> "$work/err"
+status=$?
+same 'a page' "$status $(grep -c '<b>' "$work/out") $(grep -c '<h1>&lt;b&gt;&amp;</h1>' "$work/out")" '0 0 1'
+
 # refused_alone WORDS...: the words are refused by the line alone
 refused_alone() {
     "$program" "$@" < /dev/null > "$work/out" 2> "$work/err"

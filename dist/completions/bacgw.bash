@@ -14,7 +14,7 @@ _bacgw() {
         return
     fi
     if [ "$COMP_CWORD" = 1 ]; then
-        options='check replay run why compare log state reload suggest help --help --version'
+        options='check replay run why compare log state reload suggest report help --help --version'
     else
         case $before in
             --config | --with | --log | --state | --reload) compopt -o default; return ;;
@@ -25,13 +25,14 @@ _bacgw() {
             check) options='--config --explain --lint --help' ;;
             replay) options='--config --explain --help' ;;
             run) options='--config --log --turns --stats --verbose --state --reload --help' ;;
-            why) options='--config --count --help' ;;
+            why) options='--config --count --json --help' ;;
             state) options='--config --state --help' ;;
             reload) options='--config --reload --help' ;;
             suggest) options='--config --fill --exact --help' ;;
             compare) options='--config --with --most --help' ;;
-            log) options='--start --help' ;;
-            help) options='check replay run why compare log state reload suggest' ;;
+            log) options='--start --json --help' ;;
+            report) options='--config --count --help' ;;
+            help) options='check replay run why compare log state reload suggest report' ;;
             *) return ;;
         esac
     fi

@@ -39,17 +39,17 @@ run_of_reports = with_rule (with_rule run_of_turns (flag (codes "verbose"))) (op
 abbrev pub run : App
 run = with_rule (with_rule run_of_reports (option (codes "state"))) (option (codes "reload"))
 
--- `why --config FILE [--count]`
+-- `why --config FILE [--count] [--json]`
 abbrev pub why : App
-why = with_rule (of_file (codes "why")) (flag (codes "count"))
+why = with_rule (with_rule (of_file (codes "why")) (flag (codes "count"))) (flag (codes "json"))
 
 -- `compare --config FILE --with FILE [--most N]`
 abbrev pub compare : App
 compare = with_rule (with_rule (of_file (codes "compare")) (needed (codes "with"))) (option (codes "most"))
 
--- `log [--start TIME]`
+-- `log [--start TIME] [--json]`
 abbrev pub log : App
-log = with_rule (new_app (codes "log")) (option (codes "start"))
+log = with_rule (with_rule (new_app (codes "log")) (option (codes "start"))) (flag (codes "json"))
 
 -- `state --config FILE --state FILE`
 abbrev pub state : App
@@ -62,6 +62,10 @@ suggest = with_rule (with_rule (of_file (codes "suggest")) (flag (codes "fill"))
 -- `reload --config FILE --reload FILE`
 abbrev pub reload : App
 reload = with_rule (of_file (codes "reload")) (needed (codes "reload"))
+
+-- `report --config FILE [--count]`
+abbrev pub report : App
+report = with_rule (of_file (codes "report")) (flag (codes "count"))
 
 -- the program, whose call has to name a command
 abbrev pub program : App
@@ -85,8 +89,10 @@ commands =
     (with_subcommand
     (with_subcommand
     (with_subcommand
+    (with_subcommand
     (with_subcommand first_commands log.top)
     compare.top)
     state.top)
     suggest.top)
-    reload.top
+    reload.top)
+    report.top

@@ -29,6 +29,9 @@ pub data Request : Type 0 where
   Reloads : (config request : Text) → Request
   Suggests : (file : Text) (fills exact : Bool) → Request
   TellsLog : (start : Option Text) → Request
+  ListsLog : Request
+  Judges : (file : Text) → Request
+  Reports : (file : Text) (counts : Bool) → Request
 
 -- the value of each option by its name, and `None` if it isn't given
 abbrev pub Values : Type 0
@@ -110,6 +113,22 @@ abbrev pub reload_asked : Text → Option Text → Option Request
 reload_asked config None = None
 reload_asked config (Some request) = Some (Reloads config request)
 
+-- `why`: in words, by counts, or as JSON objects, but not by counts and as objects
+abbrev pub why_asked : Text → Values → Option Request
+why_asked file value =
+    let counts = is_true (value (codes "count")) in
+    if is_true (value (codes "json")) then if counts then None else Some (Judges file) else Some (Explains file counts)
+
+-- `log` as JSON objects, which have no start
+abbrev pub list_asked : Option Text → Option Request
+list_asked None = Some ListsLog
+list_asked (Some start) = None
+
+-- `log`: in words, or as JSON objects
+abbrev pub log_asked : Values → Option Request
+log_asked value =
+    if is_true (value (codes "json")) then list_asked (value (codes "start")) else Some (TellsLog (value (codes "start")))
+
 -- a command's name is this one
 abbrev pub is_named : Text → Text → Bool
 is_named name other = pointwise nat_eq name other
@@ -119,7 +138,8 @@ abbrev pub asked_of_file : Text → Values → Text → Option Request
 asked_of_file name value file =
     if is_named name (codes "check") then check_asked file value
     else if is_named name (codes "run") then run_asked file value
-    else if is_named name (codes "why") then Some (Explains file (is_true (value (codes "count"))))
+    else if is_named name (codes "why") then why_asked file value
+    else if is_named name (codes "report") then Some (Reports file (is_true (value (codes "count"))))
     else if is_named name (codes "compare") then compare_asked file value
     else if is_named name (codes "reload") then reload_asked file (value (codes "reload"))
     else if is_named name (codes "suggest")
@@ -130,7 +150,7 @@ asked_of_file name value file =
 -- what a call of the command of this name asks for, whose options have these values; `None` if it asks for nothing
 abbrev pub asked : Text → Values → Option Request
 asked name value =
-    if is_named name (codes "log") then Some (TellsLog (value (codes "start")))
+    if is_named name (codes "log") then log_asked value
     else if is_named name (codes "replay")
     then Some (Replays (value (codes "config")) (is_true (value (codes "explain"))))
     else option_and_then (asked_of_file name value) (value (codes "config"))

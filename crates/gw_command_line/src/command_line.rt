@@ -4,7 +4,7 @@ ghost use Rattle.std.specs.Prelude.{Some, codes, map, string_bytes};
 ghost use Rattle.std.specs.Option.{option_and_then};
 ghost use Rattle.clap.specs.Words.{first_value, found_of, kind_of, subcommand_rows_of};
 ghost use Rattle.gw_command_line.specs.CommandLine.{AskFor, Chooses, IsAnswer, IsChosen, IsRefusal};
-ghost use Rattle.gw_command_line.specs.Requests.{Request, TellsLog, asked, asked_by, asked_of_file, check_asked, compare_asked, reload_asked, run_asked, state_asked};
+ghost use Rattle.gw_command_line.specs.Requests.{Request, TellsLog, asked, asked_by, asked_of_file, check_asked, compare_asked, list_asked, log_asked, reload_asked, run_asked, state_asked, why_asked};
 
 use crate::commands::make_commands;
 use crate::fault::WordsFault;
@@ -70,6 +70,17 @@ pub enum Choice {
     /// Say the log on standard input in words, and when each denial was if this is the moment at
     /// which the log began.
     Log(Option<Moment>),
+    /// Write the log on standard input as JSON objects.
+    Objects,
+    /// Answer each ask on standard input by the rules of the configuration in this file, as JSON
+    /// objects.
+    Judge(String),
+    /// Write a page that shows the configuration in this file, and how many of the asks on standard
+    /// input each of its rules decides, if that is asked for.
+    Report {
+        file: String,
+        counts: bool,
+    },
     /// Print this text, which is help or the version.
     Help(String),
     /// Report that the words are no command line, and after it this text, which says how the program is
@@ -181,14 +192,51 @@ fn reload_choice(
     }
 }
 
-/// What `log` asks for. `CommandLine` if the text of its start says no moment.
+/// What `log` asks for. `CommandLine` if the text of its start says no moment, or if it is to be written
+/// as JSON objects and has a start.
 fn log_choice(matches: &ArgMatches<'_>) -> Result<Choice, WordsFault>
+    ensures { IsChosen (log_asked (first_value (found_of matches.now))) result }
+{
+    if is_given(matches, "json") {
+        list_choice(matches)
+    } else {
+        words_choice(matches)
+    }
+}
+
+/// What `log` asks for as JSON objects.
+fn list_choice(matches: &ArgMatches<'_>) -> Result<Choice, WordsFault>
+    ensures { IsChosen (list_asked (first_value (found_of matches.now) (codes "start"))) result }
+{
+    match matches.get_str("start") {
+        Some(_) => Err(WordsFault::CommandLine),
+        None => Ok(Choice::Objects),
+    }
+}
+
+/// What `log` asks for in words.
+fn words_choice(matches: &ArgMatches<'_>) -> Result<Choice, WordsFault>
     ensures { IsChosen (Some (TellsLog (first_value (found_of matches.now) (codes "start")))) result }
 {
     match start_of(matches.get_str("start")) {
         Ok(start) => Ok(Choice::Log(start)),
         Err(fault) => Err(fault),
     }
+}
+
+/// What `why` asks for under the configuration in this file. `CommandLine` if it is to count, and to answer
+/// by JSON objects.
+fn why_choice(matches: &ArgMatches<'_>, file: String) -> Result<Choice, WordsFault>
+    ensures { IsChosen (why_asked (string_bytes file) (first_value (found_of matches.now))) result }
+{
+    let counts = is_given(matches, "count");
+    if !is_given(matches, "json") {
+        return Ok(Choice::Why { file, counts });
+    }
+    if counts {
+        return Err(WordsFault::CommandLine);
+    }
+    Ok(Choice::Judge(file))
 }
 
 /// What the command of this name asks for under the configuration in this file.
@@ -208,8 +256,11 @@ fn choice_of_file(
         return run_choice(alloc, matches, file);
     }
     if name == "why" {
+        return why_choice(matches, file);
+    }
+    if name == "report" {
         let counts = is_given(matches, "count");
-        return Ok(Choice::Why { file, counts });
+        return Ok(Choice::Report { file, counts });
     }
     if name == "compare" {
         return compare_choice(alloc, matches, file);

@@ -3,7 +3,7 @@
 ghost use Rattle.std.specs.Prelude.{◌≡◌, false, codes, IfOk};
 ghost use Rattle.clap.specs.Words.{app_of, rule_of};
 ghost use Rattle.clap.specs.declared.builder.command.Command.TheViews.{out-Command};
-ghost use Rattle.gw_command_line.specs.Commands.{check, check_of_explanation, commands, compare, first_commands, flag, log, needed, of_file, option, program, reload, replay, run, run_of_reports, run_of_turns, state, suggest, why};
+ghost use Rattle.gw_command_line.specs.Commands.{check, check_of_explanation, commands, compare, first_commands, flag, log, needed, of_file, option, program, reload, replay, report, run, run_of_reports, run_of_turns, state, suggest, why};
 
 use clap::{Arg, ArgAction, Command};
 use std::alloc::{AllocError, Global};
@@ -35,6 +35,9 @@ const SUGGEST_EXAMPLE: &str = "Example:
 
 const RELOAD_EXAMPLE: &str = "Example:
   bacgw reload --config site.toml --reload /run/bacgw/reload";
+
+const REPORT_EXAMPLE: &str = "Example:
+  bacgw report --config site.toml --count < denials.log > page.html";
 
 const LOG_EXAMPLE: &str = "Example:
   bacgw log < denials.log | sort | uniq -c";
@@ -159,9 +162,11 @@ fn make_why<'a>(alloc: Global) -> Result<Command<'a>, AllocError>
         "count",
         "Prints how many asks each rule decides instead",
     );
+    let json = make_flag(alloc, "json", "Answers by a JSON object a line instead");
     make_of_file(alloc, "why", about)?
         .after_help(WHY_EXAMPLE)
-        .arg(count)
+        .arg(count)?
+        .arg(json)
 }
 
 fn make_compare<'a>(alloc: Global) -> Result<Command<'a>, AllocError>
@@ -185,10 +190,13 @@ fn make_log<'a>(alloc: Global) -> Result<Command<'a>, AllocError>
 {
     let help = "Also tells when each denial was, if the log began then: 2026-11-25T08:00:00+01:00";
     let start = make_option(alloc, "start", "TIME", help);
+    let help = "Makes each line a JSON object instead; without --start";
+    let json = make_flag(alloc, "json", help);
     Command::new(alloc, "log")
         .about("Tells each line of a log on standard input in words")
         .after_help(LOG_EXAMPLE)
-        .arg(start)
+        .arg(start)?
+        .arg(json)
 }
 
 fn make_state<'a>(alloc: Global) -> Result<Command<'a>, AllocError>
@@ -232,6 +240,18 @@ fn make_reload<'a>(alloc: Global) -> Result<Command<'a>, AllocError>
         .arg(request)
 }
 
+fn make_report<'a>(alloc: Global) -> Result<Command<'a>, AllocError>
+    ensures app { IfOk result (λ command. app_of command ≡ report) }
+    ensures local { IfOk result (λ command. (out-Command command).has_globals ≡ false) }
+{
+    let help = "Also shows how many asks of standard input each rule decides";
+    let count = make_flag(alloc, "count", help);
+    let about = "Writes an HTML page: the site as a picture, and who may do what";
+    make_of_file(alloc, "report", about)?
+        .after_help(REPORT_EXAMPLE)
+        .arg(count)
+}
+
 /// The program, with no command yet.
 fn make_program<'a>(alloc: Global) -> Command<'a>
     ensures { app_of result ≡ program }
@@ -266,10 +286,12 @@ pub fn make_commands<'a>(alloc: Global) -> Result<Command<'a>, AllocError>
     let state = make_state(alloc)?;
     let suggest = make_suggest(alloc)?;
     let reload = make_reload(alloc)?;
+    let report = make_report(alloc)?;
     make_first_commands(alloc)?
         .subcommand(log)?
         .subcommand(compare)?
         .subcommand(state)?
         .subcommand(suggest)?
-        .subcommand(reload)
+        .subcommand(reload)?
+        .subcommand(report)
 }

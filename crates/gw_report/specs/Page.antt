@@ -12,7 +12,7 @@ use Rattle.gw_script.specs.Order.{in_order}
 abbrev pub style : List ℕ
 style =
     codes "<style>body{font:15px/1.4 sans-serif;max-width:60em;margin:1em auto;padding:0 1em}"
-    ++ codes ".site{display:block;width:100%;max-width:480px;font-size:14px}.name{font-weight:bold}rect{fill:#eef3f8;stroke:#345}"
+    ++ codes ".site{display:block;width:100%;max-width:540px;font-size:14px}.name{font-weight:bold}rect{fill:#eef3f8;stroke:#345}"
     ++ codes "path{fill:none;stroke:#345}pre{white-space:pre-wrap}td,th{padding:2px 12px 2px 0;text-align:left}"
     ++ codes ".bar{width:16em;height:12px}.bar rect{fill:#345;stroke:none}</style>\n"
 

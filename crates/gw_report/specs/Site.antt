@@ -17,21 +17,21 @@ row_end = codes "</text></svg>\n"
 
 abbrev pub device_row : Device → List ℕ
 device_row device =
-    codes "<svg class='site' viewBox='0 0 480 58'><rect x='8' y='6' width='420' height='46'/><text class='name' x='20' y='25'>"
+    codes "<svg class='site' viewBox='0 0 540 58'><rect x='8' y='6' width='512' height='46'/><text class='name' x='20' y='25'>"
     ++ escaped device.name
     ++ codes "</text><text x='20' y='43'>device " ++ decimal device.instance
     ++ codes " on network " ++ decimal device.network ++ row_end
 
 abbrev pub port_row : ℕ → Port → List ℕ
 port_row number port =
-    codes "<svg class='site' viewBox='0 0 480 60'><path d='M28 0V60M28 33H60'/><rect x='60' y='10' width='368' height='46'/>"
+    codes "<svg class='site' viewBox='0 0 540 60'><path d='M28 0V60M28 33H60'/><rect x='60' y='10' width='460' height='46'/>"
     ++ codes "<text class='name' x='72' y='29'>port " ++ decimal number ++ codes ", network " ++ decimal port.network
     ++ codes "</text><text x='72' y='47'>" ++ text_of port.address
     ++ codes ", broadcasts to " ++ text_of port.broadcast ++ row_end
 
 -- the beginning of a row for what a port knows of
 abbrev pub branch : List ℕ
-branch = codes "<svg class='site' viewBox='0 0 480 24'><path d='M28 0V24M80 0V24M80 12H112'/><text x='118' y='16'>"
+branch = codes "<svg class='site' viewBox='0 0 540 24'><path d='M28 0V24M80 0V24M80 12H112'/><text x='118' y='16'>"
 
 abbrev pub peer_row : BdtEntry → List ℕ
 peer_row peer = branch ++ codes "peer " ++ text_of peer.address ++ codes " mask " ++ four_text peer.mask ++ row_end

@@ -84,7 +84,7 @@ fn put_style(out: &mut Vec<u8>) -> Result<(), AllocError>
     )?;
     put_slice(
         out,
-        b".site{display:block;width:100%;max-width:480px;font-size:14px}.name{font-weight:bold}rect{fill:#eef3f8;stroke:#345}",
+        b".site{display:block;width:100%;max-width:540px;font-size:14px}.name{font-weight:bold}rect{fill:#eef3f8;stroke:#345}",
     )?;
     put_slice(
         out,

@@ -18,7 +18,7 @@ const ROW_END: &[u8] = b"</text></svg>\n";
 
 /// The beginning of a row for what a port knows of.
 const BRANCH: &[u8] =
-    b"<svg class='site' viewBox='0 0 480 24'><path d='M28 0V24M80 0V24M80 12H112'/><text x='118' y='16'>";
+    b"<svg class='site' viewBox='0 0 540 24'><path d='M28 0V24M80 0V24M80 12H112'/><text x='118' y='16'>";
 
 /// Appends a row for the device, and for each port those of it.
 pub(crate) fn put_site(out: &mut Vec<u8>, config: &Config) -> Result<(), AllocError>
@@ -33,7 +33,7 @@ fn put_device(out: &mut Vec<u8>, device: &Device) -> Result<(), AllocError>
 {
     put_slice(
         out,
-        b"<svg class='site' viewBox='0 0 480 58'><rect x='8' y='6' width='420' height='46'/><text class='name' x='20' y='25'>",
+        b"<svg class='site' viewBox='0 0 540 58'><rect x='8' y='6' width='512' height='46'/><text class='name' x='20' y='25'>",
     )?;
     put_escaped(out, device.name.as_str().as_bytes())?;
     put_count(
@@ -90,7 +90,7 @@ fn put_port(out: &mut Vec<u8>, number: usize, port: &Port) -> Result<(), AllocEr
 {
     put_slice(
         out,
-        b"<svg class='site' viewBox='0 0 480 60'><path d='M28 0V60M28 33H60'/><rect x='60' y='10' width='368' height='46'/>",
+        b"<svg class='site' viewBox='0 0 540 60'><path d='M28 0V60M28 33H60'/><rect x='60' y='10' width='460' height='46'/>",
     )?;
     put_count(
         out,

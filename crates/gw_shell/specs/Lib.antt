@@ -5,8 +5,10 @@ pub mod Ending
 pub mod Files
 pub mod Kept
 pub mod Lines
+pub mod Objects
 pub mod Program
 pub mod Replay
+pub mod Reporting
 pub mod Serving
 pub mod Suggesting
 pub mod Telling

@@ -1,0 +1,80 @@
+//! A log, and the answers to its asks, as JSON objects.
+
+ghost use Rattle.std.specs.Prelude.{◌≡◌, [], OnOk};
+ghost use Rattle.std.specs.Io.Buffered.{writer_buffer, writer_contents};
+ghost use Rattle.gw_script.specs.Known.{OnKnown};
+ghost use Rattle.gw_shell.specs.Objects.{Judges, LeavesJudged, LeavesJudgedIn, Lists};
+
+use crate::configured::configuration_in;
+use crate::fault::Fault;
+use crate::files::ConfigFiles;
+use crate::lines::first_lines_fault;
+use gw_configuration::Config;
+use gw_json::{log_in_json, why_in_json};
+use gw_script::OctetSource;
+use std::alloc::Global;
+use std::io::{BufWriter, Write};
+
+/// Writes each line of the log that `reader` has left as a JSON object. What was written is flushed at every outcome.
+/// Faults: those of the writing, and `Write` also if the flush alone fails.
+pub fn list<R: OctetSource, W: Write + Drop>(
+    alloc: Global,
+    reader: &mut R,
+    writer: &mut BufWriter<W>,
+) -> Result<(), Fault>
+    ensures lists { OnKnown (R.left reader.old) (writer_contents W.contents writer.old)
+        (writer_contents W.contents writer.new) (λ log before. Lists log before result) }
+    ensures flush { OnOk result (writer_buffer writer.new ≡ []) }
+{
+    let listing = log_in_json(alloc, reader, writer);
+    let is_flushed = writer.flush().is_ok();
+    first_lines_fault(listing, is_flushed)
+}
+
+/// Answers each ask that `reader` has left by the rules of a configuration, with their notes, as a JSON object.
+fn judge<R: OctetSource, W: Write + Drop>(
+    alloc: Global,
+    config: &Config,
+    reader: &mut R,
+    writer: &mut BufWriter<W>,
+) -> Result<(), Fault>
+    ensures judges { OnKnown (R.left reader.old) (writer_contents W.contents writer.old)
+        (writer_contents W.contents writer.new)
+        (λ text before. Judges config.now.rules config.now.notes text before result) }
+    ensures flush { OnOk result (writer_buffer writer.new ≡ []) }
+{
+    let verdicts = why_in_json(alloc, config, reader, writer);
+    let is_flushed = writer.flush().is_ok();
+    first_lines_fault(verdicts, is_flushed)
+}
+
+/// Answers them by the rules of the configuration that was read.
+fn judge_by<R: OctetSource, W: Write + Drop>(
+    alloc: Global,
+    config: Result<Config, Fault>,
+    input: &mut R,
+    output: &mut BufWriter<W>,
+) -> Result<(), Fault>
+    ensures output { LeavesJudged (R.left input.old) (writer_contents W.contents output.old)
+        (writer_contents W.contents output.new) config result }
+    ensures flush { OnOk result (writer_buffer output.new ≡ []) }
+{
+    let config = config?;
+    judge(alloc, &config, input, output)
+}
+
+/// Answers them by those of the file of this name.
+pub fn judge_in<F: ConfigFiles, R: OctetSource, W: Write + Drop>(
+    alloc: Global,
+    files: &F,
+    file: &str,
+    input: &mut R,
+    output: &mut BufWriter<W>,
+) -> Result<(), Fault>
+    ensures output { LeavesJudgedIn (F.Reads files.now) file.now (R.left input.old)
+        (writer_contents W.contents output.old) (writer_contents W.contents output.new) result }
+    ensures flush { OnOk result (writer_buffer output.new ≡ []) }
+{
+    let config = configuration_in(alloc, files, file);
+    judge_by(alloc, config, input, output)
+}
