@@ -53,6 +53,9 @@ fn put_useless(out: &mut Vec<u8>, index: usize, name: &RuleName) -> Result<(), A
 {
     put_numbered(out, b"warning: rule ", index)?;
     put_name(out, name)?;
-    put_slice(out, b"audit: what a rule denies is in the log, never in an audit")?;
+    put_slice(
+        out,
+        b"audit: what a rule denies is in the log, never in an audit",
+    )?;
     put_octet(out, b'\n')
 }
