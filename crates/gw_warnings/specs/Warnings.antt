@@ -1,5 +1,5 @@
 -- What a configuration has that is accepted and can't be meant, and the lines that tell it.
-use Rattle.std.specs.Prelude.{ℕ, ◌+◌, ◌-◌, ◌==◌, Bool, false, ◌&&◌, ◌||◌, not, nat_lt, if◌then◌else◌, List, [], ◌∷◌, ◌++◌}
+use Rattle.std.specs.Prelude.{ℕ, ◌+◌, ◌-◌, ◌==◌, Bool, true, false, ◌&&◌, ◌||◌, not, nat_lt, if◌then◌else◌, List, [], ◌∷◌, ◌++◌}
 use Rattle.std.specs.Prelude.{length, drop, codes, decimal, Option, Some, None, position, slice_get}
 use Rattle.std.specs.Int.{w64, to_be_bytes}
 use Rattle.std.specs.Option.{option_map_or}
@@ -225,18 +225,22 @@ none_line = codes "warning: there is no rule, so every ask is denied" ++ 10 ∷ 
 abbrev pub none_lines : List Rule → List ℕ
 none_lines rules = if length rules == 0 then none_line else []
 
--- of a rule that denies and is audited
-abbrev pub audit_line : ℕ → List ℕ → List ℕ
-audit_line index name =
-    numbered (codes "warning: rule ") index ++ name_words name
-    ++ codes "audit: what a rule denies is in the log, never in an audit" ++ 10 ∷ []
+-- what is said of an audited rule, by whether it allows
+abbrev pub audit_words : Bool → List ℕ
+audit_words true = codes "audit: this version writes no audit"
+audit_words false = codes "audit: what a rule denies is in the log, never in an audit"
+
+abbrev pub audit_line : ℕ → Rule → List ℕ
+audit_line index rule =
+    numbered (codes "warning: rule ") index ++ name_words rule.name ++ audit_words rule.allow ++ 10 ∷ []
 
 -- whether the rule at a position is audited
 abbrev pub is_audited : List Bool → ℕ → Bool
 is_audited audits index = option_map_or (λ audit. audit) (slice_get audits index) false
 
+-- of each audited rule
 abbrev pub audit_lines : List Bool → ℕ → Rule → List ℕ
-audit_lines audits index rule = if is_audited audits index && not rule.allow then audit_line index rule.name else []
+audit_lines audits index rule = if is_audited audits index then audit_line index rule else []
 
 -- ---- peers that may register
 

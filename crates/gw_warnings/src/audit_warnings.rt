@@ -2,14 +2,14 @@
 ghost use Rattle.std.specs.Prelude.{◌≡◌};
 ghost use Rattle.gw_addr.specs.Appending.{IsAppended};
 ghost use Rattle.gw_script.specs.Order.{in_order};
-ghost use Rattle.gw_warnings.specs.Warnings.{audit_line, audit_lines, is_audited};
+ghost use Rattle.gw_warnings.specs.Warnings.{audit_line, audit_lines, audit_words, is_audited};
 
 use crate::spot::{put_name, put_numbered};
 use gw_addr::{put_octet, put_slice};
-use gw_rules::{Rule, RuleName};
+use gw_rules::Rule;
 use std::alloc::AllocError;
 
-/// Appends a line for each rule that denies and is audited.
+/// Appends a line for each rule that is audited.
 pub(crate) fn put_audits(
     out: &mut Vec<u8>,
     audits: &[bool],
@@ -31,8 +31,8 @@ fn put_audit(
 ) -> Result<(), AllocError>
     ensures { IsAppended (audit_lines audits.now index rule.now) out.old out.new result }
 {
-    if is_audited(audits, index) && !rule.allow {
-        put_useless(out, index, &rule.name)
+    if is_audited(audits, index) {
+        put_useless(out, index, rule)
     } else {
         Ok(())
     }
@@ -48,14 +48,22 @@ fn is_audited(audits: &[bool], index: usize) -> bool
     }
 }
 
-fn put_useless(out: &mut Vec<u8>, index: usize, name: &RuleName) -> Result<(), AllocError>
-    ensures { IsAppended (audit_line index name.now) out.old out.new result }
+fn put_useless(out: &mut Vec<u8>, index: usize, rule: &Rule) -> Result<(), AllocError>
+    ensures { IsAppended (audit_line index rule.now) out.old out.new result }
 {
     put_numbered(out, b"warning: rule ", index)?;
-    put_name(out, name)?;
-    put_slice(
-        out,
-        b"audit: what a rule denies is in the log, never in an audit",
-    )?;
+    put_name(out, &rule.name)?;
+    put_slice(out, useless_words(rule.allow))?;
     put_octet(out, b'\n')
+}
+
+/// What is said of a rule that is audited, by whether it allows.
+fn useless_words(allows: bool) -> &'static [u8]
+    ensures { result.now ≡ audit_words allows }
+{
+    if allows {
+        b"audit: this version writes no audit"
+    } else {
+        b"audit: what a rule denies is in the log, never in an audit"
+    }
 }
