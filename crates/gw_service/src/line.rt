@@ -110,7 +110,17 @@ fn explained_line(alloc: Global, text: &[u8], fault: ConfigFault) -> Option<Vec<
     }
 }
 
-/// The line of what was read and isn't taken over that takes memory: of a fault of the text, with its place.
+/// The line of a text that isn't taken over that takes memory: of a fault of the text, with its place.
+fn line_of_text(alloc: Global, text: &[u8], fault: ReloadFault) -> Option<Vec<u8>>
+    ensures { IfSome result (λ line. IsRefusalLine (Ok (Some text.now)) fault line.items) }
+{
+    match fault {
+        ReloadFault::Configuration(fault) => explained_line(alloc, text, fault),
+        _ => None,
+    }
+}
+
+/// The line of what was read and isn't taken over that takes memory, if there is one.
 pub(crate) fn line_with_place(
     alloc: Global,
     read: &Result<Option<Vec<u8>>, ReadFailure>,
@@ -118,8 +128,8 @@ pub(crate) fn line_with_place(
 ) -> Option<Vec<u8>>
     ensures { IfSome result (λ line. IsRefusalLine (text_found read.now) fault line.items) }
 {
-    match (read, fault) {
-        (Ok(Some(text)), ReloadFault::Configuration(fault)) => explained_line(alloc, text, fault),
-        _ => None,
+    match read {
+        Ok(Some(text)) => line_of_text(alloc, text, fault),
+        Ok(None) | Err(_) => None,
     }
 }

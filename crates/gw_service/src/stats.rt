@@ -77,6 +77,16 @@ fn tell_reloads<E: OctetSink>(is_read: bool, counts: ReloadCounts, errors: &mut 
     }
 }
 
+/// Tells how often the state couldn't be kept, and how often the configuration was read again, if it is.
+fn tell_tries<E: OctetSink>(unkept: u64, is_read: bool, counts: ReloadCounts, errors: &mut E)
+    ensures told { E.NeverFails errors.old →
+        Appends (E.held errors.old) (E.held errors.new) (unkept_text unkept ++ reloads_text is_read counts) }
+    ensures lasts { E.NeverFails errors.old → E.NeverFails errors.new }
+{
+    tell_unkept(unkept, errors);
+    tell_reloads(is_read, counts, errors);
+}
+
 /// Whether a gateway's counts didn't fall since it began with these, and each tick is an event that was taken. It is always so.
 fn has_gone_on(start: Counts, gateway: &Gateway, served: &Served) -> bool
     ensures is { result ≡ has_gone_on start gateway.now served.now }
@@ -114,8 +124,7 @@ impl Schedule {
         if has_gone_on(self.start, gateway, &state.served) {
             let report = report_of(self.start, gateway, &state.served, state.tally);
             tell_report(&report, errors);
-            tell_unkept(unkept, errors);
-            tell_reloads(self.reloads, counts, errors);
+            tell_tries(unkept, self.reloads, counts, errors);
         }
     }
 
