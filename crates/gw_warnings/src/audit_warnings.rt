@@ -53,17 +53,20 @@ fn put_useless(out: &mut Vec<u8>, index: usize, rule: &Rule) -> Result<(), Alloc
 {
     put_numbered(out, b"warning: rule ", index)?;
     put_name(out, &rule.name)?;
-    put_slice(out, useless_words(rule.allow))?;
+    put_words(out, rule.allow)?;
     put_octet(out, b'\n')
 }
 
-/// What is said of a rule that is audited, by whether it allows.
-fn useless_words(allows: bool) -> &'static [u8]
-    ensures { result.now ≡ audit_words allows }
+/// Appends what is said of a rule that is audited, by whether it allows.
+fn put_words(out: &mut Vec<u8>, allows: bool) -> Result<(), AllocError>
+    ensures { IsAppended (audit_words allows) out.old out.new result }
 {
     if allows {
-        b"audit: this version writes no audit"
+        put_slice(out, b"audit: this version writes no audit")
     } else {
-        b"audit: what a rule denies is in the log, never in an audit"
+        put_slice(
+            out,
+            b"audit: what a rule denies is in the log, never in an audit",
+        )
     }
 }

@@ -4,7 +4,7 @@ use Rattle.gw_warnings.proofs.audit_warnings.put_useless.Goals as goal
 
 pub returns : goal.returns
 returns c =
-    then_put (then_put (then_put c.in_ok-put_numbered.ensures c.in_ok-put_name.ensures) c.in_ok-put_slice.ensures) c.put_octet.ensures
+    then_put (then_put (then_put c.in_ok-put_numbered.ensures c.in_ok-put_name.ensures) c.in_ok-put_words.ensures) c.put_octet.ensures
 
 pub returns-in_err-put_numbered : goal.returns-in_err-put_numbered
 returns-in_err-put_numbered c =
@@ -14,6 +14,6 @@ pub returns-in_err-put_name : goal.returns-in_err-put_name
 returns-in_err-put_name c =
     refused (cut _ (cut _ (then_put c.in_ok-put_numbered.ensures c.in_err-put_name.ensures))) c.from_residual-in_err-put_name.ensures.0
 
-pub returns-in_err-put_slice : goal.returns-in_err-put_slice
-returns-in_err-put_slice c =
-    refused (cut _ (then_put (then_put c.in_ok-put_numbered.ensures c.in_ok-put_name.ensures) c.in_err-put_slice.ensures)) c.from_residual-in_err-put_slice.ensures.0
+pub returns-in_err-put_words : goal.returns-in_err-put_words
+returns-in_err-put_words c =
+    refused (cut _ (then_put (then_put c.in_ok-put_numbered.ensures c.in_ok-put_name.ensures) c.in_err-put_words.ensures)) c.from_residual-in_err-put_words.ensures.0
