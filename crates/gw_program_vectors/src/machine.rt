@@ -370,7 +370,11 @@ fn answer_of(alloc: Global, lines: &str) -> Result<Option<Vec<u8>>, AllocError> 
     if has_line(lines, "answered") {
         return text_if(alloc, true, "reload: 3 rules\n");
     }
-    text_if(alloc, has_line(lines, "refused"), "reload refused: out of memory\n")
+    text_if(
+        alloc,
+        has_line(lines, "refused"),
+        "reload refused: out of memory\n",
+    )
 }
 
 /// The output of a section, which has room for so many octets behind its buffer.

@@ -68,7 +68,7 @@ ran_kept {S} given c how start w k s t q u reloads f told before after answer ou
     let notice = notice_of None (failing_in k) in
     let now = (last led.0).now in
     let reports : Reporting → List ℕ = λ (x : Reporting).
-        end_stats unkept_in x now.guard (last led.0).counts now.scene.gateway now.served now.tally in
+    end_stats unkept_in x now.guard (last led.0).counts now.scene.gateway now.served now.tally in
     let is_reporting : reporting how.stats start reloads ≡ reporting_of given how w =
     ap (λ (x : Counts). reporting how.stats x reloads) is_start ∙ ap (reporting how.stats (counts_of w)) is_reloads in
     let report = reports (reporting_of given how w) in
