@@ -25,7 +25,7 @@ shown octet = if is_printed octet then octet else 63
 
 -- what a text as a whole lacks
 
--- the line and the column, both from 1, of what stands behind this front of a text
+-- the line and the column, both from 1, of what follows this front of a text
 abbrev pub position_words : List ℕ → List ℕ
 position_words front =
     numbered (codes ", line ") (count_by (λ c. c == 10) front)
@@ -60,7 +60,7 @@ abbrev pub IsWanted : List ℕ → Read Members → Located → List ℕ → Typ
 IsWanted text (Ok top) located words = words ≡ wanted_words located top
 IsWanted text (Err fault) located words = IsTextWanted text words
 
--- the line of a fault that was found in these tables: its place, what is told first of it, and what is wanted there
+-- the line of a fault that was found in these tables: its place, what is reported first of it, and what is wanted there
 pub record IsExplanation (found : Find Configuration) (top : Members) (Wanted : Located → List ℕ → Type 0)
     (fault : ConfigFault) (line : List ℕ) : Type 0 where
   pub located : Located

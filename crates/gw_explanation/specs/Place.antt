@@ -1,4 +1,4 @@
--- Where a fault of a configuration is: what stands there, and the words of the place.
+-- Where a fault of a configuration is: what is there, and the words of the place.
 use Rattle.std.specs.Prelude.{ℕ, List, [], ◌++◌, codes, Option, Some, None, option_and_then}
 use Rattle.toml.specs.Data.{Data, Members, as_str, as_table, at, get_member}
 use Rattle.gw_configuration.specs.declared.located.Place.{Place}
@@ -6,7 +6,7 @@ use Rattle.gw_configuration.specs.declared.located.Place.TheVariants.{Text, Top,
 use Rattle.gw_configuration.specs.declared.located.Place.TheVariants.{Object, Set, Rule}
 use Rattle.gw_configuration.specs.Located.{Located, numbered}
 
--- what stands at a place
+-- what is at a place
 
 -- the table at this position of the list at a key
 abbrev pub listed_table : List ℕ → ℕ → Members → Option Members

@@ -1,4 +1,4 @@
--- What is told first of a fault, in words.
+-- What is reported first of a fault, in words.
 use Rattle.std.specs.Prelude.{ℕ, true, false, nat_lt, if◌then◌else◌, List, [], ◌∷◌, ◌++◌, length, codes, decimal}
 use Rattle.std.specs.Prelude.{Option, Some, None}
 use Rattle.std.specs.Fmt.{signed_decimal}
@@ -31,12 +31,12 @@ abbrev pub list_words : List Data → List ℕ
 list_words (low ∷ high ∷ []) = codes "[" ++ single_words low ++ codes ", " ++ single_words high ++ codes "]"
 list_words values = codes "a list of " ++ decimal (length values)
 
--- a value as it stands in the text
+-- a value as it is written in the text
 abbrev pub value_words : Data → List ℕ
 value_words (array items) = list_words (values_of items)
 value_words value = single_words value
 
--- what is told first of a fault: that the key is unknown or missing, or else the value that stands there
+-- what is reported first of a fault: that the key is unknown or missing, or else the value that is there
 abbrev pub fault_words : ConfigFault → Option Data → List ℕ
 fault_words UnknownKey value = codes "is no key of this table"
 fault_words Missing value = codes "is missing"

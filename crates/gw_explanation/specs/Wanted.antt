@@ -167,7 +167,7 @@ subnet_in text =
     else option_and_then (λ four. option_map (λ bits. (four, bits)) (bits_in (after_first is_slash text)))
     (mask_written (before_first is_slash text))
 
--- the bits of an octet behind its first so many, each of them 1
+-- the bits of an octet after its first so many, each of them 1
 abbrev pub host_bits : ℕ → ℕ
 host_bits bits = if nat_lt bits 8 then 255 / 2 ^ bits else 0
 
@@ -313,7 +313,7 @@ must_words top fault (Ranges of) None value = length_words fault of 1 4
 must_words top fault (Items of) (Some item) value = long_item_words top fault of value (set_name_in value)
 must_words top fault (Items of) None value = long_length_words fault of
 
--- what stands twice, of an instance with its type
+-- what occurs twice, of an instance with its type
 abbrev pub type_words : Option Data → List ℕ
 type_words None = []
 type_words (Some kind) = codes " for type " ++ value_words kind

@@ -94,7 +94,7 @@ fn no_document_words(alloc: Global, document: &str) -> Result<Vec<u8>, AllocErro
     error_words(alloc, &document.as_bytes()[..span.start], error.message())
 }
 
-/// That a text is no document behind this front of it, and why.
+/// That a text is no document after this front of it, and why.
 fn error_words(alloc: Global, front: &[u8], reason: &str) -> Result<Vec<u8>, AllocError>
     ensures { IfOk result (λ words. words.items ≡
         codes "is no TOML document" ++ position_words front.now ++ codes ": " ++ reason.now) }
@@ -106,7 +106,7 @@ fn error_words(alloc: Global, front: &[u8], reason: &str) -> Result<Vec<u8>, All
     Ok(words)
 }
 
-/// Puts the line and the column, both from 1, of what stands behind the front of a text.
+/// Puts the line and the column, both from 1, of what follows the front of a text.
 fn put_position(line: &mut Vec<u8>, front: &[u8]) -> Result<(), AllocError>
     ensures { OnOk result (line.new.items ≡ line.old.items ++ position_words front.now) }
 {
@@ -121,7 +121,7 @@ fn lines_before(front: &[u8]) -> usize
     front.iter().filter(|octet| **octet == b'\n').count()
 }
 
-/// How many octets it has behind the last line that ends there.
+/// How many octets it has after the last line that ends there.
 fn octets_behind(front: &[u8]) -> usize
     ensures { result ≡ length (take_while (λ c. not (c == 10)) (reverse front.now)) }
 {

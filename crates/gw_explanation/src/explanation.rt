@@ -8,7 +8,7 @@ use std::marker::Model;
 
 /// The greatest control character below the space.
 const LAST_CONTROL: u8 = 31;
-/// The control character behind the others.
+/// The control character after the others.
 const DELETE: u8 = 127;
 
 /// A line for an operator, without its line feed. It has no control character. Contracts see its octets.

@@ -37,7 +37,7 @@ const OPERATIONS: &str =
 const LONG_OPERATIONS: &str =
     "cast, route, register, delete, read-table, write-table, learn, network, read, write, list, enter, claim";
 
-/// Puts what is wanted at the place of a fault, behind what is told of it. `AllocError` where memory was
+/// Puts what is wanted at the place of a fault, after what is said of it. `AllocError` where memory was
 /// refused.
 pub(crate) fn put_wanted(
     line: &mut Vec<u8>,
@@ -84,7 +84,7 @@ fn kind_at<'a>(located: &Located<'_>, top: &'a Table) -> Option<&'a Value>
     member(table_at(located.place, top)?, "type")
 }
 
-/// Puts that a value stands twice.
+/// Puts that a value occurs twice.
 fn put_twice(line: &mut Vec<u8>, kind: Option<&Value>) -> Result<(), AllocError>
     ensures { let words = twice_words (option_map (λ v. view v.now) kind.entry) in
         OnOk result (line.new.items ≡ line.old.items ++ words) }
@@ -455,7 +455,7 @@ fn subnet_in(text: &str) -> Option<(Mask, u8)>
     }
 }
 
-/// What stands before the first slash, and what behind it.
+/// What comes before the first slash, and what comes after it.
 fn split_at_slash(text: &str) -> Option<(&str, &str)>
     ensures { MatchOption result (position_or_len is_slash text.now ≡ length text.now)
         (λ x. (x.0.now ≡ before_first is_slash text.now) × (x.1.now ≡ after_first is_slash text.now)
@@ -487,7 +487,7 @@ fn within_32(bits: u8) -> Option<u8>
     }
 }
 
-/// The bits of an octet behind its first so many, each of them 1.
+/// The bits of an octet after its first so many, each of them 1.
 fn host_bits(bits: u8) -> u8
     ensures { result ≡ host_bits bits }
 {

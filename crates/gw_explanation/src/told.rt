@@ -1,4 +1,4 @@
-//! What is told first of a fault, in words: the value that stands there.
+//! What is reported first of a fault, in words: the value that is there.
 ghost use Rattle.std.specs.Prelude.{◌≡◌, ◌++◌, length, map, option_map, OnOk};
 ghost use Rattle.toml.specs.View.{table_view, view};
 ghost use Rattle.gw_explanation.specs.Place.{item_or, value_at};
@@ -27,7 +27,7 @@ pub(crate) fn value_at<'a>(located: &Located<'_>, top: &'a Table) -> Option<&'a 
     }
 }
 
-/// Puts that the key is unknown or missing, or else the value that stands there. `AllocError` where
+/// Puts that the key is unknown or missing, or else the value that is there. `AllocError` where
 /// memory was refused.
 pub(crate) fn put_told(
     line: &mut Vec<u8>,
@@ -45,7 +45,7 @@ pub(crate) fn put_told(
     }
 }
 
-/// Puts a value as it stands in the text: a number, a text that isn't long, true or false, or a
+/// Puts a value as it is written in the text: a number, a text that isn't long, true or false, or a
 /// list of two of these; of others what it is. `AllocError` where memory was refused.
 pub(crate) fn put_value(line: &mut Vec<u8>, value: &Value) -> Result<(), AllocError>
     ensures { OnOk result (line.new.items ≡ line.old.items ++ value_words (view value.now)) }

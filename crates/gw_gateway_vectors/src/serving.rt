@@ -13,7 +13,7 @@ use std::io::{ErrorKind, Write};
 /// How many octets a write takes where a case doesn't say it.
 const AMPLE: usize = 4096;
 
-/// What a gateway has counted before reports are told.
+/// What a gateway has counted before reports are written.
 const BEFORE: Counts = Counts {
     ticks: 7,
     denials: 40,

@@ -25,7 +25,7 @@ const TIMED_WAITING: u64 = 2;
 /// How many calls such a course has, where the line doesn't say it.
 const TIMED_CALLS: u64 = 8;
 
-/// A socket in memory at which so many datagrams wait, behind so many looks that find none, which
+/// A socket in memory at which so many datagrams wait, after so many looks that find none, which
 /// fails at one of its calls.
 #[derive(Drop)]
 struct MemSock {
@@ -94,7 +94,7 @@ impl Sock for MemSock {
     }
 }
 
-/// How many datagrams wait at the own socket of each of two ports, behind how many looks at that of
+/// How many datagrams wait at the own socket of each of two ports, after how many looks at that of
 /// port 2, and which socket fails, from 0, at which of its calls. None waits at the others.
 #[derive(Clone, Copy)]
 struct Waiting {

@@ -108,7 +108,7 @@ impl<'a> MemWire<'a> {
         }
     }
 
-    /// Whether both told the same calls with the same answers, octet for octet.
+    /// Whether both reported the same calls with the same answers, octet for octet.
     pub fn is_same(&self, other: &MemWire<'_>) -> bool {
         match (&self.calls, &other.calls) {
             (Some(calls), Some(others)) => calls == others,

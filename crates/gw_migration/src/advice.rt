@@ -6,7 +6,7 @@ use gw_configuration::{Config, Port, Route};
 use gw_rules::{FieldName, Range, Rule};
 use std::alloc::AllocError;
 
-/// What stands at the head of the text.
+/// What is at the head of the text.
 const HEAD: &[u8] = b"\
 # This is the same policy in format 3. Two things are judged first there, before a message is taken:
 # - \"enter\": a message of a host that is no station of its port. Set `stations` of each port to judge them;
@@ -17,7 +17,7 @@ const HEAD: &[u8] = b"\
 # A rule that names no `operation` is about both.
 ";
 
-/// What stands behind the rules.
+/// What follows the rules.
 const TAIL: &[u8] = b"
 # What a site may need, before a rule that denies all:
 # [[rule]]
@@ -32,12 +32,12 @@ const TAIL: &[u8] = b"
 # source_network = [400]
 ";
 
-/// Appends what stands at the head.
+/// Appends what is at the head.
 pub(crate) fn put_head(out: &mut Vec<u8>) -> Result<(), AllocError> {
     out.extend_from_slice(HEAD)
 }
 
-/// Appends what stands behind the rules.
+/// Appends what follows the rules.
 pub(crate) fn put_tail(out: &mut Vec<u8>) -> Result<(), AllocError> {
     out.extend_from_slice(TAIL)
 }

@@ -4,7 +4,7 @@ ghost use Rattle.std.specs.Prelude.{◌<◌};
 use gw_addr::{BipAddr, put_decimal};
 use std::alloc::AllocError;
 
-/// The first octet that is no control character, and the control character behind the others.
+/// The first octet that is no control character, and the control character after the others.
 const SPACE: u8 = 32;
 
 const DELETE: u8 = 127;
@@ -45,7 +45,7 @@ fn put_digit(out: &mut Vec<u8>, digit: u8) -> Result<(), AllocError>
     Ok(())
 }
 
-/// Appends a key and the sign behind it.
+/// Appends a key and the sign after it.
 pub(crate) fn put_key(out: &mut Vec<u8>, key: &str) -> Result<(), AllocError> {
     out.extend_from_slice(key.as_bytes())?;
     out.extend_from_slice(b" = ")

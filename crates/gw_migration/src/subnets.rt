@@ -36,7 +36,7 @@ fn is_ended(prefix: u8, address: u64, broadcast: u64) -> bool {
 }
 
 /// The length of the longest prefix that an address shares with the one to which its broadcasts go, where
-/// the bits of the latter behind it are all ones: the subnet of both (Annex J.1.2). `None` where there is
+/// the bits of the latter after it are all ones: the subnet of both (Annex J.1.2). `None` where there is
 /// no such prefix, or the two are the same.
 pub(crate) fn shared_prefix(address: u64, broadcast: u64) -> Option<u8> {
     PREFIXES

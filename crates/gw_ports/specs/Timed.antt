@@ -21,7 +21,7 @@ second = 1000000000
 abbrev pub seconds_between : ℕ → ℕ → ℕ
 seconds_between from to = (to - from) / second
 
--- how many nanoseconds passed behind the last of them
+-- how many nanoseconds passed after the last of them
 abbrev pub rest_between : ℕ → ℕ → ℕ
 rest_between from to = (to - from) % second
 
@@ -29,7 +29,7 @@ rest_between from to = (to - from) % second
 abbrev pub with_due : {S : Type 0} → ℕ → Ports S → Ports S
 with_due ticks ports = record ports { ticks = min (ports.ticks + ticks) (2 ^ 63) }
 
--- The clock told a moment. The whole seconds until then are counted, each a tick that is due, and
+-- The clock gave a moment. The whole seconds until then are counted, each a tick that is due, and
 -- so long is left to the next.
 pub record IsCounted {S C P : Type 0} (Told : C → ℕ → Type 0) (before after : TimedPorts S C P) (left : ℕ)
     : Type 0 where
@@ -71,8 +71,8 @@ pub record HasWaited {S C P : Type 0} (Waited Quiet : P → ℕ → Type 0) (bef
   pub unlooked : after.unlooked ≡ 0
 
 -- Where something may wait at a socket, seven receives pass by, of which nothing changes but their
--- count, and then the waiter told, without a wait, where more came. Where nothing may wait, that is
--- left to the wait behind it.
+-- count, and then the waiter reported, without a wait, where more came. Where nothing may wait, that is
+-- left to the wait after it.
 pub data HasLooked {S C P : Type 0} (Waited Quiet : P → ℕ → Type 0) (before after : TimedPorts S C P) : Type 0 where
   passed : list_any is_awake before.ports.pairs ≡ true → before.unlooked < MOST_UNLOOKED →
       after ≡ record before { unlooked = before.unlooked + 1 } → HasLooked Waited Quiet before after

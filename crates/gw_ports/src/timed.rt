@@ -37,7 +37,7 @@ pub struct TimedPorts<S, C, P> {
     pub waiter: P,
     /// The moment of the clock up to which each whole second was counted.
     pub counted: Duration,
-    /// How many receives went by since the waiter last told where something came.
+    /// How many receives went by since the waiter last reported where something came.
     pub unlooked: u8,
 }
 

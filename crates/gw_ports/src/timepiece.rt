@@ -8,10 +8,10 @@ use std::time::Duration;
 
 /// What tells the time.
 pub trait Timepiece {
-    /// What it may have told when it was last asked, in nanoseconds since a start of its own.
+    /// What it may have given when it was last asked, in nanoseconds since a start of its own.
     ghost Told: { Self → ℕ → Type 0 };
 
-    /// How long it is since a start of its own. An `Err` where the time can't be told.
+    /// How long it is since a start of its own. An `Err` where the time isn't known.
     fn elapsed(&mut self) -> io::Result<Duration>
         ensures { IfOk result (λ elapsed. Told self.new (as_nanos elapsed)) };
 }

@@ -31,7 +31,7 @@ pub trait Waiter {
         ensures { OnOk result (Waited self.new (as_nanos most)) };
 
     /// Whether something may have come at the socket of this number when it last waited. What came is
-    /// told of once. A waiter that can't tell says so of each.
+    /// reported once. A waiter that can't tell says so of each.
     fn has_come(&self, number: usize) -> bool
         ensures { result ≡ false → Quiet self.now number }
     {

@@ -1,7 +1,7 @@
 //! One run of the program on a machine in memory, and what it leaves.
 //!
 //! A section has the words on its first line, with a bar between two of them; then lines that say
-//! what the machine is like, as `log 9` for a log with room for 9 octets; and behind a line `input`
+//! what the machine is like, as `log 9` for a log with room for 9 octets; and after a line `input`
 //! standard input. Each file has the text of the last configuration, but for `unreadable`.
 
 ghost use Rattle.std.specs.Prelude.{◌≡◌, ⊤, None, Some};
@@ -393,7 +393,7 @@ fn answer_of(alloc: Global, lines: &str) -> Result<Option<Vec<u8>>, AllocError> 
     )
 }
 
-/// The output of a section, which has room for so many octets behind its buffer.
+/// The output of a section, which has room for so many octets after its buffer.
 fn output_of(alloc: Global, lines: &str, room: usize) -> Result<BufWriter<MemWriter>, AllocError> {
     let narrow = MemWriter::with_room(alloc, room, !has_line(lines, "flushes fail"))?;
     let capacity = number_behind(lines, '\n', "buffer ").unwrap_or(CAPACITY);
@@ -476,7 +476,7 @@ fn put_closed(closed: &Closed, out: &mut Vec<u8>) -> Result<(), AllocError> {
     put(out, &[" sends ", Buffer::new().format(sockets.sends), "\n"])
 }
 
-/// Each line of a text behind a word.
+/// Each line of a text after a word.
 fn put_lines(word: &str, text: &[u8], out: &mut Vec<u8>) -> Result<(), AllocError> {
     if text.is_empty() {
         return Ok(());
@@ -511,7 +511,7 @@ pub fn fronts(alloc: Global, config: &str, section: &str, out: &mut Vec<u8>) -> 
     )?)
 }
 
-/// Whether a run left this front and told that a write failed.
+/// Whether a run left this front and reported that a write failed.
 fn is_front(left: &Left, front: &[u8]) -> bool {
     left.code == ExitCode::FAILURE
         && left.output.held() == front

@@ -37,7 +37,7 @@ announcement c log =
     codes "bacgw: serving " ++ in_order port_text 1 c.ports ++ device_text c.device ++ objects_text c ++ rules_text c
     ++ log_text log ++ 10 ∷ []
 
--- what is told at the start: the line where that is asked for, and else nothing
+-- what is reported at the start: the line where that is asked for, and else nothing
 abbrev pub startup_line : Bool → Configuration → Option (List ℕ) → List ℕ
 startup_line true c log = announcement c log
 startup_line false c log = []

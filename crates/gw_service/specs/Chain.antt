@@ -102,7 +102,7 @@ IsLooked Adopts c s unrequested d t = IsUnrequested c s d t
 IsLooked Adopts c s (refused read fault line) d t = IsRefusedSo c s read fault line d t
 IsLooked Adopts c s (taken_over text new) d t = IsTakenOver Adopts c s text new d t
 
--- what is told of it
+-- what is said of it
 abbrev pub look_text : {K : Type 0} → Configuration → Standing K → Look → List ℕ
 look_text c s unrequested = []
 look_text c s (refused read fault line) = line
@@ -116,7 +116,7 @@ pub record AtTick {K : Type 0} (Ticks : K → State → K → Type 0) (Adopts : 
   pub looked : IsLooked Adopts c (standing s.gateway keeper s.requests s.counts) look d t
 
 -- What is done about a request, whatever configuration this origin is of: one of these looks, which leads to one of a
--- configuration of that origin; and what is told of it is written, if that never fails.
+-- configuration of that origin; and what is said of it is written, if that never fails.
 abbrev pub Looks : {K : Type 0} → (Done : Configuration → Standing K → Look → Configuration → Standing K → Type 0) → Origin → Standing K
     → Origin → Standing K → (Never : Type 0) → (held holds : Option (List ℕ)) → Type 0
 Looks Done o s p t Never held holds =
@@ -126,7 +126,7 @@ Looks Done o s p t Never held holds =
 -- ---- one stretch, and what is done after it
 
 -- what there is between two stretches: the configuration in force; the gateway, the log, the wire, the keeper and what was
--- counted; what was asked and answered, and how often; and what was told last of the state that is kept
+-- counted; what was asked and answered, and how often; and what was reported last of the state that is kept
 pub record Stage (K : Type 0) : Type 0 where
   pub config : Configuration
   pub now : Moment K
@@ -149,7 +149,7 @@ pub record IsIdle {K : Type 0} (before after : Moment K) : Type 0 where
   pub tally : after.tally ≡ before.tally
 
 -- Turns that were served; turns to a tick, and what came of looking for a request then; or turns, and an event whose
--- datagrams the keeper withheld. Each with what was told then.
+-- datagrams the keeper withheld. Each with what was reported then.
 pub data Link : Type 0 where
   served : (turns : List Turn) → Link
   ticked : (turns : List Turn) (look : Look) (text : List ℕ) → Link
@@ -163,7 +163,7 @@ pub record IsServed {K : Type 0} (manner : Manner K) (s : Stage K) (turns : List
   pub counts : t.counts ≡ s.counts
   pub told : t.told ≡ s.told
 
--- turns were served, the last of which took a tick, and what was due then was done and told
+-- turns were served, the last of which took a tick, and what was due then was done and reported
 pub record IsTicked {K : Type 0} (manner : Manner K) (s : Stage K) (turns : List Turn) (look : Look) (text : List ℕ) (t : Stage K) : Type 0 where
   pub before : List Turn
   pub tries : List Try
@@ -178,7 +178,7 @@ pub record IsTicked {K : Type 0} (manner : Manner K) (s : Stage K) (turns : List
   pub lines : text ≡ (look_text s.config (standing_at then s.requests s.counts) look ++ notice_of s.told t.told)
       ++ manner.report t.now.guard t.counts t.now.scene.gateway t.now.served t.now.tally
 
--- The keeper didn't let the datagrams of the last event go, and that was told.
+-- The keeper didn't let the datagrams of the last event go, and that was reported.
 pub record IsHeldBack {K : Type 0} (manner : Manner K) (s : Stage K) (turns : List Turn) (event : Event) (text : List ℕ) (t : Stage K)
     : Type 0 where
   pub then : Moment K
@@ -202,7 +202,7 @@ unfoldable pub AreLinks : {K : Type 0} → Manner K → Stage K → List Link �
 AreLinks manner s [] t = t ≡ s
 AreLinks {K} manner s (link ∷ links) t = (next : Stage K) × IsLink manner s link next × AreLinks manner next links t
 
--- what a link told
+-- what a link reported
 abbrev pub link_text : Link → List ℕ
 link_text (served turns) = []
 link_text (ticked turns look text) = text
@@ -238,7 +238,7 @@ abbrev pub Runs : {K : Type 0} → Manner K → ℕ → Stage K → Result (Unit
 Runs manner count first (Ok done) links last = RunsWhole manner count first links last
 Runs manner count first (Err fault) links last = RunsUntil manner fault count first links last
 
--- what comes of a stretch of at most so many turns and of what is done after it, with what is told then
+-- what comes of a stretch of at most so many turns and of what is done after it, with what is reported then
 abbrev pub Advances : {K : Type 0} → Manner K → ℕ → Stage K → Result (Unit {0}) ServeFault → List ℕ → Stage K → Type 0
 Advances manner count s (Ok done) text t = (link : Link) × IsLink manner s link t × (text ≡ link_text link)
 Advances manner count s (Err fault) text t = EndsSo manner count fault s t × (text ≡ [])

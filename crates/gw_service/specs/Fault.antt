@@ -1,4 +1,4 @@
--- Why serving doesn't begin, or ends, by the faults of what it stands on.
+-- Why serving doesn't begin, or ends, by the faults of what it needs.
 use Rattle.gw_serving.specs.declared.serving.ServeFault.{ServeFault}
 use Rattle.gw_serving.specs.declared.serving.ServeFault.TheVariants as serving
 use Rattle.gw_system.specs.declared.opening.LogFailure.{LogFailure}

@@ -77,7 +77,7 @@ AreRequestsUnder ReloadsOpen None config None = ⊤
 AreRequestsUnder ReloadsOpen (Some name) config (Some requests) = ReloadsOpen name config requests
 AreRequestsUnder ReloadsOpen _ config _ = ⊥
 
--- what is told of the state at the start, if one is kept
+-- what is said of the state at the start, if one is kept
 abbrev pub text_before : Option (List ℕ) → Bool → Configuration → Option Saved → List ℕ
 text_before None verbose c saved = []
 text_before (Some name) verbose c saved = start_text verbose name c saved
@@ -121,7 +121,7 @@ abbrev pub outcome_by : Result (Unit {0}) ServeFault → Result (Unit {0}) Servi
 outcome_by (Ok done) = Ok done
 outcome_by (Err fault) = Err (fault_of_serving fault)
 
--- the first stage: nothing was counted, and it was told whether the state is kept
+-- the first stage: nothing was counted, and it was reported whether the state is kept
 abbrev pub first_stage : {S Q : Type 0} → Given S Q → Configuration → State → Kept S → Ends → Stage (Kept S)
 first_stage given c w keeper ends =
     stage c (moment (scene w ends.log ends.calls) keeper zero_counts no_tally) (told_by given.told given.requests) (counts_since w.ticks)
@@ -151,7 +151,7 @@ pub record RunsKept {S Q : Type 0} (given : Given S Q) (c : Configuration) (how 
       ++ end_stats unkept_in (reporting_of given how gateway) last.now.guard last.counts last.now.scene.gateway last.now.served
       last.now.tally
 
--- Memory ran out before that: nothing was received or told.
+-- Memory ran out before that: nothing was received or reported.
 abbrev pub IsUnbegun : (before after : Ends) → (text : List ℕ) → (outcome : Result (Unit {0}) ServiceFault) → Type 0
 IsUnbegun before after text outcome = (after ≡ before) × (text ≡ []) × (outcome ≡ Err fault.Memory)
 

@@ -1,4 +1,4 @@
--- What an operator is told of the state that is kept, or isn't.
+-- What an operator reads of the state that is kept, or isn't.
 use Rattle.std.specs.Prelude.{ℕ, List, [], Option, Some, None, codes, ◌++◌, ◌∷◌}
 use Rattle.gw_serving.specs.declared.store.StoreFault.{StoreFault}
 use Rattle.gw_serving.specs.declared.store.StoreFault.TheVariants as store
@@ -14,7 +14,7 @@ reason_of store.System = codes "refused by the system"
 abbrev pub unkept_line : StoreFault → List ℕ
 unkept_line fault = codes "bacgw: state isn't kept: " ++ reason_of fault ++ 10 ∷ []
 
--- It is told once, until the state is kept again, which is told too.
+-- It is reported once, until the state is kept again, which is reported too.
 abbrev pub notice_of : (was is : Option StoreFault) → List ℕ
 notice_of None (Some fault) = unkept_line fault
 notice_of (Some fault) None = codes "bacgw: state is kept again\n"

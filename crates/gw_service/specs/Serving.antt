@@ -38,7 +38,7 @@ ends log calls = record { log = log; calls = calls }
 abbrev pub first_scene : Configuration → Ends → Scene
 first_scene c ends = scene (state_after c no_counts []) ends.log ends.calls
 
--- how it is served: for how many turns, and how many seconds lie between two reports, where some are told
+-- how it is served: for how many turns, and how many seconds lie between two reports, where some are reported
 pub record Service : Type 0 where
   pub turns : ℕ
   pub stats : Option ℕ
@@ -46,12 +46,12 @@ pub record Service : Type 0 where
 abbrev pub service : ℕ → Option ℕ → Service
 service turns stats = record { turns = turns; stats = stats }
 
--- what is told of a run from one state to another by these turns, in which so much was done
+-- what is said of a run from one state to another by these turns, in which so much was done
 abbrev pub reports_of : Option ℕ → State → List Turn → State → Served → List ℕ
 reports_of None before turns after served = []
 reports_of (Some seconds) before turns after served = told_of seconds before turns after served
 
--- All turns were served, the gateway stands as they left it, and these are their reports.
+-- All turns were served, the gateway is as they left it, and these are their reports.
 pub record ServesWhole (c : Configuration) (how : Service) (before after : Ends) (text : List ℕ) : Type 0 where
   pub gateway : State
   pub served : Served
@@ -67,8 +67,8 @@ pub record StopsBy (by : ServeFault) (c : Configuration) (how : Service) (before
       (scene gateway after.log after.calls)
   pub reports : text ≡ reports_of how.stats (state_after c no_counts []) stops.turns gateway served
 
--- What serving from the gateway's first state leaves at each outcome, and what is told of it.
--- Memory may run out before the first turn too, and then nothing was received or told.
+-- What serving from the gateway's first state leaves at each outcome, and what is said of it.
+-- Memory may run out before the first turn too, and then nothing was received or reported.
 abbrev pub Serves : Configuration → Service → Ends → Ends → List ℕ → Result (Unit {0}) ServiceFault → Type 0
 Serves c how before after text (Ok done) = ServesWhole c how before after text
 Serves c how before after text (Err fault.Log) = StopsBy serving.Log c how before after text
@@ -82,7 +82,7 @@ abbrev pub outcome_of : Result Served ServeStop → Result (Unit {0}) ServiceFau
 outcome_of (Ok served) = Ok tt
 outcome_of (Err stop) = Err (fault_of_serving stop.fault)
 
--- what serving from a state leaves at each outcome, all turns or a stop by the fault, and what is told of it
+-- what serving from a state leaves at each outcome, all turns or a stop by the fault, and what is said of it
 abbrev pub ServesFrom : Service → Scene → Scene → List ℕ → Result (Unit {0}) ServiceFault → Type 0
 ServesFrom how before after text outcome =
     (answer : Result Served ServeStop) × (outcome ≡ outcome_of answer)

@@ -58,7 +58,7 @@ pub record BeginsAs (c : Configuration) (saved : Option Saved) (line : Option (L
   pub from : GoesOnFrom (counts_of (begun c saved)) line counts
   pub state : w ≡ record (begun c saved) { ticks = counts.ticks; denials = counts.denials }
 
--- what is told of a state at the start: that it is new, if more is asked for, or what of it isn't taken over
+-- what is said of a state at the start: that it is new, if more is asked for, or what of it isn't taken over
 abbrev pub start_text : Bool → List ℕ → Configuration → Option Saved → List ℕ
 start_text true name c None = codes "state: " ++ map shown name ++ codes " is new\n"
 start_text false name c None = []

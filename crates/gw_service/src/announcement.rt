@@ -28,7 +28,7 @@ fn announcement(alloc: Global, config: &Config, log: &Option<String>) -> Result<
     Ok(line)
 }
 
-/// What is told at the start: what is served, where that is asked for, and else nothing. An `Err`
+/// What is reported at the start: what is served, where that is asked for, and else nothing. An `Err`
 /// only where a growth of memory was refused.
 pub fn startup_line(
     alloc: Global,
@@ -78,7 +78,7 @@ fn put_port(out: &mut Vec<u8>, number: usize, port: &Port) -> Result<(), AllocEr
     out.extend_from_slice(b"; ")
 }
 
-/// Appends a text and an address behind it.
+/// Appends a text and an address after it.
 fn put_address(out: &mut Vec<u8>, text: &str, address: BipAddr) -> Result<(), AllocError>
     ensures { OnOk result (out.new.items ≡ out.old.items ++ text.now ++ text_of address) }
 {

@@ -34,7 +34,7 @@ use gw_system::{Host, ReadFailure, Requests, note_of};
 use std::alloc::{AllocError, Global};
 use std::io::{BufWriter, Write};
 
-/// What is read and made before anything is opened: what was saved, the last line of the log, what is told of the state, its
+/// What is read and made before anything is opened: what was saved, the last line of the log, what is said of the state, its
 /// store, and what asks to read the configuration again.
 #[derive(Drop)]
 pub(crate) struct Before<S, Q> {
@@ -42,7 +42,7 @@ pub(crate) struct Before<S, Q> {
     pub saved: Option<Saved>,
     /// The last line of the log, if there is one.
     pub line: Option<Vec<u8>>,
-    /// What is told of the state.
+    /// What is said of the state.
     pub text: Vec<u8>,
     /// Its store, if it is kept.
     pub store: Option<S>,
@@ -118,7 +118,7 @@ fn requests_under<H: Host>(
     }
 }
 
-/// What is told of the state at the start, if one is kept.
+/// What is said of the state at the start, if one is kept.
 fn text_of(
     alloc: Global,
     options: &RunOptions,

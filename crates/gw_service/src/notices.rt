@@ -1,4 +1,4 @@
-//! What an operator is told of the state that is kept, or isn't.
+//! What an operator reads of the state that is kept, or isn't.
 
 ghost use Rattle.std.specs.Prelude.{◌≡◌};
 ghost use Rattle.gw_service.specs.Notices.{notice_of, unkept_line};
@@ -18,7 +18,7 @@ fn unkept_line(fault: StoreFault) -> &'static str
     }
 }
 
-/// What is told if the state was kept, or not, and is so now: a line if that changed, and else nothing.
+/// What is reported if the state was kept, or not, and is so now: a line if that changed, and else nothing.
 pub(crate) fn notice_of(was: Option<StoreFault>, is: Option<StoreFault>) -> &'static str
     ensures { result.now ≡ notice_of was is }
 {

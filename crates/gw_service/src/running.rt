@@ -43,7 +43,7 @@ pub struct Running<K, Q> {
     pub counts: ReloadCounts,
     /// What is kept from turn to turn, and what was counted.
     pub state: ServeState,
-    /// What was told last of the state: why it isn't kept, or that it is.
+    /// What was reported last of the state: why it isn't kept, or that it is.
     pub told: Option<StoreFault>,
 }
 
@@ -130,7 +130,7 @@ impl<K: StateKeeper, Q: Requests> Running<K, Q> {
         }
     }
 
-    /// Tells whether the state is kept, if that changed since it was told last; and answers why it isn't.
+    /// Tells whether the state is kept, if that changed since it was reported last; and answers why it isn't.
     pub(crate) fn notice<E: OctetSink>(&self, errors: &mut E) -> Option<StoreFault>
         ensures failing { result ≡ K.failing self.now.keeper }
         ensures text { E.NeverFails errors.old →

@@ -132,10 +132,10 @@ fn open_log<H: Host, W: Write + Drop>(
     }
 }
 
-/// What is told at the start, and what is open then: the log where it is a file, and the sockets.
+/// What is reported at the start, and what is open then: the log where it is a file, and the sockets.
 #[derive(Drop)]
 pub(crate) struct Opening<L, S> {
-    /// What is told at the start.
+    /// What is reported at the start.
     pub line: Vec<u8>,
     /// The log, if it is in a file.
     pub log: Option<L>,
@@ -155,7 +155,7 @@ fn open_sockets<H: Host>(
     host.open_sockets(alloc, config.ports())
 }
 
-/// Makes the line that is told at the start, opens the log and then the sockets.
+/// Makes the line that is reported at the start, opens the log and then the sockets.
 pub(crate) fn open<H: Host, W: Write + Drop>(
     alloc: Global,
     config: &Config,

@@ -89,7 +89,7 @@ pub(crate) fn begin_after(
     Ok(gateway)
 }
 
-/// What is told of a state at the start: that it is new, if more is asked for, or what of it isn't taken over.
+/// What is said of a state at the start: that it is new, if more is asked for, or what of it isn't taken over.
 pub(crate) fn start_text(
     alloc: Global,
     is_asked: bool,

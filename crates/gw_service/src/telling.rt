@@ -1,4 +1,4 @@
-//! What an operator is told.
+//! What an operator reads.
 
 ghost use Rattle.std.specs.Prelude.{◌≡◌};
 ghost use Rattle.std.specs.Io.KnownBytes.{Appends};

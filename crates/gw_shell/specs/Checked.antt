@@ -12,7 +12,7 @@ abbrev pub explained_text : Bool → Configuration → List ℕ
 explained_text true c = summary c ++ permissions c ++ warnings_text c
 explained_text false c = summary c
 
--- A text is what `check` prints of a configuration: that, and behind it a lint where that is asked for.
+-- A text is what `check` prints of a configuration: that, and after it a lint where that is asked for.
 abbrev pub IsChecked : (explains lints : Bool) → Configuration → List ℕ → Type 0
 IsChecked explains true c text = AppendsLint c explains (explained_text explains c) text
 IsChecked explains false c text = text ≡ explained_text explains c

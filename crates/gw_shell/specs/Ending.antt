@@ -96,7 +96,7 @@ line_of fault.Different = []
 line_of fault.Refused = []
 line_of f = text_of f ++ 10 ∷ []
 
--- 2 where what the program was given is wrong, 1 where what it stands on failed
+-- 2 where what the program was given is wrong, 1 where what it needs failed
 abbrev pub status_of : Fault → ℕ
 status_of fault.CommandLine = 2
 status_of fault.Unreadable = 1
@@ -228,7 +228,7 @@ outcome_of_comparison compared.Alike = Ok tt
 outcome_of_comparison compared.Different = Err fault.Different
 outcome_of_comparison compared.Unfinished = Err fault.Different
 
--- the first fault of a run and of the flush behind it
+-- the first fault of a run and of the flush after it
 abbrev pub first_fault : Result (Unit {0}) Fault → Bool → Result (Unit {0}) Fault
 first_fault (Ok done) true = Ok done
 first_fault (Ok done) false = Err fault.Write
@@ -256,13 +256,13 @@ pub record IsExplainedBy (text : List ℕ) (f : ConfigFault) (note : List ℕ) :
   pub printed : IsTrue (list_all is_printed line)
   pub parts : note ≡ line ++ 10 ∷ []
 
--- What is told of a fault before its line: where that of the text is which was read for a configuration, where that
+-- What is said of a fault before its line: where that of the text is which was read for a configuration, where that
 -- is asked for and can be said.
 abbrev pub FaultNote : Bool → Result (List ℕ) Fault → Fault → List ℕ → Type 0
 FaultNote true (Ok text) (fault.Configuration f) note = (note ≡ []) ⊎ IsExplainedBy text f note
 FaultNote _ _ _ note = note ≡ []
 
--- what is told behind the line of words that are no command line: how the program is called
+-- what is reported after the line of words that are no command line: how the program is called
 abbrev pub usage_of : Result Choice Fault → List ℕ
 usage_of (Ok (choice.Usage text)) = string_bytes text
 usage_of _ = []

@@ -8,7 +8,7 @@ abbrev pub result_map : {A B E : Type 0} → (A → B) → Result A E → Result
 result_map f (Ok x) = Ok (f x)
 result_map f (Err e) = Err e
 
--- Nothing is known of what a file of the system holds. Where it can't be read, that is told, or memory ran out.
+-- Nothing is known of what a file of the system holds. Where it can't be read, that is reported, or memory ran out.
 abbrev pub IsTold : Result (List ℕ) Fault → Type 0
 IsTold (Ok octets) = ⊤
 IsTold (Err fault.Unreadable) = ⊤

@@ -1,4 +1,4 @@
--- What is left written where a text is told line by line, at each outcome: over the definitions of `gw_script`.
+-- What is left written where a text is put into words line by line, at each outcome: over the definitions of `gw_script`.
 use Rattle.std.specs.Prelude.{ℕ, Bool, true, false, List, Result, Ok, Err}
 use Rattle.gw_script.specs.Lines.{TellsFront, TellsPart, TellsToLine, TellsWhole}
 use Rattle.gw_script.specs.declared.lines.LinesFault.{LinesFault}
@@ -6,7 +6,7 @@ use Rattle.gw_script.specs.declared.lines.LinesFault.TheVariants as lines
 use Rattle.gw_shell.specs.declared.fault.Fault.{Fault}
 use Rattle.gw_shell.specs.declared.fault.Fault.TheVariants as fault
 
--- `before` was written before the lines of this text were told, by what `Tells` and `Refuses` say of a line, with this
+-- `before` was written before the lines of this text were reported, by what `Tells` and `Refuses` say of a line, with this
 -- outcome, and `after` when that ended
 abbrev pub Leaves : (List ℕ → List ℕ → Type 0) → (List ℕ → Type 0) → List ℕ → List ℕ → Result (Unit {0}) Fault → List ℕ
     → Type 0
@@ -24,7 +24,7 @@ fault_of_lines (lines.Line n) = fault.Line n
 fault_of_lines lines.Write = fault.Write
 fault_of_lines lines.Memory = fault.Memory
 
--- the first fault of the telling and of the flush behind it
+-- the first fault of the telling and of the flush after it
 abbrev pub first_lines_fault : Result (Unit {0}) LinesFault → Bool → Result (Unit {0}) Fault
 first_lines_fault (Ok done) true = Ok done
 first_lines_fault (Ok done) false = Err fault.Write

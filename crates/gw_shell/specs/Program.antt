@@ -1,4 +1,4 @@
--- The program as a whole: what the words chose, what stands on standard output then, the line on standard error and
+-- The program as a whole: what the words chose, what is on standard output then, the line on standard error and
 -- the exit status.
 use Rattle.std.specs.Prelude.{◌≡◌, ◌≢◌, ◌⊎◌, ⊤, Bool, true, false, ℕ, List, [], ◌++◌, Option, Some, Result, Ok, Err, OnOk, option_map}
 use Rattle.std.specs.Prelude.{string_bytes}
@@ -219,9 +219,9 @@ abbrev pub LeavesReportIn : (Reads : List ℕ → Result (List ℕ) Fault → Ty
 LeavesReportIn Reads file counts input held holds outcome =
     (c : Result Configuration Fault) × IsConfigured Reads (Some file) c × LeavesReport counts input held holds c outcome
 
--- What stands on standard output, which held `held` before, if files give what `Reads` and `ReadsState` say, `run`
+-- What is on standard output, which held `held` before, if files give what `Reads` and `ReadsState` say, `run`
 -- opens what the machine says, and `reload` is answered what `Answers` says: at `check`, `replay` and `why` what they leave of some configuration that is the one they name,
--- at `compare` of the two, at `state` of the one and the state, at `run` also what was told at the start, at `log` what that leaves of the log, and at help its text, of which a
+-- at `compare` of the two, at `state` of the one and the state, at `run` also what was reported at the start, at `log` what that leaves of the log, and at help its text, of which a
 -- failed write may leave a front. Words that choose nothing leave it as it was, and their fault is the outcome.
 abbrev pub LeavesOutput : {Log Sockets S Q : Type 0} → (Reads ReadsState : List ℕ → Result (List ℕ) Fault → Type 0)
     → (Answers : List ℕ → List ℕ → Type 0) → WholeMachine Log Sockets S Q → Option (List ℕ) → Option (List ℕ) → Option (List ℕ) → List ℕ
@@ -279,7 +279,7 @@ abbrev pub IsFlushed : Result Choice Fault → (was is : List ℕ) → Type 0
 IsFlushed (Ok (choice.Run options)) was is = IsFlushedFor (option_map string_bytes options.log) was is
 IsFlushed _ was is = is ≡ []
 
--- What was done by a choice. `Leaves` is what stands on standard output, with what was told at the start, and `Adds`
+-- What was done by a choice. `Leaves` is what is on standard output, with what was reported at the start, and `Adds`
 -- what standard error is given.
 pub record IsFollowed (Leaves : List ℕ → Result Choice Fault → Result (Unit {0}) Fault → Type 0)
     (Adds : List ℕ → Type 0) (choice : Result Choice Fault) (outcome : Result (Unit {0}) Fault) : Type 0 where
@@ -288,8 +288,8 @@ pub record IsFollowed (Leaves : List ℕ → Result Choice Fault → Result (Uni
   pub quiet : IsQuiet choice told
   pub errors : Adds told
 
--- One run of the program. `Chooses` is what the words ask for, `Leaves` what stands on standard output at a choice
--- and an outcome, with what was told at the start, `was` and `is` what of it wasn't flushed before and isn't then,
+-- One run of the program. `Chooses` is what the words ask for, `Leaves` what is on standard output at a choice
+-- and an outcome, with what was reported at the start, `was` and `is` what of it wasn't flushed before and isn't then,
 -- and `Adds` what standard error is given.
 pub record IsRun (Chooses : Result Choice Fault → Type 0)
     (Leaves : List ℕ → Result Choice Fault → Result (Unit {0}) Fault → Type 0)

@@ -14,7 +14,7 @@ telling false = event_text
 telling true = explained_text
 
 -- `before` was written before this script was played under this configuration, with this outcome, and `after` when it
--- ended. Where it explains, what is told of a line is wrong with it.
+-- ended. Where it explains, what is said of a line is wrong with it.
 abbrev pub Plays : Bool → Configuration → List ℕ → List ℕ → Result (Unit {0}) Fault → List ℕ → Type 0
 Plays explains c script before (Ok done) after = RunsWhole (telling explains) c script before after
 Plays explains c script before (Err (fault.Line n)) after =

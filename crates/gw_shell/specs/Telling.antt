@@ -5,7 +5,7 @@ use Rattle.gw_audit.specs.declared.moment.Moment.{Moment}
 use Rattle.gw_shell.specs.Lines.{Leaves}
 use Rattle.gw_shell.specs.declared.fault.Fault.{Fault}
 
--- `before` was written before this log, which began at a moment that may be known, was told in words with this
+-- `before` was written before this log, which began at a moment that may be known, was put into words with this
 -- outcome, and `after` when that ended
 abbrev pub Tells : Option Moment → List ℕ → List ℕ → Result (Unit {0}) Fault → List ℕ → Type 0
 Tells start = Leaves (IsToldAs start) RefusesNone

@@ -11,7 +11,7 @@ use gw_permissions::put_permissions;
 use gw_warnings::put_warnings;
 use std::alloc::{AllocError, Global};
 
-/// What `check` prints of a configuration: its summary, and behind it what else is asked for.
+/// What `check` prints of a configuration: its summary, and after it what else is asked for.
 /// An `Err` only where a growth of memory was refused.
 pub fn checked_text(
     alloc: Global,

@@ -145,7 +145,7 @@ fn write_fault<E: OctetSink>(fault: Fault, errors: &mut E) -> Result<(), WriteFa
     }
 }
 
-/// What is told behind the line of words that are no command line, and nothing behind another.
+/// What is reported after the line of words that are no command line, and nothing after another.
 pub fn usage_of(choice: &Result<Choice, Fault>) -> &[u8]
     ensures { result.now ≡ usage_of choice.now }
 {

@@ -97,7 +97,7 @@ impl Fault {
         }
     }
 
-    /// The exit status: 2 where what the program was given is wrong, and 1 where what it stands on failed.
+    /// The exit status: 2 where what the program was given is wrong, and 1 where what it needs failed.
     pub fn status(self) -> u8
         ensures { result ≡ status_of self }
     {

@@ -1,4 +1,4 @@
-//! A text that was told line by line, and what is told of its end.
+//! A text that was put into words line by line, and what is said of its end.
 
 ghost use Rattle.std.specs.Prelude.{◌≡◌};
 ghost use Rattle.gw_shell.specs.Lines.{first_lines_fault};
@@ -6,7 +6,7 @@ ghost use Rattle.gw_shell.specs.Lines.{first_lines_fault};
 use crate::fault::Fault;
 use gw_script::LinesFault;
 
-/// The first fault of the telling and of the flush behind it.
+/// The first fault of the telling and of the flush after it.
 pub fn first_lines_fault(told: Result<(), LinesFault>, is_flushed: bool) -> Result<(), Fault>
     ensures { result ≡ first_lines_fault told is_flushed }
 {

@@ -114,7 +114,7 @@ fn print_checked<W: Write + Drop>(
     print(&text, output)
 }
 
-/// What is told of the fault of a text that was read, where that is asked for: where in the text a fault
+/// What is said of the fault of a text that was read, where that is asked for: where in the text a fault
 /// of the configuration is. It is left out where there is no memory for it.
 fn fault_note(alloc: Global, is_asked: bool, text: &Result<Vec<u8>, Fault>, fault: Fault) -> Vec<u8>
     ensures { FaultNote is_asked (result_map (λ octets. octets.items) text.now) fault result.items }
@@ -164,7 +164,7 @@ fn check<W: Write + Drop>(
     match configuration_of(alloc, text) {
         Ok(config) => print_checked(alloc, explains, lints, &config, output),
         Err(fault) => {
-            // Where this can't be printed the fault is told all the same.
+            // Where this can't be printed the fault is reported all the same.
             let _ = print(&fault_note(alloc, explains, text, fault), output);
             Err(fault)
         }
@@ -625,10 +625,10 @@ fn follow<F: ConfigFiles, H: Host, R: OctetSource, W: Write + Drop, E: OctetSink
 
 /// Runs the program on these words, or on the fault for which there are none: the configuration that
 /// they name is read from `files`, what it has is printed to `output`, or the script of `input` is
-/// replayed there, or its asks are answered, or its log is told in words, or what `host` opens is served, or two
+/// replayed there, or its asks are answered, or its log is put into words, or what `host` opens is served, or two
 /// configurations are compared, or help is printed; what
-/// is served, or where a fault is, may be told on `errors`, a fault is one line there, behind words
-/// that are no command line stands how the program is called, and the exit status says of which kind
+/// is served, or where a fault is, may be reported on `errors`, a fault is one line there, after words
+/// that are no command line it says how the program is called, and the exit status says of which kind
 /// the fault is. The words begin with the program's name.
 pub fn run<F: ConfigFiles, H: Host, R: OctetSource, W: Write + Drop, E: OctetSink>(
     alloc: Global,

@@ -24,7 +24,7 @@ fn outcome_of(flaw: Option<LineFlaw>, run: Result<(), RunFault>) -> Result<(), F
     }
 }
 
-/// The first fault of a run and of the flush behind it.
+/// The first fault of a run and of the flush after it.
 fn first_fault(run: Result<(), Fault>, is_flushed: bool) -> Result<(), Fault>
     ensures { result ≡ first_fault run is_flushed }
 {

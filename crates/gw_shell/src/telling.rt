@@ -1,4 +1,4 @@
-//! A log, told in words.
+//! A log, put into words.
 
 ghost use Rattle.std.specs.Prelude.{◌≡◌, [], OnOk};
 ghost use Rattle.std.specs.Io.Buffered.{writer_buffer, writer_contents};

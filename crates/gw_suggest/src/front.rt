@@ -43,7 +43,7 @@ fn whole(alloc: Global, front: &[u8], added: &[u8], rest: &[u8]) -> Result<Vec<u
     Ok(text)
 }
 
-/// Whether rules are some rules and others behind them.
+/// Whether rules are some rules and others after them.
 fn are_both(all: &[Rule], some: &[Rule], others: &[Rule]) -> bool
     ensures { IsTrue result → all.now ≡ some.now ++ others.now }
 {

@@ -146,7 +146,7 @@ fn made<R: OctetSource>(
 /// at the end says how many there were; those of a replay that tell no ask (`send ..`, `ask ..`, `end`) aren't.
 ///
 /// Each rule has a comment that says how many asks it is for. What is written was read back: put into the
-/// text in front of the first rule, it is read as these rules and the configuration's behind them.
+/// text in front of the first rule, it is read as these rules and the configuration's after them.
 ///
 /// ```text
 /// # 2 asks

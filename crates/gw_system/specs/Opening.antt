@@ -1,4 +1,4 @@
--- Why not all of what `run` serves can be opened, and what is told of it.
+-- Why not all of what `run` serves can be opened, and what is said of it.
 use Rattle.std.specs.Prelude.{◌≡◌, ◌⊎◌, ℕ, Bool, true, false, List, [], ◌∷◌, ◌++◌, codes, decimal}
 use Rattle.gw_addr.specs.Address.{text_of}
 use Rattle.gw_system.specs.declared.opening.FailedStep.{FailedStep}
@@ -30,13 +30,13 @@ failure_text f =
     ++ reason_text f.reason
     ++ 10 ∷ []
 
--- What is told where not all can be opened: the line of a step that failed, if there is memory for it.
+-- What is reported where not all can be opened: the line of a step that failed, if there is memory for it.
 abbrev pub IsNoteOf : OpenFailure → List ℕ → Type 0
 IsNoteOf (opening.Sockets (sockets.Failed failed)) note = (note ≡ failure_text failed) ⊎ (note ≡ [])
 IsNoteOf (opening.Sockets sockets.Memory) note = note ≡ []
 IsNoteOf (opening.Log f) note = note ≡ []
 
--- It is told where that is asked for.
+-- It is reported where that is asked for.
 abbrev pub IsNote : Bool → OpenFailure → List ℕ → Type 0
 IsNote true failure note = IsNoteOf failure note
 IsNote false failure note = note ≡ []

@@ -9,7 +9,7 @@ pub data Exchange : Type 0 where
   asked : (text : Result (Option (List ℕ)) ReadFailure) → Exchange
   answered : (text : List ℕ) → Exchange
 
--- What is told goes on by these. What tells nothing never tells again; and it may stop telling.
+-- What is reported goes on by these. What tells nothing never tells again; and it may stop telling.
 abbrev pub GoesOn : Option (List Exchange) → Option (List Exchange) → List Exchange → Type 0
 GoesOn None now exchanges = now ≡ None
 GoesOn (Some told) None exchanges = ⊤
@@ -26,7 +26,7 @@ abbrev pub asked_by : Option (Result (Option (Vec ℕ)) ReadFailure) → Exchang
 asked_by None = unasked
 asked_by (Some text) = asked (text_found text)
 
--- what is told of requests, if there is something that asks
+-- what is said of requests, if there is something that asks
 abbrev pub told_by : {Q : Type 0} → (Q → Option (List Exchange)) → Option Q → Option (List Exchange)
 told_by told None = None
 told_by told (Some requests) = told requests

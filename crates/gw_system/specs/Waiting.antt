@@ -1,4 +1,4 @@
--- What a wait told of.
+-- What a wait reported.
 use Rattle.std.specs.Prelude.{ℕ, Bool, ◌==◌}
 use Rattle.std.specs.List.{list_any}
 use Rattle.mio.specs.Event.{event_token}

@@ -1,4 +1,4 @@
-//! Why a log or the sockets of `run` can't be opened, and how an operator is told of it.
+//! Why a log or the sockets of `run` can't be opened, and how an operator learns of it.
 
 ghost use Rattle.std.specs.Prelude.{◌≡◌, ◌≤◌, ◌++◌, ℕ, IfOk, OnOk};
 ghost use Rattle.gw_system.specs.Host.{IsSocketFailure};
@@ -140,7 +140,7 @@ pub enum SocketFailure {
 }
 
 impl SocketFailure {
-    /// The failure of a step at the port of this number, by what the system told.
+    /// The failure of a step at the port of this number, by what the system reported.
     pub fn at(port: u8, step: Step, address: BipAddr, error: &io::Error) -> Self
         ensures { (ports : ℕ) → 1 ≤ port → port ≤ ports → IsSocketFailure ports result }
     {
@@ -166,7 +166,7 @@ pub enum OpenFailure {
 }
 
 impl OpenFailure {
-    /// What is told of it: the line of a step that failed, which is left out where there is no memory
+    /// What is said of it: the line of a step that failed, which is left out where there is no memory
     /// for it.
     fn note(self, alloc: Global) -> Vec<u8>
         ensures { IsNoteOf self result.items }
@@ -180,7 +180,7 @@ impl OpenFailure {
     }
 }
 
-/// What is told of a failure, where that is asked for.
+/// What is said of a failure, where that is asked for.
 pub fn note_of(alloc: Global, is_asked: bool, failure: OpenFailure) -> Vec<u8>
     ensures { IsNote is_asked failure result.items }
 {

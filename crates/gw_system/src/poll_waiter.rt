@@ -12,7 +12,7 @@ use std::io;
 use std::net::Net;
 use std::time::Duration;
 
-/// How many sockets may be told of at once: two of each port.
+/// How many sockets may be reported at once: two of each port.
 const MOST_SOCKETS: usize = 2 * MAX_PORTS;
 
 /// What waits for datagrams at the sockets of the system.
@@ -23,7 +23,7 @@ pub struct PollWaiter {
 }
 
 impl PollWaiter {
-    /// What waits at the sockets of these ports, from 1 to 8, each of which is told of by its
+    /// What waits at the sockets of these ports, from 1 to 8, each of which is named by its
     /// number. An `Err` where the system can't wait, or not at one of them, or memory was refused.
     pub fn open(
         alloc: Global,

@@ -43,7 +43,7 @@ fn folder_of(name: &str) -> &str {
     }
 }
 
-/// A name with this behind it.
+/// A name with this after it.
 pub(crate) fn name_with(alloc: Global, name: &str, ending: &str) -> Result<String, AllocError>
     ensures { IfOk result (λ longer. string_bytes longer ≡ name.now ++ ending.now) }
 {
