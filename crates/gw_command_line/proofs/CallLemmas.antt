@@ -26,8 +26,6 @@ calls_are_taken = record {
   reload = λ program. record { taken = refl; asked = refl; sound = λ void. void };
   log_json = λ program. record { taken = refl; asked = refl; sound = λ void. void };
   why_json = λ program. record { taken = refl; asked = refl; sound = λ void. void };
-  report = λ program. record { taken = refl; asked = refl; sound = λ void. void };
-  report_count = λ program. record { taken = refl; asked = refl; sound = λ void. void };
   log = λ program. record { taken = refl; asked = refl; sound = λ void. void None refl };
   log_since = λ program. record { taken = refl; asked = refl; sound = λ void. void (Some morning) morning_is_read };
 }

@@ -2,7 +2,7 @@
 use Rattle.std.specs.Prelude.{ℕ, true, false, List, [], ◌∷◌, Some, None, codes}
 use Rattle.clap.specs.Words.{Text}
 use Rattle.gw_command_line.specs.CommandLine.{AskFor}
-use Rattle.gw_command_line.specs.Requests.{Checks, Compares, Explains, Judges, ListsLog, Migrates, Reloads, Replays, Reports, Request, Serves, Shows, Suggests, TellsLog, most_count}
+use Rattle.gw_command_line.specs.Requests.{Checks, Compares, Explains, Judges, ListsLog, Migrates, Reloads, Replays, Request, Serves, Shows, Suggests, TellsLog, most_count}
 
 -- these words, after the program's name, ask for this
 abbrev pub Calls : List Text → Request → Type 0
@@ -54,7 +54,5 @@ pub record CallsAreTaken : Type 0 where
   pub log : Calls (codes "log" ∷ []) (TellsLog None)
   pub log_json : Calls (codes "log" ∷ codes "--json" ∷ []) ListsLog
   pub why_json : Calls (codes "why" ∷ on_site (codes "--json" ∷ [])) (Judges site)
-  pub report : Calls (codes "report" ∷ on_site []) (Reports site false)
-  pub report_count : Calls (codes "report" ∷ on_site (codes "--count" ∷ [])) (Reports site true)
   pub log_since : Calls (codes "log" ∷ codes "--start" ∷ codes "2026-11-25T08:00:00+01:00" ∷ [])
       (TellsLog (Some (codes "2026-11-25T08:00:00+01:00")))

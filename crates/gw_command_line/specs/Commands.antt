@@ -63,10 +63,6 @@ suggest = with_rule (with_rule (of_file (codes "suggest")) (flag (codes "fill"))
 abbrev pub reload : App
 reload = with_rule (of_file (codes "reload")) (needed (codes "reload"))
 
--- `report --config FILE [--count]`
-abbrev pub report : App
-report = with_rule (of_file (codes "report")) (flag (codes "count"))
-
 -- the program, whose call has to name a command
 abbrev pub program : App
 program = on_top (λ top. record top { subcommand_required = true; has_version = true }) (new_app (codes "bacgw"))
@@ -89,10 +85,8 @@ commands =
     (with_subcommand
     (with_subcommand
     (with_subcommand
-    (with_subcommand
     (with_subcommand first_commands log.top)
     compare.top)
     state.top)
     suggest.top)
-    reload.top)
-    report.top
+    reload.top

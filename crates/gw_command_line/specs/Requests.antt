@@ -31,7 +31,6 @@ pub data Request : Type 0 where
   TellsLog : (start : Option Text) → Request
   ListsLog : Request
   Judges : (file : Text) → Request
-  Reports : (file : Text) (counts : Bool) → Request
 
 -- the value of each option by its name, and `None` if it isn't given
 abbrev pub Values : Type 0
@@ -139,7 +138,6 @@ asked_of_file name value file =
     if is_named name (codes "check") then check_asked file value
     else if is_named name (codes "run") then run_asked file value
     else if is_named name (codes "why") then why_asked file value
-    else if is_named name (codes "report") then Some (Reports file (is_true (value (codes "count"))))
     else if is_named name (codes "compare") then compare_asked file value
     else if is_named name (codes "reload") then reload_asked file (value (codes "reload"))
     else if is_named name (codes "suggest")

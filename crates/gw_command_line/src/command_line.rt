@@ -75,12 +75,6 @@ pub enum Choice {
     /// Answer each ask on standard input by the rules of the configuration in this file, as JSON
     /// objects.
     Judge(String),
-    /// Write a page that shows the configuration in this file, and how many of the asks on standard
-    /// input each of its rules decides, if that is asked for.
-    Report {
-        file: String,
-        counts: bool,
-    },
     /// Print this text, which is help or the version.
     Help(String),
     /// Report that the words are no command line, and after it this text, which says how the program is
@@ -257,10 +251,6 @@ fn choice_of_file(
     }
     if name == "why" {
         return why_choice(matches, file);
-    }
-    if name == "report" {
-        let counts = is_given(matches, "count");
-        return Ok(Choice::Report { file, counts });
     }
     if name == "compare" {
         return compare_choice(alloc, matches, file);

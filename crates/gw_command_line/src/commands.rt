@@ -3,7 +3,7 @@
 ghost use Rattle.std.specs.Prelude.{◌≡◌, false, codes, IfOk};
 ghost use Rattle.clap.specs.Words.{app_of, rule_of};
 ghost use Rattle.clap.specs.declared.builder.command.Command.TheViews.{out-Command};
-ghost use Rattle.gw_command_line.specs.Commands.{check, check_of_explanation, commands, compare, first_commands, flag, log, needed, of_file, option, program, reload, replay, report, run, run_of_reports, run_of_turns, state, suggest, why};
+ghost use Rattle.gw_command_line.specs.Commands.{check, check_of_explanation, commands, compare, first_commands, flag, log, needed, of_file, option, program, reload, replay, run, run_of_reports, run_of_turns, state, suggest, why};
 
 use clap::{Arg, ArgAction, Command};
 use std::alloc::{AllocError, Global};
@@ -35,9 +35,6 @@ const SUGGEST_EXAMPLE: &str = "Example:
 
 const RELOAD_EXAMPLE: &str = "Example:
   bacgw reload --config site.toml --reload /run/bacgw/reload";
-
-const REPORT_EXAMPLE: &str = "Example:
-  bacgw report --config site.toml --count < denials.log > page.html";
 
 const LOG_EXAMPLE: &str = "Example:
   bacgw log < denials.log | sort | uniq -c";
@@ -240,18 +237,6 @@ fn make_reload<'a>(alloc: Global) -> Result<Command<'a>, AllocError>
         .arg(request)
 }
 
-fn make_report<'a>(alloc: Global) -> Result<Command<'a>, AllocError>
-    ensures app { IfOk result (λ command. app_of command ≡ report) }
-    ensures local { IfOk result (λ command. (out-Command command).has_globals ≡ false) }
-{
-    let help = "Also shows how many asks of standard input each rule decides";
-    let count = make_flag(alloc, "count", help);
-    let about = "Writes an HTML page: the site as a picture, and who may do what";
-    make_of_file(alloc, "report", about)?
-        .after_help(REPORT_EXAMPLE)
-        .arg(count)
-}
-
 /// The program, with no command yet.
 fn make_program<'a>(alloc: Global) -> Command<'a>
     ensures { app_of result ≡ program }
@@ -286,12 +271,10 @@ pub fn make_commands<'a>(alloc: Global) -> Result<Command<'a>, AllocError>
     let state = make_state(alloc)?;
     let suggest = make_suggest(alloc)?;
     let reload = make_reload(alloc)?;
-    let report = make_report(alloc)?;
     make_first_commands(alloc)?
         .subcommand(log)?
         .subcommand(compare)?
         .subcommand(state)?
         .subcommand(suggest)?
-        .subcommand(reload)?
-        .subcommand(report)
+        .subcommand(reload)
 }
