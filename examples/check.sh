@@ -154,12 +154,6 @@ head -1 "$work/hostile" | "$program" why --config "$here/routed.toml" --json > "
 status=$?
 same 'an answer as an object' "$status $(jq -c '[.allow, .rule, .source]' "$work/out")" '0 [false,"no-doors","192.168.1.5:47808"]'
 
-# The page of a site: no text of the configuration is a tag.
-sed 's/^name = "gateway"/name = "<b>\&"/' "$here/routed.toml" > "$work/named.toml"
-head -1 "$work/hostile" | "$program" report --config "$work/named.toml" --count > "$work/out" 2> "$work/err"
-status=$?
-same 'a page' "$status $(grep -c '<b>' "$work/out") $(grep -c '<h1>&lt;b&gt;&amp;</h1>' "$work/out")" '0 0 1'
-
 # refused_alone WORDS...: the words are refused by the line alone
 refused_alone() {
     "$program" "$@" < /dev/null > "$work/out" 2> "$work/err"

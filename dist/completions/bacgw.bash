@@ -14,7 +14,7 @@ _bacgw() {
         return
     fi
     if [ "$COMP_CWORD" = 1 ]; then
-        options='check replay run why compare log state reload suggest report help --help --version'
+        options='check replay run why compare log state reload suggest help --help --version'
     else
         case $before in
             --config | --with | --log | --state | --reload) compopt -o default; return ;;
@@ -31,8 +31,7 @@ _bacgw() {
             suggest) options='--config --fill --exact --help' ;;
             compare) options='--config --with --most --help' ;;
             log) options='--start --json --help' ;;
-            report) options='--config --count --help' ;;
-            help) options='check replay run why compare log state reload suggest report' ;;
+            help) options='check replay run why compare log state reload suggest' ;;
             *) return ;;
         esac
     fi

@@ -1,5 +1,5 @@
 # Completions of bacgw for fish.
-set -l commands check replay run why compare log state reload suggest report help
+set -l commands check replay run why compare log state reload suggest help
 
 complete -c bacgw -f
 complete -c bacgw -n "not __fish_seen_subcommand_from $commands" -a check -d 'Says what a configuration has, or its first fault'
@@ -11,11 +11,10 @@ complete -c bacgw -n "not __fish_seen_subcommand_from $commands" -a log -d 'Tell
 complete -c bacgw -n "not __fish_seen_subcommand_from $commands" -a state -d 'Says what a kept state holds'
 complete -c bacgw -n "not __fish_seen_subcommand_from $commands" -a reload -d 'Asks a running gateway to read its configuration again'
 complete -c bacgw -n "not __fish_seen_subcommand_from $commands" -a suggest -d 'Writes rules that allow the asks of standard input'
-complete -c bacgw -n "not __fish_seen_subcommand_from $commands" -a report -d 'Writes an HTML page of a site'
 complete -c bacgw -n "not __fish_seen_subcommand_from $commands" -a help -d 'Prints help'
 complete -c bacgw -n "not __fish_seen_subcommand_from $commands" -l version -d 'Prints the version'
 complete -c bacgw -l help -d 'Prints help'
-complete -c bacgw -n '__fish_seen_subcommand_from check replay run why compare state reload suggest report' -l config -r -F -d 'The configuration, in TOML'
+complete -c bacgw -n '__fish_seen_subcommand_from check replay run why compare state reload suggest' -l config -r -F -d 'The configuration, in TOML'
 complete -c bacgw -n '__fish_seen_subcommand_from check' -l explain -d 'Also prints where the fault is, or who may do what'
 complete -c bacgw -n '__fish_seen_subcommand_from check' -l lint -d 'Also prints which rules never decide'
 complete -c bacgw -n '__fish_seen_subcommand_from replay' -l explain -d 'Also prints each ask and its rule'
@@ -25,11 +24,11 @@ complete -c bacgw -n '__fish_seen_subcommand_from run' -l stats -x -d 'Tells wha
 complete -c bacgw -n '__fish_seen_subcommand_from run' -l verbose -d 'Tells what is served, or where a fault is'
 complete -c bacgw -n '__fish_seen_subcommand_from run state' -l state -r -F -d 'The file in which run keeps the state'
 complete -c bacgw -n '__fish_seen_subcommand_from run reload' -l reload -r -F -d 'The file that asks to read the configuration again'
-complete -c bacgw -n '__fish_seen_subcommand_from why report' -l count -d 'Counts the asks that each rule decides'
+complete -c bacgw -n '__fish_seen_subcommand_from why' -l count -d 'Counts the asks that each rule decides'
 complete -c bacgw -n '__fish_seen_subcommand_from log why' -l json -d 'Makes each line a JSON object'
 complete -c bacgw -n '__fish_seen_subcommand_from suggest' -l fill -d 'Lets each station do what it did with each object'
 complete -c bacgw -n '__fish_seen_subcommand_from suggest' -l exact -d 'Keeps the services of reads and lists apart'
 complete -c bacgw -n '__fish_seen_subcommand_from compare' -l with -r -F -d 'The other configuration, in TOML'
 complete -c bacgw -n '__fish_seen_subcommand_from compare' -l most -x -d 'How many lines are printed at most, or of each group'
 complete -c bacgw -n '__fish_seen_subcommand_from log' -l start -x -d 'Also tells when each denial was, if the log began then'
-complete -c bacgw -n '__fish_seen_subcommand_from help' -a 'check replay run why compare log state reload suggest report'
+complete -c bacgw -n '__fish_seen_subcommand_from help' -a 'check replay run why compare log state reload suggest'

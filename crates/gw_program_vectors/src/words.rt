@@ -90,10 +90,6 @@ fn put_choice(
         Ok(Choice::Log(start)) => put_log(alloc, *start, out),
         Ok(Choice::Objects) => put(out, &["log json"]),
         Ok(Choice::Judge(file)) => put(out, &["why ", file.as_str(), " json"]),
-        Ok(Choice::Report { file, counts }) => {
-            put(out, &["report ", file.as_str()])?;
-            put_flag(out, " count", *counts)
-        }
         Ok(Choice::Help(_)) => put(out, &["help"]),
         Ok(Choice::Usage(_)) | Err(WordsFault::CommandLine) => put(out, &["refused"]),
         Err(WordsFault::Memory) => put(out, &["out of memory"]),

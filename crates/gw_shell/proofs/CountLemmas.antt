@@ -6,18 +6,9 @@ use Rattle.gw_script.specs.declared.lines.LinesFault.TheVariants as lines
 use Rattle.gw_tally.specs.Counting.{IsCounted}
 use Rattle.gw_shell.specs.Asking.{Counts}
 use Rattle.gw_shell.specs.Lines.{fault_of_lines}
-use Rattle.gw_shell.specs.Reporting.{IsPageWith}
-use Rattle.gw_configuration.specs.Configuration.{Configuration}
 
 pub uncounted : (rules : List Rule) (text : List ℕ) (f : LinesFault) → IsCounted rules text (Err f) → Counts rules text (Err (fault_of_lines f))
 uncounted rules text (lines.Line n) is = is
 uncounted rules text lines.Read is = tt
 uncounted rules text lines.Write is = absurd is
 uncounted rules text lines.Memory is = tt
-
--- and why there is no page of them
-pub unreported : (c : Configuration) (log : List ℕ) (f : LinesFault) → IsCounted c.rules log (Err f) → IsPageWith c log (Err (fault_of_lines f))
-unreported c log (lines.Line n) is = is
-unreported c log lines.Read is = tt
-unreported c log lines.Write is = absurd is
-unreported c log lines.Memory is = tt

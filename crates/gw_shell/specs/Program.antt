@@ -27,7 +27,6 @@ use Rattle.gw_shell.specs.Replay.{Plays}
 use Rattle.gw_rules.specs.declared.rule.Rule.{Rule}
 use Rattle.gw_service.specs.Kept.{WholeMachine}
 use Rattle.gw_service.specs.Serving.{IsFlushedFor}
-use Rattle.gw_shell.specs.Reporting.{IsPage, IsPageWith}
 use Rattle.gw_shell.specs.Serving.{LeavesRun}
 use Rattle.gw_shell.specs.Suggesting.{Suggests}
 use Rattle.gw_suggest.specs.declared.suggestion.Manner.{Manner}
@@ -202,23 +201,6 @@ LeavesAnswered true input held holds (Ok c) outcome =
     (text : List ℕ) → input ≡ Some text → LeavesCounts c.rules text held holds outcome
 LeavesAnswered counts input held holds (Err f) outcome = (outcome ≡ Err f) × (holds ≡ held)
 
--- What `report` leaves of the configuration that was read: its page, or with the counts of a log. If there is none, the
--- outcome is why.
-abbrev pub LeavesReport : Bool → Option (List ℕ) → Option (List ℕ) → Option (List ℕ) → Result Configuration Fault
-    → Result (Unit {0}) Fault → Type 0
-LeavesReport false input held holds (Ok c) outcome =
-    (text : Result (List ℕ) Fault) × IsPage c text × LeavesPrinted text held holds outcome
-LeavesReport true input held holds (Ok c) outcome =
-    (log : List ℕ) → input ≡ Some log
-    → (text : Result (List ℕ) Fault) × IsPageWith c log text × LeavesPrinted text held holds outcome
-LeavesReport counts input held holds (Err f) outcome = (outcome ≡ Err f) × (holds ≡ held)
-
--- What it leaves of that of the file of this name.
-abbrev pub LeavesReportIn : (Reads : List ℕ → Result (List ℕ) Fault → Type 0) → List ℕ → Bool → Option (List ℕ)
-    → Option (List ℕ) → Option (List ℕ) → Result (Unit {0}) Fault → Type 0
-LeavesReportIn Reads file counts input held holds outcome =
-    (c : Result Configuration Fault) × IsConfigured Reads (Some file) c × LeavesReport counts input held holds c outcome
-
 -- What is on standard output, which held `held` before, if files give what `Reads` and `ReadsState` say, `run`
 -- opens what the machine says, and `reload` is answered what `Answers` says: at `check`, `replay` and `why` what they leave of some configuration that is the one they name,
 -- at `compare` of the two, at `state` of the one and the state, at `run` also what was reported at the start, at `log` what that leaves of the log, and at help its text, of which a
@@ -258,8 +240,6 @@ LeavesOutput Reads ReadsState Answers machine input held holds told (Ok choice.O
     OnKnown input held holds (λ log before. Lists log before outcome)
 LeavesOutput Reads ReadsState Answers machine input held holds told (Ok (choice.Judge file)) outcome =
     LeavesJudgedIn Reads (string_bytes file) input held holds outcome
-LeavesOutput Reads ReadsState Answers machine input held holds told (Ok (choice.Report file counts)) outcome =
-    LeavesReportIn Reads (string_bytes file) counts input held holds outcome
 LeavesOutput Reads ReadsState Answers machine input held holds told (Ok (choice.Help text)) (Ok done) =
     Appends held holds (string_bytes text)
 LeavesOutput Reads ReadsState Answers machine input held holds told (Ok (choice.Help text)) (Err f) =

@@ -15,7 +15,6 @@ mod lines;
 mod objects;
 mod program;
 mod reloading;
-mod reporting;
 mod script;
 mod suggesting;
 mod telling;

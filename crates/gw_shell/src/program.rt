@@ -12,7 +12,7 @@ ghost use Rattle.gw_shell.specs.Ending.{outcome_of_comparison, served};
 ghost use Rattle.gw_shell.specs.Ending.{FaultNote, IsExplainedBy, answers_by};
 ghost use Rattle.gw_shell.specs.Files.{result_map};
 ghost use Rattle.gw_system.specs.Host.{OpensAtLine};
-ghost use Rattle.gw_shell.specs.Program.{AppendsFront, IsChoiceOf, IsFlushed, IsFollowed, IsRun, LeavesAnswer, LeavesAnswered, LeavesAsked, LeavesCompared, LeavesComparison, LeavesConfigured, LeavesCounts, LeavesInFormatThree, LeavesMigrated, LeavesOfText, LeavesOutput, LeavesPlayed, LeavesPrinted, LeavesReload, LeavesReloadIn, LeavesReport, LeavesReportIn, LeavesSaid, LeavesState, LeavesStateIn, LeavesSuggested, LeavesSuggestedIn, LeavesText};
+ghost use Rattle.gw_shell.specs.Program.{AppendsFront, IsChoiceOf, IsFlushed, IsFollowed, IsRun, LeavesAnswer, LeavesAnswered, LeavesAsked, LeavesCompared, LeavesComparison, LeavesConfigured, LeavesCounts, LeavesInFormatThree, LeavesMigrated, LeavesOfText, LeavesOutput, LeavesPlayed, LeavesPrinted, LeavesReload, LeavesReloadIn, LeavesSaid, LeavesState, LeavesStateIn, LeavesSuggested, LeavesSuggestedIn, LeavesText};
 ghost use Rattle.gw_service.specs.Kept.{state_machine, whole_machine};
 ghost use Rattle.gw_service.specs.Serving.{IsFlushedFor, machine};
 ghost use Rattle.gw_shell.specs.Serving.{LeavesRun};
@@ -27,7 +27,6 @@ use crate::fault::Fault;
 use crate::files::ConfigFiles;
 use crate::kept::words_of_text;
 use crate::reloading::{self, ask};
-use crate::reporting::{page, page_with};
 use crate::script::replay;
 use crate::suggesting::suggest;
 use crate::{objects, telling};
@@ -465,43 +464,6 @@ fn reload_in<F: ConfigFiles, H: Host, W: Write + Drop>(
     reload(alloc, config, request, host, output)
 }
 
-/// Prints the page of the configuration that was read, with the counts of the log on standard input if that is asked for.
-fn report<R: OctetSource, W: Write + Drop>(
-    alloc: Global,
-    counts: bool,
-    config: Result<Config, Fault>,
-    input: &mut R,
-    output: &mut BufWriter<W>,
-) -> Result<(), Fault>
-    ensures output { LeavesReport counts (R.left input.old) (writer_contents W.contents output.old)
-        (writer_contents W.contents output.new) config result }
-    ensures flush { OnOk result (writer_buffer output.new ≡ []) }
-{
-    let config = config?;
-    if counts {
-        print_made(page_with(alloc, &config, input), output)
-    } else {
-        print_made(page(alloc, &config), output)
-    }
-}
-
-/// Prints that of the file of this name.
-fn report_in<F: ConfigFiles, R: OctetSource, W: Write + Drop>(
-    alloc: Global,
-    files: &F,
-    file: &str,
-    counts: bool,
-    input: &mut R,
-    output: &mut BufWriter<W>,
-) -> Result<(), Fault>
-    ensures output { LeavesReportIn (F.Reads files.now) file.now counts (R.left input.old)
-        (writer_contents W.contents output.old) (writer_contents W.contents output.new) result }
-    ensures flush { OnOk result (writer_buffer output.new ≡ []) }
-{
-    let config = configuration_in(alloc, files, file);
-    report(alloc, counts, config, input, output)
-}
-
 /// How serving ended.
 fn served(done: Result<(), ServiceFault>) -> Result<(), Fault>
     ensures { result ≡ served done }
@@ -614,9 +576,6 @@ fn follow<F: ConfigFiles, H: Host, R: OctetSource, W: Write + Drop, E: OctetSink
         Ok(Choice::Log(start)) => telling::tell(alloc, *start, input, output),
         Ok(Choice::Objects) => objects::list(alloc, input, output),
         Ok(Choice::Judge(file)) => objects::judge_in(alloc, files, file, input, output),
-        Ok(Choice::Report { file, counts }) => {
-            report_in(alloc, files, file, *counts, input, output)
-        }
         Ok(Choice::Help(text)) => print(text.as_bytes(), output),
         Ok(Choice::Usage(_)) => Err(Fault::CommandLine),
         Err(fault) => Err(*fault),

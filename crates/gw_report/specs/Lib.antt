@@ -1,3 +1,0 @@
-pub mod Escape
-pub mod Site
-pub mod Page
