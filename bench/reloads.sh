@@ -72,7 +72,7 @@ def ask(service, parameters):
     octets = bytes.fromhex("0124006401" "01FF" "0005") + bytes([number, service]) + parameters
     line.sendto(b"\x81\x0a" + (len(octets) + 4).to_bytes(2, "big") + octets, (GATEWAY, UDP))
     while True:
-        apdu = line.recv(1508)[13:]
+        apdu = line.recv(1508)[10:]
         if apdu[1] == number:
             return apdu
 
