@@ -30,7 +30,7 @@ import time
 from pathlib import Path
 
 program, work, reloads, swaps = sys.argv[1], Path(sys.argv[2]), int(sys.argv[3]), int(sys.argv[4])
-CLIENT, GATEWAY, UDP = "127.6.0.5", "127.6.0.10", 47808
+CLIENT, GATEWAY, UDP = "127.26.0.5", "127.26.0.10", 47808
 config, request, answer = work / "site.toml", work / "request", work / "request.answer"
 DEVICE = """format = 1
 [device]
@@ -46,8 +46,8 @@ revision = 12
 database = 1
 [[port]]
 network = 1
-address = "127.6.0.10:47808"
-broadcast = "127.6.0.255:47808"
+address = "127.26.0.10:47808"
+broadcast = "127.26.0.255:47808"
 [[object]]
 type = 48
 instance = 1
@@ -153,7 +153,7 @@ try:
     config.unlink()
     said = reload()
     expect("a missing file", said == "reload refused: cannot read configuration: no such file\n", said)
-    put(CLOSED.replace('"127.6.0.10:47808"', '"127.6.0.11:47808"'))
+    put(CLOSED.replace('"127.26.0.10:47808"', '"127.26.0.11:47808"'))
     said = reload()
     expect("other ports", said == "reload refused: the ports differ: restart for them\n", said)
     expect("the read after three refusals", is_read())
