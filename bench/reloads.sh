@@ -30,7 +30,7 @@ import time
 from pathlib import Path
 
 program, work, reloads, swaps = sys.argv[1], Path(sys.argv[2]), int(sys.argv[3]), int(sys.argv[4])
-CLIENT, GATEWAY, UDP = "127.6.0.5", "127.6.0.10", 47808
+CLIENT, GATEWAY, UDP = "127.26.0.5", "127.26.0.10", 47808
 config, request, answer = work / "site.toml", work / "request", work / "request.answer"
 DEVICE = """format = 1
 [device]
@@ -46,8 +46,8 @@ revision = 12
 database = 1
 [[port]]
 network = 1
-address = "127.6.0.10:47808"
-broadcast = "127.6.0.255:47808"
+address = "127.26.0.10:47808"
+broadcast = "127.26.0.255:47808"
 [[object]]
 type = 48
 instance = 1
@@ -72,7 +72,7 @@ def ask(service, parameters):
     octets = bytes.fromhex("0124006401" "01FF" "0005") + bytes([number, service]) + parameters
     line.sendto(b"\x81\x0a" + (len(octets) + 4).to_bytes(2, "big") + octets, (GATEWAY, UDP))
     while True:
-        apdu = line.recv(1508)[13:]
+        apdu = line.recv(1508)[10:]
         if apdu[1] == number:
             return apdu
 
@@ -153,7 +153,7 @@ try:
     config.unlink()
     said = reload()
     expect("a missing file", said == "reload refused: cannot read configuration: no such file\n", said)
-    put(CLOSED.replace('"127.6.0.10:47808"', '"127.6.0.11:47808"'))
+    put(CLOSED.replace('"127.26.0.10:47808"', '"127.26.0.11:47808"'))
     said = reload()
     expect("other ports", said == "reload refused: the ports differ: restart for them\n", said)
     expect("the read after three refusals", is_read())

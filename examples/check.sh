@@ -406,8 +406,7 @@ status 0
 127.3.0.10 810A0018010800640101301F0C0C0140000219553E91003F
 bacgw: configuration: NotToml
 status 2
-reload refused: configuration: NotToml: '"$(printf 'no configuration' > "$work/none.toml"
-        "$program" check --config "$work/none.toml" --explain 2> /dev/null)"'
+reload refused: configuration: NotToml: '"$("$program" check --config "$work/changed.toml" --explain 2> /dev/null)"'
 127.3.0.10 810A001801080064010130200C0C0140000219553E91003F'
 
 # taken ADDRESS PORT SOCKET: while another socket stands at this address, `run` says which port and which socket can't be opened
