@@ -43,7 +43,7 @@ fn serve_under<G: Guard>(
         if left == 0 {
             return Ok(Ok(()));
         }
-        if let Err(fault) = state.serve_to_tick(
+        let _pause = match state.serve_to_tick(
             alloc,
             gateway,
             &mut edges.wire,
@@ -51,8 +51,9 @@ fn serve_under<G: Guard>(
             guard,
             left,
         ) {
-            return Ok(Err(fault));
-        }
+            Ok(pause) => pause,
+            Err(fault) => return Ok(Err(fault)),
+        };
         if state.served.memory_drops > 0 {
             return Err(ErrorKind::OutOfMemory.into());
         }
