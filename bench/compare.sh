@@ -69,7 +69,7 @@ BOUNDS = {
     "source": (0, 2**48 - 1), "sender": (0, 2**48 - 1), "station": (0, 2**48 - 1), "destination": (1, 65535),
     "object_type": (0, 1023), "instance": (0, 2**22 - 1), "property": (0, 2**22 - 1), "priority": (1, 16),
 }
-NETWORK, NETWORKS = (False, (1, 65534)), (True, (1, 65534))
+NETWORK, NETWORK_OR_NONE = (False, (1, 65534)), (True, (1, 65534))
 REQUEST_OR_MESSAGE, ANSWER = (True, (0, 767)), (False, (1026, 1031))
 
 
@@ -113,7 +113,7 @@ def shapes_of(form):
         for services in (REQUEST_OR_MESSAGE, ANSWER):
             yield shape(it, "cast", services, perhaps("destination"), station=aimed)
             yield shape(it, "route", services, NETWORK, station=aimed)
-        yield shape(it, "network", only(512), NETWORKS)
+        yield shape(it, "network", only(512), NETWORK_OR_NONE)
         for operation, service in [("read", 12), ("read", 14), ("write", 15)]:
             yield shape(it, operation, only(service), only(DEVICE), True)
         yield shape(it, "list", only(263), only(DEVICE), True, property=only(77))
