@@ -11,7 +11,8 @@
 # datagram that found no memory is given once more. A case then comes to what it does with ample memory; or it tells that
 # there was none, in its line or behind whole blocks of a script; or the program ends with status 1. Of a case of `serve` the events
 # that found no memory may be dropped. A case of `run` may end as the program does then, tell its fault without the note that explains
-# it, or serve on without the datagram; one of `fronts` is runs over and over, one of `behind` scripts once more, one of `brief` a long script in short: they are passed by. A replay does what it does with ample memory, or ends with `bacgw: out of memory` and status 1, and what it wrote is
+# it, or serve on without the datagram; one of `fronts` is runs over and over, one of `behind` scripts once more, one of `brief` a long script in short, and one of `trial` two
+# runs, of which one may end for want of memory: they are passed by. A replay does what it does with ample memory, or ends with `bacgw: out of memory` and status 1, and what it wrote is
 # whole blocks, each up to its line `end`, from the front of the right output. NAME.out has the right output; NAME.toml, where it is
 # there, is the configuration. A script of another folder whose right output the program doesn't print yet is left out.
 #
@@ -56,7 +57,7 @@ is_examples = folder == top / "examples"
 # The kinds whose section is one case.
 WHOLE = {"script", "brief", "explained", "again", "list", "check", "texts", "run", "fronts", "faults"}
 # The kinds that play cases of another kind again, or tell a long one in short.
-PASSED_BY = {"fronts", "behind", "brief"}
+PASSED_BY = {"fronts", "behind", "brief", "trial"}
 
 
 # The line of the program that tells it.
@@ -148,10 +149,34 @@ def has_no_room(most, lines):
     return most is not None and b"status 1" in lines and len(reports) == 1 and len(reports[0]) == len(b"err ") + most
 
 
+def judge_of_keeper(given):
+    """How a case of `keep` may come out: if its first try finds no memory, in the store or before it is asked, the keeper counts it, and goes
+    on as if the store had failed then."""
+    front, _, case = given.rstrip("\n").rpartition("\n")
+    turns, answers, script = case.split(" ", 2)
+    later = f"{front}\n{turns} f{answers.strip('-')} {script}\n"
+    ran = subprocess.run([built(top / "crates" / "gw_gateway_vectors")], input=later.encode(), capture_output=True, timeout=120, check=True)
+    less = lambda tries: b" %s of %d" % (tries[1], int(tries[2]) - 1)
+    failed = ran.stdout.rpartition(b" => ")[2]
+    unasked = re.sub(rb" (\d+) of (\d+)", less, failed, count=1)
+
+    def judge(answer, right):
+        status, output, _ = answer
+        begins, _, ends = output.rpartition(b" => ")
+        wanted_begins, _, wanted = right[1].rpartition(b" => ")
+        refused = re.sub(rb" (\d+) of ", lambda tries: b" %d of " % (int(tries[1]) + 1), wanted, count=1)
+        is_kept_later = begins == wanted_begins and ends in (failed, unasked, refused)
+        return is_well_answered(answer, right) or status == 0 and is_kept_later
+
+    return judge
+
+
 def judge_of(section):
     """The judge of a case. A run may leave out the note on its fault, and drop the datagram that it serves; and where standard
     error takes so many octets alone, the line that tells of the memory is as long."""
     head, *others = section.split("== ")[-1].split("\ninput\n")[0].split("\n")
+    if head.startswith("keep "):
+        return judge_of_keeper(section)
     if not head.startswith("run "):
         return is_well_answered
     words = others[0].split("|")
