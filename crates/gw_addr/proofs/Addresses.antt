@@ -75,7 +75,7 @@ address_in-back octets long fits =
     let port : to_be_bytes w16 (from_be_bytes w16 two) ≡ two = wide16.back two len (AreOctets-take 2 (drop 4 octets) (AreOctets-drop 4 octets fits)) in
     ap (λ (t : List ℕ). take 4 octets ++ t) port ∙ sym (take-add 4 2 octets)
 
--- an address is read again from its octets, whatever stands behind them
+-- an address is read again from its octets, whatever follows them
 pub address_in-again : (a : BipAddr) (rest : List ℕ) → IsAddress a → address_in (octets_of a ++ rest) ≡ a
 address_in-again a rest is =
     let port = to_be_bytes w16 a.udp in
@@ -90,7 +90,7 @@ address_in-again a rest is =
 pub address_in-whole : (a : BipAddr) → IsAddress a → address_in (octets_of a) ≡ a
 address_in-whole a is = ap address_in (sym (append-nil (octets_of a))) ∙ address_in-again a [] is
 
--- octets that have the address in front go on behind it
+-- what follows the address in octets that begin with it
 pub drop_address : (a : BipAddr) (rest : List ℕ) → IsAddress a → drop 6 (octets_of a ++ rest) ≡ rest
 drop_address a rest is = drop_at (octets_of a) rest 6 (length-address a is)
 
@@ -122,7 +122,7 @@ colon h = absurd (omega arith)
 small_octet : (a : BipAddr) → IsAddress a → (i : ℕ) → get_or a.ip i 0 < 2 ^ 64
 small_octet a is i = omega (arith, is.octets i)
 
--- what stands behind the first three octets
+-- what follows the first three octets
 last_two : BipAddr → List ℕ
 last_two a = decimal (get_or a.ip 3 0) ++ 58 ∷ decimal a.udp
 
@@ -162,7 +162,7 @@ pub key_below : (six : List ℕ) → length six ≡ 6 → AreOctets six → big_
 key_below six len fits =
     of_six (λ (s : List ℕ). AreOctets s → big_endian s < 2 ^ 48) (λ a b c d e f is. omega (arith, is 0, is 1, is 2, is 3, is 4, is 5)) six len fits
 
--- a place of a number, and what stands below it
+-- a place of a number, and what is below it
 same_place : (m n x y : ℕ) → x < 2 ^ 40 → y < 2 ^ 40 → m * 2 ^ 40 + x ≡ n * 2 ^ 40 + y → (m ≡ n) × (x ≡ y)
 same_place m n x y lt lt' e = (omega arith, omega arith)
 

@@ -7,7 +7,7 @@ use Rattle.gw_addr.specs.Appending.{IsAppended}
 use Rattle.gw_addr.specs.Reading.{Keeps}
 use Rattle.gw_addr.proofs.Writing.{Keeps-front}
 
--- the text stands behind what the buffer held
+-- the text follows what the buffer held
 pub record IsGrown (text : List ℕ) (old new : Vec ℕ) : Type 0 where
   pub items : vec_items new ≡ vec_items old ++ text
   pub capacity : vec_capacity old ≤ vec_capacity new
@@ -16,7 +16,7 @@ ok_behind : {T F : Type 0} (r : Result T F) (a b u v w : List ℕ) → v ≡ u +
 ok_behind (Ok x) a b u v w first then = then ∙ ap (λ (t : List ℕ). t ++ b) first ∙ append_assoc u a b
 ok_behind (Err e) a b u v w first then = then
 
--- behind a text that stands there, another one is appended or refused
+-- after a text in the buffer, another one is appended or refused
 pub behind : {T F : Type 0} (r : Result T F) (a b : List ℕ) (u v w : Vec ℕ) → IsGrown a u v → IsAppended {T = T} {F = F} b v w r
     → IsAppended {T = T} {F = F} (a ++ b) u w r
 behind r a b u v w grown put = record {
@@ -30,7 +30,7 @@ behind r a b u v w grown put = record {
 pub grown_by : {T F : Type 0} (x : T) (a : List ℕ) (u v : Vec ℕ) → IsAppended {T = T} {F = F} a u v (Ok x) → IsGrown a u v
 grown_by x a u v put = record { items = put.ok; capacity = put.capacity }
 
--- two texts, one behind the other
+-- two texts, one after the other
 pub then_put : {S G T F : Type 0} {x : S} {r : Result T F} {a b : List ℕ} {u v w : Vec ℕ} → IsAppended {T = S} {F = G} a u v (Ok x)
     → IsAppended {T = T} {F = F} b v w r → IsAppended {T = T} {F = F} (a ++ b) u w r
 then_put first then = behind _ _ _ _ _ _ (grown_by _ _ _ _ first) then

@@ -40,7 +40,7 @@ same_split c (a ∷ xs) (b ∷ ys) x y hx hy e =
 pub not_in_decimal : (n c : ℕ) → n < 2 ^ 64 → ¬ (IsAsciiDigit c) → Lacks c (decimal n)
 not_in_decimal n c h other = not_in_digits own (decimal n) c (digits_decimal own n h) other
 
--- a number and a separator, and a text behind them that lacks the character
+-- a number and a separator, and a text after them that lacks the character
 part_lacks : (n separator c : ℕ) (rest : List ℕ) → n < 2 ^ 64 → ¬ (IsAsciiDigit c) → separator ≢ c → Lacks c rest → Lacks c (decimal n ++ separator ∷ rest)
 part_lacks n separator c rest small digit other lacks =
     lacks_append c (decimal n) (separator ∷ rest) (not_in_decimal n c small digit) (lacks_cons c separator rest other lacks)
@@ -94,7 +94,7 @@ begins_with_octet text n separator rest small other e =
       behind = rw e (drop_past separator (decimal n) rest);
     }
 
--- where its separator stands
+-- where its separator is
 pub not_there : (text : List ℕ) (n separator : ℕ) (rest : List ℕ) (place : ℕ) → BeginsWithOctet text n separator rest → ¬ ((place < length text) × (get_or text place 0 ≡ separator)) → length (decimal n) ≢ place
 not_there text n separator rest place begins other e =
     other (omega (arith, begins.within), subst (λ (k : ℕ). get_or text k 0 ≡ separator) e begins.there)

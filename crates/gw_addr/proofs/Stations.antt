@@ -1,4 +1,4 @@
--- The addresses of stations, as they are kept with zeros behind them.
+-- The addresses of stations, as they are kept with zeros after them.
 use Rattle.std.proofs.Common.{◌≡◌, ℕ, ◌-◌, Bool, true, ◌&&◌, List, ◌++◌, length, take, replicate, nat_eq, refl, sym, ap, ap₂, ◌∙◌}
 use Rattle.std.proofs.lemmas.Bool.{eqb-true, eq-eqb}
 use Rattle.std.proofs.lemmas.Cmp.{nat_list_eq_equiv}

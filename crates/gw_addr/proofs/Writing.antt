@@ -14,14 +14,14 @@ Keeps-front old more new keeps =
     let len : length old ≤ length (old ++ more) = omega (arith, length-append old more) in
     sym (take-take (length old) (length (old ++ more)) new len) ∙ ap (take (length old)) keeps ∙ take_at old more (length old) refl
 
--- four numbers, each with what stands behind it
+-- four numbers, each with what follows it
 pub four_behind : (octets : List ℕ) (behind : ℕ) → (((decimal (get_or octets 0 0) ++ 46 ∷ []) ++ (decimal (get_or octets 1 0) ++ 46 ∷ []))
     ++ (decimal (get_or octets 2 0) ++ 46 ∷ [])) ++ (decimal (get_or octets 3 0) ++ behind ∷ []) ≡ four_text octets ++ behind ∷ []
 unfolding four_text
 four_behind octets behind =
     grind (arith, common_steps)
 
--- all but the last of what stands in front
+-- all but the last of what is in front
 pub all_but_last : (xs ys : List ℕ) (n last : ℕ) → n ≤ length xs → take n xs ≡ ys ++ last ∷ [] → take (n - 1) xs ≡ ys
 all_but_last xs ys n last fits is =
     let len : length ys ≡ n - 1 = omega (arith, length-take n xs, ap length is, length-append ys (last ∷ [])) in

@@ -36,7 +36,7 @@ three_counted n some few = ap length (three_digits n some few)
 
 -- ---- the table of the numbers below 256, held against their digits by computing
 
--- a number below 256, with points behind it that make four octets of it
+-- a number below 256, with points after it that make four octets of it
 abbrev group : ℕ → List ℕ
 group n =
     if nat_lt n 10 then (48 + n) ∷ 46 ∷ 46 ∷ 46 ∷ []
@@ -103,7 +103,7 @@ digits_of_group n false false few less small =
     let least : 100 ≤ n = grind (arith, nat_tests) in
     rw (few, less, three_digits n least (omega arith)) refl
 
--- what stands in the table for a number
+-- what the table has for a number
 pub record IsInTable (n : ℕ) (row : List ℕ) : Type 0 where
   pub digits : take (length (decimal n)) row ≡ decimal n
   pub four : length row ≡ 4
@@ -128,7 +128,7 @@ put_front a k d xs ys fits few =
     sym (take-take (a + d) (a + length ys) (put_mid a k xs ys) (omega (arith, few)))
     ∙ ap (take (a + d)) (take-put_mid a k xs ys (a + length ys) refl fits) ∙ front
 
--- the first of a row that is put in the middle, and a character behind it
+-- the first of a row that is put in the middle, and a character after it
 pub part_written : (a k d b : ℕ) (xs ys : List ℕ) → a ≤ length xs → d < length ys
     → take (a + d + 1) (set (put_mid a k xs ys) (a + d) b) ≡ take a xs ++ (take d ys ++ b ∷ [])
 part_written a k d b xs ys fits few =

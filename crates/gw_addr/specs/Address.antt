@@ -26,7 +26,7 @@ address_in octets = record { ip = take 4 octets; udp = from_be_bytes w16 (take 2
 abbrev pub address_of : List ℕ → Result BipAddr OctetsFault
 address_of octets = if length octets == 6 then Ok (address_in octets) else Err Length
 
--- the address that is read next, and the octets behind it
+-- the address that is read next, and the octets after it
 abbrev pub address_at : {F : Type 0} → F → List ℕ → Result (BipAddr × List ℕ) F
 address_at short octets =
     if nat_lt (length octets) 6 then Err short else Ok (address_in octets, drop 6 octets)

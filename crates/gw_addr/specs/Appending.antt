@@ -1,11 +1,11 @@
--- What a function that appends to a buffer gives, told of the buffer as it was and as it is.
+-- What a function that appends to a buffer gives, in terms of the buffer as it was and as it is.
 use Rattle.std.specs.Prelude.{◌≡◌, ℕ, ◌+◌, ◌≤◌, List, ◌++◌, length, Result, IsOk, OnOk, OnErr, vec_items, vec_len}
 use Rattle.std.specs.Prelude.{vec_capacity}
 use Rattle.std.specs.Global.{Vec}
 use Rattle.gw_addr.specs.Reading.{Keeps}
 
--- Behind what the buffer held stands the text, whole. After an Err, too, what it held still stands
--- in front. There is an Err only where the text would have passed the buffer's capacity, and none
+-- The whole text follows what the buffer held. After an Err, too, what it held is still
+-- in front. There is an Err only if the text would have passed the buffer's capacity, and none
 -- of this capacity is given back.
 pub record IsAppended {T F : Type 0} (text : List ℕ) (old new : Vec ℕ) (result : Result T F) : Type 0 where
   pub ok : OnOk result (vec_items new ≡ vec_items old ++ text)

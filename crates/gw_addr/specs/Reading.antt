@@ -42,6 +42,6 @@ pub record Takes (octets text rest : List ℕ) : Type 0 where
   pub parts : octets ≡ text ++ rest
   pub rest_octets : AreOctets rest
 
--- What stood in a buffer still stands at its front.
+-- What a buffer held is still at its front.
 abbrev pub Keeps : List ℕ → List ℕ → Type 0
 Keeps old new = take (length old) new ≡ old

@@ -17,7 +17,7 @@ is_station octets = nat_le 1 (length octets) && nat_le (length octets) 255
 abbrev pub station_of : List ℕ → Option (List ℕ)
 station_of octets = if is_station octets then Some octets else None
 
--- the number of six octets, where there are six
+-- the number of six octets, if there are six
 abbrev pub key_of : List ℕ → Option ℕ
 key_of octets = if length octets == 6 then Some (big_endian octets) else None
 

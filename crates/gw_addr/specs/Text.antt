@@ -2,7 +2,7 @@
 use Rattle.std.specs.Prelude.{◌≢◌, ℕ, ◌<◌, List, ◌∷◌, ◌++◌, length, slice_index}
 use Rattle.std.specs.Fmt.{decimal}
 
--- the character stands nowhere in the text
+-- the character is nowhere in the text
 abbrev pub Lacks : ℕ → List ℕ → Type 0
 Lacks c text = (i : ℕ) → i < length text → slice_index text i ≢ c
 

@@ -31,7 +31,7 @@ pub struct BipAddr {
     pub udp: u16,
 }
 
-/// Reads an address from its six octets (Annex J.1.2). `Length` where there are not six.
+/// Reads an address from its six octets (Annex J.1.2). `Length` if there are not six.
 pub fn bip_from_slice(octets: &[u8]) -> Result<BipAddr, OctetsFault>
     ensures found { IfOk result (λ a. octets.now ≡ octets_of a) }
     ensures only { (a : BipAddr) → IsAddress a → octets.now ≡ octets_of a → result ≡ Ok a }
@@ -87,7 +87,7 @@ impl BipAddr {
     }
 
     /// Reads an address as it is written, `a.b.c.d:port`, in decimal digits without leading zeros.
-    /// `Text` where the text is anything else.
+    /// `Text` if the text is anything else.
     pub fn parse(text: &str) -> Result<BipAddr, TextFault>
         ensures found { IfOk result (λ a. text.now ≡ text_of a) }
         ensures only { (a : BipAddr) → IsAddress a → text.now ≡ text_of a → result ≡ Ok a }
@@ -96,7 +96,7 @@ impl BipAddr {
     }
 
     /// Reads an address from the octets of the text that it is written as, as [`BipAddr::parse`]
-    /// does. `Text` where they are anything else.
+    /// does. `Text` if they are anything else.
     #[inline(always)]
     pub fn parse_octets(text: &[u8]) -> Result<BipAddr, TextFault>
         ensures found { IfOk result (λ a. text.now ≡ text_of a) }
@@ -105,8 +105,8 @@ impl BipAddr {
         address_written(text).ok_or(TextFault::Text)
     }
 
-    /// Appends the address as it is written, `a.b.c.d:port`. An `Err` only where the buffer had no
-    /// room for it; then a front of it may stand there.
+    /// Appends the address as it is written, `a.b.c.d:port`. An `Err` only if the buffer had no
+    /// room for it; then the buffer may hold a front of it.
     #[inline(always)]
     pub fn put_text(self, out: &mut Vec<u8>) -> Result<(), AllocError>
         ensures { IsAppended (text_of self) out.old out.new result }

@@ -17,7 +17,7 @@ use std::alloc::AllocError;
 const MAX_DIGITS: usize = 5;
 /// How many digits a number below 256 has at most.
 const MAX_OCTET_DIGITS: usize = 3;
-/// How many octets such a number takes at most with a character behind it.
+/// How many octets such a number takes at most with a character after it.
 const MAX_PART: usize = MAX_OCTET_DIGITS + 1;
 /// How many octets the text of an address takes at most: four such numbers, and a port.
 pub const MAX_TEXT: usize = 4 * MAX_PART + MAX_DIGITS;
@@ -27,7 +27,7 @@ const BACNET_PORT: u16 = 0xBAC0;
 /// Its digits.
 const BACNET_DIGITS: [u8; MAX_DIGITS] = *b"47808";
 
-/// Each number below 256 in decimal, with points behind it that make four octets of it.
+/// Each number below 256 in decimal, with points after it that make four octets of it.
 static OCTETS: [u8; 1024] = *b"\
     0...1...2...3...4...5...6...7...8...9...10..11..12..13..14..15..\
     16..17..18..19..20..21..22..23..24..25..26..27..28..29..30..31..\
@@ -80,7 +80,7 @@ pub fn number_in(text: &[u8]) -> Option<u16>
     u16::try_from(number).ok()
 }
 
-/// The number below 65536 that the text is, as [`number_in`] answers it. The port of BACnet/IP is told
+/// The number below 65536 that the text is, as [`number_in`] answers it. The port of BACnet/IP is read
 /// at once.
 #[inline(always)]
 pub fn port_in(text: &[u8]) -> Option<u16>
@@ -110,14 +110,14 @@ pub fn octet_in(text: &[u8]) -> Option<u8>
     u8::try_from(number_in(text)?).ok()
 }
 
-/// Whether this character stands at that place.
+/// Whether this character is at that place.
 fn stands_at(text: &[u8], place: usize, c: u8) -> bool
     ensures { IsTrue result ↔ ((place < length text.now) × (slice_index text.now place ≡ c)) }
 {
     place < text.len() && text[place] == c
 }
 
-/// The number below 256 before that place, and the text behind it.
+/// The number below 256 before that place, and the text after it.
 #[inline(always)]
 fn octet_to(text: &[u8], place: usize) -> Option<(u8, &[u8])>
     requires { place < length text.now }
@@ -129,7 +129,7 @@ fn octet_to(text: &[u8], place: usize) -> Option<(u8, &[u8])>
     Some((octet, &text[place + 1..]))
 }
 
-/// The number below 256 before the first separator, and the text behind it. It has three digits at
+/// The number below 256 before the first separator, and the text after it. It has three digits at
 /// most, so each place that the separator can have is looked at in turn.
 #[inline(always)]
 pub fn octet_before(text: &[u8], separator: u8) -> Option<(u8, &[u8])>
@@ -174,8 +174,8 @@ fn digit_count(number: u8) -> usize
     }
 }
 
-/// Writes a number in decimal at a place, and a character behind it, and answers the place behind that. Of
-/// the octets behind it some may change.
+/// Writes a number in decimal at a place, and a character after it, and returns the place after that. Some
+/// octets after it may change.
 #[inline(always)]
 fn write_octet(text: &mut [u8; MAX_TEXT], place: usize, number: u8, behind: u8) -> usize
     requires { place + MAX_PART ≤ MAX_TEXT }
@@ -190,8 +190,8 @@ fn write_octet(text: &mut [u8; MAX_TEXT], place: usize, number: u8, behind: u8) 
     end + 1
 }
 
-/// Writes four numbers in decimal, with points between them, and a character behind them, and answers the
-/// place behind that.
+/// Writes four numbers in decimal, with points between them, and a character after them, and returns the
+/// place after that.
 #[inline(always)]
 pub fn write_four(text: &mut [u8; MAX_TEXT], octets: [u8; 4], behind: u8) -> usize
     ensures text { take result text.new ≡ four_text octets ++ behind ∷ [] }
@@ -223,7 +223,7 @@ fn five_digits(number: u16) -> [u8; MAX_DIGITS]
     ]
 }
 
-/// Writes a number in decimal at a place, and answers the place behind it. Those of five digits, as most
+/// Writes a number in decimal at a place, and returns the place after it. Those of five digits, as most
 /// ports have, are written as they are.
 #[inline(always)]
 pub fn write_port(text: &mut [u8; MAX_TEXT], place: usize, number: u16) -> usize
@@ -239,7 +239,7 @@ pub fn write_port(text: &mut [u8; MAX_TEXT], place: usize, number: u16) -> usize
     end
 }
 
-/// Writes a number of fewer digits in decimal at a place, and answers the place behind it.
+/// Writes a number of fewer digits in decimal at a place, and returns the place after it.
 fn write_short_port(text: &mut [u8; MAX_TEXT], place: usize, number: u16) -> usize
     requires { place + MAX_DIGITS ≤ MAX_TEXT }
     ensures text { take result text.new ≡ take place text.old ++ decimal number }

@@ -19,7 +19,7 @@ pub struct Mask {
 
 impl Mask {
     /// Reads a mask as it is written, `a.b.c.d`, in decimal digits without leading zeros. `None`
-    /// where the text is anything else.
+    /// if the text is anything else.
     #[tactic(auto, unfolding(crate::specs::Text::four_text))]
     pub fn parse(text: &str) -> Option<Mask>
         ensures found { IfSome result (λ m. text.now ≡ mask_text m) }
@@ -34,14 +34,14 @@ impl Mask {
         })
     }
 
-    /// Appends the mask as it is written, `a.b.c.d`. An `Err` only where the buffer had no room for
-    /// it; then a front of it may stand there.
+    /// Appends the mask as it is written, `a.b.c.d`. An `Err` only if the buffer had no room for
+    /// it; then the buffer may hold a front of it.
     pub fn put_text(self, out: &mut Vec<u8>) -> Result<(), AllocError>
         ensures { IsAppended (mask_text self) out.old out.new result }
     {
         let mut text = [0; MAX_TEXT];
         let end = write_four(&mut text, self.octets, b'.');
-        // Without the point behind the last number.
+        // Without the point after the last number.
         put_slice(out, &text[..end - 1])
     }
 }

@@ -1,4 +1,4 @@
-//! Network numbers (clause 6.1): 1 to 65534. 0 is no network, and 65535 stands for all of them.
+//! Network numbers (clause 6.1): 1 to 65534. 0 is no network, and 65535 represents all of them.
 
 ghost use Rattle.std.specs.Prelude.{◌≡◌, ◌↔◌, ◌≤◌};
 ghost use Rattle.std.specs.Prelude.{Some, IsTrue};
@@ -57,7 +57,7 @@ impl NetNum {
         self == other
     }
 
-    /// Appends the decimal digits of the number. An `Err` only where the buffer had no room for
+    /// Appends the decimal digits of the number. An `Err` only if the buffer had no room for
     /// them.
     pub fn put_text(self, out: &mut Vec<u8>) -> Result<(), AllocError>
         ensures { IsAppended (decimal self) out.old out.new result }

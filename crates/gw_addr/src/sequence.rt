@@ -5,7 +5,7 @@ ghost use Rattle.std.specs.Prelude.{◌≡◌, ◌==◌, ◌++◌, ◌∷◌, []
 use std::alloc::{AllocError, Global};
 use std::marker::Model;
 
-/// Items in order, which are added behind one another. Contracts see the list of them.
+/// Items in order, which are added one after another. Contracts see the list of them.
 #[derive(Drop)]
 pub struct Sequence<T> {
     items: Vec<T>,
@@ -29,7 +29,7 @@ impl<T> Sequence<T> {
         }
     }
 
-    /// No item. Memory for so many is asked for at once: an `Err` where there is none.
+    /// No item. Memory for so many is asked for at once: an `Err` if there is none.
     pub fn with_capacity(alloc: Global, capacity: usize) -> Result<Self, AllocError>
         ensures { IfOk result (λ sequence. sequence ≡ []) }
     {
@@ -38,7 +38,7 @@ impl<T> Sequence<T> {
         })
     }
 
-    /// Adds an item behind the others. After an `Err` they are as before.
+    /// Adds an item after the others. After an `Err` they are as before.
     pub fn push(&mut self, item: T) -> Result<(), AllocError>
     where
         T: Drop,

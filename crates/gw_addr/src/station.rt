@@ -37,7 +37,7 @@ impl Model for Mac {
 }
 
 impl Mac {
-    /// The station of these octets, or `None` where there are none or more than 255.
+    /// The station of these octets, or `None` if there are none or more than 255.
     pub fn new(octets: &[u8]) -> Option<Mac>
         ensures { result ≡ station_of octets.now }
     {
@@ -71,7 +71,7 @@ impl Mac {
         &self.octets[..usize::from(self.len)]
     }
 
-    /// The octets as one number of 48 bits, the first octet its highest, or `None` where there are
+    /// The octets as one number of 48 bits, the first octet its highest, or `None` if there are
     /// not six.
     pub fn key48(&self) -> Option<u64>
         ensures { result ≡ key_of self.now }
@@ -85,7 +85,7 @@ impl Mac {
     }
 
     /// Appends the octets as they are printed, two upper-case hexadecimal digits for each. An `Err`
-    /// only where the buffer had no room for them; then a front of them may stand there.
+    /// only if the buffer had no room for them; then the buffer may hold a front of them.
     pub fn put_text(&self, out: &mut Vec<u8>) -> Result<(), AllocError>
         ensures { IsAppended (flat_map two_digits self.now) out.old out.new result }
     {
@@ -141,7 +141,7 @@ fn put_digits(out: &mut Vec<u8>, octet: u8) -> Result<(), AllocError>
     put_slice(out, &[high as u8, low as u8])
 }
 
-/// The octets, and zeros behind them.
+/// The octets, and zeros after them.
 fn with_zeros(octets: &[u8]) -> [u8; 255]
     requires { length octets.now ≤ 255 }
     ensures { result ≡ octets.now ++ replicate (255 - length octets.now) 0 }

@@ -1,4 +1,4 @@
-//! Writing behind what a buffer holds. An `Err` only where the buffer had no room and its growth
+//! Writing after what a buffer holds. An `Err` only if the buffer had no room and its growth
 //! was refused.
 
 ghost use Rattle.std.specs.Prelude.{◌≡◌, ◌∷◌, [], ℕ, List, length};
@@ -9,7 +9,7 @@ ghost use Rattle.gw_addr.specs.Appending.{IsAppended, IsAppendedWhole};
 use itoa::{Buffer, Integer};
 use std::alloc::AllocError;
 
-/// Appends an octet. An `Err` only where the buffer had no room for it.
+/// Appends an octet. An `Err` only if the buffer had no room for it.
 pub fn put_octet(out: &mut Vec<u8>, octet: u8) -> Result<(), AllocError>
     ensures { IsAppended (octet ∷ []) out.old out.new result }
 {
@@ -17,39 +17,39 @@ pub fn put_octet(out: &mut Vec<u8>, octet: u8) -> Result<(), AllocError>
     Ok(())
 }
 
-/// Appends a number as two octets, the first octet its highest. An `Err` only where the buffer had
-/// no room for them; then a front of them may stand there.
+/// Appends a number as two octets, the first octet its highest. An `Err` only if the buffer had
+/// no room for them; then the buffer may hold a front of them.
 pub fn put_number(out: &mut Vec<u8>, number: u16) -> Result<(), AllocError>
     ensures { IsAppended (to_be_bytes w16 number) out.old out.new result }
 {
     out.extend_from_slice(&number.to_be_bytes())
 }
 
-/// Appends a number as four octets, the first octet its highest. An `Err` only where the buffer had
-/// no room for them; then a front of them may stand there.
+/// Appends a number as four octets, the first octet its highest. An `Err` only if the buffer had
+/// no room for them; then the buffer may hold a front of them.
 pub fn put_long_number(out: &mut Vec<u8>, number: u32) -> Result<(), AllocError>
     ensures { IsAppended (to_be_bytes w32 number) out.old out.new result }
 {
     out.extend_from_slice(&number.to_be_bytes())
 }
 
-/// Appends octets. An `Err` only where the buffer had no room for them; then a front of them may
-/// stand there.
+/// Appends octets. An `Err` only if the buffer had no room for them; then the buffer may
+/// hold a front of them.
 pub fn put_slice(out: &mut Vec<u8>, octets: &[u8]) -> Result<(), AllocError>
     ensures { IsAppended octets.now out.old out.new result }
 {
     out.extend_from_slice(octets)
 }
 
-/// Appends the decimal digits of a number. An `Err` only where the buffer had no room for them;
-/// then a front of them may stand there.
+/// Appends the decimal digits of a number. An `Err` only if the buffer had no room for them;
+/// then the buffer may hold a front of them.
 pub fn put_decimal<N: Integer>(out: &mut Vec<u8>, number: N) -> Result<(), AllocError>
     ensures { IsAppended (N.text number) out.old out.new result }
 {
     out.extend_from_slice(Buffer::new().format(number).as_bytes())
 }
 
-/// Makes an appending whole: where it failed, the buffer is cut to its first `len` octets, those
+/// Makes an appending whole: if it failed, the buffer is cut to its first `len` octets, those
 /// before it. The answer is that of the appending, its `Err` too.
 pub fn keep_whole(
     out: &mut Vec<u8>,

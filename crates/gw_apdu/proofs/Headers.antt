@@ -1,4 +1,4 @@
--- An APDU is read exactly where the octets are one, and each fault exactly where its own condition holds.
+-- An APDU is read exactly if the octets are one, and each fault exactly if its own condition holds.
 use Rattle.std.proofs.Common.{◌≡◌, ◌↔◌, ℕ, zero, suc, ◌/◌, ◌≤◌, ◌++◌, Bool, true, false, List, [], ◌∷◌, Option, Some, None, Result, Ok, Err, refl, sym, ap, subst, ◌∙◌, inl, inr, ◌⊎◌, arith}
 use Rattle.gw_addr.specs.Reading.{◌>>=◌, octet_at}
 use Rattle.gw_addr.proofs.Reading.{bind_ok, bind_err, ok_is, either}
@@ -186,7 +186,7 @@ header_again first sizes (Error invoke service) rest flags sized = refl
 header_again first sizes (Reject invoke reason) rest flags sized = refl
 header_again first sizes (Abort invoke reason) rest flags sized = refl
 
--- behind the first octet there is one fault
+-- after the first octet there is one fault
 after_segment : (b more : Bool) (octets : List ℕ) (make : Option Segment → ℕ → Header) (fault : ApduFault) → (segment_at b more octets >>= λ segment. service_of (make segment.0) segment.1) ≡ Err fault → fault ≡ Short
 after_segment b more octets make fault e =
     elim (bind_err (segment_at b more octets) (λ segment. service_of (make segment.0) segment.1) fault e) [

@@ -14,7 +14,7 @@ simple_ack invoke service = 0x20 ∷ invoke ∷ service ∷ []
 abbrev pub complex_ack : ℕ → ℕ → List ℕ
 complex_ack invoke service = 0x30 ∷ invoke ∷ service ∷ []
 
--- an error's class and code (clause 21), one behind the other
+-- an error's class and code (clause 21), one after the other
 abbrev pub class_and_code : ServiceError → List ℕ
 class_and_code why = value_encoding (enumerated why.class) ++ value_encoding (enumerated why.code)
 
@@ -30,7 +30,7 @@ abort invoke reason = 0x71 ∷ invoke ∷ reason ∷ []
 
 -- ---- what holds of them
 
--- the octets are read as this header and these octets behind it
+-- the octets are read as this header and these octets after it
 abbrev pub ReadAs : List ℕ → Header → List ℕ → Type 0
 ReadAs octets header rest = apdu_at octets ≡ Ok (record { header = header; rest = rest })
 

@@ -11,7 +11,7 @@ use Rattle.gw_apdu.specs.declared.pdu_type.PduType.{PduType}
 use Rattle.gw_apdu.specs.declared.pdu_type.PduType.TheVariants as types
 use Rattle.gw_apdu.specs.Numbers.{segmented_bit, more_bit, accepted_bit}
 
--- an APDU: its header, and the octets behind it
+-- an APDU: its header, and the octets after it
 pub record Fields : Type 0 where
   pub header : Header
   pub rest : List ℕ
@@ -51,7 +51,7 @@ abbrev pub segment_part : Option Segment → List ℕ
 segment_part None = []
 segment_part (Some segment) = segment.sequence ∷ segment.window ∷ []
 
--- What stands behind the first octet, one line for each type (20.1.2 to 20.1.9). Of a confirmed
+-- What follows the first octet, one line for each type (20.1.2 to 20.1.9). Of a confirmed
 -- request the next octet says what the client takes.
 abbrev pub fixed_part : ℕ → Header → List ℕ
 fixed_part sizes (ConfirmedRequest request) =
@@ -89,7 +89,7 @@ HasSizes sizes (ConfirmedRequest request) =
     (sizes / 16 % 8 ≡ request.max_segments) × (sizes % 16 ≡ request.max_apdu)
 HasSizes sizes _ = Unit {0}
 
--- The octets are an APDU with this header and these octets behind it. What the header doesn't name
+-- The octets are an APDU with this header and these octets after it. What the header doesn't name
 -- of its first two octets is ignored.
 pub record IsApdu (octets : List ℕ) (f : Fields) : Type 0 where
   pub first : ℕ

@@ -30,7 +30,7 @@ type_of_number number = ok_or (slice_get all_types number) faults.Kind
 abbrev pub type_at : ℕ → Result PduType ApduFault
 type_at first = type_of_number (first / 16)
 
--- the number of a segment and the window, where they follow
+-- the number of a segment and the window, if they follow
 abbrev pub segment_at : Bool → Bool → List ℕ → Result (Option Segment × List ℕ) ApduFault
 segment_at false more octets = Ok (None, octets)
 segment_at true more octets = do
@@ -38,7 +38,7 @@ segment_at true more octets = do
   window ← octet_at faults.Short sequence.1
   Ok (Some (record { more_follows = more; sequence = sequence.0; window = window.0 }), window.1)
 
--- the segment that the first octet tells of
+-- the segment that the first octet announces
 abbrev pub told_segment_at : ℕ → List ℕ → Result (Option Segment × List ℕ) ApduFault
 told_segment_at first octets =
     segment_at (is_set first segmented_bit) (is_set first more_bit) octets
@@ -76,7 +76,7 @@ pair_at make octets = do
   other ← octet_at faults.Short invoke.1
   Ok (make invoke.0 other.0, other.1)
 
--- the header of a type behind its first octet
+-- the header of a type after its first octet
 abbrev pub header_at : PduType → ℕ → List ℕ → Result (Header × List ℕ) ApduFault
 header_at types.ConfirmedRequest first octets = confirmed_at first octets
 header_at types.UnconfirmedRequest first octets = do

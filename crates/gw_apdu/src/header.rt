@@ -18,20 +18,20 @@ pub struct Segment {
 /// ```text
 ///   7   6   5   4   3   2   1   0
 /// +---+---+---+---+---+---+---+---+
-/// |       0       |SEG|MOR|SA | - |    MOR only where SEG is set
+/// |       0       |SEG|MOR|SA | - |    MOR only if SEG is set
 /// +---+---+---+---+---+---+---+---+
 /// | - |   max segs |   max APDU   |
 /// +---+---+---+---+---+---+---+---+
 /// |           invoke id           |
 /// +---+---+---+---+---+---+---+---+
-/// | sequence number, then window  |    two octets, only where SEG is set
+/// | sequence number, then window  |    two octets, only if SEG is set
 /// +---+---+---+---+---+---+---+---+
 /// |        service choice         |
 /// +---+---+---+---+---+---+---+---+
 /// ```
 #[derive(Clone, Copy, Debug)]
 pub struct ConfirmedRequest {
-    /// Which part of a segmented request this is. `None` where the request is whole.
+    /// Which part of a segmented request this is. `None` if the request is whole.
     pub segment: Option<Segment>,
     /// Whether the client takes a segmented response.
     pub accepts_segments: bool,
@@ -85,7 +85,7 @@ pub enum Header {
     },
     /// Done, and this is what was asked for (clause 20.1.5).
     ComplexAck {
-        /// Which part of a segmented response this is. `None` where it is whole.
+        /// Which part of a segmented response this is. `None` if it is whole.
         segment: Option<Segment>,
         /// The invoke id of the request.
         invoke: u8,
@@ -158,11 +158,11 @@ impl Header {
     }
 }
 
-/// An APDU: its header, and the octets behind it, lent.
+/// An APDU: its header, and the octets after it, lent.
 #[derive(Clone, Copy, Debug)]
 pub struct Apdu<'a> {
     /// The header.
     pub header: Header,
-    /// The octets behind the header: the body of a request, of an answer or of an error.
+    /// The octets after the header: the body of a request, of an answer or of an error.
     pub rest: &'a [u8],
 }

@@ -44,7 +44,7 @@ impl PduType {
         }
     }
 
-    /// The type of an APDU with this first octet. `Kind` where it is from 8 to 15.
+    /// The type of an APDU with this first octet. `Kind` if it is from 8 to 15.
     pub(crate) fn of_first(first: u8) -> Result<PduType, ApduFault>
         ensures { result ≡ type_at first }
     {

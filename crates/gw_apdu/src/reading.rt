@@ -1,4 +1,4 @@
-//! Reading an APDU: its header, of one of eight types, and the octets behind it.
+//! Reading an APDU: its header, of one of eight types, and the octets after it.
 
 ghost use Rattle.std.specs.Prelude.{◌≡◌, ◌↔◌, List, ℕ, Some, None, IfOk, IsOkAnd, IsErrOf};
 ghost use Rattle.gw_addr.specs.Reading.{Gives};
@@ -18,7 +18,7 @@ const MORE_FOLLOWS: u8 = 0x04;
 /// Bit 1: the client takes a segmented response.
 const ACCEPTS_SEGMENTS: u8 = 0x02;
 
-/// A header, and the octets behind it.
+/// A header, and the octets after it.
 type Found<'a> = Result<(Header, &'a [u8]), ApduFault>;
 
 /// Whether this bit of the octet is set.
@@ -28,7 +28,7 @@ fn is_set(octet: u8, worth: u8) -> bool
     octet & worth == worth
 }
 
-/// The number of a segment and the window, where the first octet says that they follow.
+/// The number of a segment and the window, if the first octet says that they follow.
 fn segment(first: u8, octets: &[u8]) -> Result<(Option<Segment>, &[u8]), ApduFault>
     ensures { Gives (λ x. (x.0, x.1.now)) result
         (segment_at (is_set first segmented_bit) (is_set first more_bit) octets.now) }
@@ -78,7 +78,7 @@ fn complex_ack(first: u8, octets: &[u8]) -> Found<'_>
     Ok((header, rest))
 }
 
-/// The header of a type behind its first octet.
+/// The header of a type after its first octet.
 fn header(pdu_type: PduType, first: u8, octets: &[u8]) -> Found<'_>
     ensures { Gives (λ x. (x.0, x.1.now)) result (header_at pdu_type first octets.now) }
 {
@@ -133,7 +133,7 @@ fn whole(octets: &[u8]) -> Result<Apdu<'_>, ApduFault>
     Ok(Apdu { header, rest })
 }
 
-/// Reads the octets as one APDU (ISO 16484-5, clause 20.1): its header, and the octets behind it,
+/// Reads the octets as one APDU (ISO 16484-5, clause 20.1): its header, and the octets after it,
 /// which are lent. Bits of the first two octets that the header has no name for are ignored.
 ///
 /// # Errors
@@ -160,7 +160,7 @@ fn code(octets: &[u8]) -> Option<u16>
     Some(apdu.header.service_code())
 }
 
-/// The number by which rules name what an APDU asks for ([`Header::service_code`]). `None` where
+/// The number by which rules name what an APDU asks for ([`Header::service_code`]). `None` if
 /// the octets are no APDU.
 pub fn service_code(octets: &[u8]) -> Option<u16>
     ensures some { (f : Fields) → IsApdu octets.now f → result ≡ Some (code_of f.header) }

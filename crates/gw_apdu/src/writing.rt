@@ -22,7 +22,7 @@ pub struct ServiceError {
 ///
 /// # Errors
 ///
-/// 1 Memory, only where the buffer had no room.
+/// 1 Memory, only if the buffer had no room.
 pub fn write_simple(out: &mut Vec<u8>, invoke: u8, service: u8) -> Result<(), AllocError>
     ensures { IsAppendedWhole (simple_ack invoke service) out.old out.new result }
 {
@@ -34,7 +34,7 @@ pub fn write_simple(out: &mut Vec<u8>, invoke: u8, service: u8) -> Result<(), Al
 ///
 /// # Errors
 ///
-/// 1 Memory, only where the buffer had no room.
+/// 1 Memory, only if the buffer had no room.
 pub fn write_complex(out: &mut Vec<u8>, invoke: u8, service: u8) -> Result<(), AllocError>
     ensures { IsAppendedWhole (complex_ack invoke service) out.old out.new result }
 {
@@ -45,7 +45,7 @@ pub fn write_complex(out: &mut Vec<u8>, invoke: u8, service: u8) -> Result<(), A
 ///
 /// # Errors
 ///
-/// 1 Memory, only where the buffer had no room.
+/// 1 Memory, only if the buffer had no room.
 pub fn write_reject(out: &mut Vec<u8>, invoke: u8, reason: RejectReason) -> Result<(), AllocError>
     ensures { IsAppendedWhole (reject invoke reason.0) out.old out.new result }
 {
@@ -57,15 +57,15 @@ pub fn write_reject(out: &mut Vec<u8>, invoke: u8, reason: RejectReason) -> Resu
 ///
 /// # Errors
 ///
-/// 1 Memory, only where the buffer had no room.
+/// 1 Memory, only if the buffer had no room.
 pub fn write_abort(out: &mut Vec<u8>, invoke: u8, reason: AbortReason) -> Result<(), AllocError>
     ensures { IsAppendedWhole (abort invoke reason.0) out.old out.new result }
 {
     out.extend_from_slice(&[0x71, invoke, reason.0])
 }
 
-/// Appends an error's class and code, one behind the other (clause 21, Error). After an `Err` a
-/// front of them may stand there.
+/// Appends an error's class and code, one after the other (clause 21, Error). After an `Err` the
+/// buffer may hold a front of them.
 pub fn put_class_and_code(out: &mut Vec<u8>, why: ServiceError) -> Result<(), AllocError>
     ensures { IsAppended (class_and_code why) out.old out.new result }
 {
@@ -73,7 +73,7 @@ pub fn put_class_and_code(out: &mut Vec<u8>, why: ServiceError) -> Result<(), Al
     write_value(out, AppValue::Enumerated(u32::from(why.code)))
 }
 
-/// Appends an Error. After an `Err` a front of it may stand there.
+/// Appends an Error. After an `Err` the buffer may hold a front of it.
 fn put_error(
     out: &mut Vec<u8>,
     invoke: u8,
@@ -90,7 +90,7 @@ fn put_error(
 ///
 /// # Errors
 ///
-/// 1 Memory, only where the buffer had no room.
+/// 1 Memory, only if the buffer had no room.
 pub fn write_error(
     out: &mut Vec<u8>,
     invoke: u8,

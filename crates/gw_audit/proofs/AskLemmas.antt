@@ -1,4 +1,4 @@
--- Lines: what is read of one stands there, and what stands there is read.
+-- Lines: what is read of one is there, and what is there is read.
 use Rattle.std.proofs.Common.{◌≡◌, ◌≢◌, ◌⊎◌, inl, inr, ℕ, suc, ◌^◌, ◌<◌, Bool, true, false, List, [], ◌∷◌, ◌++◌, length, take, drop, get_or, Option, Some, None, refl, sym, ap, ap₂, subst, ◌∙◌, append-nil, arith}
 use Rattle.std.specs.Prelude.{◌==◌, nat_lt, if◌then◌else◌, codes, is_some, position, nat_eq}
 use Rattle.std.specs.Option.{option_map, option_map_or}
@@ -300,7 +300,7 @@ target_again t rest is =
 
 -- ---- the last word of an ask
 
--- what stands behind a word: nothing, or a space
+-- what follows a word: nothing, or a space
 abbrev pub EndsWord : List ℕ → Type 0
 EndsWord rest = (rest ≡ []) ⊎ ((others : List ℕ) × (rest ≡ 32 ∷ others))
 

@@ -29,7 +29,7 @@ use Rattle.gw_audit.proofs.ReadingLemmas.{other_character}
 use Rattle.gw_audit.proofs.KeyLemmas.{key_lacks, key_same, station_lacks, station_same}
 use Rattle.gw_audit.proofs.Fields.{colon, comma, digits_lack, digits_same, feed, field_lacks, field_same, has_none, lacks_by_test, lacks_in_none, of_number, operation_feedless, operation_same, operation_spaceless, space, IsSmall}
 
--- ---- what stands from each field on
+-- ---- the rest of a line from each field on
 
 rule_on : Denial → List ℕ
 rule_on d = codes "rule=" ++ (d.rule ++ (stations_text (stations_of d.ask) ++ 10 ∷ []))
@@ -70,7 +70,7 @@ tick_on d = decimal d.tick ++ 32 ∷ port_on d
 number_on : Denial → List ℕ
 number_on d = decimal d.number ++ 32 ∷ tick_on d
 
--- a label and a field behind a front
+-- a label and a field after a front
 pub step : (front label field rest : List ℕ) → front ++ label ++ field ++ rest ≡ front ++ (label ++ (field ++ rest))
 step front label field rest =
     append_assoc (front ++ label) field rest ∙ append_assoc front label (field ++ rest)
@@ -114,7 +114,7 @@ no_space e = absurd (omega arith)
 no_comma : ◌≢◌ {A = ℕ} 45 44
 no_comma e = absurd (omega arith)
 
--- what the parts of a line from the operation on tell
+-- what the parts of a line from the operation on show
 record AskedAlike (a b : Denial) : Type 0 where
   operation : a.ask.operation ≡ b.ask.operation
   destination_network : a.ask.destination_network ≡ b.ask.destination_network

@@ -58,7 +58,7 @@ written_text = refl
 same_inside : {A : Type 0} (x y : A) → Some x ≡ Some y → x ≡ y
 same_inside x y e = cc
 
--- a moment that the text tells has that text
+-- a moment that the text gives has that text
 pub morning_is_told : (m : Moment) → IsTextOf morning_text m → moment_text m ≡ morning_text
 unfolding morning morning_written
 morning_is_told m is =

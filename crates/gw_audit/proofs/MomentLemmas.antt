@@ -62,7 +62,7 @@ one_later start ticks (Some a) None of_a none = absurd (none a of_a)
 one_later start ticks None (Some b) none of_b = absurd (none b of_b)
 one_later start ticks None None none other = refl
 
--- one moment is told for a tick
+-- a tick has one moment
 pub one_front : (start : Option Moment) (tick : ℕ) (a b : Option Moment) → IsMomentOf start tick a → IsMomentOf start tick b
     → front_text a ≡ front_text b
 one_front None tick a b of_a of_b = ap front_text (of_a ∙ sym of_b)
@@ -90,7 +90,7 @@ is_date date d year month day of_year of_month of_day since e =
       omega (arith, signed_arith, d.day_in),
     )
 
--- a text whose time of day no clock shows tells no moment
+-- a text whose time of day no clock shows gives no moment
 pub no_clock : (text : List ℕ) (read : Datetime) (time : Time) → parse_datetime text ≡ Some read → read.time ≡ Some time → IsClock time None
     → (m : Moment) → ¬ (IsTextOf text m)
 no_clock text read time is has none m told =
@@ -98,7 +98,7 @@ no_clock text read time is has none m told =
     let clock : Some time ≡ Some (time_with m.local.time told.fraction) = sym has ∙ ap (λ (d : Datetime). d.time) written in
     none m.local.time told.fraction told.nanosecond cc
 
--- what is told of a line that shows a denial: the moment of its tick, and its words
+-- the text for a line that shows a denial: the moment of its tick, and its words
 pub tells_shown : {T F : Type 0} (r : Result T F) (start : Option Moment) (line : List ℕ) (shown : Shown) (at : Option Moment) (a b text : List ℕ)
     → IsLineOf line (denial_of shown) → IsShowable (denial_of shown) → IsMomentOf start shown.tick at → a ≡ [] → b ≡ a ++ front_text at
     → OnOk r (text ≡ b ++ (words_of shown.ask shown.rule.now ++ 10 ∷ [])) → OnOk r (IsToldAs start line text)

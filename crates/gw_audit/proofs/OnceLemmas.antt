@@ -1,4 +1,4 @@
--- A line has one telling.
+-- A line has one text.
 use Rattle.std.proofs.Common.{◌≡◌, inl, inr, ℕ, List, [], ◌∷◌, ◌++◌, Option, sym, ap, subst, ◌∙◌}
 use Rattle.gw_audit.specs.Entry.{IsLineOf, IsShowable, shown_ask}
 use Rattle.gw_audit.specs.Laws.{AreShownAlike}
@@ -23,13 +23,13 @@ same_words a b line shown_a shown_b of_a of_b =
     let same = names_one_denial a b shown_a.numbers shown_b.numbers (sym of_a ∙ of_b) in
     ap (λ ask. words_of ask a.rule) (same_ask a b same) ∙ ap (words_of (shown_ask b)) same.rule
 
--- one moment is told for a tick
+-- a tick has one moment
 same_front : (start : Option Moment) (tick other : ℕ) (a b : Option Moment) → tick ≡ other → IsMomentOf start tick a → IsMomentOf start other b
     → front_text a ≡ front_text b
 same_front start tick other a b same of_a of_b =
     one_front start other a b (subst (λ (t : ℕ). IsMomentOf start t a) same of_a) of_b
 
--- so two tellings of denials that are shown alike are the same
+-- so two texts for denials that are shown alike are the same
 same_telling : (start : Option Moment) (a b : Denial) (line x y : List ℕ) → IsShowable a → IsShowable b → IsLineOf line a → IsLineOf line b
     → IsTelling start a x → IsTelling start b y → x ≡ y
 same_telling start a b line x y shown_a shown_b of_a of_b told_x told_y =
@@ -39,7 +39,7 @@ same_telling start a b line x y shown_a shown_b of_a of_b told_x told_y =
     told_x.told ∙ ap (λ (t : List ℕ). t ++ words a ++ 10 ∷ []) front
     ∙ ap (λ (t : List ℕ). front_text told_y.at ++ t ++ 10 ∷ []) spelled ∙ sym told_y.told
 
--- a telling of a denial is one of each that is shown alike
+-- a text for a denial is one for each that is shown alike
 alike : (start : Option Moment) (a b : Denial) (line text : List ℕ) → IsShowable a → IsShowable b → IsLineOf line a → IsLineOf line b
     → IsTelling start a text → IsTelling start b text
 alike start a b line text shown_a shown_b of_a of_b told =

@@ -26,14 +26,14 @@ operation_found found number by =
     (λ o e. (number_found (operation_of number) number refl o).1 ((by o).0 e))
     (λ o e. (by o).1 ((number_found (operation_of number) number refl o).0 e))
 
--- ---- pieces behind one another
+-- ---- pieces after one another
 
 -- pieces appended one by one
 append_all : List ℕ → List (List ℕ) → List ℕ
 append_all front [] = front
 append_all front (piece ∷ pieces) = append_all (front ++ piece) pieces
 
--- what stands in front of them can as well be put there at the end
+-- what is in front of them can as well be put there at the end
 all_behind : (front first : List ℕ) (pieces : List (List ℕ)) → append_all (front ++ first) pieces ≡ front ++ append_all first pieces
 unfolding append_all
 all_behind front first [] = refl

@@ -1,4 +1,4 @@
--- Words: what is read of one stands there, and what stands there is read.
+-- Words: what is read of one is there, and what is there is read.
 use Rattle.std.proofs.Common.{◌≡◌, ◌≢◌, ℕ, suc, ◌+◌, ◌^◌, ◌<◌, Bool, true, false, ◌&&◌, List, [], ◌∷◌, ◌++◌, length, take, drop, get_or, Option, Some, None, Result, Ok, nat_eq, refl, sym, ap, ap₂, subst, ◌∙◌, append_assoc, arith}
 use Rattle.std.specs.Prelude.{◌==◌, nat_lt, is_some, if◌then◌else◌, position}
 use Rattle.std.specs.Cmp.Lexicographic.{pointwise, same_text}
@@ -237,7 +237,7 @@ other_character x c other = by (x == c) refl
     by true e = absurd (other (eqb-true x c e))
     by false e = e
 
--- the first such character stands where the text before it lacks it
+-- the first such character is where the text before it lacks it
 pub first_place : (c : ℕ) (word rest : List ℕ) → Lacks c word → position_or_len (λ x. x == c) (word ++ c ∷ rest) ≡ length word
 first_place c [] rest lacks = rw (eq-eqb c c refl) refl
 first_place c (x ∷ word) rest lacks =

@@ -1,4 +1,4 @@
--- The line of a denial, and what it tells.
+-- The line of a denial, and what it shows.
 use Rattle.std.proofs.Common.{◌≡◌, inl, inr, ℕ, suc, ◌^◌, ◌<◌, Bool, true, false, List, [], ◌∷◌, ◌++◌, length, Option, Some, None, refl, sym, ap, ap₂, subst, ◌∙◌, arith}
 use Rattle.std.specs.Prelude.{◌==◌, if◌then◌else◌, codes, is_some, IfSome}
 use Rattle.std.specs.Fmt.{decimal}

@@ -1,4 +1,4 @@
--- What a line shows of a denial, and the ask that it tells.
+-- What a line shows of a denial, and the ask that it shows.
 use Rattle.std.specs.Prelude.{◌≡◌, ◌⊎◌, ℕ, ◌^◌, ◌<◌, true, is_some, List, [], ◌∷◌, ◌++◌, Some, IfSome, codes}
 use Rattle.std.specs.Fmt.{decimal}
 use Rattle.std.specs.List.{flat_map}
@@ -115,6 +115,6 @@ pub record IsAskInWords (line : List ℕ) (s : ShownAsk) : Type 0 where
   pub numbers : IsShownAsk s
   pub spelled : line ≡ ask_text s
 
--- a line that tells an ask: that of a denial, or its words alone
+-- a line that shows an ask: that of a denial, or its words alone
 abbrev pub TellsAsk : List ℕ → ShownAsk → Type 0
 TellsAsk line s = IsLineOfAsk line s ⊎ IsAskInWords line s

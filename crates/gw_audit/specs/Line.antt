@@ -14,7 +14,7 @@ use Rattle.gw_rules.specs.Operation.{operation_name, operation_number}
 use Rattle.gw_audit.specs.declared.denial.Denial.{Denial}
 use Rattle.gw_audit.specs.declared.entry.Stations.{Stations}
 
--- what stands for a field that the ask doesn't have
+-- what a line has for a field that the ask lacks
 abbrev pub absent : List ℕ
 absent = codes "-"
 

@@ -1,4 +1,4 @@
--- Moments by a clock: what a text tells, what comes so many ticks later, and the text of it.
+-- Moments by a clock: what a text gives, what comes so many ticks later, and the text of it.
 use Rattle.std.specs.Prelude.{◌≡◌, ℕ, ◌*◌, ◌==◌, if◌then◌else◌, pos, ◌+ℤ◌, unsigned_abs, List, [], ◌++◌, codes}
 use Rattle.std.specs.Prelude.{Option, Some, None}
 use Rattle.std.specs.Option.{option_map_or}
@@ -45,13 +45,13 @@ moment_text m = datetime_text (written m)
 abbrev pub nanosecond_of : Option ℕ → ℕ
 nanosecond_of fraction = option_map_or (λ n. n) fraction 0
 
--- the text tells the moment: its date, its time with the second, and its offset
+-- the text gives the moment: its date, its time with the second, and its offset
 pub record IsTextOf (text : List ℕ) (m : Moment) : Type 0 where
   pub fraction : Option ℕ
   pub nanosecond : nanosecond_of fraction ≡ m.local.time.subsec_nanosecond
   pub read : parse_datetime text ≡ Some (written_with m fraction)
 
--- what is read of a text: the moment that it tells, and none where it tells none
+-- what is read of a text: the moment that it gives, and none if it gives none
 abbrev pub IsRead : List ℕ → Option Moment → Type 0
 IsRead text (Some m) = IsTextOf text m
 IsRead text None = (m : Moment) → ¬ (IsTextOf text m)
@@ -73,6 +73,6 @@ abbrev pub IsMomentOf : Option Moment → ℕ → Option Moment → Type 0
 IsMomentOf None tick at = at ≡ None
 IsMomentOf (Some start) tick at = ComesLater start tick at
 
--- what stands in front of the words: the moment and a space, where there is one
+-- what comes before the words: the moment and a space, if there is one
 abbrev pub front_text : Option Moment → List ℕ
 front_text at = option_map_or (λ m. moment_text m ++ codes " ") at []

@@ -1,4 +1,4 @@
--- What becomes of a log whose lines are told in words.
+-- What becomes of a log whose lines are written in words.
 use Rattle.std.specs.Prelude.{◌≡◌, ◌⊎◌, ℕ, List, [], ◌∷◌, ◌++◌, Option, None, Result}
 use Rattle.gw_audit.specs.Entry.{IsLineOf, IsShowable}
 use Rattle.gw_audit.specs.declared.denial.Denial.{Denial}
@@ -10,13 +10,13 @@ use Rattle.gw_script.specs.declared.lines.LinesFault.{LinesFault}
 
 -- ---- a line
 
--- the words of a denial, behind the moment of its tick where the log began at a moment that is known
+-- the words of a denial, after the moment of its tick if the log began at a moment that is known
 pub record IsTelling (start : Option Moment) (d : Denial) (text : List ℕ) : Type 0 where
   pub at : Option Moment
   pub moment : IsMomentOf start d.tick at
   pub told : text ≡ front_text at ++ words d ++ 10 ∷ []
 
--- a line that a denial has, told by its words
+-- a line that a denial has, written in its words
 pub record IsInWords (start : Option Moment) (line text : List ℕ) : Type 0 where
   pub denial : Denial
   pub showable : IsShowable denial
@@ -28,15 +28,15 @@ pub record IsPassedOn (line text : List ℕ) : Type 0 where
   pub is_none : (d : Denial) → IsShowable d → ¬ (IsLineOf line d)
   pub same : text ≡ line ++ 10 ∷ []
 
--- what becomes of a line, with a line feed behind it
+-- what becomes of a line, with a line feed after it
 abbrev pub IsToldAs : Option Moment → List ℕ → List ℕ → Type 0
 IsToldAs start line text = IsInWords start line text ⊎ IsPassedOn line text
 
--- a line has one telling
+-- a line has one text
 abbrev pub TellsOnce : Type 0
 TellsOnce = (start : Option Moment) (line a b : List ℕ) → IsToldAs start line a → IsToldAs start line b → a ≡ b
 
--- and that of a denial's line are the words of the denial, behind the moment of its tick
+-- and that for a denial's line is the words of the denial, after the moment of its tick
 abbrev pub TellsEach : Type 0
 TellsEach =
     (start : Option Moment) (d : Denial) (line text : List ℕ) → IsShowable d → IsLineOf line d
@@ -52,6 +52,6 @@ TellsWords = (d : Denial) (text : List ℕ) → IsTelling None d text → text �
 abbrev pub RefusesNone : List ℕ → Type 0
 RefusesNone line = ⊥
 
--- what the telling leaves written, by its outcome; only a line of more than 4096 octets ends it
+-- what the writing leaves, by its outcome; only a line of more than 4096 octets ends it
 abbrev pub LeavesTold : Option Moment → Result (Unit {0}) LinesFault → (log before after : List ℕ) → Type 0
 LeavesTold start = LeavesLines (IsToldAs start) RefusesNone

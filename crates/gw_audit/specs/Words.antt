@@ -1,4 +1,4 @@
--- The words that tell what a line of the log shows. They are this project's own, the names in them the standard's.
+-- The words that say what a line of the log shows. They are this project's own, the names in them the standard's.
 use Rattle.std.specs.Prelude.{ℕ, ◌==◌, Bool, false, nat_lt, is_some, if◌then◌else◌, List, [], ◌++◌, length, drop, codes}
 use Rattle.std.specs.Prelude.{Option, None}
 use Rattle.std.specs.Fmt.{decimal}
@@ -71,7 +71,7 @@ by_text service = codes " by " ++ service_text service
 abbrev pub by_other_text : ℕ → Option ℕ → List ℕ
 by_other_text own service = if is_one own service then [] else by_text service
 
--- a network behind a word, where there is one: 65535 is each
+-- a network after a word, if there is one: 65535 is each
 abbrev pub network_name : ℕ → List ℕ
 network_name n = if n == 65535 then codes "every network" else codes "network " ++ decimal n
 
@@ -160,6 +160,6 @@ deed_text ask =
 abbrev pub words_of : ShownAsk → List ℕ → List ℕ
 words_of ask rule = asker_text ask ++ codes " " ++ deed_text ask ++ codes ": denied by " ++ rule
 
--- the words that tell a denial
+-- the words of a denial
 abbrev pub words : Denial → List ℕ
 words d = words_of (shown_ask d) d.rule

@@ -21,8 +21,8 @@ pub fn lines()
     ensures short { StaysShort }
 {}
 
-/// Nothing is lost, and nothing is made up: a line has one telling; and what a denial's line is told as
-/// are the words of that denial, behind the moment of its tick where it is known when the log began.
+/// Nothing is lost, and nothing is made up: a line has one text; and the text for a denial's line
+/// is the words of that denial, after the moment of its tick if it is known when the log began.
 pub fn telling()
     ensures once { TellsOnce }
     ensures each { TellsEach }

@@ -1,4 +1,4 @@
-//! A moment by a clock, as RFC 3339 writes it: what the ticks of a log are told as.
+//! A moment by a clock, as RFC 3339 writes it: what the ticks of a log are written as.
 
 ghost use Rattle.std.specs.Prelude.{◌≡◌, ◌*◌, pos, ◌≤ℤ◌};
 
@@ -23,9 +23,9 @@ pub struct Moment {
 impl Moment {
     ghost use Rattle.gw_audit.specs.Moment.{ComesLater, IsRead, written};
 
-    /// The moment that a text tells in the form of RFC 3339, as `2026-11-25T08:00:00+01:00`: a date, a
-    /// time with its second, and an offset, which is `Z` or hours and minutes. Behind the second may
-    /// stand a fraction of it, of which nine digits count. Any other text tells none, and so does a
+    /// The moment that a text gives in the form of RFC 3339, as `2026-11-25T08:00:00+01:00`: a date, a
+    /// time with its second, and an offset, which is `Z` or hours and minutes. A fraction of the second
+    /// may follow it, of which nine digits count. Any other text gives none, and so does a
     /// leap second.
     pub fn parse(text: &str) -> Option<Moment>
         ensures { IsRead text.now result }

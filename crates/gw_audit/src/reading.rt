@@ -17,7 +17,7 @@ use gw_addr::{Mac, NetNum, Source};
 use gw_rules::Operation;
 use itoa::Buffer;
 
-/// What stands in the place of a field that the ask doesn't have.
+/// What is in the place of a field that the ask doesn't have.
 const ABSENT: &[u8] = b"-";
 /// How many octets a station's address has at most (clause 6.2.2).
 const MAX_STATION: usize = 255;
@@ -38,7 +38,7 @@ pub fn read_line(line: &[u8]) -> Option<Shown<'_>>
     line_in(line)
 }
 
-/// The ask that a line tells, or `None` where it tells none. It is the line of a denial without its
+/// The ask that a line shows, or `None` if it shows none. It is the line of a denial without its
 /// line feed, or the eight words in the middle of one, with the stations after them if it names
 /// them.
 ///
@@ -229,7 +229,7 @@ fn ask_at(text: &[u8]) -> Option<(ShownAsk, &[u8], &[u8])>
     Some((ask, operation, rest))
 }
 
-/// A port, and what stands behind its space.
+/// A port, and what follows its space.
 fn port_at(text: &[u8]) -> Option<(u8, &[u8])>
     ensures { Gives (λ x. (x.0, x.1.now)) result (port_at text.now) }
 {
@@ -245,7 +245,7 @@ fn port_of(number: u64) -> Option<u8>
     u8::try_from(number).ok()
 }
 
-/// A station, and what stands behind its space.
+/// A station, and what follows its space.
 fn source_at(text: &[u8]) -> Option<(Source, &[u8])>
     ensures { Gives (λ x. (x.0, x.1.now)) result (source_at text.now) }
 {
@@ -293,7 +293,7 @@ struct Target {
     property: Option<u64>,
 }
 
-/// What it is asked of, and what stands behind its space.
+/// What it is asked of, and what follows its space.
 fn target_at(text: &[u8]) -> Option<(Target, &[u8])>
     ensures { Gives (λ x. (x.0, x.1.now)) result (target_at text.now) }
 {
@@ -308,7 +308,7 @@ fn target_at(text: &[u8]) -> Option<(Target, &[u8])>
     Some((target, rest))
 }
 
-/// The priority, and what stands from the next space on.
+/// The priority, and the rest from the next space on.
 fn priority_at(text: &[u8]) -> Option<(Option<u64>, &[u8])>
     ensures { Gives (λ x. (x.0, x.1.now)) result (priority_at text.now) }
 {
@@ -318,7 +318,7 @@ fn priority_at(text: &[u8]) -> Option<(Option<u64>, &[u8])>
     Some((value, rest))
 }
 
-/// A text up to its first space, or whole, and what stands from there on.
+/// A text up to its first space, or whole, and the rest from there on.
 fn word_at(text: &[u8]) -> (&[u8], &[u8])
     ensures { (result.0.now, result.1.now) ≡ word_at text.now }
 {
@@ -328,7 +328,7 @@ fn word_at(text: &[u8]) -> (&[u8], &[u8])
     }
 }
 
-/// A field behind its label, and what stands behind the character at its end.
+/// A field after its label, and what follows the character at its end.
 fn labelled_to<'a>(label: &[u8], end: u8, text: &'a [u8]) -> Option<(Option<u64>, &'a [u8])>
     ensures { Gives (λ x. (x.0, x.1.now)) result (labelled_to label.now end text.now) }
 {
@@ -336,7 +336,7 @@ fn labelled_to<'a>(label: &[u8], end: u8, text: &'a [u8]) -> Option<(Option<u64>
     field_to(end, rest)
 }
 
-/// A field, and what stands behind the character at its end.
+/// A field, and what follows the character at its end.
 fn field_to(end: u8, text: &[u8]) -> Option<(Option<u64>, &[u8])>
     ensures { Gives (λ x. (x.0, x.1.now)) result (field_to end text.now) }
 {
@@ -345,7 +345,7 @@ fn field_to(end: u8, text: &[u8]) -> Option<(Option<u64>, &[u8])>
     Some((value, rest))
 }
 
-/// A number, and what stands behind the character at its end.
+/// A number, and what follows the character at its end.
 fn number_to(end: u8, text: &[u8]) -> Option<(u64, &[u8])>
     ensures { Gives (λ x. (x.0, x.1.now)) result (number_to end text.now) }
 {
@@ -354,7 +354,7 @@ fn number_to(end: u8, text: &[u8]) -> Option<(u64, &[u8])>
     Some((number, rest))
 }
 
-/// A station's octets, and what stands behind the character at their end.
+/// A station's octets, and what follows the character at their end.
 fn mac_to(end: u8, text: &[u8]) -> Option<(Mac, &[u8])>
     ensures { Gives (λ x. (x.0, x.1.now)) result (mac_to end text.now) }
 {
@@ -363,7 +363,7 @@ fn mac_to(end: u8, text: &[u8]) -> Option<(Mac, &[u8])>
     Some((mac, rest))
 }
 
-/// What stands before the first such character, and what stands behind it.
+/// What is before the first such character, and what is after it.
 fn parted_at(c: u8, text: &[u8]) -> Option<(&[u8], &[u8])>
     ensures { Gives (λ x. (x.0.now, x.1.now)) result (parted_at c text.now) }
 {
@@ -381,7 +381,7 @@ fn place_of(c: u8, text: &[u8]) -> Option<usize>
     text.iter().position(|x| *x == c)
 }
 
-/// What stands behind a label.
+/// What follows a label.
 fn behind<'a>(label: &[u8], text: &'a [u8]) -> Option<&'a [u8]>
     ensures { Gives (λ x. x.now) result (behind label.now text.now) }
 {

@@ -1,4 +1,4 @@
-//! A log told in words, line by line.
+//! A log written in words, line by line.
 
 ghost use Rattle.std.specs.Prelude.{◌≡◌, ◌+◌, ◌*◌, ◌<◌, ℕ, List, length, Some, IsErrOf};
 ghost use Rattle.gw_script.specs.Known.{OnKnown};
@@ -9,19 +9,19 @@ use crate::words::tell_line;
 use gw_script::{LineTeller, LinesFault, OctetSink, OctetSource, tell_lines};
 use std::alloc::{AllocError, Global};
 
-/// Tells each line of a log in words, in order, before it takes up the next line: a line that a denial
-/// has by the words of what it shows, another as it is. Where it is known when the log began, the moment
-/// of its tick stands in front of a denial's words, in a year up to 9999. The writer isn't flushed.
+/// Writes each line of a log in words, in order, before it takes up the next line: a line that a denial
+/// has as the words of what it shows, another as it is. If it is known when the log began, the moment
+/// of its tick comes before a denial's words, in a year up to 9999. The writer isn't flushed.
 ///
 /// A line ends with a line feed, which the last may lack. It has at most 4096 octets without it: a longer
-/// one ends the telling.
+/// one ends the writing.
 ///
 /// ```text
 /// 1 0 1 1:C0A80105BAC0 read dst=100 svc=12 obj=5,2 prop=85 prio=- rule=hide
 /// bacgw: write failed
 /// ```
 ///
-/// A line feed ends each that is told.
+/// A line feed ends each that is written.
 ///
 /// ```text
 /// 192.168.1.5:47808 on network 1 reads 85 present-value of 5,2 binary-value of the device on network 100: denied by hide
@@ -36,7 +36,7 @@ pub fn tell_log<R: OctetSource, W: OctetSink>(
     // What is written then, where the octets of the reader and the writer are known.
     ensures told { OnKnown (R.left reader.old) (W.held writer.old) (W.held writer.new)
         (LeavesTold start result) }
-    // What never fails doesn't end the telling: a reader, of a text of less than 2 GiB, and a writer.
+    // What never fails doesn't end the writing: a reader, of a text of less than 2 GiB, and a writer.
     ensures sure_reader { R.NeverFails reader.old → (text : List ℕ) →
         R.left reader.old ≡ Some text → 2 * length text + 1 < 4294967295 →
         ¬ (IsErrOf result LinesFault.Read) }
@@ -45,7 +45,7 @@ pub fn tell_log<R: OctetSource, W: OctetSink>(
     tell_lines(alloc, &LogTeller { start }, reader, writer)
 }
 
-/// Tells the lines of a log that began at this moment, where it is known.
+/// Makes the texts for the lines of a log that began at this moment, if it is known.
 #[derive(Drop)]
 struct LogTeller {
     start: Option<Moment>,

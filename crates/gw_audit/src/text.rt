@@ -1,4 +1,4 @@
-//! The line of a denial, piece by piece behind what a buffer holds.
+//! The line of a denial, piece by piece after what a buffer holds.
 
 ghost use Rattle.std.specs.Prelude.{◌≡◌, ◌<◌, ◌≤◌, ◌+◌, ◌%◌, ◌++◌, decimal};
 ghost use Rattle.std.specs.List.{flat_map};
@@ -13,7 +13,7 @@ use gw_addr::{Source, keep_whole, put_decimal, put_octet, put_slice};
 use gw_rules::{Ask, Operation, RuleName};
 use std::alloc::AllocError;
 
-/// What stands in the place of a field that the ask doesn't have.
+/// What is in the place of a field that the ask doesn't have.
 const ABSENT: &[u8] = b"-";
 
 /// How many digits there are: a number below is one of them.
@@ -54,7 +54,7 @@ pub fn line(denial: &Denial, out: &mut Vec<u8>) -> Result<(), AllocError>
 /// 1:C0A80105BAC0 read dst=100 svc=12 obj=5,2 prop=85 prio=- sender=C0A80105BAC0 station=-
 /// ```
 ///
-/// 1 Memory, only where the buffer had no room: a front of it may then stand behind what it held.
+/// 1 Memory, only if the buffer had no room: a front of it may then follow what it held.
 pub fn put_ask(out: &mut Vec<u8>, source: &Source, ask: &Ask) -> Result<(), AllocError>
     ensures { IsAppended (ask_text source.now ask.now) out.old out.new result }
 {
@@ -78,7 +78,7 @@ fn put_asked(out: &mut Vec<u8>, source: &Source, ask: &Ask) -> Result<(), AllocE
     put_object(out, ask)
 }
 
-/// Appends the line of a denial. A front of it stands there where a growth was refused.
+/// Appends the line of a denial. A front of it remains if a growth was refused.
 fn put_line(out: &mut Vec<u8>, denial: &Denial) -> Result<(), AllocError>
     ensures { IsAppended (pieces_text denial.now) out.old out.new result }
 {
@@ -87,7 +87,7 @@ fn put_line(out: &mut Vec<u8>, denial: &Denial) -> Result<(), AllocError>
     put_end(out, denial)
 }
 
-/// Appends the three counts, each with a space behind it.
+/// Appends the three counts, each with a space after it.
 fn put_counts(out: &mut Vec<u8>, denial: &Denial) -> Result<(), AllocError>
     ensures { IsAppended (counts_text denial.now) out.old out.new result }
 {
@@ -246,7 +246,7 @@ fn operation_of(number: u64) -> Option<Operation>
     Operation::from_number(number)
 }
 
-/// Appends a label and the value of a field behind it.
+/// Appends a label and the value of a field after it.
 #[inline(always)]
 fn put_field(out: &mut Vec<u8>, label: &[u8], value: Option<u64>) -> Result<(), AllocError>
     ensures { IsAppended (label.now ++ field_text value) out.old out.new result }

@@ -1,4 +1,4 @@
-//! The words that tell what a line of the log shows.
+//! The words that say what a line of the log shows.
 
 ghost use Rattle.std.specs.Prelude.{◌≡◌, ◌++◌, ◌∷◌, [], decimal, option_map, OnOk};
 ghost use Rattle.gw_addr.specs.Appending.{IsAppended};
@@ -16,10 +16,10 @@ use gw_names::{object_type_name, property_name, service_name};
 use gw_rules::Operation;
 use std::alloc::{AllocError, Global};
 
-/// The network number that stands for every network (clause 6.2.2).
+/// The network number that represents every network (clause 6.2.2).
 const EVERY_NETWORK: u64 = 65535;
 
-/// The services by which it is registered and deleted, read and written where no other is told.
+/// The services by which it is registered and deleted, read and written if no other is named.
 const REGISTER: u64 = 773;
 
 const DELETE: u64 = 776;
@@ -31,10 +31,10 @@ const WRITE_PROPERTY: u64 = 15;
 /// The number of [`Operation::Claim`].
 const CLAIM: u64 = 13;
 
-/// Makes what a line of a log is told as, with a line feed behind it, in the place of what the buffer
-/// holds: the words of the denial whose line it is, or the line itself where it is none. The line is
-/// taken without its line feed. Where it is known when the log began, the moment of its tick stands in
-/// front of a denial's words, in a year up to 9999.
+/// Makes the text for a line of a log, with a line feed after it, in the place of what the buffer
+/// holds: the words of the denial whose line it is, or the line itself if no denial has it. The line is
+/// taken without its line feed. If it is known when the log began, the moment of its tick comes before
+/// a denial's words, in a year up to 9999.
 ///
 /// ```text
 /// 192.168.1.5:47808 on network 1 reads 85 present-value of 5,2 binary-value of the device on network 100: denied by hide
@@ -195,7 +195,7 @@ fn put_deed(out: &mut Vec<u8>, ask: &ShownAsk) -> Result<(), AllocError>
     }
 }
 
-/// Appends a number behind a word.
+/// Appends a number after a word.
 fn put_number(out: &mut Vec<u8>, word: &[u8], number: u64) -> Result<(), AllocError>
     ensures { IsAppended (word.now ++ decimal number) out.old out.new result }
 {
@@ -323,7 +323,7 @@ fn put_speaking(out: &mut Vec<u8>, ask: &ShownAsk) -> Result<(), AllocError>
     put_source(out, &ask.source)
 }
 
-/// Appends that the way to a network is told.
+/// Appends that the way to a network is reported.
 fn put_learn(out: &mut Vec<u8>, ask: &ShownAsk) -> Result<(), AllocError>
     ensures { IsAppended (deed_of Operation.Learn ask.now) out.old out.new result }
 {
@@ -412,7 +412,7 @@ fn put_by_other(out: &mut Vec<u8>, own: u64, service: Option<u64>) -> Result<(),
     put_by(out, service)
 }
 
-/// Appends a network behind a word, where there is one.
+/// Appends a network after a word, if there is one.
 fn put_network(out: &mut Vec<u8>, word: &[u8], network: Option<u64>) -> Result<(), AllocError>
     ensures { IsAppended (network_text word.now network) out.old out.new result }
 {

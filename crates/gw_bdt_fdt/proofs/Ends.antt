@@ -19,7 +19,7 @@ use Rattle.gw_bdt_fdt.specs.Registrations.{same}
 use Rattle.gw_bdt_fdt.specs.Internal.{LeaseList, End, end_of, address_cmp, end_cmp, tied, AreEnds, holds_at}
 use Rattle.gw_bdt_fdt.proofs.Same.{own, equal_of}
 
--- ---- two ends are one where the order ties them
+-- ---- two ends are one if the order ties them
 
 number_tied : (m n : ℕ) → is_eq (nat_cmp m n) ≡ true → m ≡ n
 number_tied m n e = by (nat_lt m n) (m == n) refl e
@@ -72,7 +72,7 @@ untied x y e = by (tied x y) refl
 
 -- ---- the ends of leases
 
--- an end of an address without a lease is none
+-- an address without a lease has no end
 none_of : (a : BipAddr) (es : LeaseList) (q : End) → q.1 ≡ a → AllByRecursion (λ b. same a b ≡ false) (keys_of es)
     → list_any (tied q) (map end_of es) ≡ false
 none_of a [] q is apart = refl
@@ -104,7 +104,7 @@ end_added (e ∷ es) a l none q = by (same a e.0) none (λ n. end_added es a l n
     by true n ih = absurd (true≢false (ap is_some n))
     by false n ih = ap (λ b. tied q (end_of e) || b) (ih n) ∙ swapped (tied q (end_of e)) (tied (l.deadline, a) q) (ends es q)
 
--- an end without a lease's own end, which is that of an address behind whom it stands in no other
+-- an end without a lease's own end, which is that of an address that no later lease has
 without_own : (e : BipAddr × Lease) (es : LeaseList) (q : End) → AllByRecursion (λ b. same e.0 b ≡ false) (keys_of es)
     → ends es q ≡ cond (tied (end_of e) q) false (ends (e ∷ es) q)
 without_own e es q apart = by (tied (end_of e) q) refl
@@ -197,7 +197,7 @@ holds_of now q (k ∷ ks) later there = by (tied q k) refl there (holds_of now q
     by true t h rest = ap (λ z. nat_lt now z.0) (tied_to q k t) ∙ lt-ltb now k.0 later.0
     by false t h rest = rest h
 
--- where every end is later, each lease holds
+-- if every end is later, each lease holds
 pub none_ends : (now : ℕ) (ks : List End) (es : LeaseList) → AreEnds ks es → AllByRecursion (λ end. now < end.0) ks → es ≡ filter (holds_at now) es
 none_ends now ks es are later = all es (λ e t. holds_of now (end_of e) ks later (are (end_of e) ∙ t))
   where
@@ -212,7 +212,7 @@ none_ends now ks es are later = all es (λ e t. holds_of now (end_of e) ks later
         or_true true = refl
         or_true false = refl
 
--- ends that none comes before are later where the first is
+-- ends that none comes before are later if the first is
 pub later_of : (now : ℕ) (k : End) → now < k.0 → (ks : List End) → AllByRecursion (λ end. is_gt (end_cmp k end) ≡ false) ks → AllByRecursion (λ end. now < end.0) ks
 later_of now k lt [] le = tt
 later_of now k lt (x ∷ ks) le = (one (nat_lt k.0 x.0) refl (k.0 == x.0) refl le.0, later_of now k lt ks le.1)
@@ -242,6 +242,6 @@ end_moved a o n q b = by (nat_eq o n) refl
     by true e = over (tied (n, a) q) b ∙ ap (λ m. cond (tied (n, a) q) true (cond (tied (m, a) q) false b)) (sym (eqb-true o n e))
     by false e = apart (tied (o, a) q) (tied (n, a) q) refl refl e
 
--- what holds where a call succeeds
+-- what holds if a call succeeds
 pub on_ok : {T E P : Type 0} {r : Result T E} {x : T} → r ≡ Ok x → OnOk r P → P
 on_ok {T} {E} {P} e h = subst (λ s. OnOk s P) e h

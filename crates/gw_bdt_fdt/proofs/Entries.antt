@@ -8,14 +8,14 @@ use Rattle.gw_addr.specs.declared.entry.BdtEntry.{BdtEntry}
 use Rattle.gw_bdt_fdt.specs.Peers.{is_of, has_twice, peers}
 use Rattle.gw_bdt_fdt.proofs.Same.{equal_of}
 
--- where no entry is an address's, all are peers
+-- if no entry is an address's, all are peers
 all_peers : (own : BipAddr) (es : List BdtEntry) → list_any (is_of own) es ≡ false → peers own es ≡ es
 all_peers own [] none = refl
 all_peers own (e ∷ es) none =
     let parts = or_parts (is_of own e) (list_any (is_of own) es) none in
     ap (λ b. cond (not b) (e ∷ peers own es) (peers own es)) parts.0 ∙ ap (λ rest. e ∷ rest) (all_peers own es parts.1)
 
--- the peers are those before the own entry and those behind it
+-- the peers are those before the own entry and those after it
 around : (own : BipAddr) (d : BdtEntry) (es : List BdtEntry) (i : ℕ) → i < length es → is_of own (get_or es i d) ≡ true
     → ((k : ℕ) → k < i → is_of own (get_or es k d) ≡ false) → has_twice es ≡ false
     → peers own es ≡ take i es ++ drop (i + 1) es

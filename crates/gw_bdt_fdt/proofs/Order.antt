@@ -202,7 +202,7 @@ module _ (h : History) where
 
 -- ---- every history
 
--- who is registered stands once in the order
+-- who is registered is once in the order
 pub once : (h : History) → IsDistinct same (order_after h)
 unfolding order_after IsDistinct
 once [] = tt
@@ -215,7 +215,7 @@ once (Register a ttl ∷ h) = by (list_any (same a) (order_after h)) refl (once 
 once (Delete a ∷ h) = distinct_filter (is_registered (Delete a ∷ h)) (order_after h) (once h)
 once (Tick ∷ h) = distinct_filter (is_registered (Tick ∷ h)) (order_after h) (once h)
 
--- who stands in the order is registered
+-- who is in the order is registered
 pub registered : (h : History) → AreRegistered h (order_after h)
 unfolding order_after
 registered [] = tt

@@ -29,7 +29,7 @@ standing t l = record { time_to_live = l.time_to_live; left = l.deadline - t }
 abbrev reg : ℕ → ℕ → Registration
 reg ttl n = record { time_to_live = ttl; left = n }
 
--- an address is registered where it has a lease
+-- an address is registered if it has a lease
 pub contained : (t : ℕ) (es : LeaseList) (a : BipAddr) → contains (table_at t es) a ≡ is_some (lookup (same a) es)
 contained t es a = ap is_some (lookup-map_values (standing t) (same a) es) ∙ by (lookup (same a) es)
   where
@@ -95,7 +95,7 @@ granted-insert t (e ∷ es) a l le each = by (same a e.0) (granted-insert t es a
     by true rest = (le, each.1)
     by false rest = (each.0, rest)
 
--- leases stay kept where there is room for the one that is granted
+-- leases stay kept if there is room for the one that is granted
 pub kept_registered : (t : ℕ) (es : LeaseList) (a : BipAddr) (ttl : ℕ)
     → has_room (table_at t es) a ≡ true
     → AreKept t es → AreKept t (insert_entry same es a (lease_of t ttl))

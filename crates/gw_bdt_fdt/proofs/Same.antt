@@ -1,4 +1,4 @@
--- Two addresses are one exactly where they are compared so.
+-- Two addresses are one exactly if they are compared so.
 use Rattle.std.proofs.Common.{◌≡◌, ℕ, true, ◌&&◌, List, nat_eq, sym, ap, ap₂}
 use Rattle.std.proofs.lemmas.Bool.{and_parts, and_from, eqb-true}
 use Rattle.std.proofs.lemmas.Cmp.{nat_list_eq_equiv}

@@ -96,7 +96,7 @@ last_grant_found h a g = (
       ∙ ap (λ n. Some (record { time_to_live = g.time_to_live; ago = n })) (sym it.ago),
 )
 
--- ---- who stands in the order
+-- ---- who is in the order
 
 any_last : (m n : BipAddr) (bs : List BipAddr) → list_any (same m) (bs ++ n ∷ []) ≡ same m n || list_any (same m) bs
 any_last m n [] = refl

@@ -31,7 +31,7 @@ grant_now time_to_live = record { time_to_live = time_to_live; ago = 0 }
 abbrev pub longer_ago : Grant → Grant
 longer_ago grant = record { time_to_live = grant.time_to_live; ago = grant.ago + 1 }
 
--- the last granted registration of an address, where no deletion of it came since
+-- the last granted registration of an address, if no deletion of it came since
 abbrev pub last_grant : History → BipAddr → Option Grant
 last_grant [] address = None
 last_grant (Register other time_to_live ∷ h) address =
@@ -88,6 +88,6 @@ ticks_in (Tick ∷ h) = ticks_in h + 1
 unfoldable pub table_after : History → Registrations
 table_after h = record { ticks = ticks_in h; rows = filter_map (row_after h) (order_after h) }
 
--- a table stands as a history leaves it
+-- a table is as a history leaves it
 abbrev pub IsStateAfter : Registrations → History → Type 0
 IsStateAfter t h = t ≡ table_after h

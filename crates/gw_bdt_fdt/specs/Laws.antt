@@ -1,4 +1,4 @@
--- What the definitions of a history come to, in plain words.
+-- What the definitions of a history mean, in plain words.
 use Rattle.std.specs.Prelude.{◌≡◌, ◌↔◌, ℕ, ◌<◌, Bool, false, not, ◌&&◌, if◌then◌else◌, List, [], ◌∷◌, ◌++◌, length}
 use Rattle.std.specs.Prelude.{Some, IsTrue, IsFalse}
 use Rattle.std.specs.List.{list_any, IsDistinct, AllByRecursion}
@@ -8,7 +8,7 @@ use Rattle.gw_bdt_fdt.specs.Registrations.{same}
 use Rattle.gw_bdt_fdt.specs.History.{Act, Register, Delete, Tick, History, Grant, last_grant, registration_after}
 use Rattle.gw_bdt_fdt.specs.History.{is_registered, order_after, ticks_in, table_after}
 
--- two addresses are one exactly where all six octets are
+-- two addresses are one exactly if all six octets are
 abbrev pub SameIsEqual : Type 0
 SameIsEqual = (a b : BipAddr) → (IsTrue (same a b)) ↔ (a ≡ b)
 
@@ -36,7 +36,7 @@ LastGrantIsFound = (h : History) (address : BipAddr) (grant : Grant) →
 abbrev pub EachStandsOnce : Type 0
 EachStandsOnce = (h : History) → IsDistinct same (order_after h)
 
--- An address stands in the order exactly where it is registered.
+-- An address is in the order exactly if it is registered.
 abbrev pub RegisteredStand : Type 0
 RegisteredStand = (h : History) (address : BipAddr) →
     list_any (same address) (order_after h) ≡ is_registered h address
@@ -55,7 +55,7 @@ began_after (Register other time_to_live ∷ h) address =
 began_after (Delete other ∷ h) address = began_after h address
 began_after (Tick ∷ h) address = began_after h address
 
--- each address of a list began before those behind it
+-- each address of a list began before those after it
 abbrev pub BeganInTurn : History → List BipAddr → Type 0
 BeganInTurn h [] = Unit {0}
 BeganInTurn h (a ∷ later) =

@@ -11,7 +11,7 @@ use Rattle.gw_bdt_fdt.specs.Registrations.{same}
 abbrev pub is_of : BipAddr → BdtEntry → Bool
 is_of address entry = same address entry.address
 
--- some address stands twice in the entries
+-- some address is twice in the entries
 abbrev pub has_twice : List BdtEntry → Bool
 has_twice [] = false
 has_twice (entry ∷ entries) = list_any (is_of entry.address) entries || has_twice entries
@@ -28,6 +28,6 @@ peers own entries = filter (λ entry. not (is_of own entry)) entries
 abbrev pub all_ones : List ℕ
 all_ones = 255 ∷ 255 ∷ 255 ∷ 255 ∷ []
 
--- the mask of the own entry, all ones where there is none
+-- the mask of the own entry, all ones if there is none
 abbrev pub own_mask : BipAddr → List BdtEntry → List ℕ
 own_mask own entries = option_map_or (λ entry. entry.mask) (find (is_of own) entries) all_ones

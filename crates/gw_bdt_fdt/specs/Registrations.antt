@@ -57,7 +57,7 @@ without t address = record t { rows = remove_entry (same address) t.rows }
 abbrev pub with_less : Registration → Registration
 with_less r = record { time_to_live = r.time_to_live; left = r.left - 1 }
 
--- a row one tick later: it is gone where that was the last tick to come
+-- a row one tick later: it is gone if that was the last tick to come
 abbrev pub row_later : BipAddr × Registration → Option (BipAddr × Registration)
 row_later row = if nat_lt 1 row.1.left then Some (row.0, with_less row.1) else None
 

@@ -41,8 +41,8 @@ impl Model for Bdt {
 impl Bdt {
     /// The table of these entries, in their order; there may be none.
     ///
-    /// The faults are our own rules: `Full` where there are more than 64; else `Duplicate` where an
-    /// address stands in two of them; else `Memory` where there is none for them.
+    /// The faults are our own rules: `Full` if there are more than 64; else `Duplicate` if an
+    /// address is in two of them; else `Memory` if there is no memory for them.
     pub fn from_entries(alloc: Global, entries: &[BdtEntry]) -> Result<Self, BdtFault>
         ensures ok { IfOk result (λ table. table ≡ entries.now) }
         ensures full { IsErrOf result BdtFault.Full ↔ IsTrue (are_too_many entries.now) }
@@ -118,7 +118,7 @@ impl Bdt {
         }
     }
 
-    /// The mask of the own entry, all ones where there is none (that is our own rule).
+    /// The mask of the own entry, all ones if there is none (that is our own rule).
     pub fn own_mask(&self, own: BipAddr) -> [u8; 4]
         ensures { result ≡ own_mask own self.now }
     {
@@ -172,7 +172,7 @@ fn entries_before(entries: &[BdtEntry], place: usize) -> &[BdtEntry]
     &entries[..place]
 }
 
-/// The entries behind a place.
+/// The entries after a place.
 fn entries_behind(entries: &[BdtEntry], place: usize) -> &[BdtEntry]
     requires { place < length entries.now }
     ensures { result.now ≡ drop (place + 1) entries.now }
@@ -194,7 +194,7 @@ fn has_entry(entries: &[BdtEntry], address: BipAddr) -> bool
     entries.iter().any(|entry| address == entry.address)
 }
 
-/// Whether an address stands in two entries.
+/// Whether an address is in two entries.
 fn repeats_address(entries: &[BdtEntry]) -> bool
     ensures { result ≡ has_twice entries.now }
 {

@@ -7,7 +7,7 @@ pub enum BdtFault {
     /// 1: there are more than 64 (a limit of our own).
     #[error("a broadcast distribution table has at most 64 entries")]
     Full,
-    /// 2: an address stands in two of them (our own rule).
+    /// 2: an address is in two of them (our own rule).
     #[error("an address has two entries")]
     Duplicate,
     /// 3: there is no memory for them.

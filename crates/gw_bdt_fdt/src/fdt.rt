@@ -21,14 +21,14 @@ use std::marker::Model;
 /// How many foreign devices may be registered at a time (a limit of our own).
 pub const MAX_REGISTRATIONS: usize = 128;
 
-/// The seconds of grace that a registration lives behind its time to live (Annex J.5.2.3).
+/// The seconds of grace that a registration lives after its time to live (Annex J.5.2.3).
 pub const GRACE: u64 = 30;
 
 /// The most seconds that are shown to remain: those that 16 bits can say (our own rule).
 pub const MAX_REMAINING: u64 = 65535;
 
 /// The foreign devices of a port, at most 128, each registered for its time to live and 30 seconds
-/// of grace from its last registration on (Annex J.5.2). They stand in the order in which their
+/// of grace from its last registration on (Annex J.5.2). They are in the order in which their
 /// unbroken times of being registered began (our own rule). A tick is one second.
 #[derive(Drop)]
 pub struct Fdt {
@@ -60,10 +60,10 @@ impl Fdt {
     }
 
     /// Registers a foreign device for `time_to_live` seconds and 30 of grace from now on (Annex
-    /// J.5.2). One that is registered keeps its place and takes the new time, also where that is
+    /// J.5.2). One that is registered keeps its place and takes the new time, also if that is
     /// shorter; another goes last.
     ///
-    /// `Full` where 128 others are registered; `Memory` where there is none for the registration.
+    /// `Full` if 128 others are registered; `Memory` if there is none for the registration.
     /// Then nothing changed.
     pub fn register(&mut self, address: BipAddr, time_to_live: u16) -> Result<(), RegisterFault>
         ensures rows { OnOk result (self.new ≡ with_registration self.old address time_to_live) }
@@ -156,7 +156,7 @@ impl Fdt {
 
     /// The foreign devices in their order, each with its time to live and the seconds that remain,
     /// the grace among them, shown as at most 65535. The only fault is want of memory for the list,
-    /// and none is wanted where nobody is registered.
+    /// and none is wanted if nobody is registered.
     pub fn rows(&self, alloc: Global) -> Result<Vec<FdtEntry>, AllocError>
         ensures rows { IfOk result (λ rows. rows.items ≡ map shown self.now.rows) }
         ensures none { self.now.rows ≡ [] → IsOk result }

@@ -6,7 +6,7 @@ ghost use Rattle.gw_bdt_fdt.specs.Laws.{RegisteredStand, SameIsEqual, TableHolds
 
 use crate::{GRACE, MAX_ENTRIES, MAX_REGISTRATIONS, MAX_REMAINING};
 
-/// The limits are 128 registrations, 30 seconds of grace behind each (Annex J.5.2.3), 65535 seconds
+/// The limits are 128 registrations, 30 seconds of grace after each (Annex J.5.2.3), 65535 seconds
 /// that are shown to remain, and 64 entries of a table of peers.
 pub fn limits()
     ensures registrations { MAX_REGISTRATIONS ≡ 128 }
@@ -15,15 +15,15 @@ pub fn limits()
     ensures entries { MAX_ENTRIES ≡ 64 }
 {}
 
-/// The last grant of an address is the last one; and two addresses are one exactly where all six
+/// The last grant of an address is the last one; and two addresses are one exactly if all six
 /// octets are.
 pub fn last_grants()
     ensures same { SameIsEqual }
     ensures last { LastGrantIsFound }
 {}
 
-/// After a history each registered address stands once, with its registration, and nobody else
-/// does; they stand in the order in which their unbroken times of being registered began.
+/// After a history each registered address appears once, with its registration, and nobody else
+/// does; they are in the order in which their unbroken times of being registered began.
 pub fn registrations()
     ensures once { EachStandsOnce }
     ensures stand { RegisteredStand }

@@ -95,7 +95,7 @@ impl Leases {
         self.ends.remove(&(lease.deadline, address));
     }
 
-    /// Takes the leases that end with a tick or before it. Where none does, it looks at the first
+    /// Takes the leases that end with a tick or before it. If none does, it looks at the first
     /// end alone.
     pub(crate) fn end_by(&mut self, now: u64)
         ensures { self.new ≡ filter (holds_at now) self.old }

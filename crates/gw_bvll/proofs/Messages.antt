@@ -235,7 +235,7 @@ lacks_length : (octets : List ℕ) → IsBadLength octets → bvll_at octets ≡
 lacks_length octets (inl short) = short_length octets short
 lacks_length octets (inr other) = other_length octets other.0 other.1
 
--- behind a whole header, function and body decide
+-- after a whole header, function and body decide
 framed_reads : (octets : List ℕ) → IsFramed octets → bvll_at octets ≡ (function_at (get_or octets 1 0) >>= λ kind. body_at kind (drop 4 octets))
 framed_reads [] h = absurd (omega (arith, h.marked.whole))
 framed_reads (a ∷ []) h = absurd (omega (arith, h.marked.whole))
@@ -252,7 +252,7 @@ lacks_function octets h = framed_reads octets h.framed ∙ rw (function_refused 
 named_reads : (octets : List ℕ) (f : Function) → IsFramed octets → get_or octets 1 0 ≡ octet_of f → bvll_at octets ≡ body_at f (drop 4 octets)
 named_reads octets f framed named = framed_reads octets framed ∙ rw (named, function_reads f) refl
 
--- the octets behind the header and those of the header are all
+-- the octets after the header and those of the header are all
 framed_back : (octets : List ℕ) (m : Message) → AreOctets octets → IsFramed octets → get_or octets 1 0 ≡ octet_of (function_of m) → body_of m ≡ drop 4 octets → octets ≡ encoding m
 framed_back [] m fits h named body = absurd (omega (arith, h.marked.whole))
 framed_back (a ∷ []) m fits h named body = absurd (omega (arith, h.marked.whole))

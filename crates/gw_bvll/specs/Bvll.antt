@@ -77,7 +77,7 @@ function_of (distribute npdu) = functions.Distribute
 function_of (original_unicast npdu) = functions.OriginalUnicast
 function_of (original_broadcast npdu) = functions.OriginalBroadcast
 
--- what stands behind the four octets of the header
+-- what follows the four octets of the header
 abbrev pub body_of : Message → List ℕ
 body_of (result_code code) = to_be_bytes w16 code
 body_of (write_bdt entries) = flat_map bdt_octets entries

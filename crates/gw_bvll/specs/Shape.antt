@@ -5,7 +5,7 @@ use Rattle.gw_bvll.specs.declared.function.Function.{Function}
 use Rattle.gw_bvll.specs.declared.function.Function.TheVariants as functions
 use Rattle.gw_bvll.specs.Bvll.{octet_of}
 
--- the length that the third and fourth octets tell
+-- the length that the third and fourth octets say
 abbrev pub told_length : List ℕ → ℕ
 told_length octets = from_be_bytes w16 (take 2 (drop 2 octets))
 
@@ -14,7 +14,7 @@ pub record IsMarked (octets : List ℕ) : Type 0 where
   pub whole : 4 ≤ length octets
   pub marker : slice_index octets 0 ≡ 0x81
 
--- a header that tells the length of all the octets
+-- a header that says the length of all the octets
 pub record IsFramed (octets : List ℕ) : Type 0 where
   pub marked : IsMarked octets
   pub size : told_length octets ≡ length octets
@@ -39,7 +39,7 @@ pub record IsBadMarker (octets : List ℕ) : Type 0 where
   pub whole : 4 ≤ length octets
   pub marker : slice_index octets 0 ≢ 0x81
 
--- fewer than four octets, or a header that tells another length than that of all the octets
+-- fewer than four octets, or a header that says another length than that of all the octets
 abbrev pub IsBadLength : List ℕ → Type 0
 IsBadLength octets = (length octets < 4) ⊎ (IsMarked octets × (told_length octets ≢ length octets))
 

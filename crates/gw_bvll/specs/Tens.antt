@@ -7,7 +7,7 @@ abbrev pub parts : ℕ → List ℕ → List (List ℕ)
 parts zero octets = []
 parts (suc n) octets = take 10 octets ∷ parts n (drop 10 octets)
 
--- the entries that octets are, one after another; fewer than ten octets at the end are none
+-- the entries that octets are, one after another; fewer than ten octets at the end are no entry
 abbrev pub entries_at : {E : Type 0} → (List ℕ → E) → List ℕ → List E
 entries_at entry_of octets = map entry_of (parts (length octets / 10) octets)
 

@@ -45,7 +45,7 @@ impl<'a, E: Entry> Entries<'a, E> {
     ghost use Rattle.gw_bvll.specs.Tens.{entries_at};
     ghost use Rattle.gw_bvll.specs.Entries.{lent, left};
 
-    /// The entries that octets are, ten octets each. `None` where the octets are no multiple of
+    /// The entries that octets are, ten octets each. `None` if the octets are no multiple of
     /// ten.
     pub fn from_octets(octets: &'a [u8]) -> Option<Entries<'a, E>>
         ensures found { IfSome result (λ x. octets.now ≡ flat_map E.encoding (lent E.entry_of x)) }

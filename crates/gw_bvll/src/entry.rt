@@ -72,8 +72,8 @@ impl Entry for FdtEntry {
 }
 
 /// Appends the octets of entries, ten octets each, for an answer to lend: `Entries::from_octets`
-/// gives the entries of what was appended to an empty buffer. An `Err` only where the buffer had no
-/// room; then a front of them may stand there.
+/// gives the entries of what was appended to an empty buffer. An `Err` only if the buffer had no
+/// room; then it may hold a front of them.
 pub fn put_entries<E: Entry>(out: &mut Vec<u8>, entries: &[E]) -> Result<(), AllocError>
     ensures ok { OnOk result (out.new.items ≡ out.old.items ++ flat_map E.encoding entries.now) }
     ensures fit { OnOk result (AllByRecursion E.IsEntry entries.now) }

@@ -36,7 +36,7 @@ pub enum Function {
 }
 
 impl Function {
-    /// The function of a message's second octet. `Function` where it is above `0B`.
+    /// The function of a message's second octet. `Function` if it is above `0B`.
     pub(crate) fn from_octet(octet: u8) -> Result<Function, BvllFault>
         ensures { result ≡ function_at octet }
     {

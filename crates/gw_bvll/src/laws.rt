@@ -9,7 +9,7 @@ ghost use Rattle.gw_bvll.specs.Reading.{bvll_at};
 use crate::MAX_LEN;
 use crate::message::Bvll;
 
-/// A message has at most 1507 octets: an NPDU of 1497 behind the ten of a Forwarded-NPDU.
+/// A message has at most 1507 octets: an NPDU of 1497 after the ten of a Forwarded-NPDU.
 pub fn limits()
     ensures { MAX_LEN ≡ 1507 }
 {}

@@ -32,7 +32,7 @@ impl ResultCode {
     /// Distribute-Broadcast-To-Network NAK.
     pub const DISTRIBUTE_NAK: ResultCode = ResultCode(0x0060);
 
-    /// The code by which what a function asks for is refused (Annex J.2.1), or `None` where it asks
+    /// The code by which what a function asks for is refused (Annex J.2.1), or `None` if it asks
     /// for nothing.
     pub fn refusal(function: Function) -> Option<ResultCode>
         ensures { option_map (λ code. code.0) result ≡ refusal function }

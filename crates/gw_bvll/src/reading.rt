@@ -44,7 +44,7 @@ fn whole_entries<E: Entry>(body: &[u8]) -> Result<Entries<'_, E>, BvllFault>
     Entries::from_octets(body).ok_or(BvllFault::Body)
 }
 
-/// The message, where it has no body.
+/// The message, if it has no body.
 fn without_body<'a>(message: Bvll<'a>, body: &[u8]) -> Result<Bvll<'a>, BvllFault>
     ensures { Gives view result (ended (view message.entry) body.now) }
 {

@@ -13,7 +13,7 @@ use crate::message::{Bvll, MARKER};
 use gw_addr::{put_number, put_octet, put_slice};
 use std::alloc::AllocError;
 
-/// The most octets of a message, a rule of ours: an NPDU of 1497 octets behind the ten of a
+/// The most octets of a message, a rule of ours: an NPDU of 1497 octets after the ten of a
 /// Forwarded-NPDU.
 pub const MAX_LEN: usize = 1507;
 
@@ -34,7 +34,7 @@ fn body_len(message: &Bvll<'_>) -> usize
     }
 }
 
-/// Appends what stands behind the header.
+/// Appends what follows the header.
 fn put_body(message: &Bvll<'_>, out: &mut Vec<u8>) -> Result<(), AllocError>
     ensures { IsAppended (body_of (view message.now)) out.old out.new result }
 {
@@ -67,8 +67,8 @@ fn put_message(message: &Bvll<'_>, len: u16, out: &mut Vec<u8>) -> Result<(), Al
     put_body(message, out)
 }
 
-/// Appends the octets of a message (Annex J.2). `TooLong` where they would be over 1507, and
-/// `Memory` where a growth of the buffer was refused. After a fault the buffer holds what it held,
+/// Appends the octets of a message (Annex J.2). `TooLong` if they would be over 1507, and
+/// `Memory` if a growth of the buffer was refused. After a fault the buffer holds what it held,
 /// and no room is given back.
 pub fn encode(message: &Bvll<'_>, out: &mut Vec<u8>) -> Result<(), EncodeFault>
     ensures ok { OnOk result (out.new.items ≡ out.old.items ++ encoding (view message.now)) }
@@ -76,7 +76,7 @@ pub fn encode(message: &Bvll<'_>, out: &mut Vec<u8>) -> Result<(), EncodeFault>
     ensures valid { OnOk result (IsValid (view message.now)) }
     ensures too_long { let octets = encoding (view message.now) in
         (result ≡ Err EncodeFault.TooLong) ↔ (MAX_LEN < length octets) }
-    // Memory only where the buffer had no room for the message.
+    // Memory only if the buffer had no room for the message.
     ensures memory { let octets = encoding (view message.now) in
         result ≡ Err EncodeFault.Memory → vec_capacity out.old < vec_len out.old + length octets }
     ensures err { OnErr result (out.new.items ≡ out.old.items) }

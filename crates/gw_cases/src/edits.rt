@@ -39,7 +39,7 @@ pub fn edited(alloc: Global, text: &str, line: &str) -> io::Result<String> {
     replaced(alloc, text, utf8(&old)?, utf8(&new)?)
 }
 
-/// The text with a new part in the place where an old one stands first.
+/// The text with a new part in the place of the first old one.
 fn replaced(alloc: Global, text: &str, old: &str, new: &str) -> io::Result<String> {
     let (front, rest) = wanted(text.split_once(old))?;
     let mut replaced = String::from_str(alloc, front)?;

@@ -1,4 +1,4 @@
-//! How cases and answers are written: numbers, the octets of digits, and what stands for a line feed, for a carriage return and for a repetition.
+//! How cases and answers are written: numbers, the octets of digits, line feeds, carriage returns and repetitions.
 
 use hex::FromHexError;
 use std::alloc::Global;
@@ -50,7 +50,7 @@ pub fn number_or_none(word: Option<&str>) -> io::Result<Option<u64>> {
     }
 }
 
-/// The number behind a word, in the first part of a text that begins with it.
+/// The number after a word, in the first part of a text that begins with it.
 pub fn number_behind<T>(text: &str, separator: char, word: &str) -> Option<T>
 where
     T: FromStr + Drop,

@@ -33,10 +33,10 @@ impl<'a> Case<'a> {
 ///
 /// An answer is an `Err` of `InvalidData` if the case isn't written as its kind wants, and another if memory was refused.
 pub trait Kinds {
-    /// Appends what a case of one line comes to.
+    /// Appends the answer to a case of one line.
     fn answer_line(&self, alloc: Global, case: &Case<'_>, out: &mut Vec<u8>) -> io::Result<()>;
 
-    /// Appends what a section comes to that is one case; `None` if each of its lines is one.
+    /// Appends the answer to a section that is one case; `None` if each of its lines is one.
     fn answer_section(
         &self,
         alloc: Global,
@@ -45,7 +45,7 @@ pub trait Kinds {
     ) -> Option<io::Result<()>>;
 }
 
-/// Appends a case of one line, and what it comes to.
+/// Appends a case of one line, and its answer.
 fn put_line<K: Kinds>(
     kinds: &K,
     alloc: Global,
@@ -81,7 +81,7 @@ fn put_lines<K: Kinds>(
     Ok(())
 }
 
-/// Writes what a section comes to.
+/// Writes a section's answers.
 fn write_section<K: Kinds, W: Write + Drop>(
     kinds: &K,
     alloc: Global,
@@ -97,7 +97,7 @@ fn write_section<K: Kinds, W: Write + Drop>(
     writer.write_all(&out)
 }
 
-/// Writes what each section of a text comes to, under one configuration.
+/// Writes the answers to each section of a text, under one configuration.
 ///
 /// # Errors
 ///
@@ -122,7 +122,7 @@ pub fn write_sections<K: Kinds, W: Write + Drop>(
     Ok(())
 }
 
-/// Writes a configuration's name, and what each section under it comes to.
+/// Writes a configuration's name, and the answers to each section under it.
 fn write_group<K: Kinds, W: Write + Drop>(
     kinds: &K,
     alloc: Global,
@@ -137,8 +137,8 @@ fn write_group<K: Kinds, W: Write + Drop>(
     write_sections(kinds, alloc, config.as_str(), group, writer)
 }
 
-/// Writes each configuration's name, and what the sections under it come to. The built-in configuration is the text of one that is
-/// empty, and what an edit is made of.
+/// Writes each configuration's name, and the answers to the sections under it. The built-in configuration is the text
+/// of one that is empty, and what an edit is made of.
 ///
 /// # Errors
 ///

@@ -8,7 +8,7 @@ ghost use Rattle.gw_command_line.specs.Commands.{check, check_of_explanation, co
 use clap::{Arg, ArgAction, Command};
 use std::alloc::{AllocError, Global};
 
-/// What `--version` prints behind the program's name: the version, and the logic that the program is
+/// What `--version` prints after the program's name: the version, and the logic that the program is
 /// proved in, as `rt version` names it.
 const VERSION: &str = "0.1.0, proved by Rattle, logic dac8208d650f15bf";
 

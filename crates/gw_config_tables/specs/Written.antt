@@ -17,13 +17,13 @@ abbrev pub number_written : ℕ → List ℕ → Option ℕ
 number_written bound text =
     if is_decimal text && nat_lt (digits_value 10 text) bound then Some (digits_value 10 text) else None
 
--- what stands before the first such character, and what behind it
+-- the text before the first such character, and the text after it
 abbrev pub split_at : ℕ → List ℕ → Option (List ℕ × List ℕ)
 split_at separator [] = None
 split_at separator (c ∷ text) =
     if c == separator then Some ([], text) else option_map (λ parts. (c ∷ parts.0, parts.1)) (split_at separator text)
 
--- the octet that is written before the first such character, and what stands behind it
+-- the octet that is written before the first such character, and what follows it
 abbrev pub octet_written : ℕ → List ℕ → Option (ℕ × List ℕ)
 octet_written separator text =
     option_and_then (λ parts. option_map (λ octet. (octet, parts.1)) (number_written 256 parts.0))

@@ -1,4 +1,4 @@
--- What is found twice is what stands twice.
+-- What is found twice is what appears twice.
 use Rattle.std.proofs.Common.{◌≡◌, ℕ, ◌+◌, ◌||◌, Bool, false, List, [], ◌∷◌, Option, Some, None, refl, sym, ap, ◌∙◌, nat_eq}
 use Rattle.std.specs.Prelude.{is_some, length}
 use Rattle.std.specs.Cmp.Lexicographic.{pointwise}

@@ -1,4 +1,4 @@
--- Elements that stand twice, as a loop finds them that keeps a sorted set of those before.
+-- Elements that appear twice, as a loop finds them that keeps a sorted set of those before.
 use Rattle.std.proofs.Common.{◌≡◌, ℕ, zero, suc, ◌+◌, ◌<◌, ◌≤◌, ◌||◌, Bool, true, false, cond, not, nat_lt, List, [], ◌∷◌, ◌++◌, length, get_or, take, drop, map, Some, None, refl, sym, ap, ◌∙◌, append_assoc, add-one, drop-cons, arith, nat_eq, Bor}
 use Rattle.std.specs.Prelude.{if◌then◌else◌, is_some}
 use Rattle.std.proofs.lemmas.List.{append-nil}
@@ -70,7 +70,7 @@ module _ {A : Type 0} (same : A → A → Bool) (symmetric : (x y : A) → same 
       last false true = refl
       last false false = refl
 
-  -- behind elements of which none stands twice, the search finds one exactly where one does
+  -- after elements without a repetition, the search finds one exactly if the whole list has one
   behind : (before : List A) (n : ℕ) (xs : List A) → has_twice same before ≡ false → is_some (second_behind same before n xs) ≡ has_twice same (before ++ xs)
   behind before n [] none = sym (ap (has_twice same) (append-nil before) ∙ none)
   behind before n (x ∷ xs) none = step (list_any (same x) before) refl (behind (before ++ x ∷ []) (n + 1) xs)
@@ -117,7 +117,7 @@ not_true false e = refl
 -- a loop that puts keys into a sorted set, one for each element of a list
 module _ {K A : Type 0} (f : K → A) (same : A → A → Bool) (symmetric : (x y : A) → same x y ≡ same y x) (exact : (x y : A) → same x y ≡ true → x ≡ y)
     (cmp : K → K → Ordering) (tie : (k l : K) → is_eq (cmp k l) ≡ same (f k) (f l)) where
-  -- the set has what stands before a place
+  -- the set has the elements before a place
   abbrev pub Has : List K → List A → ℕ → Type 0
   Has keys xs k = (q : A) → list_any (λ y. same q (f y)) keys ≡ list_any (same q) (take k xs)
 

@@ -1,4 +1,4 @@
--- What may stand only once in a configuration.
+-- What may appear only once in a configuration.
 use Rattle.std.specs.Prelude.{◌≡◌, is_some, ℕ, ◌+◌, ◌-◌, ◌*◌, ◌/◌, ◌%◌, ◌^◌, ◌++◌, ◌==◌, Bool, false, ◌||◌, nat_eq}
 use Rattle.std.specs.Prelude.{nat_lt, List, [], ◌∷◌, length, map, codes, if◌then◌else◌, Option, Some, None, Ok}
 use Rattle.std.specs.Cmp.Lexicographic.{pointwise}
@@ -22,7 +22,7 @@ use Rattle.gw_configuration.specs.declared.set.Set.{Set as SetEntry}
 use Rattle.gw_configuration.specs.Configuration.{Configuration}
 use Rattle.gw_configuration.specs.Located.{Find, Located, at_key, unless}
 
--- an element that stands twice
+-- an element that appears twice
 abbrev pub has_twice : {A : Type 0} → (A → A → Bool) → List A → Bool
 has_twice same [] = false
 has_twice same (x ∷ xs) = list_any (same x) xs || has_twice same xs
@@ -68,7 +68,7 @@ set_names sets = map (λ set. set.name) sets
 abbrev pub rule_names : List RuleEntry → List (List ℕ)
 rule_names rules = map (λ rule. rule.name) rules
 
--- something stands twice that may stand only once
+-- something appears twice that may appear only once
 unfoldable pub has_duplicates : Configuration → Bool
 has_duplicates c =
     has_twice nat_eq (networks c)
@@ -79,7 +79,7 @@ has_duplicates c =
     || (has_twice (pointwise nat_eq) (set_names c.sets)
     || has_twice (pointwise nat_eq) (rule_names c.rules))))))
 
--- where it stands for the second time
+-- where it appears for the second time
 
 -- the position of the first element that is the same as one before it
 abbrev pub second_behind : {A : Type 0} → (A → A → Bool) → List A → ℕ → List A → Option ℕ
@@ -129,7 +129,7 @@ peers_twice place [] = None
 peers_twice place (port ∷ ports) =
     or_else (option_map (peer_twice place) (second nat_eq (peer_addresses port.peers))) (peers_twice (place + 1) ports)
 
--- where something stands for the second time that may stand only once
+-- where something appears for the second time that may appear only once
 unfoldable pub repetition : Configuration → Option Located
 repetition c =
     or_else (option_map (network_twice (length c.ports)) (second nat_eq (networks c)))
@@ -140,7 +140,7 @@ repetition c =
     (or_else (option_map set_twice (second (pointwise nat_eq) (set_names c.sets)))
     (option_map rule_twice (second (pointwise nat_eq) (rule_names c.rules))))))))
 
--- law: such a place is told exactly where something stands twice
+-- law: such a place is found exactly if something appears twice
 abbrev pub RepetitionsAreTold : Type 0
 RepetitionsAreTold = (c : Configuration) → is_some (repetition c) ≡ has_duplicates c
 

@@ -36,7 +36,7 @@ at_key place fault key =
 abbrev pub Find : Type 0 → Type 0
 Find A = Result A Located
 
--- a fault that no table tells is one of the text as a whole
+-- a fault without a table is one of the text as a whole
 abbrev pub whole : {A : Type 0} → Read A → Find A
 whole (Ok x) = Ok x
 whole (Err fault) = Err (of_text fault)

@@ -17,7 +17,7 @@ abbrev pub Finds : {X Y : Type 0} → (X → Y) → Result X Lent → Find Y →
 Finds view (Ok x) reading = reading ≡ Ok (view x)
 Finds view (Err located) reading = located.fault ≢ Memory → reading ≡ Err (located_view located)
 
--- a fault of what is read is told: no want of memory comes before it
+-- a fault of what is read is returned: no lack of memory comes before it
 abbrev pub Tells : {X Y : Type 0} → Result X ConfigFault → Result Y ConfigFault → Type 0
 Tells result reading = (fault : ConfigFault) → reading ≡ Err fault → result ≡ Err fault
 

@@ -14,7 +14,7 @@ use std::alloc::Global;
 use std::marker::Model;
 
 /// What a gateway is configured with: its parts, each in the order of the text, in which nothing
-/// stands twice that may stand only once. Contracts see the parts.
+/// appears twice that may appear only once. Contracts see the parts.
 pub struct Config {
     parts: Parts,
 }
@@ -39,8 +39,8 @@ impl Model for Config {
 }
 
 impl Config {
-    /// The configuration of these parts. `Duplicate` with its place where something stands twice that may
-    /// stand only once; `Memory` where there is none to look for that.
+    /// The configuration of these parts. `Duplicate` with its place if something appears twice that may
+    /// appear only once; `Memory` if there is none for that check.
     #[tactic(auto, using(crate::proofs::Repeats::none_stands_twice))]
     pub fn of_parts<'a>(alloc: Global, parts: Parts) -> Result<Self, Located<'a>>
         ensures { Finds (λ c. c) result (unique parts) }
@@ -66,7 +66,7 @@ impl Config {
     pub fn device(&self) -> &Device
         ensures device { result.now ≡ self.now.device }
         ensures named { IsTrue (is_named self.now.device.name) }
-        // No network, address, identifier or name stands twice in the whole configuration.
+        // No network, address, identifier or name appears twice in the whole configuration.
         ensures once { IsFalse (has_duplicates self.now) }
     {
         self.parts.device()
@@ -77,7 +77,7 @@ impl Config {
         ensures ports { result.now ≡ self.now.ports }
         ensures some { 1 ≤ length self.now.ports }
         ensures most { length self.now.ports ≤ MAX_PORTS }
-        // No network, address, identifier or name stands twice in the whole configuration.
+        // No network, address, identifier or name appears twice in the whole configuration.
         ensures once { IsFalse (has_duplicates self.now) }
     {
         self.parts.ports()

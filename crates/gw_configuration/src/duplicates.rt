@@ -1,4 +1,4 @@
-//! What may stand only once in a configuration.
+//! What may appear only once in a configuration.
 ghost use Rattle.std.specs.Prelude.{◌≡◌, ◌++◌, ◌∷◌, codes, length, map, nat_eq, option_map, IfOk, OnOk};
 ghost use Rattle.std.specs.Cmp.Lexicographic.{pointwise};
 ghost use Rattle.gw_configuration.specs.Duplicates as spec;
@@ -11,7 +11,7 @@ use gw_rules::Rule;
 use std::alloc::{AllocError, Global};
 use std::collections::BTreeSet;
 
-/// Where something stands for the second time that may stand only once. `AllocError` where memory
+/// Where something appears for the second time that may appear only once. `AllocError` if memory
 /// was refused.
 #[tactic(auto, unfolding(crate::specs::Duplicates::repetition))]
 pub(crate) fn repetition<'a>(
@@ -42,7 +42,7 @@ pub(crate) fn repetition<'a>(
     rule_twice(alloc, parts.rules().rules())
 }
 
-/// This key stands there for the second time.
+/// This key appears there for the second time.
 fn twice<'a>(place: Place, key: &'static str) -> Located<'a>
     ensures { located_view result ≡ spec.twice place key.now }
 {
@@ -267,7 +267,7 @@ fn rule_twice<'a>(alloc: Global, rules: &[Rule]) -> Result<Option<Located<'a>>, 
     }
 }
 
-/// The position of the first number that stands before it too.
+/// The position of the first number that also appears before it.
 fn second(alloc: Global, numbers: &[u64]) -> Result<Option<usize>, AllocError>
     ensures { IfOk result (λ p. p ≡ second nat_eq numbers.now) }
 {
@@ -280,7 +280,7 @@ fn second(alloc: Global, numbers: &[u64]) -> Result<Option<usize>, AllocError>
     Ok(None)
 }
 
-/// The position of the first text that stands before it too.
+/// The position of the first text that also appears before it.
 fn second_text(alloc: Global, texts: &[&str]) -> Result<Option<usize>, AllocError>
     ensures { IfOk result (λ p. p ≡ second (pointwise nat_eq) (map (λ t. t.now) texts.now)) }
 {

@@ -7,7 +7,7 @@ use gw_rules::RuleFault;
 use std::alloc::{AllocError, AllocFailed};
 use thiserror::Error;
 
-/// Why a text is no configuration. Where it has several faults, the first is told that is met on
+/// Why a text is no configuration. If it has several faults, the first is reported that is met on
 /// the way from table to table; of those of one table, the one with the lowest number.
 #[derive(Clone, Copy, Debug, Error, PartialEq, Eq)]
 pub enum ConfigFault {

@@ -1,4 +1,4 @@
-//! Laws of the limits, of the numbers that contracts cite, and of what stands twice. Each function does
+//! Laws of the limits, of the numbers that contracts cite, and of what appears twice. Each function does
 //! nothing: its contract is the laws.
 
 ghost use Rattle.std.specs.Prelude.{◌≡◌};
@@ -52,8 +52,8 @@ pub fn subnets()
         subnet_holds s a ≡ holds (big_endian (octets_of a)) (keys_of s) }
 {}
 
-/// A place where something stands for the second time is told exactly where something stands twice that
-/// may stand only once.
+/// A place where something appears for the second time is found exactly if something appears twice that
+/// may appear only once.
 #[tactic(auto, using(crate::proofs::Repeats::repetition_found))]
 pub fn repetitions()
     ensures { RepetitionsAreTold }

@@ -1,5 +1,5 @@
-//! What a gateway is configured with: values that keep every range and limit, and in which nothing stands
-//! twice that may stand only once. Where a fault of a configuration is.
+//! What a gateway is configured with: values that keep every range and limit, and in which nothing appears
+//! twice that may appear only once. Where a fault of a configuration is.
 #![tactic(auto)]
 
 mod config;

@@ -1,4 +1,4 @@
-//! The parts of a configuration, before it is judged what stands twice.
+//! The parts of a configuration, before the check for what appears twice.
 ghost use Rattle.std.specs.Prelude.{◌≡◌, ◌≤◌, ◌==◌, ◌&&◌, ◌||◌, not, Some, None, length, if◌then◌else◌, IsTrue};
 ghost use Rattle.std.specs.List.{list_all};
 ghost use Rattle.gw_addr.specs.declared.TheConstants.{MAX_PORTS};

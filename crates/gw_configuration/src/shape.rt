@@ -2,7 +2,7 @@
 
 use gw_rules::Format;
 
-/// The names that a configuration may have in the place of a number, as the log tells it.
+/// The names that a configuration may have in place of a number, as the log writes them.
 #[derive(Clone, Copy)]
 pub enum Names {
     /// Those of services, messages, functions and types of PDUs.

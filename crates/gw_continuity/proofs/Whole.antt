@@ -25,7 +25,7 @@ use Rattle.gw_continuity.proofs.Learned.{learned_back, routes_stay}
 use Rattle.gw_continuity.proofs.States.{states_are_kept}
 use Rattle.gw_continuity.proofs.Values.{states_back}
 
--- no network stands twice among the first
+-- no network appears twice among the first
 any_front : (n : ℕ) (xs ys : List ℕ) → list_any (nat_eq n) (xs ++ ys) ≡ false → list_any (nat_eq n) xs ≡ false
 any_front n [] ys e = refl
 any_front n (x ∷ xs) ys e =

@@ -19,7 +19,7 @@ use Rattle.gw_objects.specs.Values.{fits}
 abbrev pub IsDefaultInRange : ConfiguredObject → Type 0
 IsDefaultInRange object = IsTrue (fits (details_of object.value) (default_of object.value))
 
--- What is so of each configuration that is accepted: nothing stands twice that may stand only once, there are at most
+-- What is so of each accepted configuration: nothing appears twice that may appear only once, there are at most
 -- 512 routes, and each default is in the range of its object.
 pub record IsAccepted (c : Configuration) : Type 0 where
   pub once : IsFalse (has_duplicates c)

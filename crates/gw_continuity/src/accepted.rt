@@ -4,7 +4,7 @@ ghost use Rattle.gw_continuity.specs.StateOf.{IsAccepted, IsDefaultInRange};
 
 use gw_configuration::{Config, Object, ObjectValue};
 
-/// Nothing stands twice that may stand only once, there are at most 512 routes, and each default is in the range of its
+/// Nothing appears twice that may appear only once, routes are at most 512, and each default is in the range of its
 /// object.
 pub(crate) fn accepted(config: &Config)
     ensures { IsAccepted config.now }

@@ -122,7 +122,7 @@ pub receive_datagram : (w : State) (port : ℕ) (from : BipAddr) (octets : List 
 unfolding receive
 receive_datagram w port from octets received is = ap (admit w.rules w.relay) is
 
--- what isn't told to be past isn't past
+-- what isn't said to be past isn't past
 pub not_past : (told : Bool) (m n : ℕ) → told ≡ false → (m < n → IsTrue told) → n ≤ m
 not_past told m n e tells =
     elim (cases_lt m n) [

@@ -260,7 +260,7 @@ format_two_runs_as_before c k l off =
 
 -- ---- routing under the first format
 
--- nothing is asked behind a `route` ask
+-- nothing is asked after a `route` ask
 none_named : (format : Format) (route : Ask) (payload : Payload) → format ≡ One → named_asks format route payload ≡ []
 none_named One route payload is = refl
 none_named Two route payload is = absurd cc

@@ -151,7 +151,7 @@ run_goes_on first w v all rest others given more e x p split goes does pushed = 
 pub first_events : (all done rest : List Event) → all ≡ done ++ rest → take (length done) all ≡ done
 first_events all done rest parts = ap (take (length done)) parts ∙ take_at done rest (length done) refl
 
--- the event behind those that are done
+-- the event after those that are done
 pub next_event : (done : List Event) (e : Event) (later : List Event) → slice_get (done ++ e ∷ later) (length done) ≡ Some e
 next_event [] e later = refl
 next_event (d ∷ done) e later = next_event done e later
@@ -208,7 +208,7 @@ run_from-after c k h (e ∷ l) =
     ap (λ (x : State). given ∷ run_from x l) (sym (state_next c k h e))
     ∙ ap (λ (x : List Effects). given ∷ x) (run_from-after c k (e ∷ h) l)
 
--- one event more behind a history
+-- one event more after a history
 pub history_more : (h l : List Event) (e : Event) → history_after h (l ++ e ∷ []) ≡ e ∷ history_after h l
 unfolding history_after
 history_more h [] e = refl

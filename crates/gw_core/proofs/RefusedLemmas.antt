@@ -61,7 +61,7 @@ use Rattle.gw_core.proofs.RelayAskLemmas.{Else, IsElse, cast_is_else, entry_is_e
 abbrev part_of : List Ask → List ℕ → Part
 part_of asks octets = record { asks = asks; octets = octets }
 
--- all parts, one behind the other
+-- all parts, one after the other
 joined_parts : (rules : List Rule) (d : Database) (context : Context) (rs : List Reference)
     → multi_part rules d context rs
     ≡ part_of (flat_map (λ (part : Part). part.asks) (parts rules d context rs)) (flat_map (λ (part : Part). part.octets) (parts rules d context rs))
@@ -78,7 +78,7 @@ replies_are_their_parts rules d context request rs = ap (reply request context) 
     reply : ConfirmedRequest → Context → Part → Response
     reply request context part = unchanged part.asks (to_client (fitted request context (multi_ack request.invoke part.octets)))
 
--- what stands in the place of a denied one
+-- what is in the place of a denied one
 refused_named : (rules : List Rule) (d : Database) (context : Context) (r : Reference) (ends : Bool) → allows rules (ask_for d context r) ≡ false
     → reference_part rules d context r ends ≡ refused_part d context r ends
 refused_named rules d context r ends denied = by (set_of r.property) refl
@@ -118,7 +118,7 @@ others_are_answered rules d context front rest r s is = (
   ap (λ (n : ℕ). drop n (parts rules d context (front ++ r ∷ rest))) (add-one (length front)) ∙ rest_alike rules d context front rest r,
 )
 
--- the properties of a set, those before one and those behind it
+-- the properties of a set, those before one and those from it on
 members_along : (rules : List Rule) (d : Database) (context : Context) (object : Object) (front rest : List Property) (p : Property)
     → (properties_part rules d context object (front ++ p ∷ rest)).octets
     ≡ (properties_part rules d context object front).octets ++ (properties_part rules d context object (p ∷ rest)).octets

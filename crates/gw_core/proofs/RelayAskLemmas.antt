@@ -56,7 +56,7 @@ steps_if : (b : Bool) (xs ys : List Step) → Else (asks_of xs) → Else (asks_o
 steps_if true xs ys f g = f
 steps_if false xs ys f g = g
 
--- ---- what is asked behind a `route` ask
+-- ---- what is asked after a `route` ask
 
 else_read : (route : Ask) (read : Result Read BodyFault) → Else (read_asks route read)
 else_read route (Ok r) = (λ e. absurd cc, tt)

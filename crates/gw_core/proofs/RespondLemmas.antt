@@ -114,7 +114,7 @@ sends_put rules format d m network context octets answer its apdu told is =
     ap (answer_sends network m) (is ∙ sym (answer_put rules format d m network context octets its apdu told))
     ∙ ap (λ (n : ℕ). answer_sends n m (apdu_answer rules d (context_of format (device_network d) m) (apdu_for (device_network d) m.npdu))) its
 
--- an unregistered sender is told so
+-- an unregistered sender is answered
 told_so : (rules : List Rule) (format : Format) (m : Message) (frame : Frame) → m.frame ≡ frame → is_unregistered m.here m.from frame ≡ true
     → cast_sends rules format m ≡ [] → ⊥
 told_so rules format m (bvll.result_code code) is s none = absurd cc
@@ -185,7 +185,7 @@ no_change : (b : Bool) (change : Option Change) → b ≡ false → ◌≡◌ {A
 no_change true change e = absurd cc
 no_change false change e = refl
 
--- nothing behind a list
+-- nothing after a list
 pub three_none : {A : Type 0} (xs : List A) → xs ++ [] ++ [] ++ [] ≡ xs
 three_none xs = append-nil (xs ++ [] ++ []) ∙ append-nil (xs ++ []) ∙ append-nil xs
 

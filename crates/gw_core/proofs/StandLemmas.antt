@@ -1,4 +1,4 @@
--- The ports' tables, the routes and the device's slots stand after every history as its granted acts left them.
+-- After every history the ports' tables, the routes and the device's slots are as its granted acts left them.
 use Rattle.std.proofs.Common.{◌≡◌, ℕ, List, [], ◌∷◌, map, Option, Some, None, refl, sym, subst}
 use Rattle.std.specs.Prelude.{slice_get}
 use Rattle.gw_device.specs.declared.context.Context.{Context}

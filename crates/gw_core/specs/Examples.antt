@@ -96,13 +96,13 @@ HiddenReadIsDenied =
 abbrev pub LocalReadIsUnheard : Type 0
 LocalReadIsUnheard = gives (hex (codes "810A001101040005070C0C014000011955")) ≡ nothing
 
--- A read of Binary Value 7, which isn't there but is hidden, doesn't tell that it isn't there.
+-- A read of Binary Value 7, which isn't there but is hidden, doesn't show that it isn't there.
 abbrev pub HiddenObjectIsUntold : Type 0
 HiddenObjectIsUntold =
     gives (hex (codes "810A0016012400640101FF0005090C0C014000071955"))
     ≡ refuses (hex (codes "810A001101080064010150090C9102911B")) 7
 
--- A read of Binary Value 50, which is neither hidden nor there, tells that the object is unknown.
+-- A read of Binary Value 50, which is neither hidden nor there, shows that the object is unknown.
 abbrev pub UnknownObjectIsTold : Type 0
 UnknownObjectIsTold =
     gives (hex (codes "810A0016012400640101FF0005090C0C014000321955"))
@@ -204,7 +204,7 @@ no_writes =
 abbrev pub write_ask : Ask
 write_ask = record (asks_for 1) { operation = Some 10; service = Some 15; priority = Some 16 }
 
--- A denied write answers the access error and is logged; the read behind it doesn't see it.
+-- A denied write answers the access error and is logged; the read after it doesn't see it.
 abbrev pub DeniedWriteIsUnseen : Type 0
 DeniedWriteIsUnseen =
     run no_writes (record { ticks = 0; denials = 0 })
@@ -280,7 +280,7 @@ registers = from_afar (hex (codes "81050006003C"))
 abbrev pub asks_registered : Event
 asks_registered = from_afar (hex (codes "81060004"))
 
--- A registration for 60 seconds is told as a success, is shown 89 ticks later with one second left,
+-- A registration for 60 seconds is answered as a success, is shown 89 ticks later with one second left,
 -- and is gone with the 90th tick.
 abbrev pub RegistrationEnds : Type 0
 RegistrationEnds =
@@ -313,7 +313,7 @@ LearnedRouteIsTaken =
     ∷ sends_all (sends_to 2 (node 2 21) (hex (codes "810A0016012801900107000106C0A80105BAC0FE1008")) ∷ [])
     ∷ sends_all (sends_to 2 (node 2 20) (hex (codes "810A00160128012C0107000106C0A80105BAC0FE1008")) ∷ []) ∷ []
 
--- A message for a network that no router is known for: its sender is told, and the other port's routers are asked.
+-- A message for a network that no router is known for: its sender gets a reject; the other port's routers are asked.
 abbrev pub UnknownNetworkIsSought : Type 0
 UnknownNetworkIsSought =
     after_all [] to_400

@@ -1,5 +1,5 @@
 -- The text of an event with its asks: a line for each ask, allowed or denied, with the rule that
--- decides it; and behind them the lines of what the event does.
+-- decides it; and after them the lines of what the event does.
 use Rattle.std.specs.Prelude.{ℕ, Bool, List, [], ◌∷◌, ◌++◌, Option, Some, None, codes, if◌then◌else◌}
 use Rattle.std.specs.Fmt.{decimal}
 use Rattle.std.specs.List.{flat_map}
@@ -42,6 +42,6 @@ ask_lines rules (Some from) asks = flat_map (λ ask. ask_line rules (source_of f
 unfoldable pub asks_text : State → Event → List ℕ
 asks_text w e = ask_lines w.rules (origin (receive w e)) (asks w e)
 
--- the lines of an event that is explained: those of its asks, and behind them those of what it does
+-- the lines of an event that is explained: those of its asks, and after them those of what it does
 abbrev pub explained_text : State → Event → List ℕ
 explained_text w e = asks_text w e ++ event_text w e

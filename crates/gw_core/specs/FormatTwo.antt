@@ -36,7 +36,7 @@ received_before w Tick = dropped
 
 -- ---- the parts, in the order of the steps
 
--- what the device is told of a message: nothing of a sender
+-- what the device knows of a message: nothing of a sender
 abbrev pub context_before : ℕ → Message → Context
 context_before network m = record {
   port = m.here.port.number;

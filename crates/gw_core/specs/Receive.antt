@@ -74,7 +74,7 @@ abbrev pub is_direct : List PortState → ℕ → ℕ → Bool
 is_direct links device network =
     network == device || list_any (λ link. link.port.network == network) links
 
--- whether a message names a source on a network that the gateway itself stands on
+-- whether a message names a source on a network of the gateway's own
 abbrev pub claims_direct : List PortState → ℕ → Option Address → Bool
 claims_direct links device None = false
 claims_direct links device (Some s) = is_direct links device s.network

@@ -42,7 +42,7 @@ abbrev pub parts : List Rule → Database → Context → List Reference → Lis
 parts rules d context [] = []
 parts rules d context (r ∷ rs) = reference_part rules d context r (list_ends rs) ∷ parts rules d context rs
 
--- A reply is its parts, one behind the other.
+-- A reply is its parts, one after the other.
 abbrev pub RepliesAreTheirParts : Type 0
 RepliesAreTheirParts =
     (rules : List Rule) (d : Database) (context : Context) (request : ConfirmedRequest) (rs : List Reference) →
@@ -80,7 +80,7 @@ DeniedPropertiesAreRefused =
     ≡ Some (refused_part d context r (list_ends rest))
 
 -- The parts before it are those that they are with any other reference in its place, as long as the object's list
--- begins there or goes on alike; and those behind it are those of the references behind it.
+-- begins there or goes on alike; and those after it are those of the references after it.
 abbrev pub OthersAreAnswered : Type 0
 OthersAreAnswered =
     (rules : List Rule) (d : Database) (context : Context) (front rest : List Reference) (r s : Reference) →

@@ -14,12 +14,12 @@ use Rattle.gw_script.specs.Script.{lines_of, IsLine, AreLines}
 abbrev pub no_counts : Counts
 no_counts = record { ticks = 0; denials = 0 }
 
--- How an event is told: the text of it, in the state in which it comes. A replay tells what each
+-- How an event is reported: its text, in the state in which it comes. A replay reports what each
 -- event does (`event_text`), and one that explains also what each asks (`explained_text`).
 abbrev pub Telling : Type 0
 Telling = State → Event → List ℕ
 
--- the text of events behind a history, each told in the state that those before it left
+-- the text of events after a history, each in the state that those before it left
 unfoldable pub text_after : Telling → Configuration → List Event → List Event → List ℕ
 text_after told c h [] = []
 text_after told c h (e ∷ l) = told (state_after c no_counts h) e ++ text_after told c (e ∷ h) l
@@ -56,7 +56,7 @@ pub record RunsPart (told : Telling) (c : Configuration) (script before after : 
   pub lines : FirstLines c script events
   pub text : after ≡ before ++ run_text told c events
 
--- some first lines write events, the line behind them writes one that would pass the end of a
+-- some first lines write events, the line after them writes one that would pass the end of a
 -- count, and what was written is the text of the run of those before
 pub record RunsToEnd (told : Telling) (c : Configuration) (script before after : List ℕ) : Type 0 where
   pub events : List Event
@@ -69,7 +69,7 @@ pub record RunsToEnd (told : Telling) (c : Configuration) (script before after :
   pub passes : passes_end (state_after c no_counts (history_after [] events)) event ≡ true
   pub text : after ≡ before ++ run_text told c events
 
--- The line behind those of these events writes one for which memory may be wanted.
+-- The line after those of these events writes one for which memory may be wanted.
 pub record MemoryLine (c : Configuration) (script : List ℕ) (events : List Event) : Type 0 where
   pub line : List ℕ
   pub rest : List (List ℕ)
@@ -79,7 +79,7 @@ pub record MemoryLine (c : Configuration) (script : List ℕ) (events : List Eve
   pub wants : ¬ (NeedsNoMemory (state_after c no_counts (history_after [] events)) event)
 
 -- Some first lines write events, and what was written is the text of their run, whole. Either there
--- are none of them, or the line behind them writes an event for which memory may be wanted.
+-- are none of them, or the line after them writes an event for which memory may be wanted.
 pub record RunsToMemory (told : Telling) (c : Configuration) (script before after : List ℕ) : Type 0 where
   pub events : List Event
   pub lines : FirstLines c script events

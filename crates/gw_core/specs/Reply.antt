@@ -87,7 +87,7 @@ local_reply network priority octets = record {
   payload = apdu octets;
 }
 
--- ---- what the device is told
+-- ---- what the device knows
 
 -- how many octets the APDU may have that goes back to the station that asked
 abbrev pub max_reply_apdu : ℕ → Fields → ℕ

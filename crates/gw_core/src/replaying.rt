@@ -139,7 +139,7 @@ pub fn replay_explaining<R: OctetSource, W: OctetSink>(
     replay_telling(&Explaining { alloc }, config, reader, writer, flaw)
 }
 
-/// Runs the events of a script through a fresh gateway, and tells each so.
+/// Runs the events of a script through a fresh gateway, and reports each by `telling`.
 fn replay_telling<T: Telling, R: OctetSource, W: OctetSink>(
     telling: &T,
     config: Config,

@@ -26,7 +26,7 @@ use std::alloc::{AllocError, Global};
 const DEVICE_STATION: u8 = 1;
 /// The hop count of a message that has passed no router yet.
 const WHOLE_COUNT: u8 = 255;
-/// How many octets of a frame stand before its NPDU (Annex J.2.11, J.2.12).
+/// How many octets of a frame come before its NPDU (Annex J.2.11, J.2.12).
 const FRAME_HEADER: usize = 4;
 /// The type of a BACnet/IP frame (Annex J.2).
 const BVLL_TYPE: u8 = 0x81;
@@ -128,7 +128,7 @@ fn max_reply_apdu(network: NetNum, request: &Npdu<'_>) -> usize
     gw_npdu::MAX_LEN - reply_npdu(network, request, &[], false).header_len()
 }
 
-/// What the device is told of a message.
+/// What the device knows of a message.
 pub fn context_of(format: Format, network: NetNum, message: &Message<'_>) -> Context
     ensures context { result ≡ context_of format network (message_view message.now) }
     ensures room { max_len ≤ result.room + max_header_len }
@@ -192,7 +192,7 @@ fn routed_room(answer: &Answer) -> usize
     REPLY_HEADERS + answer.octets.len()
 }
 
-/// The datagram of an answer to a node behind a router, in a buffer of its own. None where the NPDU would be over
+/// The datagram of an answer to a node behind a router, in a buffer of its own. None if the NPDU would be over
 /// 1497 octets.
 fn routed_octets(
     alloc: Global,
@@ -278,7 +278,7 @@ fn is_local_broadcast(request: &Npdu<'_>, answer: &Answer) -> bool
     answer.broadcast && request.source.is_none()
 }
 
-/// Adds the sends of an answer to a message behind others. An `Err` only where a growth of memory was refused; a part may
+/// Appends the sends of an answer to a message. An `Err` only if a growth of memory was refused; a part may
 /// then be added.
 fn add_reply(
     network: NetNum,
@@ -302,7 +302,7 @@ fn add_reply(
     }
 }
 
-/// Adds the sends of an answer to a message, where there is one, behind others. An `Err` only where a growth of memory
+/// Appends the sends of an answer to a message, if there is one. An `Err` only if a growth of memory
 /// was refused, and none without an answer; a part may then be added.
 pub(crate) fn add_answer(
     network: NetNum,

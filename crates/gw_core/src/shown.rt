@@ -41,7 +41,7 @@ fn append_denials(out: &mut Vec<u8>, denials: &[Denial]) -> Result<(), AllocErro
     Ok(())
 }
 
-/// Appends the line of a denial, behind `deny `. Refused only where the buffer had no room for it.
+/// Appends the line of a denial, after `deny `. Refused only if the buffer had no room for it.
 fn append_denial(out: &mut Vec<u8>, denial: &Denial) -> Result<(), AllocError>
     ensures ok { OnOk result (out.new.items ≡ out.old.items ++ denial_line denial.now) }
     ensures room { vec_len out.old + length (denial_line denial.now) ≤ vec_capacity out.old →

@@ -1,4 +1,4 @@
-//! How a replay tells an event: by what it does, or before that also by what it asks.
+//! How a replay reports an event: what it does, or before that also what it asks.
 
 ghost use Rattle.std.specs.Prelude.{◌≡◌, ◌+◌, ◌≤◌, ◌++◌, IsOk, OnOk, IfErr, vec_capacity, vec_len};
 ghost use Rattle.gw_script.specs.Event.{Tick, event_view};
@@ -17,7 +17,7 @@ use crate::whole_run::take_event;
 use gw_script::{Event, SpelledAddr, append_end};
 use std::alloc::{AllocError, Global};
 
-/// How a replay tells an event.
+/// How a replay reports an event.
 pub(crate) trait Telling {
     ghost use Rattle.gw_core.specs.Replay.{Telling};
 
@@ -27,7 +27,7 @@ pub(crate) trait Telling {
     /// The allocator of what an event does.
     fn alloc(&self) -> Global;
 
-    /// Has the gateway take an event, and makes the text that tells it.
+    /// Has the gateway take an event, and makes the event's text.
     fn make_text(
         &self,
         gateway: &mut Gateway,

@@ -234,7 +234,7 @@ still_device rules d context octets = still_apdu rules d context (apdu_at octets
 
 -- ---- whose asks
 
--- an ask that says what the context tells
+-- an ask that says what the context says
 record Tells (context : Context) (ask : Ask) : Type 0 where
   source : IsFrom context.source_network context.source_key ask
   sender : IsSentBy context.sender ask

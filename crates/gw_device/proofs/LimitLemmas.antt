@@ -9,7 +9,7 @@ use Rattle.gw_device.specs.declared.context.Context.{Context}
 use Rattle.gw_device.specs.Response.{fits, fitted, header_room, with_room}
 use Rattle.gw_device.specs.internal.Limit.{LimitedState, extended, followed, or_abort}
 
--- as many are left for both as are left for the second behind the first
+-- the second fits after the first exactly if both fit
 both_fit : (first second left : ℕ) (x y : Bool) → nat_le first left ≡ true → nat_le second (left - first) ≡ x → nat_le (first + second) left ≡ y → x ≡ y
 both_fit first second left true true one two both = refl
 both_fit first second left false false one two both = refl
@@ -51,7 +51,7 @@ followed_both left (Some octets) one two = by (nat_le (length one) left) refl
 pub extended_both : (limited : LimitedState) (one two : List ℕ) → extended (extended limited one) two ≡ extended limited (one ++ two)
 extended_both limited one two = followed_both limited.left limited.octets one two
 
--- two parts one behind the other
+-- two parts one after the other
 pub both_extended : {T F : Type 0} (result : Result T F) (before between after : LimitedState) (one two : List ℕ) → between ≡ extended before one
     → OnOk result (after ≡ extended between two) → OnOk result (after ≡ extended before (one ++ two))
 both_extended result before between after one two first second =

@@ -19,7 +19,7 @@ item_value x p index (Ok octets) old head value new a b c =
     ∙ search (rules, append_assoc)
 item_value x p index (Err fault) old head value new a b c = absurd b
 
--- the item of a property that has none: what was begun is taken off again, and the error stands in its place
+-- the item of a property that has none: what was begun is taken off again, and the error takes its place
 pub item_fault : (fault : ReadFault) (why : ServiceError) (p : ℕ) (index : Option ℕ) (due : Result (List ℕ) ReadFault) (old begun head value cut new : List ℕ) → value ≡ old ++ begun → Answers {X = Unit {0}} (Err fault) due head value → fault ≢ Memory → why ≡ read_error fault
     → cut ≡ take (length old) value → new ≡ cut ++ error_item p index why → new ≡ old ++ item p index (or_error due)
 item_fault fault why p index (Ok octets) old begun head value cut new a b other is front e = absurd (other b)
@@ -27,7 +27,7 @@ item_fault fault why p index (Err found) old begun head value cut new a b other 
     e ∙ ap (λ text. text ++ error_item p index why) (front ∙ ap (take (length old)) a ∙ take_at old begun (length old) refl)
     ∙ ap (λ told. old ++ error_item p index told) (is ∙ ap read_error b)
 
--- what was begun is taken off again; what is behind it then, if anything, makes it no shorter
+-- what was begun is taken off again; what is then appended, if anything, makes it no shorter
 pub longer_after : {T F : Type 0} (result : Result T F) (begun text : List ℕ) (old value cut new : Vec ℕ) → vec_items value ≡ vec_items old ++ begun
     → vec_items cut ≡ take (length (vec_items old)) (vec_items value) → OnOk result (vec_items new ≡ vec_items cut ++ text)
     → OnErr result (vec_items new ≡ vec_items cut) → vec_len old ≤ vec_len new

@@ -12,7 +12,7 @@ use Rattle.gw_tags.specs.Object.{Object}
 use Rattle.gw_device.specs.declared.context.Context.{Context}
 
 -- what a request asks for: whence it came, the device's network, its service, the property of an object, and the
--- sender if the context tells one
+-- sender if the context names one
 abbrev pub property_ask : Operation → Service → Configured → Context → Object → ℕ → Ask
 property_ask operation service c context object property = record (ask_of operation) {
   port = Some context.port;

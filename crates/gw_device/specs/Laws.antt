@@ -95,7 +95,7 @@ ChangesCanBeMade =
 
 -- ---- asks
 
--- Every ask of the device has the source that its context tells.
+-- Every ask of the device has the source that its context names.
 abbrev pub AsksHaveTheirSource : Type 0
 AsksHaveTheirSource =
     (rules : List Rule) (d : Database) (context : Context) (octets : List ℕ) →
@@ -106,7 +106,7 @@ pub record IsSentBy (key : Option ℕ) (ask : Ask) : Type 0 where
   pub sender : ask.sender ≡ key
   pub station : ask.station ≡ None
 
--- Every ask of the device has the sender that its context tells, and no station.
+-- Every ask of the device has the sender that its context names, and no station.
 abbrev pub AsksHaveTheirSender : Type 0
 AsksHaveTheirSender =
     (rules : List Rule) (d : Database) (context : Context) (octets : List ℕ) →

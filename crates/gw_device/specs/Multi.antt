@@ -38,7 +38,7 @@ no_part = record { asks = []; octets = [] }
 abbrev pub asked : Ask → Part
 asked ask = record { asks = ask ∷ []; octets = [] }
 
--- one part behind the other
+-- one part after the other
 abbrev pub joined : Part → Part → Part
 joined a b = record { asks = a.asks ++ b.asks; octets = a.octets ++ b.octets }
 
@@ -58,7 +58,7 @@ property_part rules d context object p index =
     let ask = multi_ask d context object p in
     record { asks = ask ∷ []; octets = item p index (read_value rules d ask object p index) }
 
--- properties one behind the other
+-- properties one after the other
 abbrev pub properties_part : List Rule → Database → Context → Object → List Property → Part
 properties_part rules d context object [] = no_part
 properties_part rules d context object (p ∷ ps) =

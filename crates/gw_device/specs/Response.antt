@@ -25,11 +25,11 @@ pub record Answer : Type 0 where
 abbrev pub header_room : List ℕ
 header_room = 0 ∷ 0 ∷ 0 ∷ 0 ∷ 0 ∷ 0 ∷ 0 ∷ 0 ∷ 0 ∷ 0 ∷ []
 
--- an APDU behind that room
+-- an APDU after that room
 abbrev pub with_room : List ℕ → List ℕ
 with_room apdu = header_room ++ apdu
 
--- an answer of the code: what stands behind the room
+-- an answer of the code: what follows the room
 abbrev pub answer_view : RustAnswer → Answer
 answer_view a = record { apdu = drop 10 a.octets.items; broadcast = a.broadcast }
 
@@ -70,7 +70,7 @@ to_client apdu = Some (record { apdu = apdu; broadcast = false })
 abbrev pub to_everyone : List ℕ → Option Answer
 to_everyone apdu = Some (record { apdu = apdu; broadcast = true })
 
--- an answer to everyone, where there is something to tell
+-- an answer to everyone, if there is something to announce
 abbrev pub told : Option (List ℕ) → Option Answer
 told None = None
 told (Some apdu) = to_everyone apdu
@@ -84,7 +84,7 @@ abbrev pub fits : ConfirmedRequest → Context → List ℕ → Bool
 fits request context ack =
     nat_le (length ack) (max_apdu_len request.max_apdu) && nat_le (length ack) context.room
 
--- A ComplexACK that is too long would have to be segmented: an Abort stands in its place
+-- A ComplexACK that is too long would have to be segmented: an Abort takes its place
 -- (clause 5.4.5.3).
 abbrev pub fitted : ConfirmedRequest → Context → List ℕ → List ℕ
 fitted request context ack =

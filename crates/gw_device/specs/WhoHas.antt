@@ -27,7 +27,7 @@ abbrev pub sought_object : Configured → Sought → Option Object
 sought_object c (the_object id) = Some id
 sought_object c (the_name charset name) = if charset == utf8 then named c name else None
 
--- to tell that the object is here, which is to list its Object_Name
+-- to announce that the object is here, which is to list its Object_Name
 abbrev pub who_has_ask : Configured → Context → Object → Ask
 who_has_ask c context object =
     property_ask operation.List (Unconfirmed who_has) c context object (property_number ObjectName)
@@ -41,7 +41,7 @@ i_have_apdu c object name = unconfirmed i_have ++ i_have_encoding (record {
   name = name;
 })
 
--- an object that is sought is asked for; told of where it is there
+-- an object that is sought is asked for, and announced if it is there
 abbrev pub object_response : List Rule → Database → Context → Option Object → Response
 object_response rules d context None = silence
 object_response rules d context (Some object) =

@@ -30,7 +30,7 @@ is_within (Some limits) instance = nat_le limits.low instance && nat_le instance
 abbrev pub longest_apdu : ℕ
 longest_apdu = 1476
 
--- to tell that the device is here, which is to list its Object_Identifier
+-- to announce that the device is here, which is to list its Object_Identifier
 abbrev pub who_is_ask : Configured → Context → Ask
 who_is_ask c context =
     property_ask operation.List (Unconfirmed who_is) c context (device_id c.device)
@@ -45,7 +45,7 @@ i_am_apdu c = unconfirmed i_am ++ i_am_encoding (record {
   vendor = c.device.vendor;
 })
 
--- what there is to tell, where its ask is allowed
+-- what there is to announce, if its ask is allowed
 abbrev pub if_allowed : List Rule → Ask → Option (List ℕ) → Response
 if_allowed rules ask apdu = unchanged (ask ∷ []) (if allows rules ask then told apdu else None)
 

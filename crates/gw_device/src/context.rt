@@ -1,6 +1,6 @@
-//! What the device is told of an APDU beside its octets.
+//! What the device knows of an APDU besides its octets.
 
-/// What the device is told of an APDU beside its octets.
+/// What the device knows of an APDU besides its octets.
 #[derive(Clone, Copy)]
 pub struct Context {
     /// How many octets the APDU of a ComplexACK may have on its way back.

@@ -36,7 +36,7 @@ impl Model for Limited {
 }
 
 impl Limited {
-    /// What is behind the room for headers, which may be so many octets.
+    /// What follows the room for headers, which may be so many octets.
     pub fn new(octets: Vec<u8>, most: usize) -> Self
         requires { 10 ≤ vec_len octets }
         ensures { (apdu : List ℕ) → octets.items ≡ with_room apdu →
@@ -51,7 +51,7 @@ impl Limited {
         limited
     }
 
-    /// Counts what was written behind the first `len` octets.
+    /// Counts what was written after the first `len` octets.
     fn count(&mut self, len: usize)
         requires { len ≤ option_map_or length self.old.octets 0 }
         ensures { (octets more : List ℕ) → self.old.octets ≡ Some (octets ++ more) →

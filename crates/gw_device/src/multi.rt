@@ -284,7 +284,7 @@ impl Access<'_> {
         self.put_references(others, asker, out)
     }
 
-    /// The answer to a ReadPropertyMultiple, behind the room for headers.
+    /// The answer to a ReadPropertyMultiple, after the room for headers.
     fn multi_apdu<A: Asker>(
         &self,
         header: &ConfirmedRequest,

@@ -27,7 +27,7 @@ impl Served {
         }
     }
 
-    /// An APDU behind the room for its headers, for the client alone; nothing is changed.
+    /// An APDU after the room for its headers, for the client alone; nothing is changed.
     pub(crate) fn to_client(octets: Vec<u8>) -> Self
         requires { 10 ≤ vec_len octets }
         ensures answer { option_map answer_view result.answer ≡ to_client (drop 10 octets.items) }
@@ -42,7 +42,7 @@ impl Served {
         }
     }
 
-    /// An APDU behind the room for its headers, for everyone on the requester's network; nothing is
+    /// An APDU after the room for its headers, for everyone on the requester's network; nothing is
     /// changed.
     pub(crate) fn to_everyone(octets: Vec<u8>) -> Self
         requires { 10 ≤ vec_len octets }

@@ -37,7 +37,7 @@ pub(crate) fn begin_apdu(alloc: Global, apdu_len: usize) -> Result<Vec<u8>, Allo
     Ok(octets)
 }
 
-/// The octets of an Error, behind the room for headers. `AllocError` where memory was refused.
+/// The octets of an Error, after the room for headers. `AllocError` if memory was refused.
 pub(crate) fn error(
     alloc: Global,
     invoke: u8,
@@ -51,7 +51,7 @@ pub(crate) fn error(
     Ok(octets)
 }
 
-/// The octets of a Reject, behind the room for headers. `AllocError` where memory was refused.
+/// The octets of a Reject, after the room for headers. `AllocError` if memory was refused.
 pub(crate) fn reject(alloc: Global, invoke: u8, reason: RejectReason) -> Result<Vec<u8>, AllocError>
     ensures { IfOk result (λ octets. octets.items ≡ with_room (reject invoke reason.0)) }
 {
@@ -60,7 +60,7 @@ pub(crate) fn reject(alloc: Global, invoke: u8, reason: RejectReason) -> Result<
     Ok(octets)
 }
 
-/// The octets of an Abort, behind the room for headers. `AllocError` where memory was refused.
+/// The octets of an Abort, after the room for headers. `AllocError` if memory was refused.
 pub(crate) fn abort(alloc: Global, invoke: u8, reason: AbortReason) -> Result<Vec<u8>, AllocError>
     ensures { IfOk result (λ octets. octets.items ≡ with_room (abort invoke reason.0)) }
 {
@@ -69,7 +69,7 @@ pub(crate) fn abort(alloc: Global, invoke: u8, reason: AbortReason) -> Result<Ve
     Ok(octets)
 }
 
-/// The octets of a SimpleACK, behind the room for headers. `AllocError` where memory was refused.
+/// The octets of a SimpleACK, after the room for headers. `AllocError` if memory was refused.
 pub(crate) fn simple_ack(alloc: Global, invoke: u8, service: u8) -> Result<Vec<u8>, AllocError>
     ensures { IfOk result (λ octets. octets.items ≡ with_room (simple_ack invoke service)) }
 {
@@ -106,7 +106,7 @@ pub(crate) fn abort_too_long(octets: Vec<u8>, invoke: u8) -> Result<Vec<u8>, All
     Ok(octets)
 }
 
-/// A ComplexACK behind the room for headers, or an Abort in its place where it is too long. `AllocError` where memory
+/// A ComplexACK after the room for headers, or an Abort in its place if it is too long. `AllocError` if memory
 /// was refused.
 pub(crate) fn fit(
     octets: Vec<u8>,

@@ -24,7 +24,7 @@ const UTF_8: u8 = 0;
 /// How many octets an I-Have has without its name, at most.
 const MOST_OCTETS: usize = 16;
 
-/// The I-Have of an object of that name, behind the room for headers.
+/// The I-Have of an object of that name, after the room for headers.
 fn i_have_apdu(
     alloc: Global,
     configured: &Configured,
@@ -75,7 +75,7 @@ impl Access<'_> {
         )
     }
 
-    /// What is told of an object that may be told of, where it is there.
+    /// The I-Have of an object that may be announced, if it is there.
     fn tell_object(&self, alloc: Global, object: ObjectId) -> Result<Served, AllocError>
         ensures answer { let object = object_view object in
             let name = name_at self.now.objects.now.configured object in

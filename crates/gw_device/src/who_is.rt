@@ -30,7 +30,7 @@ pub(crate) fn put_unconfirmed(out: &mut Vec<u8>, service: u8) -> Result<(), Allo
     put_slice(out, &[UNCONFIRMED_REQUEST, service])
 }
 
-/// The I-Am of the device, behind the room for headers.
+/// The I-Am of the device, after the room for headers.
 fn i_am_apdu(alloc: Global, configured: &Configured) -> Result<Vec<u8>, AllocError>
     ensures { IfOk result (λ octets. octets.items ≡ with_room (i_am_apdu configured.now)) }
 {

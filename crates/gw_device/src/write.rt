@@ -21,7 +21,7 @@ use std::alloc::{AllocError, Global};
 /// What is made of a write: a change, or an error.
 type Decision = Result<Change, ServiceError>;
 
-/// The answer to a write, behind the room for headers.
+/// The answer to a write, after the room for headers.
 fn write_apdu(alloc: Global, invoke: u8, decision: &Decision) -> Result<Vec<u8>, AllocError>
     ensures { IfOk result (λ octets. octets.items ≡ with_room (write_answer invoke decision.now)) }
 {

@@ -52,7 +52,7 @@ pub explained : (located : Located) (top : Members) (Wanted : Located → List �
 explained located top Wanted fault line last found same words wanted first =
     record { located = located; first = first; same = same; last = last; wanted = wanted; words = words }
 
--- what stands in a buffer behind a text that was appended
+-- what a buffer holds after a text was appended
 pub appended : {T F : Type 0} (result : Result T F) (old new text : List ℕ) → new ≡ (if is_ok result then old ++ text else old) → OnOk result (new ≡ old ++ text)
 appended (Ok done) old new text is = is
 appended (Err fault) old new text is = search rules

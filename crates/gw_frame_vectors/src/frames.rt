@@ -73,7 +73,7 @@ pub fn hops(alloc: Global, line: &str, out: &mut Vec<u8>) -> io::Result<()> {
     }
 }
 
-/// The header of an APDU and the octets behind it, the code of its service and the number of its type.
+/// The header of an APDU and the octets after it, the code of its service and the number of its type.
 pub fn apdu(alloc: Global, line: &str, out: &mut Vec<u8>) -> io::Result<()> {
     let octets = octets_of(alloc, line)?;
     match gw_apdu::decode(&octets) {

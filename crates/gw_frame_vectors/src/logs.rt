@@ -1,4 +1,4 @@
-//! Lines of a log, read back and told in words.
+//! Lines of a log, read back and written in words.
 
 use gw_addr::Source;
 use gw_audit::{Moment, ShownAsk, read_ask, read_line, tell_log};
@@ -15,7 +15,7 @@ fn put_field(value: Option<u64>, out: &mut Vec<u8>) -> io::Result<()> {
     }
 }
 
-/// Appends the fields of an ask that a line shows, behind a semicolon.
+/// Appends the fields of an ask that a line shows, after a semicolon.
 fn put_fields(ask: &ShownAsk, out: &mut Vec<u8>) -> io::Result<()> {
     write!(out, ";")?;
     put_field(ask.operation, out)?;
@@ -41,8 +41,8 @@ fn put_source(alloc: Global, port: u8, source: &Source, out: &mut Vec<u8>) -> io
     put_octets(alloc, source.mac.as_slice(), out)
 }
 
-/// What a line tells, as a case of `audit` is written; of the words of an ask alone without the number, the tick and the rule; or
-/// `no line`.
+/// What a line says, as a case of `audit` is written; of the words of an ask alone without the number, the tick and
+/// the rule; or `no line`.
 pub fn line(alloc: Global, case: &str, out: &mut Vec<u8>) -> io::Result<()> {
     let Some(ask) = read_ask(case.as_bytes()) else {
         return write!(out, "no line");
@@ -59,13 +59,13 @@ pub fn line(alloc: Global, case: &str, out: &mut Vec<u8>) -> io::Result<()> {
     put_fields(&ask, out)
 }
 
-/// What a log is told as in words, and how the telling ends. A case has the read that fails, from 0, or `-`,
+/// A log in words, and how the writing of it ends. A case has the read that fails, from 0, or `-`,
 /// the write that fails, how many octets a write takes, and the log.
 pub fn told(alloc: Global, line: &str, out: &mut Vec<u8>) -> io::Result<()> {
     tell(alloc, None, line, out)
 }
 
-/// The same of a log that began at the moment that stands in front of the case.
+/// The same of a log that began at the moment in front of the case.
 pub fn since(alloc: Global, line: &str, out: &mut Vec<u8>) -> io::Result<()> {
     let (start, line) = line.split_once(' ').unwrap_or((line, ""));
     match Moment::parse(start) {
@@ -74,7 +74,7 @@ pub fn since(alloc: Global, line: &str, out: &mut Vec<u8>) -> io::Result<()> {
     }
 }
 
-/// Tells the log of a case in words, and appends how that ends and what was written.
+/// Writes the log of a case in words, and appends how that ends and what was written.
 fn tell(alloc: Global, start: Option<Moment>, line: &str, out: &mut Vec<u8>) -> io::Result<()> {
     let Streams {
         text,

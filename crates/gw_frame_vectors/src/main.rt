@@ -1,5 +1,5 @@
-//! Answers cases of what the gateway's device, tables and halves stand on: addresses, frames, the bodies of services, rules, and the
-//! lines of a log. None needs a configuration.
+//! Answers cases of what the gateway's device, tables and halves build on: addresses, frames, the bodies of services,
+//! rules, and the lines of a log. None needs a configuration.
 #![tactic(auto)]
 
 mod addresses;

@@ -1,4 +1,4 @@
--- What a wire over memory tells: the calls that it has kept.
+-- What a wire over memory reports: the calls that it has kept.
 use Rattle.std.specs.Prelude.{List, Option, Some, None, map}
 use Rattle.std.specs.Global.{Vec}
 use Rattle.gw_script.specs.Event.{Datagram, Tick}

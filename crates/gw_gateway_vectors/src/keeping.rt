@@ -16,8 +16,8 @@ use std::io::{ErrorKind, Write};
 /// How many octets a write to the log takes.
 const AMPLE: usize = 4096;
 
-/// A store over memory, which tells what it holds. Each call comes to what the case says of it: `f`, it fails and holds what it
-/// held; `n`, it fails and holds the text; and else it takes the text.
+/// A store over memory, which reports what it holds. Each call does what the case says of it: `f`, it fails and holds
+/// what it held; `n`, it fails and holds the text; and else it takes the text.
 #[derive(Drop)]
 struct MemStore<'a> {
     alloc: Global,

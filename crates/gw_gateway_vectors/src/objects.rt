@@ -93,7 +93,7 @@ fn write(
     }
 }
 
-/// Finds the object of a name, or tells of an object its type or some of its properties.
+/// Finds the object of a name, or gives an object's type or some of its properties.
 fn find(db: &ObjectDb, what: &str, of: &str, out: &mut Vec<u8>) -> io::Result<()> {
     if what == "name" {
         return put_named(db.find_name(of.as_bytes()), out);

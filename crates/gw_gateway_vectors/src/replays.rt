@@ -67,8 +67,8 @@ fn is_alike(alloc: Global, config: &str, other: &str, body: &str) -> io::Result<
     Ok(one.as_slice() == two.as_slice())
 }
 
-/// How many scripts of these sections come to the same after forty more rules that match nothing, in front of them the name of each
-/// that doesn't.
+/// How many scripts of these sections give the same after forty more rules that match nothing, in front of them the
+/// name of each that doesn't.
 pub fn behind(alloc: Global, config: &str, sections: &str, out: &mut Vec<u8>) -> io::Result<()> {
     let other = behind_others(alloc, config)?;
     let mut alike = 0_u32;

@@ -1,5 +1,5 @@
-//! Serving a wire over memory, with a log over memory: every count, and what stands where a receive, a send, a write or a growth
-//! fails.
+//! Serving a wire over memory, with a log over memory: every count, and what is left if a receive, a send, a write
+//! or a growth fails.
 
 use crate::replays::make_gateway;
 use crate::wire::MemWire;

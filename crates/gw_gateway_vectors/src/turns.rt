@@ -231,7 +231,7 @@ impl Timepiece for SlowClock {
     }
 }
 
-/// Waits for nothing, and fails at one of its calls, from 1. It tells how long it was let wait, and
+/// Waits for nothing, and fails at one of its calls, from 1. It keeps how long it was let wait, and
 /// counts its calls, and those without time.
 #[derive(Drop)]
 struct MemWaiter {

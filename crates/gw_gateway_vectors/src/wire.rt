@@ -1,4 +1,4 @@
-//! A wire over memory, whose calls fail at the choice of a case, and which tells each call with its answer.
+//! A wire over memory, whose calls fail at the choice of a case, and which reports each call with its answer.
 
 ghost use Rattle.std.specs.Prelude.{◌≡◌, ◌∷◌, [], None, IfOk, IfErr, if◌then◌else◌};
 ghost use Rattle.gw_serving.specs.Wire.{Tells, arrival, departure, failed_send};
@@ -84,7 +84,7 @@ fn sent(
 }
 
 /// A wire whose events are the lines of a script, and whose call of one number, from 0, fails. What failed to be received comes at
-/// the next receive. It tells its calls, as long as there is memory for them.
+/// the next receive. It reports its calls, as long as there is memory for them.
 #[derive(Drop)]
 pub struct MemWire<'a> {
     alloc: Global,
@@ -153,7 +153,7 @@ impl<'a> MemWire<'a> {
         }
     }
 
-    /// Tells a call; where there is no memory for it, it tells none from then on.
+    /// Reports a call; if there is no memory for it, it reports none from then on.
     fn tell(&mut self, call: Result<Call, AllocError>)
         ensures failures { self.new.failures ≡ self.old.failures }
         ensures told { IfOk call (λ told. Tells (calls_of self.old.calls) (calls_of self.new.calls) (call_of told ∷ [])) }

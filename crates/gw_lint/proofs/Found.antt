@@ -14,7 +14,7 @@ abbrev pub Each : List Shape → List Rule → List Finding → Type 0
 Each boxes rules findings = (number : ℕ) (rule : Rule) (found : Finding) → HasNumber rules number rule
     → slice_get findings (number - 1) ≡ Some found → Tells boxes rules number rule found
 
--- what stands at a place in front, at the end, and behind it
+-- what is at a place before the end, at the end, and after it
 in_front : (xs : List Finding) (y f : Finding) (place : ℕ) → place < length xs → slice_get (xs ++ y ∷ []) place ≡ Some f → slice_get xs place ≡ Some f
 in_front xs y f place within there =
     let longer : place < length (xs ++ y ∷ []) = omega (arith, within, length-append xs (y ∷ [])) in

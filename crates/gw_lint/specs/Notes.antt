@@ -105,7 +105,7 @@ source_note c number rule =
     if is_source_alone rule then note_text c.rules number (source_words c.format) else []
 
 -- a source network without a source or a sender: in formats 1 and 2 anyone may be of that; in format 3 where it is
--- that of a port without stations, the first of which is told
+-- that of a port without stations, the first of which is named
 abbrev pub reached_note : Configuration → ℕ → List Range → List ℕ
 reached_note c number ranges =
     if names_stations c.format

@@ -1,4 +1,4 @@
--- Whether asks of a shape may pass a policy, as far as the ranges of its rules tell.
+-- Whether asks of a shape may pass a policy, as far as the ranges of its rules show.
 use Rattle.std.specs.Prelude.{ℕ, ◌+◌, ◌-◌, Bool, false, not, ◌&&◌, ◌||◌, ◌==◌, if◌then◌else◌, List, [], Option, Some}
 use Rattle.std.specs.Prelude.{None, position}
 use Rattle.std.specs.Option.{option_map, option_map_or}

@@ -15,13 +15,13 @@ pub const MAX_STEPS: u32 = 1024;
 pub enum Finding {
     /// The rule matches none of them.
     MatchesNothing,
-    /// It matches some, and the rule of this number, which stands before it, matches all of these.
+    /// It matches some, and the rule of this number, which is before it, matches all of these.
     TakenBy(u16),
     /// The rules before it together match all that it matches.
     TakenTogether,
     /// It is the first rule that matches this ask, which is one of them.
     Decides(Ask),
-    /// The search ended before it could tell.
+    /// The search ended without a result.
     Unknown,
 }
 

@@ -1,5 +1,5 @@
 //! What is odd about a policy: rules that can never decide, since no ask that the gateway raises
-//! comes to them, and rules that may not mean what they say.
+//! reaches them, and rules that may not mean what they say.
 #![tactic(auto)]
 
 mod finding;

@@ -10,8 +10,8 @@ use gw_configuration::Config;
 use gw_shapes::shapes_of;
 use std::alloc::{AllocError, Global};
 
-/// Appends a line for each rule of which there is something to say, in order of the rules, and behind
-/// them the notes. Where the rules are to be explained, a rule that decides has a line too, with an ask
+/// Appends a line for each rule of which there is something to say, in order of the rules, and after
+/// them the notes. If the rules are to be explained, a rule that decides has a line too, with an ask
 /// that it decides.
 ///
 /// ```text
@@ -39,7 +39,7 @@ pub fn put_lint(
     keep_whole(out, len, put)
 }
 
-/// The lines of the rules, and the notes behind them.
+/// The lines of the rules, and the notes after them.
 fn lint(alloc: Global, config: &Config, explains: bool) -> Result<Vec<u8>, AllocError>
     ensures { IfOk result (λ text. IsLint config.now explains text.items) }
 {

@@ -1,4 +1,4 @@
-//! Whether asks of a shape may pass a policy, as far as the ranges of its rules tell.
+//! Whether asks of a shape may pass a policy, as far as the ranges of its rules show.
 ghost use Rattle.std.specs.Prelude.{◌≡◌, position};
 ghost use Rattle.gw_lint.specs.Passage.{answers, holds_shape, is_cast, is_routed, is_unnamed, opener, opens, opens_beyond, requests, routed, settler, settles, towards};
 

@@ -12,7 +12,7 @@ use gw_rules::{Ask, FieldName, Operation, RuleList};
 use gw_shapes::rule_at;
 use std::alloc::AllocError;
 
-/// What stands in the place of a field that the ask doesn't have.
+/// What is written for a field that the ask doesn't have.
 const ABSENT: &[u8] = b"-";
 
 /// The least number that is no source key: those have 48 bits.

@@ -111,7 +111,7 @@ fn put_port_note(
     Ok(())
 }
 
-/// Appends a note where the rule is the last one and allows whatever comes to it.
+/// Appends a note if the rule is the last one and allows whatever reaches it.
 fn put_ending_note(
     out: &mut Vec<u8>,
     config: &Config,

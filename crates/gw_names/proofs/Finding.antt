@@ -24,7 +24,7 @@ pub found_contained : {X : Type 0} (test : X → Bool) (xs : List X) (x : X) →
 found_contained test [] x e = absurd cc
 found_contained test (y ∷ ys) x e = contained_head y x ys (find test ys) (found_contained test ys x) (test y) e
 
--- nothing is found exactly where no element passes
+-- nothing is found exactly if no element passes
 fails_head : {X : Type 0} (test : X → Bool) (y : X) (ys : List X) (rest : Option X) → (rest ≡ None → All (λ x. test x ≡ false) ys) → (b : Bool) → test y ≡ b → cond b (Some y) rest ≡ None → All (λ x. test x ≡ false) (y ∷ ys)
 fails_head test y ys rest later true t e = absurd cc
 fails_head test y ys rest later false t e = All-cons (λ x. test x ≡ false) y ys t (later e)

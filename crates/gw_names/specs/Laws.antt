@@ -3,15 +3,15 @@ use Rattle.std.specs.Prelude.{◌≡◌, ◌≢◌, ◌↔◌, ℕ, nat_le, Bool
 use Rattle.std.specs.List.{Contains, list_all}
 use Rattle.gw_names.specs.Names.{name_in, number_in}
 
--- a number has a name exactly where a row gives it that name
+-- a number has a name exactly if a row gives it that name
 abbrev pub NamesRows : List (ℕ × List ℕ) → Type 0
 NamesRows table = (number : ℕ) (name : List ℕ) → (name_in table number ≡ Some name) ↔ Contains table (number, name)
 
--- a name has a number exactly where that number has this name
+-- a name has a number exactly if that number has this name
 abbrev pub IsOneToOne : List (ℕ × List ℕ) → Type 0
 IsOneToOne table = (number : ℕ) (name : List ℕ) → (number_in table name ≡ Some number) ↔ (name_in table number ≡ Some name)
 
--- a text has no number exactly where no row has it as its name
+-- a text has no number exactly if no row has it as its name
 abbrev pub KnowsNoOther : List (ℕ × List ℕ) → Type 0
 KnowsNoOther table = (text : List ℕ) → (number_in table text ≡ None) ↔ All (λ row. row.1 ≢ text) table
 

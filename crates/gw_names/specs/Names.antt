@@ -4,11 +4,11 @@ use Rattle.std.specs.Option.{option_map}
 use Rattle.std.specs.Cmp.Lexicographic.{pointwise}
 use Rattle.gw_names.specs.Tables.{object_types, properties, services}
 
--- the name of a number, where the table has it
+-- the name of a number, if the table has it
 abbrev pub name_in : List (ℕ × List ℕ) → ℕ → Option (List ℕ)
 name_in table number = option_map (λ row. row.1) (find (λ row. row.0 == number) table)
 
--- the number of a name, where the table has it
+-- the number of a name, if the table has it
 abbrev pub number_in : List (ℕ × List ℕ) → List ℕ → Option ℕ
 number_in table name = option_map (λ row. row.0) (find (λ row. pointwise nat_eq row.1 name) table)
 

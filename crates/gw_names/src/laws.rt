@@ -10,7 +10,7 @@ pub fn rows()
     ensures services { NamesRows services }
 {}
 
-/// The number of a name is the one that has this name: what a number is told as is read back as that number,
+/// The number of a name is the one that has this name: the name of a number is read back as that number,
 /// and no name has two numbers.
 pub fn one_to_one()
     ensures object_types { IsOneToOne object_types }

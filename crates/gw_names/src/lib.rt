@@ -1,5 +1,5 @@
 //! The standard's names of object types, properties and services (ISO 16484-5), by their numbers, and their
-//! numbers by these names. The log tells a number by its name, and a configuration may have the name in its place.
+//! numbers by these names. The log writes the name of a number, and a configuration may have the name in its place.
 #![tactic(auto)]
 
 pub mod laws;

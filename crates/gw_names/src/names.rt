@@ -9,42 +9,42 @@ ghost use Rattle.gw_names.specs.internal.Rows.{plain};
 
 use crate::tables::{OBJECT_TYPES, PROPERTIES, Row, SERVICES};
 
-/// The name of a type of objects, or `None` where the table lacks its number.
+/// The name of a type of objects, or `None` if the table lacks its number.
 pub fn object_type_name(number: u64) -> Option<&'static str>
     ensures { option_map (λ name. name.now) result ≡ object_type_name number }
 {
     name_in(object_types(), number)
 }
 
-/// The name of a property, or `None` where the table lacks its number.
+/// The name of a property, or `None` if the table lacks its number.
 pub fn property_name(number: u64) -> Option<&'static str>
     ensures { option_map (λ name. name.now) result ≡ property_name number }
 {
     name_in(properties(), number)
 }
 
-/// The name of a service or message, or `None` where the table lacks its number.
+/// The name of a service or message, or `None` if the table lacks its number.
 pub fn service_name(number: u64) -> Option<&'static str>
     ensures { option_map (λ name. name.now) result ≡ service_name number }
 {
     name_in(services(), number)
 }
 
-/// The number of the type of objects that has this name, as `analog-input`, or `None` where none has.
+/// The number of the type of objects that has this name, as `analog-input`, or `None` if none has.
 pub fn object_type_number(name: &str) -> Option<u64>
     ensures { result ≡ object_type_number name.now }
 {
     number_in(object_types(), name)
 }
 
-/// The number of the property that has this name, as `present-value`, or `None` where none has.
+/// The number of the property that has this name, as `present-value`, or `None` if none has.
 pub fn property_number(name: &str) -> Option<u64>
     ensures { result ≡ property_number name.now }
 {
     number_in(properties(), name)
 }
 
-/// The number of the service or message that has this name, as `ReadProperty`, or `None` where none has.
+/// The number of the service or message that has this name, as `ReadProperty`, or `None` if none has.
 pub fn service_number(name: &str) -> Option<u64>
     ensures { result ≡ service_number name.now }
 {

@@ -24,7 +24,7 @@ address_of network mac = record { network = network; mac = mac }
 abbrev IsAddress : List ℕ → Address × List ℕ → Type 0
 IsAddress octets x = Takes octets (address_part x.0) x.1 × FitsAddress x.0
 
--- a length is that of the octets behind it
+-- a length is that of the octets after it
 sized : (octets network mac rest : List ℕ) (len : ℕ) → length mac ≡ len
     → Takes octets (network ++ len ∷ [] ++ mac) rest → Takes octets (network ++ length mac ∷ [] ++ mac) rest
 sized octets network mac rest len same takes =
@@ -56,7 +56,7 @@ address_again a rest lt =
     ap address_at regrouped
     ∙ rw (number_again Short w16 (2 ^ 16) wide16 a.network behind lt, front_again Short a.mac rest) refl
 
--- ---- an address, where the control octet names one
+-- ---- an address, if the control octet names one
 
 abbrev pub FitsNamed : Option Address → Type 0
 FitsNamed found = IfSome found FitsAddress
@@ -112,7 +112,7 @@ pub hops_again : (found : Option Destination) (rest : List ℕ) → hops_at (bou
 hops_again None rest = refl
 hops_again (Some d) rest = refl
 
--- a destination stands where its address does
+-- a destination is written as its address is
 pub destination_part-bound : (found : Option Destination) → source_part (bound_of found) ≡ destination_part found
 destination_part-bound None = refl
 destination_part-bound (Some d) = refl

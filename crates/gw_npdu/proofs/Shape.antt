@@ -78,7 +78,7 @@ laid_out octets a b v c bound r0 r1 r2 d s p t0 t1 lt address source hops payloa
       };
     }
 
--- what is read behind each part
+-- what is read after each part
 abbrev payload_read : ℕ → ℕ → Option Destination → Option Address → List ℕ → Result RawNpdu NpduFault
 payload_read v c d s rest = payload_at (is_set c message_bit) rest >>= λ payload. Ok (raw_npdu v c d s payload)
 

@@ -1,4 +1,4 @@
--- Octets are read as a message exactly where they are one, and each fault exactly where its own condition holds.
+-- Octets are read as a message exactly if they are one, and each fault exactly if its own condition holds.
 use Rattle.std.proofs.Common.{◌≡◌, ◌++◌, ℕ, false, cond, eqb, List, Result, Ok, Err, refl, ap, subst, ◌∙◌}
 use Rattle.std.proofs.Common.{inl, inr, ◌⊎◌}
 use Rattle.std.specs.Prelude.{◌↔◌}

@@ -61,7 +61,7 @@ abbrev pub bit : Bool → ℕ
 bit false = 0
 bit true = 1
 
--- the bits that say which parts stand in the message
+-- the bits that say which parts are in the message
 abbrev pub parts_bits : Fields → ℕ
 parts_bits f =
     message_bit * bit (is_message f.payload)
@@ -86,7 +86,7 @@ abbrev pub source_part : Option Address → List ℕ
 source_part None = []
 source_part (Some a) = address_part a
 
--- the hop count, which stands behind the source
+-- the hop count, which follows the source
 abbrev pub hops_part : Option Destination → List ℕ
 hops_part None = []
 hops_part (Some d) = d.hops ∷ []

@@ -13,7 +13,7 @@ message_bit = 0x80
 abbrev pub bit_six : ℕ
 bit_six = 0x40
 
--- bit 5: DNET, DLEN, DADR and the hop count stand in the message
+-- bit 5: DNET, DLEN, DADR and the hop count are in the message
 abbrev pub destination_bit : ℕ
 destination_bit = 0x20
 
@@ -21,7 +21,7 @@ destination_bit = 0x20
 abbrev pub bit_four : ℕ
 bit_four = 0x10
 
--- bit 3: SNET, SLEN and SADR stand in the message
+-- bit 3: SNET, SLEN and SADR are in the message
 abbrev pub source_bit : ℕ
 source_bit = 0x08
 
@@ -33,7 +33,7 @@ reply_bit = 0x04
 abbrev pub priority_bits : ℕ
 priority_bits = 0x03
 
--- the number that stands for every network (6.2.2)
+-- the number that represents every network (6.2.2)
 abbrev pub every_network : ℕ
 every_network = 65535
 

@@ -4,7 +4,7 @@ use Rattle.std.specs.Option.{option_map}
 use Rattle.gw_npdu.specs.declared.onward.Onward.{Onward as LentOnward}
 use Rattle.gw_npdu.specs.Npdu.{Address, Destination, Fields, address_view}
 
--- How a message goes on: whether it keeps its destination, and the address that it names where it
+-- How a message goes on: whether it keeps its destination, and the address that it names if it
 -- names no source.
 pub record Onward : Type 0 where
   pub keeps_destination : Bool

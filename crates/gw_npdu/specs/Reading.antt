@@ -23,14 +23,14 @@ address_at octets = do
   mac ← front_at faults.Short len.0 len.1
   Ok (record { network = network.0; mac = mac.0 }, mac.1)
 
--- an address, where the control octet names one
+-- an address, if the control octet names one
 abbrev pub named_at : Bool → List ℕ → Result (Option Address × List ℕ) NpduFault
 named_at false octets = Ok (None, octets)
 named_at true octets = do
   found ← address_at octets
   Ok (Some found.0, found.1)
 
--- the hop count of a destination, where there is one
+-- the hop count of a destination, if there is one
 abbrev pub hops_at : Option Address → List ℕ → Result (Option Destination × List ℕ) NpduFault
 hops_at None octets = Ok (None, octets)
 hops_at (Some bound) octets = do
@@ -60,7 +60,7 @@ payload_at true octets = do
   found ← message_at octets
   Ok (message found)
 
--- a version, and the fields behind it
+-- a version, and the fields after it
 pub record RawNpdu : Type 0 where
   pub version : ℕ
   pub fields : Fields

@@ -14,7 +14,7 @@ use gw_addr::NetNum;
 /// +------+------+------+------+--  --+         +------+
 /// ```
 ///
-/// The hop count stands behind the source.
+/// The hop count follows the source.
 #[derive(Clone, Copy, Debug)]
 pub struct Destination<'a> {
     /// The station's address on that network, at most 255 octets. None: every station there. For every network there
@@ -31,10 +31,10 @@ pub struct Destination<'a> {
 }
 
 impl Destination<'_> {
-    /// The number that stands for every network.
+    /// The number that represents every network.
     pub const EVERY_NETWORK: u16 = 65535;
 
-    /// The network, or None where the message is bound for every network.
+    /// The network, or None if the message is bound for every network.
     pub fn net(&self) -> Option<NetNum>
         ensures { result ≡ network_of self.now.network }
     {

@@ -6,7 +6,7 @@ ghost use Rattle.gw_npdu.specs.Numbers.{priority_bits};
 
 use bitflags::{Flag, Flags, bitflag_items};
 
-/// The control octet: which parts stand in a message, and how urgent it is.
+/// The control octet: which parts a message has, and how urgent it is.
 ///
 /// ```text
 ///   7   6   5   4   3   2   1   0

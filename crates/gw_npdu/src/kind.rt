@@ -36,7 +36,7 @@ pub enum MessageKind {
 }
 
 impl MessageKind {
-    /// The number of the type, which stands in the message.
+    /// The number of the type, as it is in the message.
     pub fn number(self) -> u8
         ensures { result ≡ kind_number self }
     {
@@ -56,7 +56,7 @@ impl MessageKind {
         }
     }
 
-    /// The type of this number, or None where the standard names none.
+    /// The type of this number, or None if the standard names none.
     pub fn from_number(number: u8) -> Option<MessageKind>
         ensures found { IfSome result (λ kind. kind_number kind ≡ number) }
         ensures only { (kind : MessageKind) → kind_number kind ≡ number → result ≡ Some kind }

@@ -28,7 +28,7 @@ pub fn numbers()
 {}
 
 /// What `npdu_at` computes of octets is what the relations say of them: the message that they are, and each fault
-/// exactly where its own condition holds.
+/// exactly if its own condition holds.
 pub fn reading()
     ensures found { (octets : List ℕ) (f : Fields) → AreOctets octets →
         (npdu_at octets ≡ Ok f) ↔ IsNpdu octets f }
@@ -60,7 +60,7 @@ pub fn valid(npdu: &Npdu<'_>)
 }
 
 /// What a router sends on is read as the fields for the next hop: the header of `relay_header`, and the payload's own
-/// octets behind it.
+/// octets after it.
 pub fn read_at_next_hop(npdu: &Npdu<'_>, how: &Onward<'_>)
     ensures { let next = onward (onward_view how.now) (view npdu.now) in
         npdu_at (header next ++ payload_octets (view npdu.now).payload) ≡ Ok next }

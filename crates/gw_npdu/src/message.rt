@@ -11,14 +11,14 @@ ghost use Rattle.gw_npdu.specs.Numbers.{first_vendor_kind};
 /// +------+------+------+--  --+
 /// ```
 ///
-/// The vendor stands behind a type from 80 hexadecimal on, and behind no other.
+/// The vendor follows a type from 80 hexadecimal on, and follows no other.
 #[derive(Clone, Copy, Debug)]
 pub struct NetMessage<'a> {
     /// The message type ([`MessageKind`](crate::MessageKind) has those that the standard names).
     pub kind: u8,
     /// The vendor of a message type from 80 hexadecimal on.
     pub vendor: Option<u16>,
-    /// The octets behind the type and the vendor.
+    /// The octets after the type and the vendor.
     pub octets: &'a [u8],
 
     pub ghost proprietary: { is_some vendor ≡ nat_le first_vendor_kind kind },

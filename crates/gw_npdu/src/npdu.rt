@@ -36,7 +36,7 @@ impl Priority {
     }
 }
 
-/// What a message carries, behind all other parts.
+/// What a message carries, after all other parts.
 #[derive(Clone, Copy, Debug)]
 pub enum Payload<'a> {
     /// An APDU of the application layer.
@@ -55,7 +55,7 @@ pub enum Payload<'a> {
 /// +------+---------+--  --+--  --+------+------+--------+--  --+
 /// ```
 ///
-/// The version, the control octet, the destination and the source where the control octet names them, the hop count
+/// The version, the control octet, the destination and the source if the control octet names them, the hop count
 /// of the destination, and the payload. Each number has its high octet first.
 #[derive(Clone, Copy, Debug)]
 pub struct Npdu<'a> {

@@ -17,7 +17,7 @@ use crate::writing::{MAX_LEN, put_header};
 pub struct Onward<'a> {
     /// Whether the destination stays, with one hop less. It is taken away on the destination's own network.
     pub keeps_destination: bool,
-    /// The station that the message comes from where it names no source.
+    /// The station that the message comes from if it names no source.
     pub source: AddressRef<'a>,
 }
 
@@ -27,7 +27,7 @@ pub struct Onward<'a> {
 /// the type and the vendor of a network layer message. A router writes it and then those octets, so `n` is how
 /// many they are. Version, reply expected, priority and the kind of payload stay.
 ///
-/// The faults are those of [`EncodeFault`]: `TooLong` where the header and `n` octets are over 1497 together.
+/// The faults are those of [`EncodeFault`]: `TooLong` if the header and `n` octets are over 1497 together.
 pub fn relay_header(
     npdu: &Npdu<'_>,
     how: &Onward<'_>,
@@ -38,7 +38,7 @@ pub fn relay_header(
         OnOk result (out.new.items ≡ out.old.items ++ header next) }
     ensures too_long { let next = onward (onward_view how.now) (view npdu.now) in
         IsErrOf result EncodeFault.TooLong ↔ (max_len < length (header next) + n) }
-    // Memory only where the buffer had no room for the header.
+    // Memory only if the buffer had no room for the header.
     ensures memory { let len = length (header (onward (onward_view how.now) (view npdu.now))) in
         IsErrOf result EncodeFault.Memory → vec_capacity out.old < vec_len out.old + len }
     ensures err { OnErr result (out.new.items ≡ out.old.items) }

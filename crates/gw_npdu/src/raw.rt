@@ -1,4 +1,4 @@
-//! A message as it stands in the octets, before its version and its addresses are judged.
+//! A message as it is in the octets, before its version and its addresses are judged.
 
 ghost use Rattle.std.specs.Prelude.{◌<◌, ◌^◌, length};
 
@@ -20,7 +20,7 @@ pub struct RawDestination<'a> {
     pub hops: u8,
 }
 
-/// A version, and the fields behind it.
+/// A version, and the fields after it.
 #[derive(Clone, Copy)]
 pub struct RawNpdu<'a> {
     pub version: u8,

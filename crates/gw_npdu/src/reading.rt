@@ -32,7 +32,7 @@ fn address(octets: &[u8]) -> Result<(RawAddress<'_>, &[u8]), NpduFault>
     Ok((RawAddress { network, mac }, rest))
 }
 
-/// An address, where the control octet names one.
+/// An address, if the control octet names one.
 fn named(is_named: bool, octets: &[u8]) -> Result<(Option<RawAddress<'_>>, &[u8]), NpduFault>
     ensures { Gives (λ x. (option_map raw_address_view x.0, x.1.now)) result
         (named_at is_named octets.now) }
@@ -44,7 +44,7 @@ fn named(is_named: bool, octets: &[u8]) -> Result<(Option<RawAddress<'_>>, &[u8]
     Ok((Some(found), rest))
 }
 
-/// The hop count of a destination, where there is one.
+/// The hop count of a destination, if there is one.
 fn hops<'a>(
     bound: Option<RawAddress<'a>>,
     octets: &'a [u8],
@@ -123,7 +123,7 @@ fn raw(octets: &[u8]) -> Result<RawNpdu<'_>, NpduFault>
     })
 }
 
-/// The destination, where it can be meant.
+/// The destination, if it can be meant.
 fn destination_of<'a>(raw: Option<RawDestination<'a>>) -> Result<Option<Destination<'a>>, NpduFault>
     ensures { Gives (λ d. option_map destination_view d) result
         (destination_of (option_map raw_destination_view raw.entry)) }
@@ -138,7 +138,7 @@ fn destination_of<'a>(raw: Option<RawDestination<'a>>) -> Result<Option<Destinat
     Ok(Some(Destination { network, mac, hops }))
 }
 
-/// The source, where it can be meant.
+/// The source, if it can be meant.
 fn source_of<'a>(raw: Option<RawAddress<'a>>) -> Result<Option<AddressRef<'a>>, NpduFault>
     ensures { Gives (λ s. option_map address_view s) result
         (source_of (option_map raw_address_view raw.entry)) }

@@ -23,7 +23,7 @@ use std::alloc::AllocError;
 pub const MAX_LEN: usize = 1497;
 
 impl<'a> Payload<'a> {
-    /// The octets of the payload that no field of the network layer names: the APDU, or what stands behind the
+    /// The octets of the payload that no field of the network layer names: the APDU, or what follows the
     /// type and the vendor of a network layer message.
     pub fn octets(&self) -> &'a [u8]
         ensures { result.now ≡ payload_octets (payload_view self.now) }
@@ -56,7 +56,7 @@ impl Npdu<'_> {
         control
     }
 
-    /// How many octets stand in front of the payload's own.
+    /// How many octets come before the payload's own.
     pub fn header_len(&self) -> usize
         ensures len { result ≡ length (header (view self.now)) }
         ensures most { result ≤ max_header_len }
@@ -175,8 +175,8 @@ fn put_addresses(out: &mut Vec<u8>, npdu: &Npdu<'_>) -> Result<(), AllocError>
     put_source(out, &npdu.source)
 }
 
-/// Appends everything in front of the payload's own octets. An `Err` only where the buffer had no
-/// room for it; then a front of it may stand there.
+/// Appends everything in front of the payload's own octets. An `Err` only if the buffer had no
+/// room for it; then the buffer may hold a front of it.
 pub(crate) fn put_header(out: &mut Vec<u8>, npdu: &Npdu<'_>) -> Result<(), AllocError>
     ensures { IsAppended (header (view npdu.now)) out.old out.new result }
 {
@@ -202,7 +202,7 @@ pub fn encode(npdu: &Npdu<'_>, out: &mut Vec<u8>) -> Result<(), EncodeFault>
     ensures valid { IsValid (view npdu.now) }
     ensures too_long { let len = length (encoding (view npdu.now)) in
         IsErrOf result EncodeFault.TooLong ↔ (max_len < len) }
-    // Memory only where the buffer had no room for the message.
+    // Memory only if the buffer had no room for the message.
     ensures memory { let len = length (encoding (view npdu.now)) in
         IsErrOf result EncodeFault.Memory → vec_capacity out.old < vec_len out.old + len }
     ensures err { OnErr result (out.new.items ≡ out.old.items) }

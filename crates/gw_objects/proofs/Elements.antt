@@ -27,7 +27,7 @@ module _ {E : Type 0} (encoding : E → List ℕ) (xs : List E) (i : ℕ) (x : E
       (get_or_from_slice_get xs i x x is)
       (length-flat_map-take encoding xs i x (slice_get_within xs i x is))
 
--- an element behind the first
+-- an element after the first
 pub listed : {A B C : Type 0} (f : B → C) (g : A → B) (x : C) (xs : List A) (place : ℕ) (a : A) → 0 < place → slice_get xs (place - 1) ≡ Some a → slice_get (x ∷ map f (map g xs)) place ≡ Some (f (g a))
 listed f g x xs zero a behind is = absurd (omega (arith, behind))
 listed f g x xs (suc n) a behind is =

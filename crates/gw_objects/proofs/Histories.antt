@@ -19,7 +19,7 @@ act_next start acts slots (Command priority value) can after = command_next star
 act_next start acts slots (Relinquish priority) can after = relinquish_next start acts slots priority can.0 after
 act_next start acts slots (SetDefault value) can after = ap (with_default value) after
 
--- an element behind a store
+-- an element after a store
 set_same : {A : Type 0} (xs : List A) (i : ℕ) (x : A) → i < length xs → slice_get (set xs i x) i ≡ Some x
 set_same xs i x lt =
     slice_get-get_or (set xs i x) i x (omega (arith, length-set xs i x)) ∙ ap (λ (y : _). Some y) (get_or-set_same xs i x x lt)
@@ -31,7 +31,7 @@ set_other (y ∷ ys) zero (suc j) x ne = refl
 set_other (y ∷ ys) (suc i) zero x ne = refl
 set_other (y ∷ ys) (suc i) (suc j) x ne = set_other ys i j x (λ e. ne (ap suc e))
 
--- what stands for the same start
+-- what belongs to the same start
 same_start : {A B : Type 0} (f g : A → B) (o : Option A) (s x : B) → Some s ≡ option_map f o → ((start : A) → s ≡ f start → x ≡ g start) → Some x ≡ option_map g o
 same_start f g None s x e next = absurd (true≢false (ap is_some e))
 same_start f g (Some start) s x e next = ap (λ y. Some y) (next start (ap (λ o. unwrap_or o s) e))

@@ -22,7 +22,7 @@ use Rattle.gw_objects.specs.declared.configured.ConfiguredObject.{ConfiguredObje
 use Rattle.gw_objects.specs.Objects.{device_id, is_name, named, object_id_of, same}
 use Rattle.gw_objects.specs.internal.Index.{FindsIds, FindsNames, is_id, with_place}
 
--- the first that passes, once one more stands behind
+-- the first that passes, after one more is pushed
 module _ {X : Type 0} (t : X → Bool) (x : X) where
   from_push : (i : ℕ) (xs : List X) → position_from t i (xs ++ x ∷ []) ≡ option_or (position_from t i xs) (cond (t x) (Some (i + length xs)) None)
   from_push i [] = ap (λ n. cond (t x) (Some n) None) (sym (add-zero i))

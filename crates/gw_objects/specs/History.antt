@@ -39,7 +39,7 @@ acts_at place history = filter_map (act_at place) history
 abbrev pub slots_after : List Write → ℕ → PropertyValue → Slots
 slots_after history place start = state_after start (acts_at place history)
 
--- the value objects that began with these defaults stand as a history of writes leaves them
+-- the value objects that began with these defaults are as a history of writes leaves them
 pub record IsStateAfter
     (starts : List PropertyValue) (history : List Write) (states : List Slots) : Type 0 where
   pub count : length states ≡ length starts

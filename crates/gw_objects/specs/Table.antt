@@ -1,5 +1,5 @@
 -- The table of properties: what each holds, by the configuration, the slots and the default (ISO
--- 16484-5 clause 12). The sets of properties stand in Property.
+-- 16484-5 clause 12). The sets of properties are in Property.
 use Rattle.std.specs.Prelude.{ℕ, ◌+◌, ◌*◌, nat_eq, false, if◌then◌else◌, List, [], ◌∷◌, length, map, slice_get, Option}
 use Rattle.std.specs.Prelude.{Result, Ok}
 use Rattle.std.specs.List.{list_any, range_with_len}

@@ -65,7 +65,7 @@ property_for kind number index priority =
     ok_or (property_of kind number) UnknownProperty
     >>= λ property. property_fault property index priority
 
--- one value fills the octets, and nothing is behind it
+-- one value fills the octets, and nothing follows it
 abbrev pub filled : Value → List ℕ → Result Value WriteFault
 filled value [] = Ok value
 filled value (octet ∷ rest) = Err WrongKind

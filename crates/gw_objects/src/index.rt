@@ -1,4 +1,4 @@
-//! Where the value objects stand, by their identifiers and by their names.
+//! The places of the value objects, by their identifiers and by their names.
 ghost use Rattle.std.specs.Prelude.{◌≡◌, [], take, IfOk, OnOk};
 ghost use Rattle.gw_objects.specs.internal.Index.{FindsIds, FindsNames, with_place};
 

@@ -139,7 +139,7 @@ fn state_text<'a>(texts: &'a States, place: usize) -> Item<'a>
     Item::Text(&texts.as_slice()[place])
 }
 
-/// Appends the elements one after the other. After an `Err` a front of them may stand there.
+/// Appends the elements one after the other. After an `Err` `out` may hold a front of them.
 fn write_array(out: &mut Vec<u8>, array: &Array<'_>) -> Result<(), AllocError>
     ensures ok { OnOk result
         (out.new.items ≡ out.old.items ++ flat_map value_encoding (array_view array.now)) }
@@ -157,9 +157,9 @@ fn write_array(out: &mut Vec<u8>, array: &Array<'_>) -> Result<(), AllocError>
 
 /// Appends what a property holds, or one element of an array: index 0 is how many there are.
 ///
-/// `NotArray` where an index is given and it is no array, `BadIndex` where the array has no element
-/// of that index, `Memory` only where the buffer had no room. After an `Err` a front of the octets
-/// may stand in the buffer.
+/// `NotArray` if an index is given and it is no array, `BadIndex` if the array has no element
+/// of that index, `Memory` only if the buffer had no room. After an `Err` a front of the octets
+/// may be in the buffer.
 pub(crate) fn write_contents(
     out: &mut Vec<u8>,
     contents: &Contents<'_>,

@@ -19,13 +19,13 @@ OnlyListedAllow =
     (shape : Shape) (rules : List Rule) (ask : Ask) → LiesIn shape ask → allows rules ask ≡ true →
     (number : ℕ) × (first rules ask ≡ Some number) × IsListed shape rules number
 
--- Where it is told that no rule lets anyone, no ask of the shape is allowed.
+-- If a line says that no rule lets anyone, no ask of the shape is allowed.
 abbrev pub NoAskIsAllowed : Type 0
 NoAskIsAllowed =
     (shape : Shape) (rules : List Rule) (ask : Ask) → may_pass shape rules ≡ false → LiesIn shape ask →
     allows rules ask ≡ false
 
--- Where it is told that a rule lets everyone, it allows each ask of the shape.
+-- If a line says that a rule lets everyone, the rule allows each ask of the shape.
 abbrev pub EachAskIsAllowed : Type 0
 EachAskIsAllowed =
     (shape : Shape) (rules : List Rule) (number : ℕ) (rule : Rule) (ask : Ask) → HasNumber rules number rule →

@@ -145,7 +145,7 @@ list_line c number object network =
 abbrev pub property_words : List ℕ → List ℕ
 property_words name = codes "its " ++ name ++ codes ", though not its Present_Value\n"
 
--- a property that tells what Present_Value is or may become can be read
+-- a property that reveals what Present_Value is or may become can be read
 abbrev pub told_line : Configuration → ℕ → Object → ℕ → ℕ → List ℕ → List ℕ
 told_line c number object network property name =
     if is_readable c network (point_of object property)

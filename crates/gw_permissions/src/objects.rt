@@ -1,4 +1,4 @@
-//! From whom objects are hidden, and what tells of them all the same.
+//! From whom objects are hidden, and what reveals them all the same.
 ghost use Rattle.std.specs.Prelude.{◌≡◌, ◌++◌, ◌≤◌, codes, length, OnOk};
 ghost use Rattle.std.specs.List.{flat_map};
 ghost use Rattle.gw_configuration.specs.Duplicates.{type_number};
@@ -103,7 +103,7 @@ fn put_hiding(out: &mut Vec<u8>, reader: &Reader<'_>) -> Result<(), AllocError>
     put_list(out, reader)
 }
 
-/// Appends that a property tells of an object whose Present_Value is hidden from the network.
+/// Appends the properties that reveal a Present_Value that is hidden from the network.
 fn put_told_lines(out: &mut Vec<u8>, reader: &Reader<'_>) -> Result<(), AllocError>
     ensures { OnOk result (out.new.items ≡ out.old.items ++
         told_lines reader.now.config.now reader.now.number reader.now.object.now reader.now.network) }

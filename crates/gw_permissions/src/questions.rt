@@ -1,4 +1,4 @@
-//! The shapes of the asks of which a line tells who may raise them.
+//! The shapes of the asks of which a line says who may raise them.
 ghost use Rattle.std.specs.Prelude.{◌≡◌};
 ghost use Rattle.gw_permissions.specs.Questions.{claiming, entering, reading};
 

@@ -12,7 +12,7 @@ use Rattle.gw_configuration.specs.Located.{located_view}
 use Rattle.gw_policy_text.specs.Policy.{crowd, rule_in, rules_behind}
 use Rattle.gw_policy_text.proofs.EachAt.{drop_all, left}
 
--- what is still read behind the rules that a loop has read up to a place is the whole
+-- what is still read after the rules that a loop has read up to a place gives the whole
 abbrev pub IsReadBehind : Format → List Data → List Value → ℕ → List Rule → Type 0
 IsReadBehind format sets values place before =
     rules_behind format sets before place (map view (drop place values)) ≡ rules_behind format sets [] 0 (map view values)

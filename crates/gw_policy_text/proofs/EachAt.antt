@@ -45,7 +45,7 @@ stops_at read values place front value located h is e so_far other =
     let here : each_at read place (map view (drop place values)) ≡ Err (located_view located) = ap (each_at read place) (left values place value h is) ∙ rw (e other) refl in
     sym so_far ∙ ap (with_front front) here
 
--- behind all of a list is nothing
+-- nothing follows a whole list
 pub drop_all : (n : ℕ) (vs : List Value) → length vs ≤ n → drop n vs ≡ []
 drop_all n [] h = nil n
   where

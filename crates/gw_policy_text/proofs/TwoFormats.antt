@@ -165,7 +165,7 @@ read_other : (value : Option Data) → names_stations (format_read (ok_or value 
 read_other None other n is = absurd (cc)
 read_other (Some v) other n is = ap (λ (r : Read ℕ). names_stations (format_read r)) (sym is) ∙ other
 
--- the tables behind the format
+-- the tables after the format
 parts_of_read : (top : Members) (read : Read ℕ) → ((number : ℕ) → read ≡ Ok number → names_stations (format_of number) ≡ false)
     → (whole (read >>= λ number. Ok (format_of number)) >>= λ format. parts_of_format format top) ≡ (whole read >>= λ number. two.parts_of_format (format_of number) top)
 parts_of_read top (Ok n) other = same_parts (format_of n) (other n refl) top

@@ -16,7 +16,7 @@ use Rattle.gw_config_tables.specs.Tables.{format_in, top_fields}
 use Rattle.gw_policy_text.specs.Parts.{device_at, format_at, objects_at, ports_at, routes_at}
 use Rattle.gw_policy_text.specs.Policy.{policy_at}
 
--- the tables in their order, behind the format
+-- the tables in their order, after the format
 abbrev pub parts_of_format : Format → Members → Find Configuration
 parts_of_format format top = do
   device ← device_at (codes "device") top
@@ -40,7 +40,7 @@ parts_of_format format top = do
 abbrev pub parts_of : Members → Find Configuration
 parts_of top = whole (format_at (codes "format") top) >>= λ format. parts_of_format format top
 
--- the configuration of a document: its tables in their order, and last of all what may not stand twice
+-- the configuration of a document: its tables in their order, and last of all what may not appear twice
 unfoldable pub configuration_of : Members → Find Configuration
 configuration_of top =
     unless (located_in Top (top_fields (format_in top)) top) (parts_of top >>= unique)

@@ -193,7 +193,7 @@ kind_at key table = at key table >>= kind_in
 abbrev pub signed_at : List ℕ → Members → Read ℤ
 signed_at key table = at key table >>= signed_in
 
--- how many values stand in the list at a key
+-- how many values are in the list at a key
 abbrev pub count_or : Read (List Data) → ℕ
 count_or (Ok values) = length values
 count_or (Err _) = 0

@@ -151,7 +151,7 @@ crowded_at format rule field = record {
 abbrev pub crowd : Format → ℕ → List Rule → Option Located
 crowd format rule rules = if names_stations format then option_map (crowded_at format rule) (crowded rules) else None
 
--- the rules that the values say from a position on, behind those that were read
+-- the rules that the values say from a position on, after those that were read
 abbrev pub rules_behind : Format → List Data → List Rule → ℕ → List Data → Find (List Rule)
 rules_behind format sets before rule [] = Ok before
 rules_behind format sets before rule (value ∷ later) =

@@ -1,4 +1,4 @@
-//! What the parts of a configuration are read to, before it is judged what stands twice.
+//! What the parts of a configuration are read to, before the check for what appears twice.
 ghost use Rattle.std.specs.Prelude.{◌≡◌, ◌≤◌, codes, length, IfOk, IsTrue};
 ghost use Rattle.std.specs.List.{list_all};
 ghost use Rattle.toml.specs.View.{table_view};

@@ -20,11 +20,11 @@ pub const MAX_OCTETS: usize = 1_048_576;
 
 /// Reads a configuration.
 ///
-/// The first fault on the way is told: `TooMany` where the text has more than 1,048,576 octets;
-/// `NotToml` where it isn't UTF-8 or no TOML document; then the tables are visited, the top one,
+/// The first fault on the way is reported: `TooMany` if the text has more than 1,048,576 octets;
+/// `NotToml` if it isn't UTF-8 or no TOML document; then the tables are visited, the top one,
 /// the device, each port followed by its peers, each route, each object, in format 3 each set, and each rule, and of each
 /// are judged in this order `UnknownKey`, `Missing`, `Kind`, `Range` and `TooMany`, each for the
-/// whole table; last of all `Duplicate`. `Memory` where there is none for what would be judged
+/// whole table; last of all `Duplicate`. `Memory` if there is none for what would be judged
 /// next: a text that is too long, or isn't UTF-8, takes none.
 pub fn read_config(alloc: Global, text: &[u8]) -> Result<Config, ConfigFault>
     ensures configuration { Gives (λ c. c) result (configuration text.now) }

@@ -1,4 +1,4 @@
--- What a receive of the ports in time comes to, from what each of its steps does.
+-- The result of a receive of the ports in time, from what each of its steps does.
 use Rattle.std.proofs.Common.{◌≡◌, ◌∙◌, ap, refl, sym, subst, inl, inr, ℕ, ◌+◌, ◌<◌, Bool, true, false, List, Result, Ok, Err, IfOk}
 use Rattle.std.specs.List.{list_any}
 use Rattle.gw_serving.specs.declared.wire.Got.{Got}
@@ -55,7 +55,7 @@ received Told Waited Quiet looks empty Answered before counted looked idle after
 received Told Waited Quiet looks empty Answered before counted looked idle after left held buffer (Err fault) result counts looked_at next same is stays kept behind =
     subst (λ (r : Result Got WireFault). IfOk r (IsReceived Told Waited Quiet (WatchesNext looks empty Answered) before after buffer)) (sym (is refl)) tt
 
--- a wait, and behind it what leaves the count of receives alone
+-- a wait, and after it what leaves the count of receives alone
 pub begun : {S C P : Type 0} (Waited Quiet : P → ℕ → Type 0) (before woken after : TimedPorts S C P) (most : ℕ) →
     HasWaited Waited Quiet before woken most → after.unlooked ≡ woken.unlooked → BeginsAnew Waited after
 begun Waited Quiet before woken after most waits same =

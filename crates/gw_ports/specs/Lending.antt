@@ -1,4 +1,4 @@
--- What the ports come to once the sockets of one were lent.
+-- What the ports are once the sockets of one were lent.
 use Rattle.std.specs.Prelude.{ℕ, slice_set}
 use Rattle.std.specs.Borrow.{Lends, Fml, MutBor, RattleType}
 use Rattle.gw_ports.specs.declared.sock_pair.SockPair.{SockPair}

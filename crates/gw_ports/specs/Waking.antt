@@ -1,4 +1,4 @@
--- What came at the sockets of the ports while it was waited, as far as a waiter tells.
+-- What came at the sockets of the ports during a wait, as far as a waiter says.
 use Rattle.std.specs.Prelude.{◌≡◌, ◌⊎◌, ℕ, ◌+◌, ◌*◌, ◌<◌, Bool, true, false, ◌||◌, length}
 use Rattle.gw_ports.specs.declared.sock_pair.SockPair.{SockPair}
 use Rattle.gw_ports.specs.declared.watch.Watch.{Watch}

@@ -25,11 +25,11 @@ pub trait Sock {
     /// Whether nothing waited when it was last asked; not before it was asked.
     ghost is_empty: { Self → Bool };
 
-    /// What a receive may come to: the socket before and after it, its answer, and what the buffer
+    /// What a receive may do: the socket before and after it, its answer, and what the buffer
     /// then holds.
     ghost Answered: { Self → Self → Answer → List ℕ → Type 0 };
 
-    /// What a send may come to: the socket before and after it, whom it is to, its octets, and
+    /// What a send may do: the socket before and after it, whom it is to, its octets, and
     /// whether it failed.
     ghost Sent: { Self → Self → BipAddr → List ℕ → Result Unit SockFault → Type 0 };
 

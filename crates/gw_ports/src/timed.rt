@@ -25,13 +25,13 @@ pub(crate) const MOST_UNLOOKED: u8 = 7;
 /// The ports as a wire in time. Before each receive the whole seconds are counted that passed since
 /// the last look at the clock, and so many ticks are due. Where nothing waits it waits for a
 /// datagram, up to the next second, and then asks once more. Only sockets are asked at which
-/// something may wait, by what the waiter tells. While something may wait already, seven receives go
+/// something may wait, by what the waiter says. While something may wait already, seven receives go
 /// by before the next asks the waiter, so that what came elsewhere has its turn.
 #[derive(Drop)]
 pub struct TimedPorts<S, C, P> {
     /// The sockets of all ports, and the ticks that are due.
     pub ports: Ports<Watch<S>>,
-    /// What tells the time.
+    /// What gives the time.
     pub clock: C,
     /// What waits where nothing has come.
     pub waiter: P,

@@ -1,4 +1,4 @@
-//! What tells the time.
+//! What gives the time.
 
 ghost use Rattle.std.specs.Prelude.{ℕ, IfOk};
 ghost use Rattle.std.specs.Duration.{as_nanos};
@@ -6,7 +6,7 @@ ghost use Rattle.std.specs.Duration.{as_nanos};
 use std::io;
 use std::time::Duration;
 
-/// What tells the time.
+/// What gives the time.
 pub trait Timepiece {
     /// What it may have given when it was last asked, in nanoseconds since a start of its own.
     ghost Told: { Self → ℕ → Type 0 };

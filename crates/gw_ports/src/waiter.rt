@@ -8,7 +8,7 @@ ghost use Rattle.gw_ports.specs.Waking.{number_of};
 use std::io;
 use std::time::Duration;
 
-/// The number of a socket, by which a waiter tells of it: that of the own address, or of the broadcast
+/// The number of a socket, by which a waiter names it: that of the own address, or of the broadcast
 /// address, of the port at this place, from 0.
 pub fn socket_number(place: usize, is_own: bool) -> usize
     requires { place < MAX_PORTS }
@@ -31,7 +31,7 @@ pub trait Waiter {
         ensures { OnOk result (Waited self.new (as_nanos most)) };
 
     /// Whether something may have come at the socket of this number when it last waited. What came is
-    /// reported once. A waiter that can't tell says so of each.
+    /// reported once. A waiter that doesn't know says yes of each.
     fn has_come(&self, number: usize) -> bool
         ensures { result ≡ false → Quiet self.now number }
     {

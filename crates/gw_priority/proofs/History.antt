@@ -23,7 +23,7 @@ module _ {A : Type 0} (f g : ℕ → A) (d : A) (n place : ℕ) (within : place 
       ∙ get_or-map-range_with_len f 1 n k (k + 1) d lt (omega arith)
       ∙ sym (others (k + 1) (λ e. other (omega arith)))
 
-  -- a write into the list of a function's values, where the function changes at that place alone
+  -- a write into the list of a function's values, if the function changes at that place alone
   pub written : set (map f (range_with_len 1 n)) place (g (place + 1)) ≡ map g (range_with_len 1 n)
   written =
       ext_get_or d _ _ (length-set (map f (range_with_len 1 n)) place (g (place + 1)) ∙ long f ∙ sym (long g)) (λ k lt.

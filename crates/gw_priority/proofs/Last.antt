@@ -77,12 +77,12 @@ of_none {A = A} priority history (Some (Relinquish at)) is e =
     inl (subst P (ap Relinquish same) is)
 of_none priority history (Some (SetDefault default)) is e = let never : false ≡ true = is.there in absurd (cc)
 
--- a slot holds the value of the last act at its priority, where that was a command
+-- a slot holds the value of the last act at its priority, if that was a command
 pub command_iff : {A : Type 0} (history : List (Act A)) (priority : ℕ) (value : A) → (slot_after history priority ≡ Some value) ↔ IsLastAt priority history (Command priority value)
 command_iff history priority value =
     (λ e. of_value priority history value (find (is_at priority) history) (says priority history) e, λ is. ap (option_and_then value_of) (found priority history (Command priority value) is))
 
--- it is empty where that was a relinquish or there was none
+-- it is empty if that was a relinquish or there was none
 pub empty_iff : {A : Type 0} (history : List (Act A)) (priority : ℕ) → (slot_after history priority ≡ None) ↔ (IsLastAt priority history (Relinquish priority) ⊎ HasNoneAt priority history)
 empty_iff {A = A} history priority =
     (λ e. of_none priority history (find (is_at priority) history) (says priority history) e, back)

@@ -29,7 +29,7 @@ default_of (Command _ _) = None
 default_of (Relinquish _) = None
 default_of (SetDefault value) = Some value
 
--- a slot: the value that the last act at its priority commanded, empty where that was a relinquish
+-- a slot: the value that the last act at its priority commanded, empty if that was a relinquish
 -- or there was none
 abbrev pub slot_after : {A : Type 0} → List (Act A) → ℕ → Option A
 slot_after history priority = option_and_then value_of (find (is_at priority) history)

@@ -56,7 +56,7 @@ impl<T> PriorityArray<T> {
         PriorityArray { slots, default }
     }
 
-    /// The value that was commanded at this priority, or `None` where its slot is empty. The caller
+    /// The value that was commanded at this priority, or `None` if its slot is empty. The caller
     /// sees to it that the priority is 1 to 16.
     pub fn slot(&self, priority: u8) -> Option<&T>
         requires { IsPriority priority }
@@ -100,7 +100,7 @@ impl<T: Drop> PriorityArray<T> {
     /// Puts a value into the slot of this priority, in the place of what was there. The caller sees
     /// to it that the priority is 1 to 16.
     ///
-    /// `Reserved` where the priority is 6; then nothing changed, and the value is handed back.
+    /// `Reserved` if the priority is 6; then nothing changed, and the value is handed back.
     pub fn command(&mut self, priority: u8, value: T) -> Result<(), RefusedCommand<T>>
         requires { IsPriority priority }
         ensures ok { OnOk result (self.new ≡ with_slot priority (Some value) self.old) }
@@ -125,7 +125,7 @@ impl<T: Drop> PriorityArray<T> {
 
     /// Empties the slot of this priority. The caller sees to it that the priority is 1 to 16.
     ///
-    /// `Reserved` where the priority is 6; then nothing changed.
+    /// `Reserved` if the priority is 6; then nothing changed.
     pub fn relinquish(&mut self, priority: u8) -> Result<(), PriorityFault>
         requires { IsPriority priority }
         ensures ok { OnOk result (self.new ≡ with_slot priority None self.old) }

@@ -21,8 +21,8 @@ pub fn present_value<T>()
         IsPresent property value ↔ value ≡ present property }
 {}
 
-/// After a history a slot holds the value of the last act at its priority where that was a command;
-/// it is empty where that was a relinquish or there was none.
+/// After a history a slot holds the value of the last act at its priority if that was a command;
+/// it is empty if that was a relinquish or there was none.
 pub fn slots_after<T>()
     ensures slots { (start : T) (history : List (Act T)) (priority : ℕ) → IsPriority priority →
         slot priority (state_after start history) ≡ slot_after history priority }

@@ -1,5 +1,5 @@
 //! Command prioritization (ISO 16484-5 clause 19.2): sixteen slots for commands of one property, by
-//! priority, and the default that holds where every slot is empty.
+//! priority, and the default that holds if every slot is empty.
 #![tactic(auto)]
 
 mod array;

@@ -159,7 +159,7 @@ merged_step start done place carried other both within is joined before rest =
     moved = subst (λ (ys : List Found). IsPermutation (rest ++ (done ++ carried ∷ [])) ys)
         (ap (λ (ys : List Found). rest ++ ys) (append_assoc less (carried ∷ []) (other ∷ [])) ∙ sym (append_assoc rest less (carried ∷ other ∷ []))) all
 
--- the last of those that remain goes behind those that are done
+-- the last of those that remain goes after those that are done
 pub taken_over : (rest done : List Found) (next : Found) → IsPermutation ((rest ++ next ∷ []) ++ done) (rest ++ (done ++ next ∷ []))
 taken_over rest done next =
     subst (λ (xs : List Found). IsPermutation xs (rest ++ (done ++ next ∷ []))) (sym (append_assoc rest (next ∷ []) done))

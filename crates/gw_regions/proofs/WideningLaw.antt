@@ -1,4 +1,4 @@
--- Regions that are alike but for a field, and a field that may be anything since no ask of a shape tells.
+-- Regions that are alike but for a field, and a field that may be anything as no shape shows the difference.
 use Rattle.std.proofs.Common.{◌≡◌, ◌∙◌, sym, ap, refl, ℕ, ◌<◌, Bool, true, false, ◌&&◌, ◌||◌, List, get_or, Option, arith, nat_lt, subst, ◌+◌}
 use Rattle.std.proofs.lemmas.Bool.{ltb-false, ltb-true}
 use Rattle.gw_rules.specs.Ask.{Ask}

@@ -68,7 +68,7 @@ fn are_same(old: &[Rule], p: &Deciding, new: &[Rule], q: &Deciding) -> bool
     true
 }
 
-/// What a look at a region comes to.
+/// The result of a look at a region.
 #[derive(Clone, Copy)]
 enum Look {
     /// The two policies decide each of its asks alike.

@@ -1,4 +1,4 @@
-//! What a comparison of two policies comes to.
+//! The result of a comparison of two policies.
 ghost use Rattle.std.specs.Prelude.{◌≡◌, ◌++◌, ◌∷◌, [], None, IfOk, IfSome, OnOk};
 
 use crate::Region;

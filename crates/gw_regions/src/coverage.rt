@@ -85,7 +85,7 @@ fn covers_each(rule: &Rule, region: &Region) -> bool
     FieldName::ALL.iter().all(|field| covers(region.get(*field), rule.ranges(*field).as_slice()))
 }
 
-/// How much of a region a rule matches, as far as a look at its ranges tells.
+/// How much of a region a rule matches, as far as a look at its ranges shows.
 #[tactic(auto, using(crate::proofs::CoverageLaw::apart_law, crate::proofs::CoverageLaw::whole_law))]
 pub(crate) fn coverage_of(rule: &Rule, region: &Region) -> Coverage
     ensures apart { result ≡ Coverage.Nothing →

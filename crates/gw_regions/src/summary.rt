@@ -23,7 +23,7 @@ pub struct Summary {
 
 /// Compares two policies over the asks of these shapes as [`compare`] does, and makes the regions that it
 /// found few and wide: those that say the same and differ in one field alone are made one, and a field may be
-/// anything if no shape tells the difference. An `Err` if there is no memory.
+/// anything if no shape shows the difference. An `Err` if there is no memory.
 pub fn summarize(
     alloc: Global,
     old: &[Rule],

@@ -47,7 +47,7 @@ impl Values {
         }
     }
 
-    /// Whether there is no value, as far as a look at the list tells.
+    /// Whether there is no value, as far as a look at the list shows.
     pub(crate) fn is_empty(&self) -> bool
         ensures { result ≡ is_empty self.now }
     {

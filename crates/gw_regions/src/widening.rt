@@ -1,4 +1,4 @@
-//! Fields of a region of which no shape tells the difference.
+//! Fields of a region of which no shape shows the difference.
 ghost use Rattle.std.specs.Prelude.{IfOk, List, OnOk};
 ghost use Rattle.gw_rules.specs.declared.rule.Rule.{Rule as SpecRule};
 ghost use Rattle.gw_regions.specs.Comparing.{IsSummary};
@@ -31,7 +31,7 @@ fn free(
     Ok(())
 }
 
-/// Lets each field be anything, one after the other in the order of their numbers, if no shape tells the
+/// Lets each field be anything, one after the other in the order of their numbers, if no shape shows the
 /// difference. Of the asks of the shapes the region has those that it had. An `Err` if there is no memory.
 pub fn widen(alloc: Global, shapes: &[Region], region: &mut Region) -> Result<(), AllocError>
     ensures { OnOk result (IsWide shapes.now region.old region.new) }

@@ -1,4 +1,4 @@
--- A configuration in which no network stands twice gives a table of routes in which none does.
+-- A configuration in which no network appears twice gives a table of routes in which none does.
 use Rattle.std.proofs.Common.{◌≡◌, ◌∙◌, ap, refl, ℕ, Bool, true, false, ◌&&◌, ◌||◌, not, nat_eq, List, [], ◌∷◌, ◌++◌, map, append_assoc}
 use Rattle.std.specs.List.{list_any}
 use Rattle.std.specs.Map.{keys_of}

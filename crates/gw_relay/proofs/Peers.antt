@@ -1,4 +1,4 @@
--- A configuration in which no peer stands twice gives tables in which none does.
+-- A configuration in which no peer appears twice gives tables in which none does.
 use Rattle.std.proofs.Common.{◌≡◌, ◌∙◌, sym, ap, refl, ℕ, zero, suc, ◌<◌, Bool, true, false, ◌||◌, nat_eq, List, [], ◌∷◌, length, get_or, eq-eqb, arith}
 use Rattle.std.specs.List.{AllByRecursion, list_any}
 use Rattle.gw_addr.specs.declared.bip.BipAddr.{BipAddr}

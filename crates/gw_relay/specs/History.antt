@@ -1,6 +1,6 @@
--- How the ports' tables stand after a history (Annex J.4, J.5): the entries of the last granted
+-- The state of the ports' tables after a history (Annex J.4, J.5): the entries of the last granted
 -- Write-Broadcast-Distribution-Table, or the configured ones; and the foreign devices by their
--- granted registrations and deletions and by the ticks, newest first. And how the routes stand: by the
+-- granted registrations and deletions and by the ticks, newest first. And the state of the routes: by the
 -- networks that were granted to be learned (clause 6.6).
 use Rattle.std.specs.Prelude.{◌≡◌, ℕ, ◌+◌, Bool, if◌then◌else◌, List, [], ◌∷◌, map, Option, Some, None}
 use Rattle.gw_addr.specs.declared.entry.BdtEntry.{BdtEntry}
@@ -40,7 +40,7 @@ all_after [] acts = []
 all_after (port ∷ ports) [] = []
 all_after (port ∷ ports) (first ∷ acts) = link_after port first ∷ all_after ports acts
 
--- links stand as the acts of their ports leave them
+-- links are as the acts of their ports leave them
 abbrev pub AreStatesAfter : List PortState → List Port → List Acts → Type 0
 AreStatesAfter links ports acts = links ≡ all_after ports acts
 

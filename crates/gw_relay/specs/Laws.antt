@@ -41,12 +41,12 @@ use Rattle.gw_relay.specs.declared.change.Change.{Change}
 use Rattle.gw_relay.specs.declared.port.PortState.{PortState}
 use Rattle.gw_relay.specs.declared.port.Port.{Port}
 
--- Links as they are configured stand after no acts.
+-- Links as they are configured are those after no acts.
 abbrev pub ConfiguredLinksStand : Type 0
 ConfiguredLinksStand = (number : ℕ) (ports : List ConfiguredPort) →
     AreStatesAfter (links_from number ports) (ports_from number ports) (map initial_acts ports)
 
--- A change extends every history: what stood after some acts stands after the acts with it.
+-- A change extends every history: links after some acts become those after the acts with it.
 abbrev pub ChangesExtendHistories : Type 0
 ChangesExtendHistories = (change : Change) (links : List PortState) (ports : List Port) (acts : List Acts) →
     AreStatesAfter links ports acts → AreStatesAfter (links_after change links) ports (acts_after change acts)

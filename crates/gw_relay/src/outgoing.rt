@@ -82,7 +82,7 @@ impl Outgoing {
         Ok(Outgoing { octets })
     }
 
-    /// The NPDU in a buffer, behind its first four octets.
+    /// The NPDU in a buffer, after its first four octets.
     pub(crate) fn in_buffer(octets: Vec<u8>) -> Self
         requires least { 4 ≤ vec_len octets }
         requires most { vec_len octets ≤ 1501 }

@@ -36,6 +36,6 @@ joined front (e ∷ routes) d =
     ∙ joined (front ++ e ∷ []) routes (subst (λ es. IsDistinct nat_eq (keys_of es)) (sym regrouped) d)
     ∙ regrouped
 
--- distinct networks that are inserted one after the other stand in their order
+-- distinct networks that are inserted one after the other keep their order
 pub in_turn : (direct : List ℕ) (routes : Routed) → IsTrue (are_distinct (direct ++ keys_of routes)) → insert_all nat_eq [] routes ≡ routes
 in_turn direct routes h = joined [] routes (distinct (keys_of routes) (behind direct (keys_of routes) h))

@@ -90,7 +90,7 @@ module _ (t : Table) (n : ℕ) (r : Route) where
           omega (arith, rows, fewer, few)
       by false false e false k = omega arith
 
--- what is left of a list, where a network stands first
+-- what is left of a list after its first network
 pub room_left : (t u : Table) (n : ℕ) (r : Route) (nets left : List ℕ) → nets ≡ n ∷ left → u ≡ with_granted t n r
     → growth u left + places t n ≤ growth t nets
 room_left t u n r nets left e s =

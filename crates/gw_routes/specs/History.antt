@@ -1,4 +1,4 @@
--- How a table stands after a history, which is the list of the learnings that were granted, newest
+-- The state of a table after a history: the list of the learnings that were granted, newest
 -- first: each a network and the route that it was given.
 use Rattle.std.specs.Prelude.{◌≡◌, ℕ, List, [], ◌∷◌, ◌++◌, nat_eq, if◌then◌else◌, filter_map, Option}
 use Rattle.std.specs.List.{list_any}
@@ -19,7 +19,7 @@ unfoldable pub networks_learned : History → List ℕ
 networks_learned [] = []
 networks_learned (learning ∷ h) = with_network (networks_learned h) learning.0
 
--- a network with the route of its last learning, which stands first in the history
+-- a network with the route of its last learning, which is first in the history
 abbrev pub last_learning : History → ℕ → Option (ℕ × Route)
 last_learning h net = option_map (λ route. (net, route)) (route_of h net)
 
@@ -31,7 +31,7 @@ learned_after h = filter_map (last_learning h) (networks_learned h)
 abbrev pub table_after : List ℕ → Routed → History → Table
 table_after direct configured h = table_of direct configured (learned_after h)
 
--- a table stands as a history leaves it
+-- a table is as a history leaves it
 abbrev pub IsStateAfter : Table → List ℕ → Routed → History → Type 0
 IsStateAfter t direct configured h = t ≡ table_after direct configured h
 

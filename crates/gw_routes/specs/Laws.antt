@@ -13,7 +13,7 @@ abbrev pub NamedAreLearned : Type 0
 NamedAreLearned = (h : History) (net : ℕ) →
     list_any (nat_eq net) (networks_learned h) ≡ is_some (route_of h net)
 
--- Later learnings leave the networks of a history in their places, and put others behind them.
+-- Later learnings leave the networks of a history in their places, and put others after them.
 abbrev pub PlacesAreKept : Type 0
 PlacesAreKept = (later h : History) →
     (others : List ℕ) × (networks_learned (later ++ h) ≡ networks_learned h ++ others)

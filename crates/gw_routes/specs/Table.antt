@@ -32,7 +32,7 @@ abbrev pub table_of : List ℕ → Routed → Routed → Table
 table_of direct configured learned =
     record { direct = direct; configured = configured; learned = learned }
 
--- no network stands twice in the list
+-- no network appears twice in the list
 abbrev pub are_distinct : List ℕ → Bool
 are_distinct [] = true
 are_distinct (net ∷ nets) = not (list_any (nat_eq net) nets) && are_distinct nets

@@ -6,7 +6,7 @@ ghost use Rattle.gw_routes.specs.Laws.{FixedWaysStay, LastLearningHolds};
 
 use crate::{EVERYWHERE, MAX_ROUTES};
 
-/// The limit is 512 routes, and 65535 stands for all networks (clause 6.2.2).
+/// The limit is 512 routes, and 65535 represents all networks (clause 6.2.2).
 pub fn limits()
     ensures routes { MAX_ROUTES ≡ 512 }
     ensures everywhere { EVERYWHERE ≡ 65535 }

@@ -2,7 +2,7 @@
 
 use gw_addr::BipAddr;
 
-/// The network number that stands for all networks, in the destination of a global broadcast
+/// The network number that represents all networks, in the destination of a global broadcast
 /// (clause 6.2.2).
 pub const EVERYWHERE: u16 = 65535;
 
@@ -24,7 +24,7 @@ pub enum Way {
     Device,
     /// It lies behind another router.
     Router(Route),
-    /// It stands for all networks.
+    /// It represents all networks.
     Everywhere,
     /// No way there is known.
     Unknown,

@@ -60,7 +60,7 @@ impl Routes {
         direct: Vec<NetNum>,
         configured: Vec<(NetNum, Route)>,
     ) -> Result<Self, AllocError>
-        // No network stands twice in the two lists together.
+        // No network appears twice in the two lists together.
         requires distinct { IsTrue (are_distinct (direct.items ++ keys_of configured.items)) }
         requires few { length configured.items ≤ MAX_ROUTES }
         ensures made { IfOk result (λ t. IsStateAfter t direct.items configured.items []) }

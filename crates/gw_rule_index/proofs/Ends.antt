@@ -58,7 +58,7 @@ all_ends_few field (rule ∷ rules) =
 field_ends_few : (field : FieldName) (rules : List Rule) → KeepsLongCounts rules → length (field_ends field rules) ≤ 4096
 field_ends_few field rules keeps = omega (arith, all_ends_few field rules, keeps.in_all field)
 
--- none where no rule names the field
+-- none if no rule names the field
 no_ends_here : (ranges : List Range) (others : Bool) (more : List ℕ) → (others ≡ false → length more ≡ 0) → (nat_lt 0 (length ranges) || others) ≡ false → length (flat_map ends ranges ++ more) ≡ 0
 no_ends_here [] others more rest none = rest none
 no_ends_here (range ∷ ranges) others more rest none =

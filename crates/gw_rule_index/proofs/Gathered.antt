@@ -9,7 +9,7 @@ use Rattle.gw_rule_index.specs.declared.row.Row.{Row}
 use Rattle.gw_rule_index.specs.internal.Field.{HasRows}
 use Rattle.gw_rule_index.specs.internal.Row.{Marks, admits_in}
 
--- where the pieces of the elements so far stand behind a front, and the next element's behind them
+-- after a front, the pieces of `i` elements, then those of the next one, are those of `i + 1` elements
 pub gathered : {X A : Type 0} (f : X → List A) (front now new : List A) (xs : List X) (i : ℕ) (d : X) → i < length xs
     → now ≡ front ++ flat_map f (take i xs) → new ≡ now ++ f (get_or xs i d) → new ≡ front ++ flat_map f (take (i + 1) xs)
 gathered {A = A} f front now new xs i d lt was is =

@@ -13,7 +13,7 @@ pub record Nears (bounds : List Bound) (value low high room : ℕ) : Type 0 wher
   pub below : AreSearchable bounds → (k : ℕ) (d : Bound) → k < low → (get_or bounds k d).number ≤ value
   pub above : AreSearchable bounds → (k : ℕ) (d : Bound) → high ≤ k → k < length bounds → value < (get_or bounds k d).number
 
--- the room before a step is twice the room behind it
+-- the room before a step is twice the room after it
 pub room_halves : (step : ℕ) → step < 13 → 2 ^ (13 - step) ≡ 2 ^ (13 - (step + 1)) + 2 ^ (13 - (step + 1))
 room_halves step inside =
     let one : 13 - step ≡ (13 - (step + 1)) + 1 = omega arith in

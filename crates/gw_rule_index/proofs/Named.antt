@@ -19,7 +19,7 @@ not_false : (b : Bool) → not b ≡ false → b ≡ true
 not_false true e = refl
 not_false false e = absurd (cc)
 
--- a field has a bound exactly where some rule names it
+-- a field has a bound exactly if some rule names it
 bounded : (rules : List Rule) (field : FieldName) (index : FieldIndex) → IsIndexOf rules field index → has_bounds index ≡ is_named rules field
 bounded rules field index is = at (is_named rules field) (has_bounds index) refl refl
   where

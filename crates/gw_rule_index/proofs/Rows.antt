@@ -121,7 +121,7 @@ clear_is : (b : Bool) → bit b ≡ 0 → b ≡ false
 clear_is true e = absurd (omega arith)
 clear_is false e = refl
 
--- a place is clear where its word is 0, or its bit
+-- a place is clear if its word is 0, or its bit
 clear_at : (words : List ℕ) (test : Rule → Bool) (rules : List Rule) (place : ℕ) → Marks words test rules → place < 512 → bit_at (get_or words (place / 64) 0) (place % 64) ≡ 0 → is_marked test rules place ≡ false
 clear_at words test rules place marks inside clear =
     let parts : 64 * (place / 64) + place % 64 ≡ place = omega (arith, div-add-mod' place 64) in

@@ -10,7 +10,7 @@ use Rattle.gw_rules.specs.declared.rule.Rule.{Rule}
 use Rattle.gw_rules.specs.declared.field.TheConstants.FieldName.{ALL}
 use Rattle.gw_rule_index.specs.declared.counted.TheConstants.{COMPARISONS_A_FIELD}
 
--- at most thirteen comparisons where the ask has the field, and none where it doesn't
+-- at most thirteen comparisons if the ask has the field, and none if it doesn't
 abbrev pub most_comparisons : Option ℕ → ℕ
 most_comparisons value = option_map_or (λ _. COMPARISONS_A_FIELD) value 0
 
@@ -34,7 +34,7 @@ named_fields_in rules fields = count_by (is_named rules) fields
 abbrev pub named_fields : List Rule → ℕ
 named_fields rules = named_fields_in rules ALL
 
--- at most thirteen comparisons where the ask has a field that a rule names
+-- at most thirteen comparisons if the ask has a field that a rule names
 abbrev pub most_named_comparisons : List Rule → FieldName → Option ℕ → ℕ
 most_named_comparisons rules field value = if is_named rules field then most_comparisons value else 0
 
@@ -47,11 +47,11 @@ most_named_comparisons_in rules ask fields =
 abbrev pub most_named_comparisons_of : List Rule → Ask → ℕ
 most_named_comparisons_of rules ask = most_named_comparisons_in rules ask ALL
 
--- one comparison where the ask has the field, and none where it doesn't
+-- one comparison if the ask has the field, and none if it doesn't
 abbrev pub one_comparison : Option ℕ → ℕ
 one_comparison value = option_map_or (λ _. 1) value 0
 
--- at least one comparison where the ask has a field that a rule names
+-- at least one comparison if the ask has a field that a rule names
 abbrev pub least_comparisons : List Rule → FieldName → Option ℕ → ℕ
 least_comparisons rules field value = if is_named rules field then one_comparison value else 0
 

@@ -12,7 +12,7 @@ use gw_rules::{FieldName, Range, Rule};
 use std::alloc::{AllocError, Global};
 
 impl FieldIndex {
-    /// The index of a field of these rules. `AllocError` where memory was refused.
+    /// The index of a field of these rules. `AllocError` if memory was refused.
     pub(crate) fn build(alloc: Global, rules: &[Rule], field: FieldName) -> Result<Self, AllocError>
         requires { KeepsLongCounts rules.now }
         ensures { IfOk result (λ index. IsIndexOf rules.now field index) }

@@ -1,4 +1,4 @@
-//! What a gateway judges by: its rules, and their index where that pays.
+//! What a gateway judges by: its rules, and their index if that pays.
 ghost use Rattle.std.specs.Prelude.{◌≡◌, IfOk, IfSome};
 ghost use Rattle.gw_rule_index.specs.internal.Index.{IsBuiltFrom};
 
@@ -10,7 +10,7 @@ use std::marker::Model;
 /// From how many rules on the index is asked: with fewer the list answers as soon.
 pub const LEAST_INDEXED: usize = 32;
 
-/// The rules of a gateway, and their index where they are many. It answers as the list of the rules,
+/// The rules of a gateway, and their index if they are many. It answers as the list of the rules,
 /// which contracts see.
 pub struct Policy {
     rules: RuleList,
@@ -53,7 +53,7 @@ impl Policy {
     }
 }
 
-/// The index of rules, where they are so many that it pays.
+/// The index of rules, if they are so many that it pays.
 fn index_of(alloc: Global, rules: &RuleList) -> Result<Option<RuleIndex>, AllocError>
     ensures { IfOk result (λ index. IfSome index (λ index. IsBuiltFrom index rules.now)) }
 {

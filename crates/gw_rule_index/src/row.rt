@@ -17,7 +17,7 @@ const WORD_BITS: usize = 64;
 /// How many words a row has: a bit for each of 512 rules.
 const WORDS: usize = 8;
 
-/// The rules that pass a test: bit `b` of word `k` is set where the rule at place `64 k + b` does.
+/// The rules that pass a test: bit `b` of word `k` is set if the rule at place `64 k + b` does.
 #[derive(Clone, Copy)]
 pub(crate) struct Row {
     words: [u64; WORDS],

@@ -44,7 +44,7 @@ impl Drop for RuleIndex {
 }
 
 impl RuleIndex {
-    /// The index of these rules. `AllocError` where there is no memory for it: up to 3.5 MiB, since
+    /// The index of these rules. `AllocError` if there is no memory for it: up to 3.5 MiB, since
     /// each of the twelve fields may have 4096 bounds of 8 octets and 4097 rows of 64.
     pub fn build(alloc: Global, rules: &RuleList) -> Result<Self, AllocError>
         ensures { IfOk result (λ index. IsBuiltFrom index rules.now) }

@@ -1,4 +1,4 @@
--- What a piece says whatever comes after, and texts that are appended one behind the other.
+-- What a piece says whatever comes after, and texts that are appended one after the other.
 use Rattle.std.proofs.Common.{◌≡◌, ℕ, List, ◌++◌, take, drop, Option, Some, None, sym, ap, ◌∙◌, append_assoc}
 use Rattle.std.specs.Prelude.{IfSome}
 use Rattle.std.specs.Io.KnownBytes.{Appends}

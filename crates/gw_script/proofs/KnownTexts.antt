@@ -3,7 +3,7 @@ use Rattle.std.proofs.Common.{◌≡◌, ℕ, List, [], ◌++◌, Option, Some, 
 use Rattle.std.specs.Prelude.{IfSome, IsSomeAnd}
 use Rattle.std.specs.Io.KnownBytes.{Appends, Keeps, prepend_known}
 
--- text that is known stays known: what the reader has left stands behind what is held
+-- text that is known stays known: what the reader has left follows what is held
 pub record Left (held text : List ℕ) (known : Option (List ℕ)) : Type 0 where
   pub rest : List ℕ
   pub is : known ≡ Some rest

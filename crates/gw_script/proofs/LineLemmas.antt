@@ -19,7 +19,7 @@ lines_of-line [] rest lacks = refl
 lines_of-line (c ∷ line) rest lacks =
     rw (other c line lacks) (ap (onto_first c) (lines_of-line line rest (λ i lt. lacks (suc i) (omega arith))))
 
--- the line of a tick stands first
+-- the line of a tick comes first
 pub tick_line : (text rest : List ℕ) → text ≡ codes "tick" ++ 10 ∷ drop 5 text → lines_of (text ++ rest) ≡ take 4 text ∷ lines_of (drop 5 text ++ rest)
 unfolding lines_of
 tick_line text rest begins =
@@ -37,7 +37,7 @@ pub lines_of-nil : lines_of [] ≡ []
 unfolding lines_of
 lines_of-nil = refl
 
--- a front stands in the first line of a text
+-- the first line of a text begins with a front
 record StartsLine (front text : List ℕ) : Type 0 where
   more : List ℕ
   others : List (List ℕ)
@@ -62,7 +62,7 @@ begins_long unread rest lacks many =
     let line = starts_line unread rest lacks (omega arith) in
     record { line = unread ++ line.more; others = line.others; over = omega (arith, length-append unread line.more); lines = line.lines }
 
--- up to the first line feed that is unread stands the first line
+-- the first line ends at the first line feed that is unread
 pub first_line : (unread : List ℕ) (k : ℕ) → IsFirstByte (is_byte 10) unread (Some k) → (rest : List ℕ) → lines_of (unread ++ rest) ≡ take k unread ∷ lines_of (drop (k + 1) unread ++ rest)
 first_line unread k found rest =
     let parts = found_parts 10 unread k found in

@@ -1,4 +1,4 @@
--- The telling goes on line by line.
+-- The writing goes on line by line.
 use Rattle.std.proofs.Common.{◌≡◌, ℕ, suc, ◌+◌, List, [], ◌∷◌, ◌++◌, length, take, drop, Option, Some, Result, Ok, Err, true, false, refl, sym, ap, subst, ◌∙◌, ◌≤◌, arith, append_assoc}
 use Rattle.std.specs.Prelude.{IfSome, IsSomeAnd}
 use Rattle.std.specs.Io.KnownBytes.{Keeps, prepend_known}
@@ -50,7 +50,7 @@ line_found old new before front text found len span keeps known is piece within 
       );
     }
 
--- ---- lines, and what tells them
+-- ---- lines, and the texts for them
 
 one_more : (texts : List (List ℕ)) (told : List ℕ) → joined (texts ++ told ∷ []) ≡ joined texts ++ told
 one_more texts told =
@@ -88,7 +88,7 @@ module _ (Tells : List ℕ → List ℕ → Type 0) where
   other_lines script done others texts are lines =
       ap (drop (length texts)) lines ∙ drop_at done others (length texts) (are_length done texts are)
 
-  -- what is told whole is a front of itself
+  -- what is written whole is a front of itself
   pub whole_is_front : (script before after : List ℕ) → TellsWhole Tells script before after → TellsFront Tells script before after
   whole_is_front script before after whole = record {
     texts = whole.texts;
@@ -101,7 +101,7 @@ module _ (Tells : List ℕ → List ℕ → Type 0) where
 
 -- ---- how far they have come
 
--- these lines are done, which these texts tell, and this text is left
+-- these lines are done, these texts are for them, and this text is left
 pub record Progress (Tells : List ℕ → List ℕ → Type 0) (script before : List ℕ) (n : ℕ) (text written : Option (List ℕ)) : Type 0 where
   pub texts : List (List ℕ)
   pub done : List (List ℕ)

@@ -1,4 +1,4 @@
--- Texts of the items of a list, one behind the other.
+-- Texts of the items of a list, one after the other.
 use Rattle.std.proofs.Common.{◌≡◌, ◌∙◌, ℕ, zero, suc, ◌+◌, ◌<◌, ◌≤◌, List, [], ◌∷◌, ◌++◌, length, take, get_or, refl, sym, ap, arith, append_assoc}
 use Rattle.std.specs.List.{flat_map}
 use Rattle.std.proofs.lemmas.List.{append-nil, length-append}
@@ -16,7 +16,7 @@ front_fits {A} text (y ∷ xs) zero x lt is = omega (arith, text_length text y x
 front_fits text (y ∷ xs) (suc i) x lt is = omega
     (arith, text_length text y xs, text_length text y (take i xs), front_fits text xs i x (omega (arith, lt)) is)
 
--- an item of a list, whatever stands behind it
+-- an item of a list, whatever the default is
 pub item_at : {A : Type 0} (xs : List A) (i : ℕ) (d : A) → i < length xs → get_or xs i d ≡ get_or xs i (get_or xs i d)
 item_at [] i d lt = absurd (omega arith)
 item_at (x ∷ xs) zero d lt = refl

@@ -1,4 +1,4 @@
--- Pairs of digits that are read without a look back: whether all of them were digits is told at the end.
+-- Pairs of digits that are read without a look back: whether all of them were digits is checked at the end.
 use Rattle.std.proofs.Common.{◌≡◌, inl, inr, ℕ, zero, suc, ◌+◌, ◌*◌, ◌%◌, ◌<◌, ◌≤◌, List, length, take, drop, get_or, set, Option, Some, None, unwrap_or, Bool, true, cond, eqb, ltb, max, min, bit_or, Ok, Err, refl, sym, ap, ◌∙◌, arith}
 use Rattle.std.specs.Prelude.{IsErr}
 use Rattle.std.specs.Bool.{OnTrue, OnFalse}
@@ -68,7 +68,7 @@ high_refused a b i none = rw none refl
 low_refused : (a b i v : ℕ) → hex_digit_value a ≡ Some v → hex_digit_value b ≡ None → pair_value a b i ≡ Err (InvalidHexCharacter b (i + 1))
 low_refused a b i v some none = rw (some, none) refl
 
--- the octets of the first pairs stand before what the rest is decoded to
+-- the octets of the first pairs are before what the rest is decoded to
 first_read : (text octets : List ℕ) (i : ℕ) → i ≤ length octets → length text ≡ 2 * length octets
     → ((place : ℕ) → place < i → IsPair text octets place)
     → decode_pairs 0 text ≡ prepend (take i octets) (decode_pairs (2 * i) (drop (2 * i) text))
@@ -115,7 +115,7 @@ read_more text octets i largest high low x len room is_high is_low e before = re
       ];
 }
 
--- what the test at the end tells
+-- what the test at the end shows
 pub is_read : (text octets : List ℕ) (largest : ℕ) → length text ≡ 2 * length octets
     → IsReadTo text octets (length octets) largest → OnTrue (ltb largest 16) (decode_of text ≡ Ok octets)
 is_read text octets largest len all =

@@ -19,7 +19,7 @@ use Rattle.gw_addr.proofs.Lacking.{address_lacks}
 pub none_lacks : (c : ℕ) (xs : List ℕ) → IsFirstByte (is_byte c) xs None → Lacks c xs
 none_lacks c xs none i lt e = none i (omega arith) lt (eq-eqb (get_or xs i 0) c e)
 
--- what a search finds stands between what comes before it, which lacks it, and what comes behind it
+-- what a search finds is between what comes before it, which lacks it, and what comes after it
 pub found_parts : (c : ℕ) (xs : List ℕ) (k : ℕ) → IsFirstByte (is_byte c) xs (Some k) → (xs ≡ take k xs ++ c ∷ drop (k + 1) xs) × Lacks c (take k xs)
 found_parts c xs k found =
     let inside : k < length xs = found.0.high in
@@ -53,7 +53,7 @@ address_utf8 a is =
     let second : IsAscii most = part_ascii (get_or a.ip 1 0) 46 later (small_octet a is 1) (omega arith) third in
     IsUtf8-from_ascii (text_of a) (part_ascii (get_or a.ip 0 0) 46 most (small_octet a is 0) (omega arith) second)
 
--- all that stands behind the first characters
+-- all that follows the first characters
 pub tail_whole : (n : ℕ) (xs : List ℕ) → take (length xs - n) (drop n xs) ≡ drop n xs
 tail_whole n xs = ap (λ (k : ℕ). take k (drop n xs)) (sym (length-drop n xs)) ∙ take-length (drop n xs)
 

@@ -1,4 +1,4 @@
--- The end of a line that stands in a text, and is appended once more.
+-- The end of a line that is in a text, and is appended once more.
 use Rattle.std.proofs.Common.{◌≡◌, ◌∙◌, ℕ, ◌+◌, ◌-◌, ◌*◌, ◌≤◌, List, [], ◌∷◌, ◌++◌, length, slice_range, take, drop, sym, ap, arith, append_assoc}
 use Rattle.std.proofs.lemmas.List.{drop_at, length-append, length-take-le, take-append-drop, take_all, take_at}
 use Rattle.hex.specs.Hex.{encode_upper, upper_digits}
@@ -9,7 +9,7 @@ use Rattle.gw_script.specs.Text.{EndsWith, send_head, send_line, send_tail}
 pub tail_length : (octets : List ℕ) → length (send_tail octets) ≡ 2 * length octets + 1
 tail_length octets = omega (arith, length-append (encode_upper octets) (10 ∷ []), length-encode_with upper_digits octets)
 
--- so many octets stand before the place
+-- so many octets are before the place
 pub tail_fits : (items octets : List ℕ) (end : ℕ) → end ≤ length items → EndsWith (take end items) (send_tail octets)
     → 2 * length octets + 1 ≤ end
 tail_fits items octets end within stands =
@@ -38,7 +38,7 @@ pub front_stays : (items grown fill : List ℕ) (place all : ℕ) → length ite
 front_stays items grown fill place all len fits is =
     ap (take place) (is ∙ ap (λ (t : List ℕ). t ++ fill) (take_all all items (omega (arith, len, fits)))) ∙ take_at items fill place len
 
--- the same octets behind a text
+-- the same octets after a text
 pub copied_behind : (items octets front new : List ℕ) (end : ℕ) → end ≤ length items → EndsWith (take end items) (send_tail octets)
     → front ≡ items → new ≡ front ++ slice_range front (end - (2 * length octets + 1)) end → new ≡ items ++ send_tail octets
 copied_behind items octets front new end within stands is copied =

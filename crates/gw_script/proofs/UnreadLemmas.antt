@@ -1,4 +1,4 @@
--- What is unread, after more was read behind it or some was taken from it.
+-- What is unread, once more was read after it or some was taken from it.
 use Rattle.std.proofs.Common.{◌≡◌, ℕ, ◌+◌, ◌-◌, ◌≤◌, List, [], ◌++◌, length, take, drop, slice_range, Option, Some, None, refl, sym, ap, ◌∙◌, arith, append_assoc}
 use Rattle.std.proofs.lemmas.List.{take_at, drop_at, take-append-le, drop-append-le, drop-take, drop-drop, length-take-le, length-drop, append-nil}
 use Rattle.std.specs.Io.KnownBytes.{Keeps, Consumes, prepend_known}
@@ -51,7 +51,7 @@ keeps_prepended front (Some xs) (Some ys) h = ap (λ (t : List ℕ). front ++ t)
 pub take_none : (n : ℕ) (xs : List ℕ) → n ≡ 0 → take n xs ≡ []
 take_none n xs none = ap (λ (k : ℕ). take k xs) none
 
--- what is written behind the unread octets leaves them as they are
+-- what is written after the unread octets leaves them as they are
 pub put_back : (xs ys : List ℕ) (start end k : ℕ) → start ≤ end → end ≤ length xs → slice_range (put_mid end k xs ys) start end ≡ slice_range xs start end
 put_back xs ys start end k ordered within =
     let none : end + 0 ≡ end = omega arith in

@@ -20,13 +20,13 @@ pub record HasReturn (line : List ℕ) : Type 0 where
   pub most : length line ≤ 4096
   pub returns : EndsWithReturn line
 
--- its end is as it must be, and it is neither `tick` nor begins with a character that a space stands behind
+-- its end is as it must be, it isn't `tick`, and it doesn't begin with a character and a space
 pub record HasNoForm (line : List ℕ) : Type 0 where
   pub end : HasEnd line
   pub no_tick : line ≢ codes "tick"
   pub no_begin : (first : ℕ) (rest : List ℕ) → ¬ (line ≡ first ∷ 32 ∷ rest)
 
--- its end is as it must be, and its first character, behind which a space stands, is the digit of no port
+-- its end is as it must be, and its first character, which a space follows, is the digit of no port
 pub record HasNoPort (ports : ℕ) (line : List ℕ) : Type 0 where
   pub end : HasEnd line
   pub first : ℕ
@@ -34,7 +34,7 @@ pub record HasNoPort (ports : ℕ) (line : List ℕ) : Type 0 where
   pub begins : line ≡ first ∷ 32 ∷ rest
   pub no_port : (port : ℕ) → 1 ≤ port → port ≤ ports → first ≢ 48 + port
 
--- a line that begins with the digit of a port and a space, and behind them goes on so; its end is as it must be
+-- a line that begins with the digit of a port and a space, which this rest follows; its end is as it must be
 pub record HasPort (ports : ℕ) (line rest : List ℕ) : Type 0 where
   pub end : HasEnd line
   pub port : ℕ
@@ -42,13 +42,13 @@ pub record HasPort (ports : ℕ) (line rest : List ℕ) : Type 0 where
   pub last : port ≤ ports
   pub begins : line ≡ (48 + port) ∷ 32 ∷ rest
 
--- behind its port stands no address with a space behind it
+-- no address with a space after it follows its port
 pub record HasNoSender (ports : ℕ) (line : List ℕ) : Type 0 where
   pub rest : List ℕ
   pub port : HasPort ports line rest
   pub no_sender : (from : BipAddr) (written : List ℕ) → IsAddress from → ¬ (rest ≡ text_of from ++ 32 ∷ written)
 
--- what stands behind its port, the address and a space writes no octets, and is so
+-- what follows its port, the address and a space writes no octets, and is so
 pub record HasNoOctets (ports : ℕ) (line : List ℕ) (IsSo : List ℕ → Type 0) : Type 0 where
   pub from : BipAddr
   pub address : IsAddress from

@@ -7,6 +7,6 @@ abbrev pub OnKnown : Option (List ℕ) → Option (List ℕ) → Option (List �
 OnKnown read held holds said =
     (log before : List ℕ) → read ≡ Some log → held ≡ Some before → IsSomeAnd holds (said log before)
 
--- a text of which an octet at least is left behind
+-- what is left is at least one octet shorter than the text
 abbrev pub IsShorter : List ℕ → Option (List ℕ) → Type 0
 IsShorter text left = (rest : List ℕ) × (left ≡ Some rest) × (length rest + 1 ≤ length text)

@@ -1,4 +1,4 @@
--- What becomes of a text whose lines are told, each by itself: `Tells` says by which text a line is told, and `Refuses`
+-- The texts for the lines of a text, each by itself: `Tells` says which text is made for a line, and `Refuses`
 -- which lines are refused.
 use Rattle.std.specs.Prelude.{◌≡◌, ◌⊎◌, ℕ, ◌+◌, ◌<◌, ◌≤◌, Bool, true, false, List, [], ◌∷◌, ◌++◌, length, take, drop}
 use Rattle.std.specs.Prelude.{Option, Some, Result, Ok, Err, ⊤}
@@ -9,40 +9,40 @@ use Rattle.gw_script.specs.declared.lines.LinesFault.TheVariants.{Read, Line, Wr
 
 -- ---- a line
 
--- a line of at most 4096 octets without its line feed, and what tells it
+-- a line of at most 4096 octets without its line feed, and the text for it
 pub record IsToldLine (Tells : List ℕ → List ℕ → Type 0) (line text : List ℕ) : Type 0 where
   pub most : length line ≤ 4096
   pub told : Tells line text
 
--- a line that ends the telling: it has more than 4096 octets without its line feed, or is refused
+-- a line that ends the writing: it has more than 4096 octets without its line feed, or is refused
 abbrev pub IsUntold : (List ℕ → Type 0) → List ℕ → Type 0
 IsUntold Refuses line = (4096 < length line) ⊎ Refuses line
 
 -- ---- the lines of a text
 
--- lines, and what tells each
+-- lines, and the text for each
 abbrev pub AreTold : (List ℕ → List ℕ → Type 0) → List (List ℕ) → List (List ℕ) → Type 0
 AreTold Tells [] [] = ⊤
 AreTold Tells [] (told ∷ texts) = ⊥
 AreTold Tells (line ∷ lines) [] = ⊥
 AreTold Tells (line ∷ lines) (told ∷ texts) = IsToldLine Tells line told × AreTold Tells lines texts
 
--- texts one behind the other
+-- texts one after the other
 abbrev pub joined : List (List ℕ) → List ℕ
 joined texts = flat_map (λ text. text) texts
 
--- what tells the first lines of a text
+-- the texts for the first lines of a text
 abbrev pub FirstTold : (List ℕ → List ℕ → Type 0) → List ℕ → List (List ℕ) → Type 0
 FirstTold Tells text texts = AreTold Tells (take (length texts) (lines_of text)) texts
 
--- every line is told, and what was written is that
+-- every line has a text, and these texts were written
 pub record TellsWhole (Tells : List ℕ → List ℕ → Type 0) (text before after : List ℕ) : Type 0 where
   pub texts : List (List ℕ)
   pub lines : AreTold Tells (lines_of text) texts
   pub written : after ≡ before ++ joined texts
 
--- the lines before this one, which is counted from 1, are told, this line ends the telling, and what was written is
--- what tells those before it
+-- the lines before this one, which is counted from 1, have texts, this line ends the writing, and what was written is
+-- the texts for those before it
 pub record TellsToLine (Tells : List ℕ → List ℕ → Type 0) (Refuses : List ℕ → Type 0) (n : ℕ)
     (text before after : List ℕ) : Type 0 where
   pub texts : List (List ℕ)
@@ -54,13 +54,13 @@ pub record TellsToLine (Tells : List ℕ → List ℕ → Type 0) (Refuses : Lis
   pub untold : IsUntold Refuses line
   pub written : after ≡ before ++ joined texts
 
--- some first lines are told, and what was written is that, whole
+-- some first lines have texts, and these were written whole
 pub record TellsPart (Tells : List ℕ → List ℕ → Type 0) (text before after : List ℕ) : Type 0 where
   pub texts : List (List ℕ)
   pub lines : FirstTold Tells text texts
   pub written : after ≡ before ++ joined texts
 
--- some first lines are told, and what was written is a front of that
+-- some first lines have texts, and a front of these was written
 pub record TellsFront (Tells : List ℕ → List ℕ → Type 0) (text before after : List ℕ) : Type 0 where
   pub texts : List (List ℕ)
   pub lines : FirstTold Tells text texts
@@ -69,7 +69,7 @@ pub record TellsFront (Tells : List ℕ → List ℕ → Type 0) (text before af
   pub parts : joined texts ≡ front ++ unwritten
   pub written : after ≡ before ++ front
 
--- what the telling leaves written, by its outcome
+-- what the writing leaves, by its outcome
 abbrev pub LeavesLines : (List ℕ → List ℕ → Type 0) → (List ℕ → Type 0) → Result (Unit {0}) LinesFault
     → (text before after : List ℕ) → Type 0
 LeavesLines Tells Refuses (Ok done) text before after = TellsWhole Tells text before after
@@ -80,7 +80,7 @@ LeavesLines Tells Refuses (Err Memory) text before after = TellsPart Tells text 
 
 -- ---- one line of a text
 
--- the first line is told, and that was appended
+-- the first line has a text, and that was appended
 pub record WholeLine (Tells : List ℕ → List ℕ → Type 0) (text : List ℕ) (left : Option (List ℕ)) (before : List ℕ)
     (after : Option (List ℕ)) : Type 0 where
   pub line : List ℕ
@@ -91,14 +91,14 @@ pub record WholeLine (Tells : List ℕ → List ℕ → Type 0) (text : List ℕ
   pub lines : lines_of text ≡ line ∷ lines_of rest
   pub appended : after ≡ Some (before ++ told)
 
--- the first line ends the telling
+-- the first line ends the writing
 pub record BeginsUntold (Refuses : List ℕ → Type 0) (text : List ℕ) : Type 0 where
   pub line : List ℕ
   pub others : List (List ℕ)
   pub lines : lines_of text ≡ line ∷ others
   pub untold : IsUntold Refuses line
 
--- the first line is told, and a front of that was appended
+-- the first line has a text, and a front of that was appended
 pub record CutLine (Tells : List ℕ → List ℕ → Type 0) (text before : List ℕ) (after : Option (List ℕ)) : Type 0 where
   pub line : List ℕ
   pub told : List ℕ

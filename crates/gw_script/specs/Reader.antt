@@ -24,14 +24,14 @@ IsWithin unread (Line len span) = (len ≤ 4096) × (len ≤ length unread) × (
 IsWithin unread Long = ⊤
 IsWithin unread End = ⊤
 
--- what is said of the text that is unread and what comes behind it
+-- what is said of the text that is unread and what comes after it
 abbrev pub IsNextLine : List ℕ → List ℕ → NextLine → Type 0
 IsNextLine unread rest (Line len span) =
     lines_of (unread ++ rest) ≡ take len unread ∷ lines_of (drop span unread ++ rest)
 IsNextLine unread rest Long = BeginsLong (unread ++ rest)
 IsNextLine unread rest End = lines_of (unread ++ rest) ≡ []
 
--- what stands first can be told from what is unread: it has a line feed, or more than 4096 octets
+-- what is unread shows what comes first: it has a line feed, or more than 4096 octets
 abbrev pub IsAtHand : List ℕ → Type 0
 IsAtHand unread = (¬ (Lacks 10 unread)) ⊎ (4096 < length unread)
 

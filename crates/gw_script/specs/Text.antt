@@ -6,15 +6,15 @@ use Rattle.hex.specs.Hex.{encode_upper}
 use Rattle.gw_addr.specs.declared.bip.BipAddr.{BipAddr}
 use Rattle.gw_addr.specs.Address.{text_of}
 
--- what stands before the address in the line of a datagram that is sent: `send <port> `
+-- what comes before the address in the line of a datagram that is sent: `send <port> `
 abbrev pub send_port : ℕ → List ℕ
 send_port port = codes "send " ++ decimal port ++ 32 ∷ []
 
--- and what stands before the octets: `send <port> <address> `
+-- and what comes before the octets: `send <port> <address> `
 abbrev pub send_head : ℕ → BipAddr → List ℕ
 send_head port to = send_port port ++ text_of to ++ 32 ∷ []
 
--- and what stands from the octets on
+-- and the rest from the octets on
 abbrev pub send_tail : List ℕ → List ℕ
 send_tail octets = encode_upper octets ++ 10 ∷ []
 
@@ -26,11 +26,11 @@ send_line port to octets = send_head port to ++ encode_upper octets ++ 10 ∷ []
 abbrev pub send_lines : ℕ → List BipAddr → List ℕ → List ℕ
 send_lines port targets octets = flat_map (λ to. send_line port to octets) targets
 
--- these octets stand at the end of a text
+-- these octets are at the end of a text
 pub record EndsWith (text tail : List ℕ) : Type 0 where
   pub front : List ℕ
   pub is : text ≡ front ++ tail
 
--- the line behind the last of an event
+-- the line after the last of an event
 abbrev pub end_line : List ℕ
 end_line = codes "end" ++ 10 ∷ []

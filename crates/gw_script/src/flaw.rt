@@ -18,11 +18,11 @@ pub enum LineFlaw {
     Long,
     /// It ends with a carriage return.
     CarriageReturn,
-    /// It isn't `tick`, and begins with no character that a space stands behind.
+    /// It isn't `tick`, and doesn't begin with a character and a space.
     Form,
     /// Its first character is the digit of no port.
     Port,
-    /// Behind its port stands no address with a space behind it.
+    /// No address with a space after it follows its port.
     Address,
     /// Its octets have an odd number of digits.
     OddDigits,
@@ -37,7 +37,7 @@ fn ends_with_return(line: &[u8]) -> bool
     !line.is_empty() && line[line.len() - 1] == b'\r'
 }
 
-/// The first character of a line, and what stands behind the space behind that.
+/// The first character of a line, and what follows the space after it.
 fn split_first(line: &[u8]) -> Option<(u8, &[u8])>
     ensures found { IfSome result (λ x. line.now ≡ x.0 ∷ 32 ∷ x.1.now) }
     ensures only { IsNone result → (first : ℕ) (rest : List ℕ) → ¬ (line.now ≡ first ∷ 32 ∷ rest) }
@@ -48,7 +48,7 @@ fn split_first(line: &[u8]) -> Option<(u8, &[u8])>
     Some((*first, rest))
 }
 
-/// What stands behind the address in what a line has behind its port, if it begins with one.
+/// What follows an address and a space, if what a line has after its port begins with these.
 fn behind_address(rest: &[u8]) -> Option<&[u8]>
     ensures found { IfSome result (λ text. (from : BipAddr) × IsAddress from × (rest.now ≡ text_of from ++ 32 ∷ text.now)) }
     ensures only { IsNone result → (from : BipAddr) (written : List ℕ) → IsAddress from →

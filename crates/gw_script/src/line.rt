@@ -107,7 +107,7 @@ pub(crate) fn port_of(ports: u8, digit: u8) -> Option<u8>
     }
 }
 
-/// What stands before the first space, and what stands behind it.
+/// What is before the first space, and what is after it.
 pub(crate) fn split_at_space(text: &[u8]) -> Option<(&[u8], &[u8])>
     ensures found { IfSome result (λ x. text.now ≡ x.0.now ++ 32 ∷ x.1.now) }
     ensures first { IfSome result (λ x. Lacks 32 x.0.now) }
@@ -201,8 +201,8 @@ fn read_each(text: &[u8], octets: &mut [u8]) -> u8
     largest
 }
 
-/// Reads the octets of digit pairs, and answers whether all of them were digits. It tells that at the end alone, so that no digit
-/// is waited for.
+/// Reads the octets of digit pairs, and answers whether all of them were digits. It checks that only at the end,
+/// so that no digit is waited for.
 #[inline(never)]
 fn read_pairs(text: &[u8], octets: &mut [u8]) -> bool
     requires { length text.now ≡ 2 * length octets.old }

@@ -1,4 +1,4 @@
-//! A text that is told line by line.
+//! A text for each line of a text.
 
 ghost use Rattle.std.specs.Prelude.{◌≡◌, ◌+◌, ◌*◌, ◌<◌, ℕ, List, [], length, Ok, Some, IsErrOf, true};
 ghost use Rattle.std.specs.Io.KnownBytes.{prepend_known};
@@ -16,7 +16,7 @@ use thiserror::Error;
 /// How many octets of text there is room for at the start.
 const TEXT_ROOM: usize = 256;
 
-/// Why the telling ends before the lines do.
+/// Why the writing ends before the lines do.
 #[derive(Clone, Copy, Debug, Error)]
 pub enum LinesFault {
     /// 1: a read failed, or there were 4,294,967,295 reads.
@@ -33,7 +33,7 @@ pub enum LinesFault {
     Memory,
 }
 
-/// Tells each line of a text, in order, before it takes up the next line. The writer isn't flushed.
+/// Writes the text for each line, in order, before it takes up the next line. The writer isn't flushed.
 ///
 /// A line ends with a line feed, which the last may lack. It has at most 4096 octets without it.
 pub fn tell_lines<T: LineTeller, R: OctetSource, W: OctetSink>(
@@ -45,7 +45,7 @@ pub fn tell_lines<T: LineTeller, R: OctetSource, W: OctetSink>(
     // What is written then, where the octets of the reader and the writer are known.
     ensures told { OnKnown (R.left reader.old) (W.held writer.old) (W.held writer.new)
         (LeavesLines (T.Tells teller.now) (T.Refuses teller.now) result) }
-    // What never fails doesn't end the telling: a reader, of a text of less than 2 GiB, and a writer.
+    // What never fails doesn't end the writing: a reader, of a text of less than 2 GiB, and a writer.
     ensures sure_reader { R.NeverFails reader.old → (text : List ℕ) →
         R.left reader.old ≡ Some text → 2 * length text + 1 < 4294967295 →
         ¬ (IsErrOf result LinesFault.Read) }
@@ -69,7 +69,7 @@ struct Telling {
 }
 
 impl Telling {
-    /// Tells each line, in order.
+    /// Writes the text for each line, in order.
     fn tell_each<T: LineTeller, R: OctetSource, W: OctetSink>(
         &mut self,
         alloc: Global,
@@ -94,7 +94,7 @@ impl Telling {
         Err(LinesFault::Read)
     }
 
-    /// Tells the line of this number. It answers whether there was one.
+    /// Writes the text for the line of this number. It answers whether there was one.
     fn tell_next<T: LineTeller, R: OctetSource, W: OctetSink>(
         &mut self,
         alloc: Global,

@@ -19,7 +19,7 @@ pub(crate) const MAX_LINE: usize = 4096;
 /// How many octets the line of a tick has, without its line feed.
 const TICK_LEN: usize = 4;
 
-/// What stands first in the text that is left.
+/// What comes first in the text that is left.
 #[derive(Drop)]
 pub enum NextLine {
     /// A line of at most 4096 octets.
@@ -56,7 +56,7 @@ impl Model for LineReader {
     ghost invariant = { λ r. (r.start ≤ r.end) × (r.end ≤ 16384) };
 }
 
-/// Moves the octets between two places to the front, so that all other room is behind them.
+/// Moves the octets between two places to the front, so that all other room is after them.
 fn move_to_front(octets: &mut [u8; MAX_UNREAD], start: usize, end: usize)
     requires ordered { start ≤ end }
     requires within { end ≤ 16384 }
@@ -102,7 +102,7 @@ impl LineReader {
         &self.as_slice()[..len]
     }
 
-    /// Leaves the first octets behind.
+    /// Drops the first unread octets.
     pub fn consume(&mut self, count: usize)
         requires { count ≤ length self.old.unread }
         ensures unread { self.new.unread ≡ drop count self.old.unread }
@@ -111,7 +111,7 @@ impl LineReader {
         self.start += count;
     }
 
-    /// The first line, where its end, or that it is too long, can be told from what is unread.
+    /// The first line, if what is unread shows its end, or that it is too long.
     #[inline(always)]
     fn whole_line(&self) -> Option<NextLine>
         ensures within { IfSome result (λ next. IsWithin self.now.unread next) }
@@ -121,7 +121,7 @@ impl LineReader {
         ensures open { IsNone result → Lacks 10 self.now.unread }
     {
         let unread = self.as_slice();
-        // The line of a tick, the shortest, is told without a search.
+        // The line of a tick, the shortest, is found without a search.
         if begins_with_tick(unread) {
             return Some(NextLine::Line {
                 len: TICK_LEN,
@@ -178,7 +178,7 @@ impl LineReader {
         Ok(count)
     }
 
-    /// What stands first in the text that is left. It calls the source only where that can't be told from what is unread.
+    /// What comes first in the text that is left. It calls the source only if what is unread doesn't show that.
     /// `ReadFailed` only after a failed read, and where the calls are at their end.
     #[inline(always)]
     pub fn find_line<S: OctetSource>(&mut self, source: &mut S) -> Result<NextLine, ReadFailed>
@@ -193,7 +193,7 @@ impl LineReader {
             (S.left source.new) }
         ensures sure { S.NeverFails source.old → OnErr result (self.new.calls ≡ 4294967295) }
         ensures lasts { S.NeverFails source.old → S.NeverFails source.new }
-        // What can be told is told at once: nothing is asked of the source, and nothing changes.
+        // If what is unread shows it, it is returned: nothing is asked of the source, and nothing changes.
         ensures told { IsAtHand self.old.unread → IsOk result }
         ensures same { IsAtHand self.old.unread → self.new ≡ self.old }
         ensures unasked { IsAtHand self.old.unread → source.new ≡ source.old }

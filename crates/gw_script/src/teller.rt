@@ -1,19 +1,19 @@
-//! What is told of the lines of a text.
+//! The texts for the lines of a text.
 
 ghost use Rattle.std.specs.Prelude.{◌≡◌, ℕ, List, IfOk, true, false};
 
 use std::alloc::{AllocError, Global};
 
-/// What tells the lines of a text, each by itself.
+/// Makes the text for each line, by itself.
 pub trait LineTeller {
-    /// This line, which has no line feed, is told by this text.
+    /// This text is made for this line, which has no line feed.
     ghost Tells: { Self → List ℕ → List ℕ → Type 0 };
 
-    /// This line is refused: there is nothing to tell of it.
+    /// This line is refused: no text is made for it.
     ghost Refuses: { Self → List ℕ → Type 0 };
 
-    /// Makes the text of a line, in the place of what `text` held. It answers whether the line is
-    /// told; else it is refused. The only fault is that a growth was refused.
+    /// Makes the text for a line, in the place of what `text` held. It answers whether it made
+    /// one; else the line is refused. The only fault is that a growth was refused.
     fn tell(&self, alloc: Global, line: &[u8], text: &mut Vec<u8>) -> Result<bool, AllocError>
         ensures told { IfOk result (λ is_told. is_told ≡ true →
             Tells self.now line.now text.new.items) }

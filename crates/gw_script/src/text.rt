@@ -45,7 +45,7 @@ pub fn append_sends_to(
     keep_whole(out, len, put)
 }
 
-/// Appends the line behind the last of an event. An `Err` only where the buffer had no room for it;
+/// Appends the line after the last of an event. An `Err` only if the buffer had no room for it;
 /// the buffer then holds what it held.
 pub fn append_end(out: &mut Vec<u8>) -> Result<(), AllocError>
     ensures { IsAppendedWhole end_line out.old out.new result }
@@ -53,7 +53,7 @@ pub fn append_end(out: &mut Vec<u8>) -> Result<(), AllocError>
     out.extend_from_slice(b"end\n")
 }
 
-/// Appends the line of a datagram that is sent. A front of it stands there where a growth was refused.
+/// Appends the line of a datagram that is sent. A front of it remains if a growth was refused.
 fn put_send(
     out: &mut Vec<u8>,
     port: u8,
@@ -68,7 +68,7 @@ fn put_send(
     put_octet(out, b'\n')
 }
 
-/// Appends a line for each address that a datagram goes to. A front of them stands there where a growth
+/// Appends a line for each address that a datagram goes to. A front of them remains if a growth
 /// was refused.
 fn put_sends(
     out: &mut Vec<u8>,
@@ -87,8 +87,8 @@ fn put_sends(
     put_sends_again(out, port, others, at_hand, octets)
 }
 
-/// Appends a line for each address that a datagram goes to, behind one of the same datagram. A front of
-/// them stands there where a growth was refused.
+/// Appends a line for each address that a datagram goes to, after one of the same datagram. A front of
+/// them remains if a growth was refused.
 fn put_sends_again(
     out: &mut Vec<u8>,
     port: u8,
@@ -107,7 +107,7 @@ fn put_sends_again(
 }
 
 /// Appends the line of a datagram that the line before brings too: its digits are copied from there. A
-/// front of it stands there where a growth was refused.
+/// front of it remains if a growth was refused.
 fn put_send_again(
     out: &mut Vec<u8>,
     port: u8,
@@ -137,7 +137,7 @@ fn put_tail_again(out: &mut Vec<u8>, end: usize, octets: &[u8]) -> Result<(), Al
     Ok(())
 }
 
-/// Copies what stands in front of a place over what stands behind it.
+/// Copies a part of what is before a place over what is after it.
 fn copy_again(text: &mut [u8], start: usize, end: usize, place: usize)
     requires ordered { start ≤ end }
     requires before { end ≤ place }
@@ -149,7 +149,7 @@ fn copy_again(text: &mut [u8], start: usize, end: usize, place: usize)
     back.copy_from_slice(&front[start..end]);
 }
 
-/// Appends what stands before the address in the line of a datagram that is sent. A port of one digit, as
+/// Appends what comes before the address in the line of a datagram that is sent. A port of one digit, as
 /// each of a gateway has, is appended with the words around it at once.
 fn put_port(out: &mut Vec<u8>, port: u8) -> Result<(), AllocError>
     ensures { IsAppended (send_port port) out.old out.new result }
@@ -162,7 +162,7 @@ fn put_port(out: &mut Vec<u8>, port: u8) -> Result<(), AllocError>
     put_octet(out, b' ')
 }
 
-/// Appends what stands before the octets in the line of a datagram that is sent.
+/// Appends what comes before the octets in the line of a datagram that is sent.
 fn put_head(
     out: &mut Vec<u8>,
     port: u8,
@@ -231,7 +231,7 @@ fn block_digits(octets: &[u8], start: usize) -> [u8; 2 * BLOCK]
     digits
 }
 
-/// Writes the digits of the octets of a block, whose first octet this is, behind those before it.
+/// Writes the digits of the octets of a block, whose first octet this is, after those before it.
 #[inline(always)]
 fn write_block(octets: &[u8], digits: &mut [u8], start: usize)
     requires pairs { length digits.old ≡ 2 * length octets.now }

@@ -1,4 +1,4 @@
--- Links one after the other, and what they told.
+-- Links one after the other, and what they reported.
 use Rattle.std.proofs.Common.{◌≡◌, ◌∙◌, ℕ, ◌+◌, ◌<◌, ◌≤◌, List, [], ◌∷◌, ◌++◌, Option, Some, None, refl, sym, ap, subst, append_assoc, length, arith, rules, ◌⊎◌, inr}
 use Rattle.std.specs.Io.KnownBytes.{Appends}
 use Rattle.std.proofs.lemmas.List.{append-nil, flat_map_more, length-append}
@@ -40,7 +40,7 @@ pub links_none : {K : Type 0} (manner : Manner K) (s : Stage K) → AreLinks man
 unfolding AreLinks
 links_none manner s = refl
 
--- what one link more told
+-- what one link more reported
 pub text_more : (links : List Link) (link : Link) → chain_text links ++ link_text link ≡ chain_text (links ++ link ∷ [])
 text_more links link = flat_map_more link_text [] links link
 
@@ -65,7 +65,7 @@ turns_counted s (taken_event e tries ∷ turns) =
 
 -- ---- a request
 
--- a configuration that is taken over, and what is answered and told of it
+-- a configuration that is taken over, and what is answered and reported of it
 pub taken_so : {K : Type 0} (Adopts : K → Origin → State → K → Type 0) (o : Origin) (w : State) (k l : K)
     (read : Result (Option (List ℕ)) ReadFailure) (made : Adopted) (first middle last : Option (List Exchange)) (line : List ℕ)
     (counts then : ReloadCounts) (Never : Type 0) (held holds : Option (List ℕ)) → IsReloaded w o read made
@@ -135,7 +135,7 @@ pub says_why : (read : Result (Option (List ℕ)) ReadFailure) (fault : ReloadFa
 says_why read fault None is = short_line read fault
 says_why read fault (Some line) is = is
 
--- what is told of a request is the same with any keeper
+-- what is reported of a request is the same with any keeper
 pub same_text : {K : Type 0} (c : Configuration) (w : State) (k l : K) (q : Option (List Exchange)) (counts : ReloadCounts) (look : Look)
     → look_text c (standing w k q counts) look ≡ look_text c (standing w l q counts) look
 same_text c w k l q counts unrequested = refl
@@ -176,7 +176,7 @@ more_withheld Passes count a b ends =
 
 -- ---- a chain
 
--- From this stage of each configuration of this origin a chain leads to this one, and what it told was written.
+-- From this stage of each configuration of this origin a chain leads to this one, and what it reported was written.
 abbrev pub Chained : {K : Type 0} → Manner K → Origin → (Configuration → Stage K) → Origin → (Configuration → Stage K) → (Never : Type 0)
     → (held holds : Option (List ℕ)) → Type 0
 Chained manner o first p now Never held holds =

@@ -70,14 +70,14 @@ from_fresh c how first last log log_then calls calls_then text outcome is_first 
     subst (λ (o : Result (Unit {0}) ServiceFault). Serves c how (ends log calls) (ends log_then calls_then) text o) (sym from.1)
     (fresh_answer c how first last log log_then calls calls_then text from.0 is_first from.2)
 
--- serving of which nothing is told
+-- serving of which nothing is reported
 pub from_silent : (turns : ℕ) (before after : Scene) (answer : Result Served ServeStop)
     → IfOk answer (λ served. ServesAll turns before served after) → IfErr answer (λ stop. Stops turns before stop after)
     → IsRunWith turns before answer after (λ run. [] ≡ reports_of None before.gateway run after.gateway (counts_of_answer answer))
 from_silent turns before after (Ok served) all stop = (all, refl)
 from_silent turns before after (Err by) all stop = (stop, refl)
 
--- serving of which reports are told, where they never fail
+-- serving of which reports are written, if they never fail
 pub from_told : (turns seconds : ℕ) (before after : Scene) (answer : Result Served ServeStop) (Never : Type 0) (held holds : Option (List ℕ))
     → IsRunWith turns before answer after
     (λ run. Never → Appends held holds (told_of seconds before.gateway run after.gateway (counts_of_answer answer)))
@@ -113,7 +113,7 @@ serves_on_output held c how log lent inner inner_then buffer calls calls_then te
     subst (λ (o : Option (List ℕ)). Serves c how (ends o calls) (ends (log_held held log (append_known inner_then buffer)) calls_then) text outcome)
     (sym first) (subst (λ (o : Option (List ℕ)). Serves c how (ends lent calls) (ends o calls_then) text outcome) (sym last) serves)
 
--- nothing is appended where nothing is told
+-- nothing is appended if nothing is reported
 pub appends_nothing : (held : Option (List ℕ)) → Appends held held []
 appends_nothing None = tt
 appends_nothing (Some held) = search rules

@@ -1,4 +1,4 @@
--- What `run --verbose` tells at the start: one line on what is served.
+-- What `run --verbose` reports at the start: one line on what is served.
 use Rattle.std.specs.Prelude.{◌≡◌, ℕ, Bool, true, false, List, [], ◌∷◌, ◌++◌, length, map, Option, Some, None}
 use Rattle.std.specs.Prelude.{codes, decimal}
 use Rattle.gw_addr.specs.Address.{text_of}

@@ -92,8 +92,8 @@ KeepsFirst held _ c w _ = ⊥
 
 -- ---- a run
 
--- what a store holds and what requests tell, and what was saved, the last line of the log, and the store and the requests, if
--- there are some
+-- what a store holds and what requests say, what was saved, the last line of the log, and the store and the requests,
+-- if there are some
 pub record Given (S Q : Type 0) : Type 0 where
   pub held : S → Option (List ℕ)
   pub told : Q → Option (List Exchange)

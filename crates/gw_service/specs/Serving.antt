@@ -26,7 +26,7 @@ use Rattle.gw_service.specs.Fault.{fault_of_opening, fault_of_serving}
 use Rattle.gw_service.specs.declared.fault.ServiceFault.{ServiceFault}
 use Rattle.gw_service.specs.declared.fault.ServiceFault.TheVariants as fault
 
--- what a log holds and what a wire tells, where they are known
+-- what a log holds and what a wire reports, if they are known
 pub record Ends : Type 0 where
   pub log : Option (List ℕ)
   pub calls : Option (List Call)

@@ -1,4 +1,4 @@
-//! What `run --verbose` tells at the start: one line on what is served.
+//! What `run --verbose` reports at the start: one line on what is served.
 
 ghost use Rattle.std.specs.Prelude.{◌≡◌, ◌++◌, ◌≤◌, length, option_map, string_bytes, IfOk, OnOk};
 ghost use Rattle.gw_addr.specs.Address.{text_of};
@@ -13,7 +13,7 @@ use gw_permissions::{put_number, put_shown};
 use gw_system::Host;
 use std::alloc::{AllocError, Global};
 
-/// The line that tells what is served, with the log in the file of this name or on standard output.
+/// The line that says what is served, with the log in the file of this name or on standard output.
 fn announcement(alloc: Global, config: &Config, log: &Option<String>) -> Result<Vec<u8>, AllocError>
     ensures { let log = option_map string_bytes log.now in
         IfOk result (λ line. line.items ≡ announcement config.now log) }

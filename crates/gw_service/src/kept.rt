@@ -247,8 +247,8 @@ fn outcome_of(answer: Result<(), ServeFault>) -> Result<(), ServiceFault>
     }
 }
 
-/// Runs a gateway of this configuration on a log, for so many turns, and tells at the start if its state isn't kept. Faults:
-/// `Log`, `Memory` and `CountEnd`.
+/// Runs a gateway of this configuration on a log, for so many turns, and says at the start if its state isn't kept.
+/// Faults: `Log`, `Memory` and `CountEnd`.
 fn run_on<S: Store + Drop, Q: Requests + Drop, X: Wire, L: OctetSink, E: OctetSink>(
     alloc: Global,
     config: Config,

@@ -73,7 +73,7 @@ fn line_or(line: &Option<Vec<u8>>, fault: ReloadFault) -> &[u8]
 }
 
 impl<K: StateKeeper, Q: Requests> Running<K, Q> {
-    /// Takes the configuration of what was read over, or goes on as before; answers the request, and tells it.
+    /// Takes the configuration of what was read over, or goes on as before; answers the request, and reports it.
     fn reload<E: OctetSink>(
         &mut self,
         alloc: Global,
@@ -130,7 +130,7 @@ impl<K: StateKeeper, Q: Requests> Running<K, Q> {
         }
     }
 
-    /// Tells whether the state is kept, if that changed since it was reported last; and answers why it isn't.
+    /// Reports whether the state is kept, if that changed since the last report; and returns why it isn't.
     pub(crate) fn notice<E: OctetSink>(&self, errors: &mut E) -> Option<StoreFault>
         ensures failing { result ≡ K.failing self.now.keeper }
         ensures text { E.NeverFails errors.old →

@@ -53,7 +53,7 @@ fn outcome_of(answer: Result<Served, ServeStop>) -> Result<(), ServiceFault>
     }
 }
 
-/// Serves sockets for so many turns, and tells what was done each so many seconds, where that is
+/// Serves sockets for so many turns, and reports what was done each so many seconds, if that is
 /// asked for. Faults: `Log`, `Memory` and `CountEnd`.
 fn serve_by<S: Wire, L: OctetSink, E: OctetSink>(
     alloc: Global,
@@ -83,7 +83,7 @@ fn serve_by<S: Wire, L: OctetSink, E: OctetSink>(
 }
 
 /// Serves sockets for so many turns, by a gateway of this configuration that nothing came to yet, and
-/// tells what was done each so many seconds, where that is asked for. Faults: `Log`, `Memory` and
+/// reports what was done each so many seconds, if that is asked for. Faults: `Log`, `Memory` and
 /// `CountEnd`.
 pub fn serve_fresh<S: Wire, L: OctetSink, E: OctetSink>(
     alloc: Global,

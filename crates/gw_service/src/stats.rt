@@ -37,7 +37,7 @@ fn write_unkept<E: OctetSink>(unkept: u64, errors: &mut E) -> Result<(), WriteFa
     write_whole(errors, b"\n")
 }
 
-/// Tells how often the state couldn't be kept.
+/// Reports how often the state couldn't be kept.
 fn tell_unkept<E: OctetSink>(unkept: u64, errors: &mut E)
     ensures told { E.NeverFails errors.old → Appends (E.held errors.old) (E.held errors.new) (unkept_text unkept) }
     ensures lasts { E.NeverFails errors.old → E.NeverFails errors.new }
@@ -67,7 +67,7 @@ fn write_reloads<E: OctetSink>(counts: ReloadCounts, errors: &mut E) -> Result<(
     write_whole(errors, b"\n")
 }
 
-/// Tells how often the configuration was read again, if it is.
+/// Reports how often the configuration was read again, if it is.
 fn tell_reloads<E: OctetSink>(is_read: bool, counts: ReloadCounts, errors: &mut E)
     ensures told { E.NeverFails errors.old → Appends (E.held errors.old) (E.held errors.new) (reloads_text is_read counts) }
     ensures lasts { E.NeverFails errors.old → E.NeverFails errors.new }
@@ -77,7 +77,7 @@ fn tell_reloads<E: OctetSink>(is_read: bool, counts: ReloadCounts, errors: &mut 
     }
 }
 
-/// Tells how often the state couldn't be kept, and how often the configuration was read again, if it is.
+/// Reports how often the state couldn't be kept, and how often the configuration was read again, if it is.
 fn tell_tries<E: OctetSink>(unkept: u64, is_read: bool, counts: ReloadCounts, errors: &mut E)
     ensures told { E.NeverFails errors.old →
         Appends (E.held errors.old) (E.held errors.new) (unkept_text unkept ++ reloads_text is_read counts) }
@@ -107,7 +107,7 @@ fn is_due(start: Counts, gateway: &Gateway, seconds: u64) -> bool
 }
 
 impl Schedule {
-    /// Tells what was done since a gateway began.
+    /// Reports what was done since a gateway began.
     fn tell_stats<E: OctetSink>(
         &self,
         gateway: &Gateway,
@@ -128,7 +128,7 @@ impl Schedule {
         }
     }
 
-    /// Tells a report at a tick, if one is due.
+    /// Writes a report at a tick, if one is due.
     pub(crate) fn tell_due<K: StateKeeper, E: OctetSink>(
         &self,
         gateway: &Gateway,
@@ -149,7 +149,7 @@ impl Schedule {
         }
     }
 
-    /// Tells a report at the end, if reports are asked for.
+    /// Writes a report at the end, if reports are asked for.
     pub(crate) fn tell_last<K: StateKeeper, E: OctetSink>(
         &self,
         gateway: &Gateway,

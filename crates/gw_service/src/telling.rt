@@ -5,7 +5,7 @@ ghost use Rattle.std.specs.Io.KnownBytes.{Appends};
 
 use gw_script::{OctetSink, write_whole};
 
-/// Tells what an operator may want to know beside a fault's line. If standard error takes nothing the program
+/// Writes what an operator may want to know beside a fault's line. If standard error takes nothing the program
 /// goes on all the same.
 pub fn tell<E: OctetSink>(text: &[u8], errors: &mut E)
     ensures told { E.NeverFails errors.old → Appends (E.held errors.old) (E.held errors.new) text.now }

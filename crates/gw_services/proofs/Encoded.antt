@@ -45,7 +45,7 @@ pub text_begins : (tag charset : ℕ) (own rest : List ℕ) → tag < 255 → le
 text_begins tag charset own rest small fits is =
     record { holds = tagged (charset ∷ own) (content_begins tag (charset ∷ own) rest small fits) (of_text charset own is refl); allowed = refl }
 
--- another content stands there
+-- another content is there
 pub other_content : (tag other : ℕ) (own rest : List ℕ) → other < 255 → length own < 2 ^ 32 → eqb other tag ≡ false → BeginsWithOther tag (in_context other own ++ rest)
 other_content tag other own rest small fits differs =
     let begins = content_begins other own rest small fits in
@@ -102,7 +102,7 @@ pub number_maybe : (tag least most : ℕ) (body : Body) (i : Option ℕ) (rest :
 number_maybe tag least most body None rest held small fits absent is = left_out absent is
 number_maybe tag least most body (Some n) rest held small fits absent is = given (number n) rest (number_begins tag least most n rest small fits.0 fits.1.0 fits.1.1) is
 
--- the same with nothing behind
+-- the same with nothing after it
 pub number_last : (tag least most : ℕ) (body : Body) (i : Option ℕ) → tag < 255 → FitsMaybe least most i → IsBody body [] [] → IsBody (may tag (a_number least most) body body) (number_part tag i) (number_held i)
 number_last tag least most body None small fits is = left_out (inl refl) is
 number_last tag least most body (Some n) small fits is =

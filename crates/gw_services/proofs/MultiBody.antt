@@ -113,7 +113,7 @@ shifted before r (Err fault) = refl
 pub pushed : (old new : List RustReference) (x : RustReference) → new ≡ old ++ x ∷ [] → map reference_view new ≡ map reference_view old ++ reference_view x ∷ []
 pushed old new x e = ap (map reference_view) e ∙ map-append reference_view old (x ∷ [])
 
--- ---- what stands there is read
+-- ---- what is there is read
 
 -- a list has a first reference
 list_first : (left : ℕ) (current : Option Object) (octets : List ℕ) (rs : List Reference) → IsList left current octets rs → (r : Reference) × (at : List ℕ) × IsReference current octets r at
@@ -168,7 +168,7 @@ fault_again fault (suc left) current octets fits (behind_reference r at is good 
     ∙ ap (goes_on left r) (open_next r.object at fits_at open_list)
     ∙ and_err r fault (references_at left (Some r.object) at) (fault_again fault left (Some r.object) at fits_at later)
 
--- ---- what is read stands there
+-- ---- what is read is there
 
 data Outcome (left : ℕ) (current : Option Object) (octets : List ℕ) : Type 0 where
   listed : (rs : List Reference) → IsList left current octets rs → Outcome left current octets

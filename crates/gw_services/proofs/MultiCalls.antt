@@ -113,7 +113,7 @@ call_memory r octets fits refused memory = elim (reference_be None octets fits) 
   ]
 ]
 
--- ---- what is read behind the first reference
+-- ---- what is read after the first reference
 
 pub first_refused : (octets : List ℕ) (fault : BodyFault) → step_at most_references None octets ≡ Err fault → multi_at octets ≡ Err fault
 first_refused octets fault e = walk most_references None octets ∙ ap (walked most_references) e

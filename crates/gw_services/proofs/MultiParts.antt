@@ -1,4 +1,4 @@
--- One reference of a ReadPropertyMultiple: read exactly where it stands, and a fault exactly elsewhere.
+-- One reference of a ReadPropertyMultiple: read exactly where it is, and a fault exactly elsewhere.
 use Rattle.std.proofs.Common.{◌≡◌, ℕ, Bool, true, false, List, [], ◌∷◌, Option, Some, None, Result, Ok, Err, refl, sym, ap, subst, ◌∙◌, inl, inr, arith}
 use Rattle.gw_addr.specs.Reading.{◌>>=◌, AreOctets}
 use Rattle.gw_addr.proofs.Reading.{ok_is, either}
@@ -336,7 +336,7 @@ pub reference_fits : (current : Option Object) (octets : List ℕ) (r : Referenc
 reference_fits None octets r rest fits (in_new_list {p = p} {i = i} id a b is opens named) = named_fits b p i rest (inner_fits a b (front_fits octets id a fits is) opens) named
 reference_fits (Some id) octets r rest fits (in_same_list {p = p} {i = i} named) = named_fits octets p i rest fits named
 
--- what stands where a reference is due
+-- what is where a reference is due
 pub data ReferenceBe (current : Option Object) (octets : List ℕ) : Type 0 where
   r_right : (r : Reference) (rest : List ℕ) → IsReference current octets r rest → ReferenceBe current octets
   r_wrong : (fault : BodyFault) → IsBadReference fault current octets → ReferenceBe current octets

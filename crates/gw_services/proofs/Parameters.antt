@@ -1,4 +1,4 @@
--- What stands where a parameter is due: read as it exactly there, and a fault exactly elsewhere.
+-- What is where a parameter is due: read exactly if it is the parameter, and else exactly a fault.
 use Rattle.std.proofs.Common.{◌≡◌, ◌≢◌, ℕ, ◌<◌, Bool, true, false, ltb, List, [], ◌∷◌, ◌++◌, Option, Some, None, Result, Ok, Err, refl, sym, ap, subst, ◌∙◌, inl, inr, ◌⊎◌}
 use Rattle.std.specs.Option.{ok_or}
 use Rattle.std.proofs.lemmas.Bool.{ltb-true}
@@ -31,7 +31,7 @@ use Rattle.gw_services.proofs.Contents.{interpret, content_none, content_past, c
 abbrev pub Found : Type 0
 Found = Content × List ℕ
 
--- a content, and what stands behind it
+-- a content, and what follows it
 abbrev pub content_of : Shape → List ℕ × List ℕ → Result Found BodyFault
 content_of shape c = interpret shape c.0 >>= λ held. Ok (held, c.1)
 
@@ -340,7 +340,7 @@ once plain_text octets a b r s small (a_text_value x o is begins) (a_text_value 
     let same = value_once octets r s (character_string x o) (character_string y o') is is' begins begins' in
     ((let e = same.0 in cc), same.1)
 
--- ---- behind it are octets
+-- ---- octets follow it
 
 pub rest_fits : (p : Parameter) (octets : List ℕ) (held : Content) (rest : List ℕ) → AreOctets octets → Holds p octets held rest → AreOctets rest
 rest_fits (under tag shape) octets held rest fits (tagged own begins is) =
@@ -353,9 +353,9 @@ rest_fits (plain_unsigned least most) octets held rest fits (an_unsigned_value n
 rest_fits (plain_enumerated least most) octets held rest fits (an_enumerated_value n is begins) = behind_octets begins.front rest (subst AreOctets begins.parts fits)
 rest_fits plain_text octets held rest fits (a_text_value charset own is begins) = behind_octets begins.front rest (subst AreOctets begins.parts fits)
 
--- ---- what stands there is read
+-- ---- what is there is read
 
--- no parameter stands where the body ends
+-- no parameter is where the body ends
 not_empty : (p : Parameter) (held : Content) (rest : List ℕ) → is_small p ≡ true → Holds p [] held rest → ⊥
 not_empty (under tag shape) held rest small (tagged own begins is) = let read = content_only tag [] own rest (ltb-true _ _ small) begins in cc
 not_empty (between tag) held rest small (enclosed inner begins is) = let read = opening_only tag [] inner (ltb-true _ _ small) begins in cc
@@ -468,7 +468,7 @@ may_be tag shape (o ∷ os) fits = may_read tag shape o os (content_at tag (o �
 not_other : (tag : ℕ) (shape : Shape) (octets : List ℕ) (held : Content) (rest : List ℕ) → ltb tag 255 ≡ true → Holds (under tag shape) octets held rest → content_at tag octets ≡ Err tags.OtherTag → ⊥
 not_other tag shape octets held rest small (tagged own begins is) e = let read = content_only tag octets own rest (ltb-true _ _ small) begins in cc
 
--- what stands there isn't absent
+-- what is there isn't absent
 pub not_both : (tag : ℕ) (shape : Shape) (octets : List ℕ) (held : Content) (rest : List ℕ) → ltb tag 255 ≡ true → AreOctets octets → Begins (under tag shape) octets held rest → IsAbsent tag octets → ⊥
 not_both tag shape octets held rest small fits is (inl empty) = not_empty (under tag shape) held rest small (subst (λ (o : List ℕ). Holds (under tag shape) o held rest) empty is.holds)
 not_both tag shape octets held rest small fits is (inr begins) = not_other tag shape octets held rest small is.holds ((content_is_other tag octets fits).1 begins)

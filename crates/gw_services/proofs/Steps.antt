@@ -62,7 +62,7 @@ object_maybe_is (Err fault) octets = refl
 pub may_object : (tag : ℕ) (octets : List ℕ) → may_at tag an_object octets ≡ (object_maybe_at tag octets >>= makes_maybe object)
 may_object tag octets = object_maybe_is (given_at tag octets) octets
 
--- ---- what contents tell of the fields
+-- ---- what contents say of the fields
 
 pub tells_number : (a b : Option ℕ) → number_held a ≡ number_held b → a ≡ b
 tells_number None None e = refl

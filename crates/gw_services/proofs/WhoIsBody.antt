@@ -19,7 +19,7 @@ MaybeLimits = Option Limits × List ℕ
 abbrev with_high : ℕ → ℕ × List ℕ → Result MaybeLimits BodyFault
 with_high low high = Ok (Some (of_ends low high.0), high.1)
 
--- limits, and what comes behind them
+-- limits, and what follows them
 module _ {D : Type 0} (held : D → Contents) (rest : Body) (next : MaybeLimits → Result D BodyFault)
     (later : (l : Option Limits) (octets : List ℕ) → joined (λ others. limits_held l ++ others) (body_at rest octets) ≡ held_of held (next (l, octets))) where
   high_reads : (low : ℕ) (octets : List ℕ) → joined (λ others. number low ∷ others) (body_at (must (under 1 an_instance) rest) octets) ≡ held_of held (high_at (Some low) octets >>= next)

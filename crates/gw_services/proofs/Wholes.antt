@@ -1,4 +1,4 @@
--- What is appended whole or not at all, one behind the other.
+-- What is appended whole or not at all, one after the other.
 use Rattle.std.proofs.Common.{◌≡◌, ◌∙◌, ◌++◌, ℕ, List, Result, Ok, Err, ap, length, take, refl}
 use Rattle.std.proofs.lemmas.List.{take_at}
 use Rattle.std.proofs.Math.Seq.{take-length}
@@ -21,7 +21,7 @@ of_whole put = record {
   capacity = put.capacity;
 }
 
--- a text that is appended whole, and another one behind it
+-- a text that is appended whole, and another one after it
 pub whole_then : {S G T F : Type 0} {x : S} {r : Result T F} {a b : List ℕ} {u v w : Vec ℕ} → IsAppendedWhole {T = S} {F = G} a u v (Ok x)
     → IsAppended {T = T} {F = F} b v w r → IsAppended {T = T} {F = F} (a ++ b) u w r
 whole_then first then = then_put (of_whole first) then

@@ -7,7 +7,7 @@ use Rattle.gw_services.specs.declared.fault.BodyFault.TheVariants.{InvalidTag, M
 use Rattle.gw_services.specs.Parameter.{Content, Shape, Parameter, under, Holds, allows}
 
 -- what is to come: nothing more; a parameter that must be there; or a parameter under a context tag
--- that may be there, what comes behind it, and what comes where it is absent
+-- that may be there, what follows it, and what comes if it is absent
 pub data Body : Type 0 where
   done : Body
   must : Parameter → Body → Body
@@ -22,12 +22,12 @@ pub record Begins (p : Parameter) (octets : List ℕ) (held : Content) (rest : L
   pub holds : Holds p octets held rest
   pub allowed : allows p held ≡ true
 
--- A parameter that may be there is absent: the body ends, or another tag stands in its place. What
+-- A parameter that may be there is absent: the body ends, or another tag is in its place. What
 -- opens or closes a list is another tag.
 abbrev pub IsAbsent : ℕ → List ℕ → Type 0
 IsAbsent tag octets = (octets ≡ []) ⊎ BeginsWithOther tag octets
 
--- The octets are the parameters that are there, one behind the other, and hold these contents.
+-- The octets are the parameters that are there, one after the other, and hold these contents.
 pub data IsBody : Body → List ℕ → List Content → Type 0 where
   nothing_more : IsBody done [] []
   required : {p : Parameter} {body : Body} {octets : List ℕ} {others : List Content}
@@ -41,7 +41,7 @@ pub data IsBody : Body → List ℕ → List Content → Type 0 where
       {held : List Content} → IsAbsent tag octets → IsBody without octets held
       → IsBody (may tag shape behind without) octets held
 
--- What is wrong where a parameter is due: the body ends; what stands there isn't the parameter; or
+-- What is wrong where a parameter is due: the body ends; what is there isn't the parameter; or
 -- it is, with a number outside its range.
 pub data IsWrong : BodyFault → Parameter → List ℕ → Type 0 where
   body_ends : {p : Parameter} {octets : List ℕ} → octets ≡ [] → IsWrong Missing p octets
@@ -52,7 +52,7 @@ pub data IsWrong : BodyFault → Parameter → List ℕ → Type 0 where
       → Holds p octets held rest → allows p held ≡ false → IsWrong OutOfRange p octets
 
 -- What is wrong with octets that are no such body: the first parameter in their order that is wrong,
--- where all before it are right, or octets behind the last one.
+-- if all before it are right, or octets after the last one.
 pub data HasFault (fault : BodyFault) : Body → List ℕ → Type 0 where
   octets_behind : {octets : List ℕ} → fault ≡ TooMany → octets ≢ [] → HasFault fault done octets
   at_required : {p : Parameter} {body : Body} {octets : List ℕ} → IsWrong fault p octets

@@ -89,7 +89,7 @@ pub data IsReference : Option Object → List ℕ → Reference → List ℕ →
 
 -- ---- the body
 
--- References one behind the other, at most so many: an object's list ends by [1] closing, and the
+-- References one after the other, at most so many: an object's list ends by [1] closing, and the
 -- body with the end of a list.
 pub data IsList : ℕ → Option Object → List ℕ → List Reference → Type 0 where
   last_one : {left : ℕ} {current : Option Object} {octets : List ℕ} (r : Reference) (at : List ℕ)
@@ -147,7 +147,7 @@ pub data IsBadReference (fault : BodyFault) : Option Object → List ℕ → Typ
       → IsBadReference fault (Some id) octets
 
 -- What is wrong with the body: the first reference that is wrong; one too many, once it is read
--- whole; an index beside a set; or what comes behind a reference that is right.
+-- whole; an index beside a set; or what follows a reference that is right.
 pub data IsBadMulti (fault : BodyFault) : ℕ → Option Object → List ℕ → Type 0 where
   in_reference : {left : ℕ} {current : Option Object} {octets : List ℕ}
       → IsBadReference fault current octets → IsBadMulti fault left current octets

@@ -39,7 +39,7 @@ reference_at None octets = do
   first_at id.0 inner (closing_tag_at 1 inner)
 reference_at (Some id) octets = named_at false id octets
 
--- what comes behind a reference
+-- what follows a reference
 pub data Next : Type 0 where
   finished : Next
   more_at : Option Object → List ℕ → Next
@@ -69,7 +69,7 @@ references_at (suc left) current octets = reference_at current octets >>= λ r.
     ]
     else Err Inconsistent
 
--- one reference, of which so many may still come, and what comes behind it
+-- one reference, of which so many may still come, and what follows it
 abbrev pub judged : ℕ → Reference × List ℕ → Result (Reference × Next) BodyFault
 judged zero r = Err TooMany
 judged (suc left) r =
@@ -78,13 +78,13 @@ judged (suc left) r =
 abbrev pub step_at : ℕ → Option Object → List ℕ → Result (Reference × Next) BodyFault
 step_at left current octets = reference_at current octets >>= λ r. judged left r
 
--- that one, and those behind it
+-- that one, and those after it
 abbrev pub walked : ℕ → Result (Reference × Next) BodyFault → Result (List Reference) BodyFault
 walked left (Err fault) = Err fault
 walked left (Ok (r, finished)) = Ok (r ∷ [])
 walked left (Ok (r, more_at place rest)) = and_more r (references_at (left - 1) place rest)
 
--- these, and those that are read behind them
+-- these, and those that are read after them
 abbrev pub behind_these : List Reference → Result (List Reference) BodyFault
     → Result (List Reference) BodyFault
 behind_these before others = others >>= λ rs. Ok (before ++ rs)

@@ -160,7 +160,7 @@ number_of_kind_at kind least most octets = do
 
 -- ---- the end
 
--- what is read, where nothing stands behind it
+-- what is read, if nothing follows it
 abbrev pub ended : {A : Type 0} → A → List ℕ → Result A BodyFault
 ended x [] = Ok x
 ended x (octet ∷ octets) = Err TooMany

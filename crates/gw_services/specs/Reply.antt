@@ -1,5 +1,5 @@
 -- The bodies by which the device answers a ReadProperty and a ReadPropertyMultiple (ISO 16484-5,
--- clauses 15.5.1.2 and 15.7.1.2), as they are written. Values stand between what opens and what
+-- clauses 15.5.1.2 and 15.7.1.2), as they are written. Values are between what opens and what
 -- closes them.
 use Rattle.std.specs.Prelude.{ℕ, List, ◌++◌, Option}
 use Rattle.gw_tags.specs.declared.tag.Kind.TheVariants.{Opening, Closing}

@@ -16,7 +16,7 @@ use Rattle.gw_services.specs.Reading.{number_at, number_maybe_at, ended}
 abbrev pub an_instance : Shape
 an_instance = a_number 0 last_instance
 
--- [0] low where limits are given, and then [1] high; and behind them the rest
+-- [0] low if limits are given, and then [1] high; and after them the rest
 abbrev pub limits_then : Body → Body
 limits_then rest = may 0 an_instance (must (under 1 an_instance) rest) rest
 

@@ -5,7 +5,7 @@ use thiserror::Error;
 /// Why octets are no body of a service: the first thing that is wrong, in the order of the octets.
 #[derive(Clone, Copy, Debug, Error)]
 pub enum BodyFault {
-    /// 1: where a parameter is due stands something else: no tag, another tag, a content that the
+    /// 1: something else is where a parameter is due: no tag, another tag, a content that the
     /// parameter can't have, or values that aren't balanced or nest too deep. Where a parameter may
     /// be absent, another tag isn't this fault.
     #[error("a parameter has an invalid tag")]
@@ -16,7 +16,7 @@ pub enum BodyFault {
     /// 3: a number is outside the range of its parameter.
     #[error("a parameter is out of range")]
     OutOfRange,
-    /// 4: octets stand behind the last parameter, or a ReadPropertyMultiple names more than 128
+    /// 4: octets follow the last parameter, or a ReadPropertyMultiple names more than 128
     /// properties.
     #[error("there are too many arguments")]
     TooMany,

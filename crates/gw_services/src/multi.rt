@@ -104,7 +104,7 @@ pub(crate) fn is_consistent(reference: &Reference) -> bool
     !(is_set(reference.property) && reference.index.is_some())
 }
 
-/// What comes behind a reference.
+/// What follows a reference.
 pub(crate) fn next<'a>(object: ObjectId, octets: &'a [u8]) -> Next<'a>
     ensures { next_view result ≡ next_at (object_view object) octets.now }
 {
@@ -115,7 +115,7 @@ pub(crate) fn next<'a>(object: ObjectId, octets: &'a [u8]) -> Next<'a>
     }
 }
 
-/// Appends the references, at most so many. After a fault a front of them may stand there.
+/// Appends the references, at most so many. After a fault a front of them may remain.
 fn references(
     left: u8,
     current: Option<ObjectId>,
@@ -198,7 +198,7 @@ fn most_of(len: usize) -> usize
 ///
 /// 1 `InvalidTag`, 2 `Missing`, 3 `OutOfRange`, 4 `TooMany` and 5 `Inconsistent`, as [`BodyFault`]
 /// says: the first in the order of the octets. A reference is read whole, and then counted, and then
-/// judged. 6 `Memory` where no memory was granted, only behind a first reference that is right.
+/// judged. 6 `Memory` if no memory was granted, only after a first reference that is right.
 pub fn decode_multi(alloc: Global, octets: &[u8]) -> Result<MultiReq, BodyFault>
     // What is read is what the octets are.
     ensures found { IfOk result (λ m. IsMulti octets.now (multi_view m)) }
@@ -208,7 +208,7 @@ pub fn decode_multi(alloc: Global, octets: &[u8]) -> Result<MultiReq, BodyFault>
     // What is wrong with octets that are no such body.
     ensures fault { (fault : BodyFault) → result ≡ Err fault → fault ≢ BodyFault.Memory
         → HasMultiFault fault octets.now }
-    // What is wrong is told, or memory was refused.
+    // What is wrong is reported, or memory was refused.
     ensures told { (fault : BodyFault) → HasMultiFault fault octets.now
         → (result ≡ Err fault) ⊎ (result ≡ Err BodyFault.Memory) }
     // Of nothing no list is made, so no memory is wanted; nor where the first reference is wrong.
@@ -298,7 +298,7 @@ pub fn list_ends(references: &[Reference]) -> bool
     }
 }
 
-/// Appends the references. After an `Err` a front of them may stand there.
+/// Appends the references. After an `Err` a front of them may remain.
 fn put(out: &mut Vec<u8>, references: &[Reference]) -> Result<(), AllocError>
     ensures { IsAppended (multi_encoding (map reference_view references.now)) out.old out.new result }
 {

@@ -20,7 +20,7 @@ use crate::reference::Reference;
 pub struct MultiReq {
     /// The properties in the order in which they are asked for.
     pub references: Vec<Reference>,
-    /// A body names them: 1 to 128, an object's list begins with the first, and no index stands beside
+    /// A body names them: 1 to 128, an object's list begins with the first, and no index is beside
     /// a set.
     pub ghost body: { ∥ AreNamed (map reference_view references.items) ∥₁ },
 }

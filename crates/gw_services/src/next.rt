@@ -1,4 +1,4 @@
-//! What comes behind a reference of a ReadPropertyMultiple.
+//! What follows a reference of a ReadPropertyMultiple.
 
 use gw_tags::ObjectId;
 

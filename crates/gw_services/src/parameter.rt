@@ -1,4 +1,4 @@
-//! The parameters of a body, each read from the front of octets with what stands behind it.
+//! The parameters of a body, each read from the front of octets with what follows it.
 
 ghost use Rattle.std.specs.Prelude.{◌≡◌, ◌≤◌, ◌<◌, IfOk, IfSome, Option};
 ghost use Rattle.gw_addr.specs.Reading.{Gives};
@@ -13,7 +13,7 @@ use gw_tags::{
     read_unsigned, read_value,
 };
 
-/// A content under a context tag, and the octets behind it.
+/// A content under a context tag, and the octets after it.
 type Content<'a> = (&'a [u8], &'a [u8]);
 
 /// Four octets are an object.
@@ -90,8 +90,8 @@ fn given(tag: u8, octets: &[u8]) -> Result<Option<Content<'_>>, BodyFault>
     }
 }
 
-/// An object identifier under this context tag, and the octets behind it. `Missing` where the octets end here, and
-/// `InvalidTag` where something else stands there.
+/// An object identifier under this context tag, and the octets after it. `Missing` if the octets end here, and
+/// `InvalidTag` if something else is there.
 pub fn object(tag: u8, octets: &[u8]) -> Result<(ObjectId, &[u8]), BodyFault>
     requires { tag < 255 }
     ensures { Gives (λ x. (object_view x.0, x.1.now)) result (object_at tag octets.now) }
@@ -101,8 +101,8 @@ pub fn object(tag: u8, octets: &[u8]) -> Result<(ObjectId, &[u8]), BodyFault>
     Ok((object, rest))
 }
 
-/// A number of at least `least` and at most `most` under this context tag, and the octets behind it. `Missing` where the
-/// octets end here, `InvalidTag` where something else stands there, and `OutOfRange` for another number.
+/// A number of at least `least` and at most `most` under this context tag, and the octets after it. `Missing` if the
+/// octets end here, `InvalidTag` if something else is there, and `OutOfRange` for another number.
 pub fn number(tag: u8, least: u32, most: u32, octets: &[u8]) -> Result<(u32, &[u8]), BodyFault>
     requires { tag < 255 }
     ensures exact { Gives (λ x. (x.0, x.1.now)) result (number_at tag least most octets.now) }
@@ -113,7 +113,7 @@ pub fn number(tag: u8, least: u32, most: u32, octets: &[u8]) -> Result<(u32, &[u
     Ok((number, rest))
 }
 
-/// The same number, where its tag stands there, or none. `InvalidTag` where there is no whole tag or no number under it,
+/// The same number, if its tag is there, or none. `InvalidTag` if there is no whole tag or no number under it,
 /// and `OutOfRange` for a number outside its range.
 pub fn number_maybe(
     tag: u8,
@@ -132,8 +132,8 @@ pub fn number_maybe(
     Ok((Some(number), rest))
 }
 
-/// An object identifier under this context tag, where that stands there, or none, and the octets behind it. `InvalidTag`
-/// where there is no whole tag or no object identifier under it.
+/// An object identifier under this context tag, if that is there, or none, and the octets after it. `InvalidTag`
+/// if there is no whole tag or no object identifier under it.
 pub fn object_maybe(tag: u8, octets: &[u8]) -> Result<(Option<ObjectId>, &[u8]), BodyFault>
     requires { tag < 255 }
     ensures { Gives (λ x. (option_map object_view x.0, x.1.now))
@@ -146,8 +146,8 @@ pub fn object_maybe(tag: u8, octets: &[u8]) -> Result<(Option<ObjectId>, &[u8]),
     Ok((Some(object), rest))
 }
 
-/// A character string under this context tag, and the octets behind it. `Missing` where the octets end here, and
-/// `InvalidTag` where something else stands there.
+/// A character string under this context tag, and the octets after it. `Missing` if the octets end here, and
+/// `InvalidTag` if something else is there.
 pub fn text(tag: u8, octets: &[u8]) -> Result<(CharacterString<'_>, &[u8]), BodyFault>
     requires { tag < 255 }
     ensures { Gives (λ x. ((x.0.charset, x.0.octets.now), x.1.now)) result (text_at tag octets.now) }
@@ -157,8 +157,8 @@ pub fn text(tag: u8, octets: &[u8]) -> Result<(CharacterString<'_>, &[u8]), Body
     Ok((text, rest))
 }
 
-/// The octets of the values between this opening tag and its closing one, and the octets behind it. `Missing` where the
-/// octets end here, and `InvalidTag` where the tags don't stand there or what is between them isn't balanced.
+/// The octets of the values between this opening tag and its closing one, and the octets after it. `Missing` if the
+/// octets end here, and `InvalidTag` if the tags aren't there or what is between them isn't balanced.
 pub fn values(tag: u8, octets: &[u8]) -> Result<(&[u8], &[u8]), BodyFault>
     requires { tag < 255 }
     ensures { Gives (λ x. (x.0.now, x.1.now)) result (values_at tag octets.now) }
@@ -188,7 +188,7 @@ fn any_value(octets: &[u8]) -> Result<(AppValue<'_>, &[u8]), BodyFault>
     }
 }
 
-/// An object identifier by its application tag, and the octets behind it. `Missing` where the octets end here, and
+/// An object identifier by its application tag, and the octets after it. `Missing` if the octets end here, and
 /// `InvalidTag` for any other value.
 pub fn plain_object(octets: &[u8]) -> Result<(ObjectId, &[u8]), BodyFault>
     ensures { Gives (λ x. (object_view x.0, x.1.now))
@@ -201,7 +201,7 @@ pub fn plain_object(octets: &[u8]) -> Result<(ObjectId, &[u8]), BodyFault>
     }
 }
 
-/// An Unsigned of at most `most`, and the octets behind it. `Missing` where the octets end here, `InvalidTag` for any other
+/// An Unsigned of at most `most`, and the octets after it. `Missing` if the octets end here, `InvalidTag` for any other
 /// value, and `OutOfRange` for a greater one.
 pub fn plain_unsigned(most: u32, octets: &[u8]) -> Result<(u32, &[u8]), BodyFault>
     ensures exact { Gives (λ x. (x.0, x.1.now))
@@ -218,7 +218,7 @@ pub fn plain_unsigned(most: u32, octets: &[u8]) -> Result<(u32, &[u8]), BodyFaul
     }
 }
 
-/// An Enumerated of at most `most`, and the octets behind it. `Missing` where the octets end here, `InvalidTag` for any
+/// An Enumerated of at most `most`, and the octets after it. `Missing` if the octets end here, `InvalidTag` for any
 /// other value, and `OutOfRange` for a greater one.
 pub fn plain_enumerated(most: u32, octets: &[u8]) -> Result<(u32, &[u8]), BodyFault>
     ensures exact { Gives (λ x. (x.0, x.1.now))
@@ -235,7 +235,7 @@ pub fn plain_enumerated(most: u32, octets: &[u8]) -> Result<(u32, &[u8]), BodyFa
     }
 }
 
-/// A character string by its application tag, and the octets behind it. `Missing` where the octets end here, and
+/// A character string by its application tag, and the octets after it. `Missing` if the octets end here, and
 /// `InvalidTag` for any other value.
 pub fn plain_text(octets: &[u8]) -> Result<(CharacterString<'_>, &[u8]), BodyFault>
     ensures { Gives (λ x. ((x.0.charset, x.0.octets.now), x.1.now))

@@ -9,7 +9,7 @@ use gw_tags::ObjectId;
 #[derive(Clone, Copy, Debug)]
 pub struct Reference {
     /// Whether an object's list begins with this one. One object may have several lists, one
-    /// behind the other.
+    /// after the other.
     pub begins: bool,
     /// The object.
     pub object: ObjectId,

@@ -22,7 +22,7 @@ fn put_read_answer_head(out: &mut Vec<u8>, request: &ReadReq) -> Result<(), Allo
     write_opening(out, 3)
 }
 
-/// Appends what stands before the value in the answer to a ReadProperty. The buffer keeps what it held, also after an error.
+/// Appends what comes before the value in a ReadProperty answer. The buffer keeps what it held, also after an error.
 ///
 /// # Errors
 ///
@@ -35,7 +35,7 @@ pub fn write_read_answer_head(out: &mut Vec<u8>, request: &ReadReq) -> Result<()
     keep_whole(out, len, written)
 }
 
-/// Appends what stands behind the value in the answer to a ReadProperty. The buffer keeps what it held, also after an error.
+/// Appends what follows the value in a ReadProperty answer. The buffer keeps what it held, also after an error.
 ///
 /// # Errors
 ///
@@ -64,7 +64,7 @@ fn put_value_item_head(
     write_opening(out, 4)
 }
 
-/// Appends what stands before the value of a property in the answer to a ReadPropertyMultiple. The buffer keeps what it held, also after an error.
+/// Appends what comes before a value in a ReadPropertyMultiple answer. It keeps what `out` held, also after an error.
 ///
 /// # Errors
 ///
@@ -81,7 +81,7 @@ pub fn write_value_item_head(
     keep_whole(out, len, written)
 }
 
-/// Appends what stands behind the value of a property in the answer to a ReadPropertyMultiple. The buffer keeps what it held, also after an error.
+/// Appends what follows a value in a ReadPropertyMultiple answer. It keeps what `out` held, also after an error.
 ///
 /// # Errors
 ///

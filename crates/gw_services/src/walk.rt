@@ -15,7 +15,7 @@ use crate::reference::Reference;
 use gw_tags::ObjectId;
 
 /// Reads one reference of the body of a ReadPropertyMultiple, of which so many may still come, in
-/// the list of the current object, and tells what comes behind it. It takes no memory.
+/// the list of the current object, and returns what follows it. It takes no memory.
 /// [`decode_multi`](crate::decode_multi) reads a whole body.
 ///
 /// # Errors

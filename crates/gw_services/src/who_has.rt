@@ -21,7 +21,7 @@ use gw_addr::{keep_whole, put_octet, put_slice};
 use gw_tags::{CharacterString, Kind, Tag, write_context, write_tag};
 use std::alloc::AllocError;
 
-/// A whole request, where nothing stands behind it.
+/// A whole request, if nothing follows it.
 fn whole<'a>(
     limits: Option<Limits>,
     sought: Sought<'a>,

@@ -60,7 +60,7 @@ pub fn decode_who_is(octets: &[u8]) -> Result<WhoIs, BodyFault>
     read(octets)
 }
 
-/// The limits, where there are any. After an `Err` a front of them may stand there.
+/// The limits, if there are any. After an `Err` a front of them may remain.
 pub(crate) fn put_limits(out: &mut Vec<u8>, limits: &Option<Limits>) -> Result<(), AllocError>
     ensures { IsAppended (limits_part (option_map limits_view limits.now)) out.old out.new result }
 {

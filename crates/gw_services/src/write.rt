@@ -98,7 +98,7 @@ pub fn decode_write(octets: &[u8]) -> Result<WriteReq<'_>, BodyFault>
     read(octets)
 }
 
-/// Values between an opening and a closing tag. After an `Err` a front of them may stand there.
+/// Values between an opening and a closing tag. After an `Err` a front of them may remain.
 pub(crate) fn put_values(out: &mut Vec<u8>, tag: u8, own: &[u8]) -> Result<(), AllocError>
     requires { tag < 255 }
     ensures { IsAppended (values_part tag own.now) out.old out.new result }

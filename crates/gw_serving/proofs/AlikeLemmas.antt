@@ -47,7 +47,7 @@ all_alike : {A : Type 0} (E : A → A → Bool) → ((x : A) → E x x ≡ true)
 all_alike E same [] = refl
 all_alike E same (x ∷ xs) = and_from (E x x) (pointwise E xs xs) (same x) (all_alike E same xs)
 
--- whether they are alike can be seen of images that tell it
+-- whether they are alike can be seen from images that keep it
 same_of_images : {A : Type 0} (E : A → A → Bool) (f : A → A) → ((x y : A) → E (f x) (f y) ≡ E x y)
     → (xs ys : List A) → pointwise E (map f xs) (map f ys) ≡ pointwise E xs ys
 same_of_images E f tells [] [] = refl

@@ -1,4 +1,4 @@
--- What a turn with a guard comes to, by its parts; and what it comes to if the guard lets all go.
+-- The result of a turn with a guard, by its parts; and its result if the guard lets all go.
 use Rattle.std.proofs.Common.{◌≡◌, ℕ, ◌+◌, List, [], ◌∷◌, length, map, Option, Bool, true, false, true≢false, refl, sym, ap, subst, ◌∙◌}
 use Rattle.std.specs.Prelude.{Ok, Err}
 use Rattle.std.specs.Io.KnownBytes.{Appends}

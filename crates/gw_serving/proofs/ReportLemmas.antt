@@ -1,4 +1,4 @@
--- What is told of serving, piece by piece and turn by turn, and how far the gateway goes on in a turn.
+-- What is reported of serving, piece by piece and turn by turn, and how far the gateway goes on in a turn.
 use Rattle.std.proofs.Common.{◌≡◌, ℕ, ◌+◌, ◌<◌, ◌≤◌, List, [], ◌∷◌, ◌++◌, Option, refl, sym, ap, subst, ◌∙◌, append_assoc, arith}
 use Rattle.std.specs.Prelude.{Result, Ok, Err, OnOk}
 use Rattle.std.specs.Io.KnownBytes.{Appends}
@@ -25,7 +25,7 @@ use Rattle.gw_serving.proofs.ServeLemmas.{counts_more, lead_along, lead_nowhere,
 
 -- ---- a line, piece by piece
 
--- a text behind another, where the last write succeeds
+-- a text after another, if the last write succeeds
 pub behind_one : {A E : Type 0} (r : Result A E) (first second third : Option (List ℕ)) (x y : List ℕ)
     → Appends first second x → OnOk r (Appends second third y) → OnOk r (Appends first third (x ++ y))
 behind_one (Ok done) first second third x y p last = Appends-trans first second third x y p last
@@ -72,7 +72,7 @@ since_fault start a b s t k l CountEnd ended p =
     since_same start a.gateway b.gateway (count_fault s CountEnd) t ended.1.gateway ended.2
     (record { ticks = p.ticks; denials = p.denials; taken = p.taken })
 
--- what one turn comes to goes on from what was before it
+-- the result of one turn goes on from what was before it
 pub since_end : (start : Counts) (a b : Scene) (s t : Served) (k l : Tally) (result : Result Unit ServeFault) → TurnEnd a s k b t l result
     → HasGoneOn start a.gateway s → HasGoneOn start b.gateway t
 since_end start a b s t k l (Ok done) ended p =

@@ -1,4 +1,4 @@
--- Turns one after the other, and what one turn comes to.
+-- Turns one after the other, and the result of one turn.
 use Rattle.std.proofs.Common.{◌≡◌, ℕ, ◌+◌, ◌-◌, ◌*◌, ◌^◌, ◌<◌, ◌≤◌, List, [], ◌∷◌, ◌++◌, length, map, Option, Some, None, Bool, true}
 use Rattle.std.proofs.Common.{false, not, cond, refl, sym, ap, ap₂, subst, ◌∙◌, append_assoc, add_assoc, add-zero, arith}
 use Rattle.std.specs.Prelude.{Ok, Err}
@@ -36,7 +36,7 @@ use Rattle.gw_serving.specs.Stretch.{wire_counts}
 use Rattle.gw_core.specs.State.{State}
 use Rattle.gw_serving.specs.Wire.{Call, Tells, arrival, arrival_of, receive_call}
 
--- ---- what a wire tells
+-- ---- what a wire reports
 
 pub tells_none : (told : Option (List Call)) → Tells told told []
 tells_none None = refl
@@ -50,7 +50,7 @@ tells_more (Some x) None (Some z) calls more p q = absurd cc
 tells_more (Some x) (Some y) None calls more p q = tt
 tells_more (Some x) (Some y) (Some z) calls more p q = q ∙ ap (λ (l : List Call). l ++ more) p ∙ append_assoc x calls more
 
--- ---- events, one list behind the other
+-- ---- events, one list after the other
 
 pub state_along : (w : State) (l m : List Event) → state_from w (l ++ m) ≡ state_from (state_from w l) m
 unfolding state_from
@@ -65,7 +65,7 @@ run_along w (e ∷ l) m = ap (λ (r : List Effects). effects_at w e ∷ r) (run_
 log_along : (r s : List Effects) → log_of (r ++ s) ≡ log_of r ++ log_of s
 log_along r s = ap lines_of (flat_map-append (λ x. x.denials) r s) ∙ flat_map-append line_text (denials_of_run r) (denials_of_run s)
 
--- ---- turns, one list behind the other
+-- ---- turns, one list after the other
 
 pub single : {A : Type 0} (f : Turn → List A) (turn : Turn) → flat_map f (turn ∷ []) ≡ f turn
 single f turn = flat_map-cons f turn [] ∙ append-nil (f turn)
@@ -295,7 +295,7 @@ pub untallied : (w : State) (k : Tally) → k ≡ tally_from w k []
 unfolding tally_from
 untallied w k = refl
 
--- of one that is taken it counts what was told of it
+-- of one that is taken it counts what was reported of it
 pub tallied : (w : State) (k l : Tally) (event : Event) (effects : Effects) (drop : Option DropReason) → effects ≡ effects_at w event
     → drop ≡ drop_at w event → l ≡ with_tally k (tally_of drop effects.denials) → l ≡ tally_from w k (event ∷ [])
 unfolding tally_from tally_at

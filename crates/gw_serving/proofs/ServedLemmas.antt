@@ -1,4 +1,4 @@
--- What the turns of serving come to, in the words of the wire's calls.
+-- The result of the turns of serving, in the words of the wire's calls.
 use Rattle.std.proofs.Common.{◌≡◌, ◌∙◌, refl, sym, ap, ap₂, ℕ, ◌+◌, arith, add-zero, append_assoc, Bool, true, false, cond, List, [], ◌∷◌, ◌++◌, map, length, Some, None}
 use Rattle.std.specs.Prelude.{if◌then◌else◌, count_by}
 use Rattle.std.specs.List.{flat_map}

@@ -23,7 +23,7 @@ use Rattle.gw_serving.specs.declared.store.StoreFault.TheVariants.{Memory}
 
 -- ---- what a store holds
 
--- it holds this text, where it tells what it holds
+-- it holds this text, if it reports what it holds
 abbrev pub Holds : Option (List ℕ) → List ℕ → Type 0
 Holds None text = ⊤
 Holds (Some held) text = held ≡ text

@@ -1,4 +1,4 @@
--- What is told of serving: a report each so many seconds, and one at the end.
+-- What is reported of serving: a report each so many seconds, and one at the end.
 use Rattle.std.specs.Prelude.{ℕ, ◌-◌, ◌%◌, ◌==◌, ◌&&◌, nat_lt, Bool, if◌then◌else◌, List, [], ◌∷◌, ◌++◌, codes}
 use Rattle.std.specs.Prelude.{decimal, length, sum_by}
 use Rattle.std.specs.Prelude.{Result, Ok, Err}
@@ -28,7 +28,7 @@ peer_count links = sum_by (λ link. length (peers link.port.address link.bdt)) l
 abbrev pub counts_at : State → Counts
 counts_at w = record { ticks = w.ticks; denials = w.denials }
 
--- What is told in this state of a gateway that began with these counts, when so much was done. A
+-- What is reported in this state of a gateway that began with these counts, when so much was done. A
 -- second is a tick that was taken, and a datagram any other event that was. The tally is of those that weren't passed on.
 abbrev pub report_of : Counts → State → Served → Tally → Report
 report_of start w s tally = record {
@@ -45,7 +45,7 @@ report_of start w s tally = record {
   tally = tally;
 }
 
--- a field of a line: its name, as it stands before the number, and the number in decimal
+-- a field of a line: its name, as written before the number, and the number in decimal
 abbrev pub field : List ℕ → ℕ → List ℕ
 field name number = name ++ decimal number
 
@@ -92,7 +92,7 @@ abbrev pub is_due : (seconds : ℕ) → Counts → State → State → Bool
 is_due seconds start before after =
     nat_lt before.ticks after.ticks && ((after.ticks - start.ticks) % seconds == 0)
 
--- what is told after a turn between these states: a report where one is due, of what was done with it
+-- what is reported after a turn between these states: a report if one is due, of what was done with it
 abbrev pub due_text : (seconds : ℕ) → Counts → State → State → Served → Tally → List ℕ
 due_text seconds start before after s tally =
     if is_due seconds start before after then report_line (report_of start after s tally) else []
@@ -101,14 +101,14 @@ due_text seconds start before after s tally =
 abbrev pub tally_turn : State → Tally → Turn → Tally
 tally_turn w tally turn = tally_from w tally (turn_events turn)
 
--- what is told after each of these turns, which begin in this state and when so much was done
+-- what is reported after each of these turns, which begin in this state and when so much was done
 unfoldable pub reports_from : (seconds : ℕ) → Counts → State → Served → Tally → List Turn → List ℕ
 reports_from seconds start w s tally [] = []
 reports_from seconds start w s tally (turn ∷ turns) =
     due_text seconds start w (state_from w (turn_events turn)) (count_turn s turn) (tally_turn w tally turn)
     ++ reports_from seconds start (state_from w (turn_events turn)) (count_turn s turn) (tally_turn w tally turn) turns
 
--- What is told of a run from one state to another by these turns: the reports, and at the end,
+-- What is reported of a run from one state to another by these turns: the reports, and at the end,
 -- whatever it is, one more of all that was done.
 abbrev pub told_of : (seconds : ℕ) → State → List Turn → State → Served → List ℕ
 told_of seconds before turns after served =

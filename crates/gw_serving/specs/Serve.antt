@@ -1,4 +1,4 @@
--- What comes of serving a wire: turn by turn what came, what was taken, logged and sent, and how all stands then.
+-- The result of serving a wire: turn by turn what came, what was taken, logged and sent, and the scene then.
 use Rattle.std.specs.Prelude.{◌≡◌, ℕ, ◌+◌, ◌<◌, Bool, true, false, not, List, [], ◌∷◌, ◌++◌, length, map, count_by}
 use Rattle.std.specs.Prelude.{Option, Result, Ok}
 use Rattle.std.specs.Prelude.{Err, ⊤, if◌then◌else◌}
@@ -127,7 +127,7 @@ abbrev pub counts_of_answer : Result Served ServeStop → Served
 counts_of_answer (Ok served) = served
 counts_of_answer (Err stop) = stop.served
 
--- what stands at a moment: the gateway, what the log holds and what the wire tells, where they are known
+-- the scene at a moment: the gateway, what the log holds and what the wire reports, if they are known
 pub record Scene : Type 0 where
   pub gateway : State
   pub log : Option (List ℕ)
@@ -137,7 +137,7 @@ abbrev pub scene : State → Option (List ℕ) → Option (List Call) → Scene
 scene w log calls = record { gateway = w; log = log; calls = calls }
 
 -- What these turns lead to: the gateway took their events, in order; the log has the lines of
--- exactly the denials of that run behind what it held; and the wire tells of these receives and
+-- exactly the denials of that run after what it held; and the wire reports these receives and
 -- sends, in order.
 pub record LeadTo (before : Scene) (turns : List Turn) (after : Scene) : Type 0 where
   pub each : AreTurns before.gateway turns

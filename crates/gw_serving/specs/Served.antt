@@ -85,7 +85,7 @@ answered other events = events
 
 -- ---- what was done
 
--- By the calls of the wire, of which it tells, and the marks of the events that were handed in and not taken.
+-- By the calls of the wire, which it reports, and the marks of the events that were handed in and not taken.
 pub record IsServed (before : Scene) (served : Served) (fault : Option ServeFault) (after : Scene) : Type 0 where
   pub calls : List Call
   pub lost : List Bool

@@ -1,4 +1,4 @@
--- What a wire tells: each call of it, and what came of the call.
+-- What a wire reports: each call of it, and what came of the call.
 use Rattle.std.specs.Prelude.{◌≡◌, ℕ, ◌≤◌, List, ◌++◌, take, Option, Some, None, Result, Ok, Err, ⊤}
 use Rattle.gw_script.specs.Event.{Event, Datagram, Tick}
 use Rattle.gw_relay.specs.Sends.{Sending}
@@ -15,13 +15,13 @@ pub data Call : Type 0 where
   departure : (sending : Sending) → Call
   failed_send : (sending : Sending) → Call
 
--- What a wire tells goes on by these calls. One that tells nothing never tells again; and a wire may stop telling.
+-- What a wire reports goes on by these calls. A wire may stop reporting; one that reports nothing never reports again.
 abbrev pub Tells : Option (List Call) → Option (List Call) → List Call → Type 0
 Tells None now calls = now ≡ None
 Tells (Some told) None calls = ⊤
 Tells (Some told) (Some now) calls = now ≡ told ++ calls
 
--- the event that a receive handed in, if it did: a datagram stands at the buffer's front
+-- the event that a receive handed in, if it did: a datagram is at the buffer's front
 abbrev pub event_of : Got → List ℕ → Option Event
 event_of (got.Datagram port from len) buffer = Some (Datagram port from (take len buffer))
 event_of got.Tick buffer = Some Tick

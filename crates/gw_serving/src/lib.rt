@@ -1,4 +1,4 @@
-//! A gateway behind a wire: what comes is taken, what is denied is logged, and what is to go is sent.
+//! A gateway on a wire: what comes is taken, what is denied is logged, and what is to go is sent.
 #![tactic(auto)]
 
 mod alike;

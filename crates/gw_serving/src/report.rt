@@ -15,7 +15,7 @@ use gw_relay::PortState;
 use gw_script::{OctetSink, WriteFailed, write_whole};
 use itoa::Buffer;
 
-/// What is told of serving at a moment. What was done is counted from its beginning on.
+/// What is reported of serving at a moment. What was done is counted from its beginning on.
 #[derive(Clone, Copy)]
 pub struct Report {
     /// How many seconds, which are the ticks that were taken.
@@ -99,7 +99,7 @@ pub fn report_of(start: Counts, gateway: &Gateway, served: &Served, tally: Tally
     }
 }
 
-/// Writes a field: its name, as it stands before the number, and the number.
+/// Writes a field: its name, as written before the number, and the number.
 fn write_field<S: OctetSink>(name: &str, number: u128, sink: &mut S) -> Result<(), WriteFailed>
     ensures ok { OnOk result (Appends (S.held sink.old) (S.held sink.new) (field name.now number)) }
     ensures sure { S.NeverFails sink.old → IsOk result }
@@ -191,7 +191,7 @@ fn write_report<S: OctetSink>(report: &Report, sink: &mut S) -> Result<(), Write
     write_tally(&report.tally, sink)
 }
 
-/// Tells a report. Where it can't be written it is left out, and serving goes on all the same.
+/// Writes a report. If it can't be written it is left out, and serving goes on all the same.
 pub fn tell_report<S: OctetSink>(report: &Report, sink: &mut S)
     ensures told { S.NeverFails sink.old →
         Appends (S.held sink.old) (S.held sink.new) (report_line report.now) }

@@ -1,4 +1,4 @@
-//! The gateway behind a wire, with reports of what was done.
+//! The gateway on a wire, with reports of what was done.
 
 ghost use Rattle.std.specs.Prelude.{◌≡◌, ◌+◌, ◌<◌, ◌^◌, ℕ, List, IfErr};
 ghost use Rattle.std.specs.Io.KnownBytes.{Appends};
@@ -16,7 +16,7 @@ use gw_core::{Counts, Gateway};
 use gw_script::OctetSink;
 use std::alloc::Global;
 
-/// Serves a wire for so many turns, as [`crate::serve`] does, and tells on the way what was done: a
+/// Serves a wire for so many turns, as [`crate::serve`] does, and reports on the way what was done: a
 /// line after each tick by which a multiple of `seconds` has passed, and one more at the end, also
 /// where serving ends in a fault. A report that can't be written is left out. It takes no growth.
 ///
@@ -35,7 +35,7 @@ pub fn serve_with_reports<W: Wire, L: OctetSink, R: OctetSink>(
     requires seconds { 0 < seconds }
     requires turns { turns < 2 ^ 63 }
     requires failures { W.failure_count wire.old < 2 ^ 127 }
-    // What stands then, as by `serve`; and where the reports never fail they are those of these turns.
+    // The scene then, as by `serve`; and if the reports never fail they are those of these turns.
     ensures run { let before = scene gateway.old (L.held log.old) (W.calls wire.old) in
         let after = scene gateway.new (L.held log.new) (W.calls wire.new) in
         IsRunWith turns before result after (λ run. R.NeverFails reports.old →
@@ -85,7 +85,7 @@ struct Schedule {
 }
 
 impl Schedule {
-    /// Tells a report where one is due, after a turn before which there were so many ticks.
+    /// Writes a report if one is due, after a turn before which there were so many ticks.
     fn report_due<R: OctetSink>(
         &self,
         ticks: u64,
@@ -107,7 +107,7 @@ impl Schedule {
         }
     }
 
-    /// Serves a wire for so many turns, and tells the reports that are due between them.
+    /// Serves a wire for so many turns, and writes the reports that are due between them.
     fn serve_turns<W: Wire, L: OctetSink, R: OctetSink>(
         &self,
         alloc: Global,

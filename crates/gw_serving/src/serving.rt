@@ -1,4 +1,4 @@
-//! The gateway behind a wire: what comes is taken, what is denied is logged, and what is to go is
+//! The gateway on a wire: what comes is taken, what is denied is logged, and what is to go is
 //! sent.
 
 ghost use Rattle.std.specs.Prelude.{◌≡◌, ℕ, ◌+◌, ◌-◌, ◌<◌, ◌≤◌, ◌^◌, ◌∷◌, ◌++◌, [], length, IfOk, IfErr, IsErrOf, OnOk};
@@ -80,7 +80,7 @@ pub fn serve<W: Wire, L: OctetSink>(
 ) -> Result<Served, ServeStop>
     requires turns { turns < 2 ^ 63 }
     requires failures { W.failure_count wire.old < 2 ^ 127 }
-    // What stands then: the gateway, the log and the wire, as some list of turns leads to.
+    // The scene then: the gateway, the log and the wire, as some list of turns leads to.
     ensures all { let before = scene gateway.old (L.held log.old) (W.calls wire.old) in
         let after = scene gateway.new (L.held log.new) (W.calls wire.new) in
         IfOk result (λ served. ServesAll turns before served after) }

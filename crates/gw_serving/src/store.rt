@@ -27,9 +27,9 @@ pub enum StoreFault {
 
 /// A place that holds one text, which is replaced whole.
 ///
-/// A contract can't say what a disk holds. A store that can say it tells its text, as one over memory does.
+/// A contract can't say what a disk holds. A store that can say it reports its text, as one over memory does.
 pub trait Store {
-    /// The text that it holds, where it tells it.
+    /// The text that it holds, if it reports it.
     ghost held: { Self → Option (List ℕ) };
 
     /// No call of it fails, now or later.

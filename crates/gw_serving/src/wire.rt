@@ -7,13 +7,13 @@ use gw_addr::BipAddr;
 use thiserror::Error;
 
 /// How many octets a datagram is received to: one more than the longest that is heard, so that a
-/// longer one is told from it.
+/// longer one is noticed.
 pub const RECEIVE_ROOM: usize = gw_bvll::MAX_LEN + 1;
 
 /// What a wire hands in.
 #[derive(Clone, Copy)]
 pub enum Got {
-    /// A datagram, which stands at the front of the buffer.
+    /// A datagram, which is at the front of the buffer.
     Datagram {
         /// The number of the port that it came on, from 1.
         port: u8,
@@ -38,7 +38,7 @@ pub enum WireFault {
 
 /// What events come from and datagrams are sent to. It counts its calls that failed.
 ///
-/// A contract can't say what a socket carried. A wire that can say it tells its calls, as one over
+/// A contract can't say what a socket carried. A wire that can say it reports its calls, as one over
 /// memory does.
 pub trait Wire {
     /// How many ports it has.
@@ -47,7 +47,7 @@ pub trait Wire {
     /// How many calls of it failed.
     ghost failure_count: { Self → ℕ };
 
-    /// Its calls so far, in order, where it tells them.
+    /// Its calls so far, in order, if it reports them.
     ghost calls: { Self → Option (List Call) };
 
     /// How many ports it has. No call changes it.

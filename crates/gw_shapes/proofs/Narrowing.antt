@@ -217,7 +217,7 @@ in_last region former all ask e t =
     ap (λ (rs : List Region). lies_in_one rs ask) e ∙ parted former (region ∷ []) ask
     ∙ or_right (lies_in_one former ask) (lies region ask || false) (or_left (lies region ask) false t)
 
--- where there is no such rule, no ask comes to it
+-- if there is no such rule, no ask reaches it
 pub no_rule : (shapes : List Shape) (rules : List Rule) (number : ℕ) → slice_get rules (number - 1) ≡ None → IsNeverFirst shapes rules number
 no_rule shapes rules number none ask lies is =
     let deciding = (first_iff rules ask number).0 is in

@@ -1,4 +1,4 @@
--- Rules that no ask of some shapes comes to.
+-- Rules that no ask of some shapes reaches.
 use Rattle.std.specs.Prelude.{◌≡◌, ℕ, Bool, true, false, not, ◌&&◌, ◌||◌, List, Option, Some, map}
 use Rattle.std.specs.Option.{option_map_or}
 use Rattle.gw_regions.specs.Regions.{Region, lies, lies_in_one}

@@ -11,7 +11,7 @@ use Rattle.gw_shapes.specs.declared.side.Side.{Side}
 abbrev pub Shape : Type 0
 Shape = Fields Side
 
--- a number stands between the ends of a range, or is one of them
+-- a number is between the ends of a range, or is one of them
 abbrev pub IsIn : Range → ℕ → Type 0
 IsIn range number = (range.low ≤ number) × (number ≤ range.high)
 

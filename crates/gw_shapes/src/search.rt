@@ -1,4 +1,4 @@
-//! Whether any ask of some shapes comes to a rule.
+//! Whether any ask of some shapes reaches a rule.
 ghost use Rattle.std.specs.Prelude.{◌≡◌, ◌-◌, ◌<◌, ◌&&◌, ◌||◌, ℕ, true, IfOk, IfSome, List, OnOk, Some, None, Ok, option_copied, slice_get};
 ghost use Rattle.gw_regions.specs.Regions.{lies, lies_in_one};
 ghost use Rattle.gw_rules.specs.Ask.{Ask as SpecAsk};
@@ -15,14 +15,14 @@ use gw_regions::{Region, ask_in, part};
 use gw_rules::{Ask, Rule, RuleList};
 use std::alloc::{AllocError, Global};
 
-/// What a search for an ask that a rule decides comes to.
+/// The result of a search for an ask that a rule decides.
 #[derive(Clone, Copy)]
 pub enum Outcome {
     /// The rule is the first that matches this ask of the shapes.
     Decides(Ask),
-    /// No ask of the shapes comes to the rule.
+    /// No ask of the shapes reaches the rule.
     Never,
-    /// The search ended before it could tell.
+    /// The search ended without a result.
     Unknown,
 }
 

@@ -20,7 +20,7 @@ pub struct Origin {
     pub network: Side,
     /// The addresses of the sources: absent, if one doesn't have six octets.
     pub key: Side,
-    /// The senders, of whom asks tell in format 3 alone.
+    /// The senders, whom asks name in format 3 alone.
     pub sender: Side,
 }
 

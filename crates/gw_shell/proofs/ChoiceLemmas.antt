@@ -1,4 +1,4 @@
--- What was done by a choice that tells nothing at the start.
+-- What was done by a choice that reports nothing at the start.
 use Rattle.std.proofs.Common.{◌≡◌, ℕ, List, [], Result, sym, subst}
 use Rattle.gw_shell.specs.Program.{IsFollowed, IsQuiet}
 use Rattle.gw_command_line.specs.declared.command_line.Choice.{Choice}

@@ -1,4 +1,4 @@
--- Why asks aren't counted, as the program tells it.
+-- Why asks aren't counted, as the program reports it.
 use Rattle.std.proofs.Common.{ℕ, List, Err}
 use Rattle.gw_rules.specs.declared.rule.Rule.{Rule}
 use Rattle.gw_script.specs.declared.lines.LinesFault.{LinesFault}

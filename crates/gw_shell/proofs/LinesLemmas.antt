@@ -1,4 +1,4 @@
--- What lines that are told leave written, from what the telling and the flush behind it leave.
+-- What reported lines leave written, from what the report and the flush after it leave.
 use Rattle.std.proofs.Common.{true, false, Bool, ℕ, List, Result, Ok, Err}
 use Rattle.gw_script.proofs.LinesLemmas.{whole_is_front}
 use Rattle.gw_script.specs.Lines.{LeavesLines}
@@ -6,7 +6,7 @@ use Rattle.gw_script.specs.declared.lines.LinesFault.{LinesFault}
 use Rattle.gw_script.specs.declared.lines.LinesFault.TheVariants as lines
 use Rattle.gw_shell.specs.Lines.{Leaves, first_lines_fault}
 
--- the flush changes nothing of what is left written, and its failure is told behind a telling without a fault
+-- the flush changes nothing of what is left written, and its failure is reported after a report without a fault
 pub flushed_lines : (Tells : List ℕ → List ℕ → Type 0) (Refuses : List ℕ → Type 0) (text before after : List ℕ)
     (r : Result (Unit {0}) LinesFault) (is_flushed : Bool) → LeavesLines Tells Refuses r text before after
     → Leaves Tells Refuses text before (first_lines_fault r is_flushed) after

@@ -1,4 +1,4 @@
--- What a replay leaves written, from what the run and the flush behind it leave.
+-- What a replay leaves written, from what the run and the flush after it leave.
 use Rattle.std.proofs.Common.{◌≡◌, refl, sym, subst, rules, true, false, Bool, ℕ, ◌++◌, List, Result, Ok, Err, Option, Some, None, [], ◌∷◌, length, take, IsSomeAnd, IsErrOf}
 use Rattle.std.specs.Io.KnownBytes.{Keeps}
 use Rattle.gw_core.specs.declared.replaying.RunFault.{RunFault}
@@ -29,7 +29,7 @@ three : (P Q : List ℕ → Type 0) (held : Option (List ℕ)) → IsSomeAnd hel
 three P Q None holds also = absurd holds
 three P Q (Some bytes) holds also = (refl, holds, also)
 
--- what a run leaves, as the program tells its outcome
+-- what a run leaves, as the program reports its outcome
 pub run_plays : (c : Configuration) (read held holds : Option (List ℕ)) (r : Result (Unit {0}) RunFault)
     → OnKnown read held holds (Replays event_text c r)
     → OnKnown read held holds (λ script before. Plays false c script before (outcome_of None r))
@@ -87,7 +87,7 @@ whole_is_front told c script before after whole = record {
   text = whole.text;
 }
 
--- the flush changes nothing of what is left written, and its failure is told behind a run without a fault
+-- the flush changes nothing of what is left written, and its failure is reported after a run without a fault
 pub flushed_plays : (explains : Bool) (c : Configuration) (script before after : List ℕ) (r : Result (Unit {0}) Fault) (is_flushed : Bool)
     → Plays explains c script before r after → Plays explains c script before (first_fault r is_flushed) after
 flushed_plays explains c script before after (Ok done) true plays = plays

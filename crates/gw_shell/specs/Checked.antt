@@ -1,4 +1,4 @@
--- What `check` tells of a configuration. With `--explain` that is also who may do what under it, and
+-- What `check` says of a configuration. With `--explain` that is also who may do what under it, and
 -- what can't be meant; with `--lint` also which rules never decide.
 use Rattle.std.specs.Prelude.{◌≡◌, ℕ, Bool, true, false, List, ◌++◌}
 use Rattle.gw_configuration.specs.Configuration.{Configuration}

@@ -1,4 +1,4 @@
--- What the program tells of a fault: the line on standard error, and the exit status.
+-- What the program reports of a fault: the line on standard error, and the exit status.
 use Rattle.std.specs.Prelude.{◌≡◌, ◌⊎◌, ⊤, IsTrue, ℕ, Bool, true, false, List, [], ◌∷◌, ◌++◌, codes, decimal, nat_eq, if◌then◌else◌, Option, Some}
 use Rattle.std.specs.Prelude.{Result, Ok, Err, string_bytes}
 use Rattle.std.specs.List.{list_all, starts_with}
@@ -126,37 +126,37 @@ abbrev pub status_of_comparison : Fault → ℕ
 status_of_comparison fault.Different = 1
 status_of_comparison _ = 2
 
--- why words choose nothing, as the program tells it
+-- why words choose nothing, as the program reports it
 abbrev pub fault_of_words : WordsFault → Fault
 fault_of_words words.CommandLine = fault.CommandLine
 fault_of_words words.Memory = fault.Memory
 
--- what words choose, or why they choose nothing, as the program tells it
+-- what words choose, or why they choose nothing, as the program reports it
 abbrev pub chosen : Result Choice WordsFault → Result Choice Fault
 chosen (Ok choice) = Ok choice
 chosen (Err f) = Err (fault_of_words f)
 
--- the fault of a configuration, as the program tells it
+-- the fault of a configuration, as the program reports it
 abbrev pub fault_of_configuration : ConfigFault → Fault
 fault_of_configuration config.Memory = fault.Memory
 fault_of_configuration f = fault.Configuration f
 
--- why a configuration isn't written in format 3, as the program tells it
+-- why a configuration isn't written in format 3, as the program reports it
 abbrev pub fault_of_migration : MigrationFault → Fault
 fault_of_migration migration.Memory = fault.Memory
 fault_of_migration f = fault.Migration f
 
--- why a text is none of a state, as the program tells it
+-- why a text isn't that of a state, as the program reports it
 abbrev pub fault_of_state : StateFault → FaultKind → Fault
 fault_of_state f state_fault.Memory = fault.Memory
 fault_of_state f _ = fault.State f
 
--- why a state isn't kept, as the program tells it
+-- why a state isn't kept, as the program reports it
 abbrev pub fault_of_store : StoreFault → Fault
 fault_of_store store.Memory = fault.Memory
 fault_of_store f = fault.Store f
 
--- why a request isn't made, as the program tells it
+-- why a request isn't made, as the program reports it
 abbrev pub fault_of_request : StoreFault → Fault
 fault_of_request store.Memory = fault.Memory
 fault_of_request f = fault.Request f
@@ -178,7 +178,7 @@ abbrev pub answers_by : {A : Type 0} → (Asks : List ℕ → A → Type 0) → 
     → Type 0
 answers_by {A} Asks Answers request answer = (asked : A) × Asks request asked × Answers asked answer
 
--- the fault of a run, as the program tells it
+-- the fault of a run, as the program reports it
 abbrev pub fault_of : RunFault → Fault
 fault_of run.Read = fault.Read
 fault_of (run.Line n) = fault.Line n
@@ -186,7 +186,7 @@ fault_of run.Write = fault.Write
 fault_of run.Memory = fault.Memory
 fault_of run.CountEnd = fault.CountEnd
 
--- why no rules are suggested, as the program tells it
+-- why no rules are suggested, as the program reports it
 abbrev pub fault_of_suggestion : SuggestFault → Fault
 fault_of_suggestion (suggest.Configuration f) = fault_of_configuration f
 fault_of_suggestion suggest.Read = fault.Read
@@ -197,7 +197,7 @@ fault_of_suggestion suggest.Unlike = fault.Unwritable
 fault_of_suggestion suggest.Write = fault.Write
 fault_of_suggestion suggest.Memory = fault.Memory
 
--- why a configuration isn't served, or not to the end, as the program tells it
+-- why a configuration isn't served, or not to the end, as the program reports it
 abbrev pub fault_of_service : ServiceFault → Fault
 fault_of_service service.Log = fault.Log
 fault_of_service (service.Socket port) = fault.Socket port
@@ -207,7 +207,7 @@ fault_of_service service.StateUnreadable = fault.StateUnreadable
 fault_of_service (service.State f) = fault_of_state f f.kind
 fault_of_service (service.Store f) = fault_of_store f
 
--- how serving ends, as the program tells it
+-- how serving ends, as the program reports it
 abbrev pub served : Result (Unit {0}) ServiceFault → Result (Unit {0}) Fault
 served (Ok done) = Ok done
 served (Err f) = Err (fault_of_service f)
@@ -216,7 +216,7 @@ served (Err f) = Err (fault_of_service f)
 abbrev pub outcome_of_answer : List ℕ → Result (Unit {0}) Fault
 outcome_of_answer answer = if starts_with nat_eq answer (codes "reload: ") then Ok tt else Err fault.Refused
 
--- the outcome of a run, as the program tells it: also what is wrong with a line, where that is known
+-- the outcome of a run, as the program reports it: also what is wrong with a line, if that is known
 abbrev pub outcome_of : Option LineFlaw → Result (Unit {0}) RunFault → Result (Unit {0}) Fault
 outcome_of flaw (Ok done) = Ok done
 outcome_of (Some f) (Err (run.Line n)) = Err (fault.FlawedLine n f)

@@ -17,14 +17,14 @@ Leaves Tells Refuses text before (Err fault.Write) after = TellsFront Tells text
 Leaves Tells Refuses text before (Err fault.Memory) after = TellsPart Tells text before after
 Leaves Tells Refuses text before (Err _) after = ⊥
 
--- the fault of the telling, as the program tells it
+-- the fault of the lines, as the program reports it
 abbrev pub fault_of_lines : LinesFault → Fault
 fault_of_lines lines.Read = fault.Read
 fault_of_lines (lines.Line n) = fault.Line n
 fault_of_lines lines.Write = fault.Write
 fault_of_lines lines.Memory = fault.Memory
 
--- the first fault of the telling and of the flush after it
+-- the first fault of the lines and of the flush after them
 abbrev pub first_lines_fault : Result (Unit {0}) LinesFault → Bool → Result (Unit {0}) Fault
 first_lines_fault (Ok done) true = Ok done
 first_lines_fault (Ok done) false = Err fault.Write

@@ -248,7 +248,7 @@ LeavesOutput Reads ReadsState Answers machine input held holds told (Ok (choice.
     (outcome ≡ Err fault.CommandLine) × (holds ≡ held)
 LeavesOutput Reads ReadsState Answers machine input held holds told (Err f) outcome = (outcome ≡ Err f) × (holds ≡ held)
 
--- Only `run` tells something before a fault's line.
+-- Only `run` reports something before a fault's line.
 abbrev pub IsQuiet : Result Choice Fault → List ℕ → Type 0
 IsQuiet (Ok (choice.Run options)) told = ⊤
 IsQuiet _ told = told ≡ []

@@ -8,7 +8,7 @@ use Rattle.gw_configuration.specs.Configuration.{Configuration}
 use Rattle.gw_shell.specs.declared.fault.Fault.{Fault}
 use Rattle.gw_shell.specs.declared.fault.Fault.TheVariants as fault
 
--- how a replay tells an event: what it does, and before that what it asks where it explains
+-- how a replay reports an event: what it does, and before that what it asks if it explains
 abbrev pub telling : Bool → Telling
 telling false = event_text
 telling true = explained_text

@@ -1,4 +1,4 @@
-//! What `check` tells of a configuration. With `--explain` that is also who may do what under it, and
+//! What `check` says of a configuration. With `--explain` that is also who may do what under it, and
 //! what can't be meant; with `--lint` also which rules never decide.
 
 ghost use Rattle.std.specs.Prelude.{◌≡◌, IfOk};

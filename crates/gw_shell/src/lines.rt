@@ -6,7 +6,7 @@ ghost use Rattle.gw_shell.specs.Lines.{first_lines_fault};
 use crate::fault::Fault;
 use gw_script::LinesFault;
 
-/// The first fault of the telling and of the flush after it.
+/// The first fault of the lines and of the flush after them.
 pub fn first_lines_fault(told: Result<(), LinesFault>, is_flushed: bool) -> Result<(), Fault>
     ensures { result ≡ first_lines_fault told is_flushed }
 {

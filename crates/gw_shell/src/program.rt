@@ -200,7 +200,7 @@ fn print_in_format_three<W: Write + Drop>(
     print_migrated(alloc, &config, output)
 }
 
-/// Plays the script under a configuration, and tells its asks where that is asked for.
+/// Plays the script under a configuration, and reports its asks if `explains`.
 fn play<R: OctetSource, W: Write + Drop>(
     alloc: Global,
     explains: bool,
@@ -474,7 +474,7 @@ fn served(done: Result<(), ServiceFault>) -> Result<(), Fault>
     }
 }
 
-/// Serves the ports of the configuration of a text that was read, or tells where its fault is, where
+/// Serves the ports of the configuration of a text that was read, or says where its fault is, if
 /// that is asked for.
 fn serve<H: Host, W: Write + Drop, E: OctetSink>(
     alloc: Global,

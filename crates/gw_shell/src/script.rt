@@ -36,7 +36,7 @@ fn first_fault(run: Result<(), Fault>, is_flushed: bool) -> Result<(), Fault>
     }
 }
 
-/// Plays the script that `reader` has left, and tells each event; where it explains, also by its asks,
+/// Plays the script that `reader` has left, and reports each event; if it explains, also its asks,
 /// and what is wrong with a line that is no event. Faults: those of the run.
 fn play<R: OctetSource, W: Write + Drop>(
     alloc: Global,
@@ -58,9 +58,9 @@ fn play<R: OctetSource, W: Write + Drop>(
     }
 }
 
-/// Plays the script that `reader` has left under this configuration, and tells each event; where it
-/// explains, also by its asks, and what is wrong with a line that is no event. What was written is flushed at every outcome. Faults: those of the run,
-/// and `Write` also where the flush alone fails.
+/// Plays the script that `reader` has left under this configuration, and reports each event; if it explains,
+/// also its asks, and what is wrong with a line that is no event. What was written is flushed at every outcome.
+/// Faults: those of the run, and `Write` also if the flush alone fails.
 pub fn replay<R: OctetSource, W: Write + Drop>(
     alloc: Global,
     explains: bool,

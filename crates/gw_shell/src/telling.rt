@@ -12,9 +12,9 @@ use gw_script::OctetSource;
 use std::alloc::Global;
 use std::io::{BufWriter, Write};
 
-/// Tells in words each line of the log that `reader` has left, with the moments of the denials where it
+/// Writes in words each line of the log that `reader` has left, with the moments of the denials if it
 /// is known when the log began. What was written is flushed at every
-/// outcome. Faults: those of the telling, and `Write` also where the flush alone fails.
+/// outcome. Faults: those of the lines, and `Write` also if the flush alone fails.
 pub fn tell<R: OctetSource, W: Write + Drop>(
     alloc: Global,
     start: Option<Moment>,

@@ -81,7 +81,7 @@ ends rules log left new before after so_far step =
     (subst (λ (ls : List (List ℕ)). AreSeen rules ls before)
     (sym (so_far.lines ∙ ap (λ (ls : List (List ℕ)). so_far.done ++ ls) last.0 ∙ append-nil so_far.done)) so_far.seen)
 
--- what no ask is read of tells none
+-- what isn't read as an ask shows none
 pub tells_none : (line words : List ℕ) → words ≡ words_of line → ((ask : ShownAsk) → TellsAsk words ask → None ≡ Some ask) → IsTold line None
 tells_none line words is only shown tells = never (only shown (subst (λ (text : List ℕ). TellsAsk text shown) (sym is) tells))
   where

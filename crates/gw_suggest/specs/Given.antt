@@ -1,4 +1,4 @@
--- The asks that lines tell, which of them are wanted, and what two of the same station have together.
+-- The asks that lines show, which of them are wanted, and what two of the same station have together.
 use Rattle.std.specs.Prelude.{◌≡◌, Bool, true, not, nat_eq, ◌&&◌, ◌||◌, if◌then◌else◌, List, [], ◌∷◌, filter}
 use Rattle.std.specs.List.{flat_map, list_any}
 use Rattle.std.specs.Option.{option_eq}

@@ -1,4 +1,4 @@
--- The asks that the lines of a text tell.
+-- The asks that the lines of a text show.
 use Rattle.std.specs.Prelude.{◌≡◌, ◌⊎◌, ℕ, nat_eq, Bool, true, false, if◌then◌else◌, List, [], ◌∷◌, ◌++◌, codes, drop, ⊤}
 use Rattle.std.specs.Prelude.{Option, None, Some, Result, Ok, Err}
 use Rattle.std.specs.List.{flat_map, starts_with}
@@ -17,12 +17,12 @@ use Rattle.gw_suggest.specs.declared.fault.SuggestFault.{SuggestFault}
 abbrev pub words_of : List ℕ → List ℕ
 words_of line = if starts_with nat_eq line (codes "deny ") then drop 5 line else line
 
--- the ask that a line tells: as a line of the log, or by its eight words; or that it tells none
+-- the ask that a line shows: as a line of the log, or by its eight words; or that it shows none
 abbrev pub IsTold : List ℕ → Option Ask → Type 0
 IsTold line (Some ask) = (shown : ShownAsk) × TellsAsk (words_of line) shown × (ask ≡ ask_shown shown)
 IsTold line None = (shown : ShownAsk) → ¬ (TellsAsk (words_of line) shown)
 
--- a line is taken: the ask that it tells is there then, if these rules deny it
+-- a line is taken: the ask that it shows is there then, if these rules deny it
 pub record IsTaken (rules : List Rule) (line : List ℕ) (before after : List Ask) : Type 0 where
   pub ask : Option Ask
   pub told : IsTold line ask
@@ -30,7 +30,7 @@ pub record IsTaken (rules : List Rule) (line : List ℕ) (before after : List As
 
 -- ---- the lines of a text
 
--- what each line tells
+-- what each line shows
 abbrev pub AreTold : List (List ℕ) → List (Option Ask) → Type 0
 AreTold [] [] = ⊤
 AreTold [] (ask ∷ asks) = ⊥
@@ -40,7 +40,7 @@ AreTold (line ∷ lines) (ask ∷ asks) = IsTold line ask × AreTold lines asks
 abbrev pub asks_in : List (Option Ask) → List Ask
 asks_in told = flat_map option_to_list told
 
--- Of the asks that the lines of a text tell, these are those that the rules deny.
+-- Of the asks that the lines of a text show, these are those that the rules deny.
 pub record AreSeen (rules : List Rule) (lines : List (List ℕ)) (asks : List Ask) : Type 0 where
   pub told : List (Option Ask)
   pub each : AreTold lines told

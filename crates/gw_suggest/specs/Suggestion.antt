@@ -49,7 +49,7 @@ pub record IsAdded (old : Configuration) (text : List ℕ) (manner : Manner) (as
   pub suggestion : IsSuggestion manner.keeps_services (wanted manner asks) suggested
   pub in_front : IsInFront old text suggested added
 
--- The text is of rules that are suggested for the asks that the lines of a log tell and the configuration denies.
+-- The text is of rules that are suggested for the asks that the lines of a log show and the configuration denies.
 pub record IsSuggested (text : List ℕ) (manner : Manner) (log added : List ℕ) : Type 0 where
   pub old : Configuration
   pub configured : configuration text ≡ Ok old

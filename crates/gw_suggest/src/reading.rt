@@ -1,4 +1,4 @@
-//! The asks that the lines of a text tell.
+//! The asks that the lines of a text show.
 ghost use Rattle.std.specs.Prelude.{◌≡◌, ◌∷◌, [], ℕ, List, Some, IfOk, OnOk};
 ghost use Rattle.std.specs.Io.KnownBytes.{prepend_known};
 ghost use Rattle.gw_script.specs.Script.{lines_of};
@@ -15,14 +15,14 @@ use std::alloc::{AllocError, Global};
 /// What a replay writes in front of the line of a denial.
 const DENY: &[u8] = b"deny ";
 
-/// What is read of a text: the asks that its lines tell and a policy denies, and how many lines tell none.
+/// What is read of a text: the asks that its lines show and a policy denies, and how many lines show none.
 #[derive(Drop)]
 pub(crate) struct Seen {
     pub(crate) given: Given,
     pub(crate) unread: u64,
 }
 
-/// The words that tell the ask of a line: without the word that a replay writes in front.
+/// The words that show the ask of a line: without the word that a replay writes in front.
 fn words_of(line: &[u8]) -> &[u8]
     ensures { result.now ≡ words_of line.now }
 {
@@ -33,7 +33,7 @@ fn words_of(line: &[u8]) -> &[u8]
     }
 }
 
-/// The ask that a line tells: a line of the log, with `deny ` in front or not, or the eight words in the
+/// The ask that a line shows: a line of the log, with `deny ` in front or not, or the eight words in the
 /// middle of one.
 fn ask_told(line: &[u8]) -> Option<Ask>
     ensures { IsTold line.now result }
@@ -44,7 +44,7 @@ fn ask_told(line: &[u8]) -> Option<Ask>
     }
 }
 
-/// Whether a line is another one of those that a replay writes: it tells no ask that could be read back.
+/// Whether a line is another one of those that a replay writes: it shows no ask that could be read back.
 fn is_other(line: &[u8]) -> bool {
     line.starts_with(b"send ") || line.starts_with(b"ask ") || line == b"end".as_slice()
 }
@@ -125,7 +125,7 @@ impl Reading {
     }
 }
 
-/// The asks that the lines of a text tell and these rules deny. Faults: `Read`; `Line` of a line of more than
+/// The asks that the lines of a text show and these rules deny. Faults: `Read`; `Line` of a line of more than
 /// 4096 octets; `TooManyAsks`; `Memory`.
 pub(crate) fn read_asks<R: OctetSource>(
     alloc: Global,

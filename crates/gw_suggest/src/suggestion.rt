@@ -143,7 +143,7 @@ fn made<R: OctetSource>(
 ///
 /// A line is one of the log, with `deny ` in front or not, or the eight words in the middle of one, and ends with a
 /// line feed, which the last may lack. It has at most 4096 octets without it. Other lines are counted, and a comment
-/// at the end says how many there were; those of a replay that tell no ask (`send ..`, `ask ..`, `end`) aren't.
+/// at the end says how many there were; those of a replay that show no ask (`send ..`, `ask ..`, `end`) aren't.
 ///
 /// Each rule has a comment that says how many asks it is for. What is written was read back: put into the
 /// text in front of the first rule, it is read as these rules and the configuration's after them.

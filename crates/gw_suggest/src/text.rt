@@ -7,7 +7,7 @@ use gw_migration::put_field;
 use gw_rules::{Ask, FieldName, Operation, Range, Rule};
 use std::alloc::AllocError;
 
-/// The text of the rules: a table for each, with comments; and of how many lines tell no ask.
+/// The text of the rules: a table for each, with comments; and how many lines show no ask.
 pub(crate) fn put_text(
     out: &mut Vec<u8>,
     format: Format,
@@ -24,7 +24,7 @@ pub(crate) fn put_text(
     put_unread(out, unread)
 }
 
-/// Appends a comment on the lines that tell no ask, if there are such.
+/// Appends a comment on the lines that show no ask, if there are such.
 fn put_unread(out: &mut Vec<u8>, unread: u64) -> Result<(), AllocError> {
     if unread == 0 {
         return Ok(());

@@ -1,4 +1,4 @@
--- What opening a log and sockets may come to.
+-- What opening a log and sockets may give.
 use Rattle.std.specs.Prelude.{◌≡◌, ◌⊎◌, ⊤, ℕ, ◌≤◌, Bool, true, false, List, [], ◌∷◌, Option, Result, Ok, Err}
 use Rattle.std.specs.Io.KnownBytes.{Appends}
 use Rattle.gw_system.specs.declared.opening.LogFailure.{LogFailure}

@@ -9,7 +9,7 @@ pub data Exchange : Type 0 where
   asked : (text : Result (Option (List ℕ)) ReadFailure) → Exchange
   answered : (text : List ℕ) → Exchange
 
--- What is reported goes on by these. What tells nothing never tells again; and it may stop telling.
+-- What is reported goes on by these. What reports nothing never reports again; and it may stop reporting.
 abbrev pub GoesOn : Option (List Exchange) → Option (List Exchange) → List Exchange → Type 0
 GoesOn None now exchanges = now ≡ None
 GoesOn (Some told) None exchanges = ⊤

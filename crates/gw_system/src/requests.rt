@@ -16,7 +16,7 @@ use std::time::Duration;
 
 /// What asks a running gateway to read its configuration again, and is answered.
 pub trait Requests {
-    /// What it asked and was answered so far, in order, if it tells that.
+    /// What it asked and was answered so far, in order, if it reports that.
     ghost told: { Self → Option (List Exchange) };
 
     /// Takes a request away. If there was one, it gives the text of the configuration, of which there are at

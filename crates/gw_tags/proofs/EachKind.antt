@@ -59,7 +59,7 @@ boolean_fails low count octets fault e =
       ]
     ]
 
--- what is behind the count of unused bits
+-- what follows the count of unused bits
 abbrev own_bits : ℕ → ℕ → List ℕ → Read
 own_bits unused count octets = front_at ShortValue count octets >>= λ x. Ok (bit_string unused x.0, x.1)
 
@@ -105,7 +105,7 @@ or_true false = refl
 unused_none : (n : ℕ) → is_unused 0 n ≡ true
 unused_none n = or_true (ltb 0 n)
 
--- the octet that counts is missing, and those behind it
+-- the octet that counts is missing, and those after it
 bits_missing : (low count : ℕ) → 0 < count → EndsBody 8 low count []
 bits_missing low count some = record {
   missing = 0 ∷ zeros (count - 1);

@@ -1,4 +1,4 @@
--- What reading a tag gives, and what is wrong with the octets where it gives a fault.
+-- What reading a tag gives, and what is wrong with the octets if it gives a fault.
 use Rattle.std.proofs.Common.{◌≡◌, ℕ, true, cond, ltb, ◌||◌, List, [], ◌∷◌, ◌++◌, Result, Ok, Err, refl, sym, ap, subst, ◌∙◌, append_assoc, arith, inl, inr}
 use Rattle.std.specs.Prelude.{◌↔◌, IsOkAnd}
 use Rattle.std.proofs.lemmas.Bool.{ltb-true}

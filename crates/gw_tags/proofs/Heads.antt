@@ -1,4 +1,4 @@
--- Reading the tag of a value: which kind it is, and what is behind it.
+-- Reading the tag of a value: which kind it is, and what follows it.
 use Rattle.std.proofs.Common.{◌≡◌, ℕ, zero, suc, ◌<◌, ◌≤◌, Bool, true, false, not, cond, ◌&&◌, ◌||◌, List, ◌++◌, Result, Ok, Err, refl, sym, ap, subst, ◌∙◌, arith, inl, inr, ◌⊎◌}
 use Rattle.std.proofs.lemmas.Bool.{cases_lt, lt-ltb, le-ltb, ne_eqb}
 use Rattle.gw_addr.specs.Reading.{◌>>=◌, AreOctets}

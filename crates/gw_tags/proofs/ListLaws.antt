@@ -1,4 +1,4 @@
--- The walk over a list finds exactly the closing tag behind a balanced content.
+-- The walk over a list finds exactly the closing tag after a balanced content.
 use Rattle.std.proofs.Common.{◌≡◌, ℕ, zero, suc, ◌+◌, ◌-◌, ◌<◌, ◌≤◌, true, false, cond, eqb, ltb, ◌||◌, List, [], ◌++◌, length, take, drop, Option, Some, None, Result, Ok, Err, refl, sym, ap, subst, ◌∙◌, append_assoc, arith, inl, inr}
 use Rattle.std.proofs.lemmas.Bool.{cases_lt, lt-ltb, le-ltb, eq-eqb, eqb-true}
 use Rattle.std.proofs.lemmas.List.{length-append, length-take, take-append-drop, take_at, drop_at}
@@ -19,7 +19,7 @@ use Rattle.gw_tags.proofs.Tags.{tag_again}
 use Rattle.gw_tags.proofs.Faults.{tag_takes}
 use Rattle.gw_tags.proofs.Walks.{past_nothing, past_value, past_closing, past_list, in_bad_list, too_deep, no_fuel}
 
--- ---- what stands at the front
+-- ---- what is at the front
 
 -- octets that are stepped over
 record Steps (count : Option ℕ) (octets rest : List ℕ) : Type 0 where
@@ -101,7 +101,7 @@ bracket kind m octets rest found f k none n r =
 
 -- ---- what was found
 
--- a balanced content, and a closing tag behind it
+-- a balanced content, and a closing tag after it
 pub record Tail (depth number : ℕ) (octets at rest : List ℕ) : Type 0 where
   pub content : List ℕ
   pub closing : List ℕ

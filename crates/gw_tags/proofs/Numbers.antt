@@ -124,7 +124,7 @@ pos_sized n lt (signed_in_two below le e) = subst (λ (k : ℕ). EncodesSigned (
 pos_sized n lt (signed_in_three below le e) = subst (λ (k : ℕ). EncodesSigned (last_cells k n) (pos n)) (sym e) (signed_made 3 n (pos n) (omega arith) (omega arith) (twos_pos _ _ n (omega arith) (omega arith)))
 pos_sized n lt (signed_in_four le e) = subst (λ (k : ℕ). EncodesSigned (last_cells k n) (pos n)) (sym e) (signed_made 4 n (pos n) (omega arith) (omega arith) (twos_pos _ _ n (omega arith) (omega arith)))
 
--- a negative number is the power of 256 less what it stands below 0
+-- a negative number is the power of 256 less its distance below 0
 abbrev under : ℕ → ℕ
 under n = 2 ^ 32 - suc n
 

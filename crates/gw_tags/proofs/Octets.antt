@@ -6,7 +6,7 @@ use Rattle.gw_addr.specs.Reading.{AreOctets}
 use Rattle.gw_addr.proofs.Reading.{AreOctets-rest}
 use Rattle.gw_tags.specs.Tag.{class_of}
 
--- the class bit is set where the low four bits are 8 or more
+-- the class bit is set if the low four bits are 8 or more
 pub class_bit_set : (first : ℕ) → first < 256 → not (eqb (bit_and first 8) 0) ≡ ltb 7 (first % 16)
 class_bit_set first lt = agree_below_at (λ n. not (eqb (bit_and n 8) 0)) (λ n. ltb 7 (n % 16)) 256 first refl lt
 
@@ -29,7 +29,7 @@ pub one_more : (octet : ℕ) (octets : List ℕ) → octet < 256 → AreOctets o
 one_more octet octets lt fits zero = lt
 one_more octet octets lt fits (suc i) = fits i
 
--- what stands behind octets are octets
+-- the rest of a list of octets has only octets
 pub behind_octets : (xs ys : List ℕ) → AreOctets (xs ++ ys) → AreOctets ys
 behind_octets [] ys fits = fits
 behind_octets (x ∷ xs) ys fits = behind_octets xs ys (AreOctets-rest x (xs ++ ys) fits)

@@ -23,7 +23,7 @@ first_made first high low lt high_is low_is = rw (← high_is, ← low_is) (firs
 
 -- ---- what was read
 
--- a number was read, and where it stood
+-- a number was read, and where it was
 pub record ReadsNumber (first : ℕ) (octets : List ℕ) (n : ℕ) (rest : List ℕ) : Type 0 where
   pub place : NumberPlace
   pub high : first / 16 ≡ high_of n place
@@ -43,7 +43,7 @@ tag_number_takes first octets n rest lt fits e = elim (chosen (eqb (first / 16) 
       record { place = high_bits; high = number; room = omega arith; takes = record { parts = others; rest_octets = rw (← others) fits } }
 ]
 
--- a kind was read, and where its length stood
+-- a kind was read, and where its length was
 pub record ReadsKind (low : ℕ) (octets : List ℕ) (kind : Kind) (rest : List ℕ) : Type 0 where
   pub place : LengthPlace
   pub low_is : low ≡ low_of kind place

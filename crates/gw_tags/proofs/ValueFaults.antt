@@ -1,4 +1,4 @@
--- Which fault reading a value gives, told of the octets.
+-- Which fault reading a value gives, in terms of the octets.
 use Rattle.std.proofs.Common.{◌≡◌, ◌≢◌, ℕ, ◌≤◌, arith, Bool, true, false, cond, List, [], ◌∷◌, ◌++◌, length, Result, Ok, Err, refl, sym, ap, subst, ◌∙◌, append_assoc, inl, inr}
 use Rattle.std.specs.Prelude.{◌↔◌}
 use Rattle.std.proofs.lemmas.List.{append-nil, append_cancel_left, append_cancel_right, length-append}
@@ -17,7 +17,7 @@ use Rattle.gw_tags.proofs.EachKind.{kind_of, kind_number-of}
 use Rattle.gw_tags.proofs.Heads.{headed, tag_of_header, is_value_kind}
 use Rattle.gw_tags.proofs.ValueLaws.{raw_at, value_is_judged, raw_takes, raw_again, begins_read, Fault, tag_ends, content_ends, other_tag, other_length, raw_fails}
 
--- ---- one tag stands at the front
+-- ---- one tag is at the front
 
 one_tag : (octets : List ℕ) (s t : Tag) (x y : List ℕ) → BeginsWith octets s x → BeginsWith octets t y → s ≡ t
 one_tag octets s t x y a b =
@@ -67,7 +67,7 @@ completes octets c = record { front = octets ++ c.missing; encodes = c.encodes; 
 raw_short_tag : (octets : List ℕ) → AreOctets octets → IsShortTag octets → raw_at octets ≡ Err Short
 raw_short_tag octets fits s = ap (λ (r : Result (Tag × List ℕ) TagFault). headed (low_bits_at octets) r >>= λ head. body_at head.0 head.1) ((tag_is_short octets fits).1 s)
 
--- what began is whole with more behind it
+-- what began is whole with more after it
 ends_no_whole : (octets : List ℕ) (value : Value) (rest : List ℕ) (c : EndsInContent octets) → BeginsWithValue octets value rest → ⊥
 ends_no_whole octets value rest c b =
     let whole = begins_read (octets ++ c.missing) c.value [] (completes octets c) in

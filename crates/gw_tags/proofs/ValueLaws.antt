@@ -89,7 +89,7 @@ begins_read octets value rest b = ap raw_at b.parts ∙ raw_again b.front value 
 
 -- ---- faults that more octets do not cure
 
--- why nothing is read: the tag ends, the content ends, the tag is none of a value, or the length none of the kind
+-- why nothing is read: the tag ends, the content ends, no value has the tag, or the kind has no such length
 pub data Fault (octets : List ℕ) (fault : ValueFault) : Type 0 where
   tag_ends : fault ≡ Short → IsShortTag octets → Fault octets fault
   content_ends : fault ≡ Short → EndsInContent octets → Fault octets fault

@@ -95,7 +95,7 @@ value_encoding_is_shortest octets value s =
 
 -- ---- what is read can be written
 
--- a content is as long as its tag says, where the tag says how long
+-- a content is as long as its tag says, if the tag says how long
 fits_so : (value : Value) (content : List ℕ) (count low : ℕ) → IsContent (layout value).content content → HasBits (layout value).bits low count (length content) → count < 2 ^ 32 → length (content_encoding (layout value).content) ≤ length content → LengthFits value
 fits_so null content count low s b fits le = omega arith
 fits_so (boolean said) content count low s b fits le = omega arith

@@ -5,7 +5,7 @@ use Rattle.gw_tags.specs.Kind.{is_length}
 use Rattle.gw_tags.specs.Tag.{Tag, IsTag, EncodesTag, BeginsWith, canonical}
 use Rattle.gw_tags.specs.List.{context}
 
--- a content behind its context tag, as it is written
+-- a content after its context tag, as it is written
 abbrev pub in_context : ℕ → List ℕ → List ℕ
 in_context number content = canonical (context number (Length (length content))) ++ content
 
@@ -19,7 +19,7 @@ pub record BeginsWithContent (number : ℕ) (octets content rest : List ℕ) : T
 abbrev pub is_content : ℕ → Tag → Bool
 is_content number tag = is_length tag.kind && (tag.context && tag.number == number)
 
--- another tag stands at the front
+-- another tag is at the front
 pub record BeginsWithOther (number : ℕ) (octets : List ℕ) : Type 0 where
   pub tag : Tag
   pub rest : List ℕ

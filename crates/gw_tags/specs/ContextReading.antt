@@ -22,7 +22,7 @@ content_of number tag (Length n) rest =
 content_of number tag Opening rest = Err OtherTag
 content_of number tag Closing rest = Err OtherTag
 
--- the content under the context tag of this number, and the octets behind it
+-- the content under the context tag of this number, and the octets after it
 abbrev pub content_at : ℕ → List ℕ → Result (List ℕ × List ℕ) ContextFault
 content_at number octets = tag_or (tag_at octets) >>= λ x. content_of number x.0 x.0.kind x.1
 
@@ -31,7 +31,7 @@ opening_of number tag (Length n) rest = Err OtherTag
 opening_of number tag Opening rest = if tag.number == number then Ok rest else Err OtherTag
 opening_of number tag Closing rest = Err OtherTag
 
--- the octets behind the opening tag of this number
+-- the octets after the opening tag of this number
 abbrev pub opening_at : ℕ → List ℕ → Result (List ℕ) ContextFault
 opening_at number octets = tag_or (tag_at octets) >>= λ x. opening_of number x.0 x.0.kind x.1
 
@@ -40,6 +40,6 @@ closing_of number tag (Length n) rest = Err OtherTag
 closing_of number tag Opening rest = Err OtherTag
 closing_of number tag Closing rest = if tag.number == number then Ok rest else Err OtherTag
 
--- the octets behind the closing tag of this number
+-- the octets after the closing tag of this number
 abbrev pub closing_tag_at : ℕ → List ℕ → Result (List ℕ) ContextFault
 closing_tag_at number octets = tag_or (tag_at octets) >>= λ x. closing_of number x.0 x.0.kind x.1

@@ -7,7 +7,7 @@ use Rattle.gw_tags.specs.Object.{Object, IsObject, object_octets, object_of}
 use Rattle.gw_tags.specs.Value.{Value, IsValue, EncodesValue, BeginsWithValue, EncodeAll, value_encoding}
 use Rattle.gw_tags.specs.Number.{IsSigned, unsigned_of, unsigned_encoding, signed_of, signed_encoding}
 
--- Where two encodings stand at the front of the same octets, they are one encoding of one tag: none
+-- If two encodings are at the front of the same octets, they are one encoding of one tag: none
 -- is a proper front of another.
 abbrev pub TagsArePrefixFree : Type 0
 TagsArePrefixFree = (a b x y : List ℕ) (s t : Tag) → EncodesTag a s → EncodesTag b t
@@ -35,7 +35,7 @@ abbrev pub ObjectsAreEncoded : Type 0
 ObjectsAreEncoded = (octets : List ℕ) → length octets ≡ 4 → AreOctets octets
     → IsObject (object_of octets) × (object_octets (object_of octets) ≡ octets)
 
--- Where two encodings of values stand at the front of the same octets, they are one encoding of one
+-- If two encodings of values are at the front of the same octets, they are one encoding of one
 -- value.
 abbrev pub ValuesArePrefixFree : Type 0
 ValuesArePrefixFree = (a b x y : List ℕ) (v w : Value) → EncodesValue a v → EncodesValue b w

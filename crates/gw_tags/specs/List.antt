@@ -13,13 +13,13 @@ context number kind = record { number = number; context = true; kind = kind }
 abbrev pub is_boolean : Tag → Bool
 is_boolean tag = not tag.context && tag.number == 1
 
--- how many octets stand behind a tag that opens and closes no list
+-- how many octets follow a tag that opens and closes no list
 abbrev pub content_length : Tag → Kind → Option ℕ
 content_length tag (Length n) = if is_boolean tag then Some 0 else Some n
 content_length tag Opening = None
 content_length tag Closing = None
 
--- Contents behind their tags, and lists between an opening and a closing tag of one number, one
+-- Contents after their tags, and lists between an opening and a closing tag of one number, one
 -- after the other. No more lists than `depth` are open at once.
 pub data IsBalanced : ℕ → List ℕ → Type 0 where
   no_more : {depth : ℕ} → IsBalanced depth []
@@ -36,7 +36,7 @@ pub data IsBalanced : ℕ → List ℕ → Type 0 where
 abbrev pub deepest : ℕ
 deepest = 16
 
--- behind an opening tag: a balanced content, the closing tag of the number, and the rest
+-- after an opening tag: a balanced content, the closing tag of the number, and the rest
 pub record EndsList (number : ℕ) (octets content rest : List ℕ) : Type 0 where
   pub closing : List ℕ
   pub balanced : IsBalanced deepest content

@@ -12,7 +12,7 @@ pub record EncodesUnsigned (octets : List ℕ) (n : ℕ) : Type 0 where
   pub octets_fit : AreOctets octets
   pub number : n ≡ big_endian octets
 
--- the number of octets in two's complement: where the highest bit is set, less the next power of
+-- the number of octets in two's complement: if the highest bit is set, less the next power of
 -- 256
 abbrev pub twos_complement : List ℕ → ℤ
 twos_complement octets =
@@ -53,7 +53,7 @@ abbrev pub IsSigned : ℤ → Type 0
 IsSigned (pos n) = n < 2 ^ 31
 IsSigned (negsuc n) = n < 2 ^ 31
 
--- the number of octets, where there are one to four
+-- the number of octets, if there are one to four
 abbrev pub unsigned_of : List ℕ → Option ℕ
 unsigned_of octets =
     if nat_le 1 (length octets) && nat_le (length octets) 4 then Some (big_endian octets)

@@ -24,7 +24,7 @@ use Rattle.gw_tags.specs.Value.{bit_string, enumerated, date, time, object_id, i
 
 -- ---- tags
 
--- the number: the four high bits of the first octet, or where they are all set, the next octet
+-- the number: the four high bits of the first octet, or if they are all set, the next octet
 abbrev pub tag_number_at : ℕ → List ℕ → Result (ℕ × List ℕ) TagFault
 tag_number_at first rest = if first / 16 == 15 then octet_at Short rest else Ok (first / 16, rest)
 
@@ -41,7 +41,7 @@ kind_at low rest = if low == 6 then Ok (Opening, rest) else (if low == 7 then Ok
     else (if low == 5 then (length_at rest >>= λ n. Ok (Length n.0, n.1))
     else Ok (Length low, rest)))
 
--- number, class and kind as they stand, and the octets behind them
+-- number, class and kind as they are read, and the octets after them
 abbrev pub header_at : List ℕ → Result (Tag × List ℕ) TagFault
 header_at octets = do
   first ← octet_at Short octets
@@ -49,7 +49,7 @@ header_at octets = do
   kind ← kind_at (first.0 % 8) number.1
   Ok (record { number = number.0; context = nat_lt 7 (first.0 % 16); kind = kind.0 }, kind.1)
 
--- the tag at the front and the octets behind it: it is read whole before it is judged
+-- the tag at the front and the octets after it: it is read whole before it is judged
 abbrev pub tag_at : List ℕ → Result (Tag × List ℕ) TagFault
 tag_at octets = do
   header ← header_at octets
@@ -85,7 +85,7 @@ datatype_of number =
     else (if number == 12 then Ok kinds.Object
     else Err BadValueTag))))))))))))
 
--- what is behind a value's tag: the three low bits of the tag's first octet, the length, and the
+-- what follows a value's tag: the three low bits of the tag's first octet, the length, and the
 -- octets
 pub record Body : Type 0 where
   pub low_bits : ℕ
@@ -98,7 +98,7 @@ count_of (Length n) = Ok n
 count_of Opening = Err BadValueTag
 count_of Closing = Err BadValueTag
 
--- the kind of the value at the front, and what is behind its tag
+-- the kind of the value at the front, and what follows its tag
 abbrev pub head_at : List ℕ → Result (Datatype × Body) ValueFault
 head_at octets = do
   header ← of_tag (tag_at octets)
@@ -106,7 +106,7 @@ head_at octets = do
   count ← count_of header.0.kind
   Ok (datatype, record { low_bits = low_bits_at octets; count = count; octets = header.1 })
 
--- the content, where the kind has one of this length
+-- the content, if the kind has one of this length
 abbrev pub octets_at : Bool → Body → Result (List ℕ × List ℕ) ValueFault
 octets_at has_length body = if has_length then front_at ShortValue body.count body.octets
     else Err BadLength
@@ -131,7 +131,7 @@ boolean_at body =
     if body.low_bits == 0 then Ok (boolean false, body.octets)
     else (if body.low_bits == 1 then Ok (boolean true, body.octets) else Err BadLength)
 
--- the character set, and the octets behind it
+-- the character set, and the octets after it
 abbrev pub text_of : List ℕ → Value
 text_of [] = character_string 0 []
 text_of (charset ∷ own) = character_string charset own
@@ -139,7 +139,7 @@ text_of (charset ∷ own) = character_string charset own
 abbrev pub text_at : Body → Result (Value × List ℕ) ValueFault
 text_at body = content_at (nat_lt 0) text_of body
 
--- the count of unused bits is judged before the octets behind it
+-- the count of unused bits is judged before the octets after it
 abbrev pub bits_at : Body → Result (Value × List ℕ) ValueFault
 bits_at body =
     if body.count == 0 then Err BadLength
@@ -172,13 +172,13 @@ body_at kinds.Date body = content_at (λ n. n == 4) date body
 body_at kinds.Time body = content_at (λ n. n == 4) time body
 body_at kinds.Object body = content_at (λ n. n == 4) (λ o. object_id (object_of o)) body
 
--- the value at the front, whatever its text is, and the octets behind it
+-- the value at the front, whatever its text is, and the octets after it
 abbrev pub encoding_at : List ℕ → Result (Value × List ℕ) ValueFault
 encoding_at octets = head_at octets >>= λ head. body_at head.0 head.1
 
 abbrev pub judged_body_at : Datatype → Body → Result (Value × List ℕ) ValueFault
 judged_body_at datatype body = body_at datatype body >>= judged
 
--- the value at the front and the octets behind it
+-- the value at the front and the octets after it
 abbrev pub value_at : List ℕ → Result (Value × List ℕ) ValueFault
 value_at octets = head_at octets >>= λ head. judged_body_at head.0 head.1

@@ -7,6 +7,6 @@ use Rattle.std.specs.Str.{is_utf8}
 abbrev pub IsText : ℕ → List ℕ → Type 0
 IsText charset octets = charset ≡ 0 → is_utf8 octets ≡ true
 
--- 0 to 7 bits of the last octet are unused, and none where there is no octet
+-- 0 to 7 bits of the last octet are unused, and none if there is no octet
 abbrev pub is_unused : ℕ → ℕ → Bool
 is_unused unused count = nat_lt unused 8 && (nat_lt 0 count || unused == 0)

@@ -36,12 +36,12 @@ pub record IsTag (tag : Tag) : Type 0 where
 
 -- ---- encoding
 
--- where the number stands: in the four high bits of the first octet, or in the octet after it
+-- where the number is: in the four high bits of the first octet, or in the octet after it
 pub data NumberPlace : Type 0 where
   high_bits : NumberPlace
   own_octet : NumberPlace
 
--- where a length stands: in the three low bits of the first octet, or behind it in one, two or four
+-- where a length is: in the three low bits of the first octet, or after it in one, two or four
 -- octets
 pub data LengthPlace : Type 0 where
   low_bits : LengthPlace
@@ -72,7 +72,7 @@ abbrev pub number_octets : ℕ → NumberPlace → List ℕ
 number_octets n high_bits = []
 number_octets n own_octet = n ∷ []
 
--- the octets of a length that has its own: of more than one, 254 or 255 tells how many
+-- the octets of a length that has its own: of more than one, 254 or 255 says how many
 abbrev pub length_octets : Kind → LengthPlace → List ℕ
 length_octets (Length n) low_bits = []
 length_octets (Length n) one_octet = n ∷ []
@@ -101,8 +101,8 @@ tag_encoding number_place length_place tag =
     (16 * high_of tag.number number_place + class_of tag.context + low_of tag.kind length_place)
     ∷ (number_octets tag.number number_place ++ length_octets tag.kind length_place)
 
--- The octets encode the tag, be its number and class reserved or not. A number or length may stand
--- in more octets than it needs.
+-- The octets encode the tag, be its number and class reserved or not. A number or length may have
+-- more octets than it needs.
 pub record EncodesTag (octets : List ℕ) (tag : Tag) : Type 0 where
   pub number_place : NumberPlace
   pub length_place : LengthPlace

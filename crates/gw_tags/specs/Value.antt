@@ -51,7 +51,7 @@ pub data LengthBits : Type 0 where
   length_of_content : LengthBits
   value_itself : ℕ → LengthBits
 
--- what stands behind the tag
+-- what follows the tag
 pub data Content : Type 0 where
   empty : Content
   natural : ℕ → Content
@@ -109,7 +109,7 @@ IsContent (identifier id) octets = (octets ≡ object_octets id) × IsObject id
 abbrev pub application : ℕ → ℕ → Tag
 application number count = record { number = number; context = false; kind = Length count }
 
--- These octets are a header: where the length bits are the value, they have no octets of their own.
+-- These octets are a header: if the length bits are the value, they have no octets of their own.
 abbrev pub IsHeader : List ℕ → ℕ → LengthBits → ℕ → Type 0
 IsHeader header number length_of_content count = EncodesTag header (application number count)
 IsHeader header number (value_itself n) count = EncodesInLowBits header (application number n)
@@ -162,11 +162,11 @@ abbrev pub announced : LengthBits → ℕ → ℕ
 announced length_of_content count = count
 announced (value_itself n) count = n
 
--- a content behind the tag of this number
+-- a content after the tag of this number
 abbrev pub tagged : ℕ → List ℕ → List ℕ
 tagged number content = canonical (application number (length content)) ++ content
 
--- a content behind its tag
+-- a content after its tag
 abbrev pub behind_tag : ℕ → LengthBits → List ℕ → List ℕ
 behind_tag number bits content = canonical (application number (announced bits (length content)))
     ++ content
@@ -199,7 +199,7 @@ IsShortValue octets = IsShortTag octets ⊎ EndsInContent octets
 abbrev pub is_value_tag : Tag → Bool
 is_value_tag tag = is_tag tag && not tag.context && nat_lt tag.number 13
 
--- 2: the tag is whole, and none of a value
+-- 2: the tag is whole, but no value has it
 pub record IsBadValueTag (octets : List ℕ) : Type 0 where
   pub tag : Tag
   pub rest : List ℕ

@@ -8,7 +8,7 @@ use Rattle.gw_tags.specs.Tag.{Tag}
 use Rattle.gw_tags.specs.Reading.{tag_at}
 use Rattle.gw_tags.specs.List.{content_length, deepest}
 
--- what stands at the front, and the octets behind it
+-- what is at the front, and the octets after it
 pub data Element : Type 0 where
   value : List ℕ → Element
   opened : ℕ → List ℕ → Element
@@ -31,7 +31,7 @@ element (Err fault) = None
 abbrev pub element_at : List ℕ → Option Element
 element_at octets = element (tag_at octets)
 
--- The octets from the closing tag of this number on, and those behind it. A step takes at least an
+-- The octets from the closing tag of this number on, and those after it. A step takes at least an
 -- octet.
 unfoldable pub closing_at : ℕ → ℕ → ℕ → List ℕ → Option (List ℕ × List ℕ)
 closing_at zero depth number octets = None
@@ -50,7 +50,7 @@ closing_at (suc fuel) depth number octets = elim (element_at octets) [
   ]
 ]
 
--- the content of the list, and the octets behind its closing tag
+-- the content of the list, and the octets after its closing tag
 abbrev pub list_of : List ℕ → Option (List ℕ × List ℕ) → Option (List ℕ × List ℕ)
 list_of octets None = None
 list_of octets (Some x) = Some (take (length octets - length x.0) octets, x.1)

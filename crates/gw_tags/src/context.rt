@@ -30,7 +30,7 @@ fn content(number: u8, octets: &[u8]) -> Result<(&[u8], &[u8]), ContextFault>
     }
 }
 
-/// Reads the content under the context tag of this number, and lends it with the octets behind it.
+/// Reads the content under the context tag of this number, and lends it with the octets after it.
 ///
 /// # Errors
 ///
@@ -68,7 +68,7 @@ fn closing(number: u8, octets: &[u8]) -> Result<&[u8], ContextFault>
     }
 }
 
-/// Reads the opening tag of this number, and lends the octets behind it.
+/// Reads the opening tag of this number, and lends the octets after it.
 ///
 /// # Errors
 ///
@@ -83,7 +83,7 @@ pub fn read_opening(number: u8, octets: &[u8]) -> Result<&[u8], ContextFault>
     opening(number, octets)
 }
 
-/// Reads the closing tag of this number, and lends the octets behind it.
+/// Reads the closing tag of this number, and lends the octets after it.
 ///
 /// # Errors
 ///
@@ -98,7 +98,7 @@ pub fn read_closing(number: u8, octets: &[u8]) -> Result<&[u8], ContextFault>
     closing(number, octets)
 }
 
-/// Appends a content behind its context tag. After an `Err` a front of them may stand there.
+/// Appends a content after its context tag. After an `Err` the buffer may hold a front of them.
 fn put_context(out: &mut Vec<u8>, number: u8, content: &[u8]) -> Result<(), AllocError>
     requires numbered { number < 255 }
     requires fits { length content.now < 2 ^ 32 }
@@ -118,7 +118,7 @@ fn put_context(out: &mut Vec<u8>, number: u8, content: &[u8]) -> Result<(), Allo
 ///
 /// # Errors
 ///
-/// 1 Memory, only where the buffer had no room.
+/// 1 Memory, only if the buffer had no room.
 pub fn write_context(out: &mut Vec<u8>, number: u8, content: &[u8]) -> Result<(), AllocError>
     requires numbered { number < 255 }
     requires fits { length content.now < 2 ^ 32 }
@@ -134,7 +134,7 @@ pub fn write_context(out: &mut Vec<u8>, number: u8, content: &[u8]) -> Result<()
 ///
 /// # Errors
 ///
-/// 1 Memory, only where the buffer had no room.
+/// 1 Memory, only if the buffer had no room.
 pub fn write_context_unsigned(out: &mut Vec<u8>, number: u8, value: u32) -> Result<(), AllocError>
     requires { number < 255 }
     ensures { IsAppendedWhole (in_context number (unsigned_encoding value)) out.old out.new result }
@@ -147,7 +147,7 @@ pub fn write_context_unsigned(out: &mut Vec<u8>, number: u8, value: u32) -> Resu
 ///
 /// # Errors
 ///
-/// 1 Memory, only where the buffer had no room.
+/// 1 Memory, only if the buffer had no room.
 pub fn write_opening(out: &mut Vec<u8>, number: u8) -> Result<(), AllocError>
     requires { number < 255 }
     ensures { IsAppendedWhole (canonical (context number Opening)) out.old out.new result }
@@ -164,7 +164,7 @@ pub fn write_opening(out: &mut Vec<u8>, number: u8) -> Result<(), AllocError>
 ///
 /// # Errors
 ///
-/// 1 Memory, only where the buffer had no room.
+/// 1 Memory, only if the buffer had no room.
 pub fn write_closing(out: &mut Vec<u8>, number: u8) -> Result<(), AllocError>
     requires { number < 255 }
     ensures { IsAppendedWhole (canonical (context number Closing)) out.old out.new result }

@@ -1,6 +1,6 @@
-//! What stands at the front of a list.
+//! What is at the front of a list.
 
-/// A value with its content, or the beginning or end of a list, and the octets behind it.
+/// A value with its content, or the beginning or end of a list, and the octets after it.
 #[derive(Clone, Copy)]
 pub enum Element<'a> {
     Value(&'a [u8]),

@@ -5,7 +5,7 @@ use thiserror::Error;
 /// What is wrong with the octets in a tag's place.
 #[derive(Clone, Copy, Debug, Error)]
 pub enum TagFault {
-    /// 1: the octets end within the tag, also where there are none.
+    /// 1: the octets end within the tag, also if there are none.
     #[error("the octets end within a tag")]
     Short,
     /// 2: the tag is whole, and has the number 255, or is an opening or closing of application
@@ -54,7 +54,7 @@ pub enum ContextFault {
     /// 2: the tag is whole and no tag.
     #[error("no tag stands in the place of a parameter")]
     BadTag,
-    /// 3: another tag stands there.
+    /// 3: another tag is in its place.
     #[error("another parameter stands there")]
     OtherTag,
 }

@@ -15,7 +15,7 @@ use gw_addr::front;
 /// How deep lists may nest inside a list: our own limit.
 const DEEPEST: u8 = 16;
 
-/// The octets behind a value's content. A Boolean of application class has none.
+/// The octets after a value's content. A Boolean of application class has none.
 fn behind_content(is_boolean: bool, count: u32, octets: &[u8]) -> Option<&[u8]>
     ensures { option_map (λ x. value x.now) result
         ≡ stepped (if is_boolean then Some 0 else Some count) octets.now }
@@ -25,7 +25,7 @@ fn behind_content(is_boolean: bool, count: u32, octets: &[u8]) -> Option<&[u8]>
     Some(rest)
 }
 
-/// What stands at the front, and the octets behind it.
+/// What is at the front, and the octets after it.
 fn element(octets: &[u8]) -> Option<Element<'_>>
     ensures { option_map element_view result ≡ element_at octets.now }
 {
@@ -42,7 +42,7 @@ fn element(octets: &[u8]) -> Option<Element<'_>>
     }
 }
 
-/// The octets from the closing tag of the list on, and those behind it. Each step takes at least an
+/// The octets from the closing tag of the list on, and those after it. Each step takes at least an
 /// octet.
 fn close(fuel: usize, depth: u8, number: u8, octets: &[u8]) -> Option<(&[u8], &[u8])>
     ensures { option_map (λ x. (x.0.now, x.1.now)) result
@@ -74,7 +74,7 @@ fn close(fuel: usize, depth: u8, number: u8, octets: &[u8]) -> Option<(&[u8], &[
     None
 }
 
-/// The content and what is behind the closing tag, said by the walk alone.
+/// The content and the octets after the closing tag, by the walk alone.
 fn list(number: u8, octets: &[u8]) -> Option<(&[u8], &[u8])>
     ensures { option_map (λ x. (x.0.now, x.1.now)) result ≡ list_at number octets.now }
 {
@@ -82,14 +82,14 @@ fn list(number: u8, octets: &[u8]) -> Option<(&[u8], &[u8])>
     Some((&octets[..octets.len() - closing.len()], rest))
 }
 
-/// Reads a list behind its opening tag: the octets before its closing tag of the same number, which
-/// are balanced, and those behind it. Lists nest at most 16 deep inside it, which is our own limit.
-/// `None` where no such content and closing tag stand at the front. A content is stepped over and
+/// Reads a list after its opening tag: the octets before its closing tag of the same number, which
+/// are balanced, and those after it. Lists nest at most 16 deep inside it, which is our own limit.
+/// `None` if no such content and closing tag are at the front. A content is stepped over and
 /// not looked at.
 pub fn read_list(number: u8, octets: &[u8]) -> Option<(&[u8], &[u8])>
     // What is read is a balanced content and its closing tag.
     ensures found { IfSome result (λ x. EndsList number octets.now x.0.now x.1.now) }
-    // Where such octets stand at the front, they are read.
+    // If such octets are at the front, they are read.
     ensures only { (content rest : List ℕ) → EndsList number octets.now content rest
         → IsSomeAnd result (λ x. (x.0.now ≡ content) × (x.1.now ≡ rest)) }
 

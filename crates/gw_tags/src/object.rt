@@ -37,7 +37,7 @@ impl ObjectId {
         }
     }
 
-    /// The object that four octets stand for.
+    /// The object that four octets represent.
     pub fn from_octets(octets: [u8; 4]) -> ObjectId
         ensures { object_view result ≡ object_of octets }
     {
@@ -48,7 +48,7 @@ impl ObjectId {
         }
     }
 
-    /// The four octets that stand for the object.
+    /// The four octets that represent the object.
     pub fn to_octets(self) -> [u8; 4]
         ensures { result ≡ object_octets (object_view self) }
     {

@@ -15,13 +15,13 @@ pub struct Header<'a> {
     /// The tag.
     pub tag: Tag,
     /// The three low bits of the first octet, 0 to 7. Of an application Boolean they are the value,
-    /// and not the length, which may also stand in octets of its own (clause 20.2.3).
+    /// and not the length, which may also have octets of its own (clause 20.2.3).
     pub low_bits: u8,
-    /// The octets behind the tag.
+    /// The octets after the tag.
     pub rest: &'a [u8],
 }
 
-/// A tag's number, class and kind as they stand, not yet judged.
+/// A tag's number, class and kind as they are read, not yet judged.
 struct Whole<'a> {
     number: u8,
     context: bool,
@@ -121,19 +121,19 @@ fn read(octets: &[u8]) -> Result<Header<'_>, TagFault>
     })
 }
 
-/// Reads the tag at the front of the octets. A number or a length may stand in more octets than it
+/// Reads the tag at the front of the octets. A number or a length may have more octets than it
 /// needs.
 ///
 /// # Errors
 ///
-/// 1 `Short` where the octets end within the tag, and 2 `BadTag` where the tag is whole and its
+/// 1 `Short` if the octets end within the tag, and 2 `BadTag` if the tag is whole and its
 /// number is 255, or it opens or closes a list and its class is application.
 pub fn read_tag(octets: &[u8]) -> Result<Header<'_>, TagFault>
     // What is read is encoded so, and can be written.
     ensures found { IfOk
         result (λ header. BeginsWith octets.now (tag_view header.tag) header.rest.now) }
     ensures valid { IfOk result (λ header. IsTag (tag_view header.tag)) }
-    // What is encoded so is read, and the octets behind it are the rest.
+    // What is encoded so is read, and the octets after it are the rest.
     ensures only { (tag : TagFields) (rest : List ℕ) → IsTag tag → BeginsWith octets.now tag rest
         → IsOkAnd result (λ header. (tag_view header.tag ≡ tag) × (header.rest.now ≡ rest)) }
 

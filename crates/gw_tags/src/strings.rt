@@ -17,7 +17,7 @@ use crate::utf8::is_utf8;
 pub struct CharacterString<'a> {
     /// The character set: 0 is UTF-8.
     pub charset: u8,
-    /// The octets behind the character set.
+    /// The octets after the character set.
     pub octets: &'a [u8],
     pub ghost text: { IsText charset octets.now },
 }
@@ -32,9 +32,9 @@ pub struct CharacterString<'a> {
 /// ```
 #[derive(Clone, Copy, Debug)]
 pub struct BitString<'a> {
-    /// How many bits of the last octet are unused: 0 to 7, and 0 where there are no octets.
+    /// How many bits of the last octet are unused: 0 to 7, and 0 if there are no octets.
     pub unused: u8,
-    /// The octets behind the count.
+    /// The octets after the count.
     pub octets: &'a [u8],
     pub ghost counted: { is_unused unused (length octets.now) ≡ true },
 }
@@ -43,7 +43,7 @@ impl<'a> CharacterString<'a> {
     ghost use Rattle.std.specs.Prelude.{◌≡◌, ◌↔◌, IsSome, IfSome};
     ghost use Rattle.gw_tags.specs.Strings.{IsText};
 
-    /// The character string of this set and these octets. `None` where the set is 0 and the octets
+    /// The character string of this set and these octets. `None` if the set is 0 and the octets
     /// aren't UTF-8.
     pub fn new(charset: u8, octets: &'a [u8]) -> Option<CharacterString<'a>>
         ensures fits { IsSome result ↔ IsText charset octets.now }
@@ -60,8 +60,8 @@ impl<'a> BitString<'a> {
     ghost use Rattle.std.specs.Prelude.{◌≡◌, ◌↔◌, true, length, IsSome, IfSome};
     ghost use Rattle.gw_tags.specs.Strings.{is_unused};
 
-    /// The bit string of these octets with so many unused bits. `None` where there are more than 7,
-    /// or any where there are no octets.
+    /// The bit string of these octets with so many unused bits. `None` if there are more than 7,
+    /// or any if there are no octets.
     pub fn new(unused: u8, octets: &'a [u8]) -> Option<BitString<'a>>
         ensures fits { IsSome result ↔ is_unused unused (length octets.now) ≡ true }
         ensures value { IfSome result (λ s. (s.unused ≡ unused) × (s.octets.now ≡ octets.now)) }

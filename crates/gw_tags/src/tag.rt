@@ -1,4 +1,4 @@
-//! The tag that stands before each value (clause 20.2.1).
+//! The tag before each value (clause 20.2.1).
 
 ghost use Rattle.std.specs.Prelude.{◌≡◌, ◌<◌, ◌||◌, IsTrue};
 ghost use Rattle.gw_tags.specs.Kind.{is_length};
@@ -26,7 +26,7 @@ impl Kind {
 /// A tag (clause 20.2.1).
 ///
 /// ```text
-///  7   6   5   4   3   2   1   0      then, each only where the bits say so:
+///  7   6   5   4   3   2   1   0      then, each only if the bits say so:
 /// +---------------+---+-----------+  +----------------+  +--------------------------+
 /// | number, or F  | C |  LLL      |  | number, 1 octet|  | length, 1, 3 or 5 octets |
 /// +---------------+---+-----------+  +----------------+  +--------------------------+

@@ -24,7 +24,7 @@ use gw_addr::{front, octet};
 
 type Found<'a> = Result<(AppValue<'a>, &'a [u8]), ValueFault>;
 
-/// The kind of the value at the front, and what is behind its tag.
+/// The kind of the value at the front, and what follows its tag.
 fn head(octets: &[u8]) -> Result<(Datatype, Body<'_>), ValueFault>
     ensures { Gives (λ x. (x.0, body_view x.1)) result (head_at octets.now) }
 {
@@ -46,7 +46,7 @@ fn head(octets: &[u8]) -> Result<(Datatype, Body<'_>), ValueFault>
     ))
 }
 
-/// The content, where the kind has one of this length.
+/// The content, if the kind has one of this length.
 fn content(has_length: bool, body: Body<'_>) -> Result<(&[u8], &[u8]), ValueFault>
     ensures { Gives (λ x. (x.0.now, x.1.now)) result (octets_at has_length (body_view body.entry)) }
 {
@@ -213,8 +213,8 @@ fn read(octets: &[u8]) -> Found<'_>
     value(datatype, body)
 }
 
-/// Reads the value at the front of the octets, and lends the octets behind it. A number, a length
-/// or a tag number may stand in more octets than it needs.
+/// Reads the value at the front of the octets, and lends the octets after it. A number, a length
+/// or a tag number may have more octets than it needs.
 ///
 /// # Errors
 ///
@@ -224,7 +224,7 @@ pub fn read_value(octets: &[u8]) -> Found<'_>
     // What is read is encoded so, and can be written.
     ensures found { IfOk result (λ x. BeginsWithValue octets.now (value_view x.0) x.1.now) }
     ensures valid { IfOk result (λ x. IsValue (value_view x.0)) }
-    // What is encoded so is read, and the octets behind it are the rest.
+    // What is encoded so is read, and the octets after it are the rest.
     ensures only { (value : Value) (rest : List ℕ) → IsValue value
         → BeginsWithValue octets.now value rest
         → IsOkAnd result (λ x. (value_view x.0 ≡ value) × (x.1.now ≡ rest)) }

@@ -1,4 +1,4 @@
-//! Writing a value behind what a buffer has (clause 20.2).
+//! Writing a value after what a buffer has (clause 20.2).
 
 ghost use Rattle.std.specs.Prelude.{◌<◌, ◌∷◌, ◌^◌, length};
 ghost use Rattle.gw_addr.specs.Appending.{IsAppended, IsAppendedWhole};
@@ -26,7 +26,7 @@ fn put_header(out: &mut Vec<u8>, number: u8, count: u32) -> Result<(), AllocErro
     put_tag(out, tag)
 }
 
-/// A content behind its tag.
+/// A content after its tag.
 fn put_content(out: &mut Vec<u8>, number: u8, content: &[u8]) -> Result<(), AllocError>
     requires numbered { number < 255 }
     requires fits { length content.now < 2 ^ 32 }
@@ -36,7 +36,7 @@ fn put_content(out: &mut Vec<u8>, number: u8, content: &[u8]) -> Result<(), Allo
     put_slice(out, content)
 }
 
-/// An octet and those behind it, as one content.
+/// An octet and those after it, as one content.
 fn put_prefixed(out: &mut Vec<u8>, number: u8, first: u8, others: &[u8]) -> Result<(), AllocError>
     requires numbered { number < 255 }
     requires fits { length (first ∷ others.now) < 2 ^ 32 }
@@ -63,7 +63,7 @@ fn put_signed(out: &mut Vec<u8>, kind: u8, number: i32) -> Result<(), AllocError
     put_content(out, kind, &octets[leading_signs(number)..])
 }
 
-/// Appends the value. After an `Err` a front of it may stand there.
+/// Appends the value. After an `Err` the buffer may hold a front of it.
 fn put_value(out: &mut Vec<u8>, value: AppValue<'_>) -> Result<(), AllocError>
     requires { LengthFits (value_view value) }
     ensures { IsAppended (value_encoding (value_view value.entry)) out.old out.new result }
@@ -89,7 +89,7 @@ fn put_value(out: &mut Vec<u8>, value: AppValue<'_>) -> Result<(), AllocError>
 ///
 /// # Errors
 ///
-/// 1 Memory, only where the buffer had no room for the value. The buffer then holds what it held.
+/// 1 Memory, only if the buffer had no room for the value. The buffer then holds what it held.
 pub fn write_value(out: &mut Vec<u8>, value: AppValue<'_>) -> Result<(), AllocError>
     // A content has fewer than 2 to the power of 32 octets.
     requires { LengthFits (value_view value) }

@@ -1,4 +1,4 @@
-//! Writing a tag behind what a buffer has (clause 20.2.1).
+//! Writing a tag after what a buffer has (clause 20.2.1).
 
 ghost use Rattle.std.specs.Prelude.{◌≡◌, ◌↔◌, ◌<◌, ◌+◌, ◌*◌, [], IsTrue};
 ghost use Rattle.gw_addr.specs.Appending.{IsAppended, IsAppendedWhole};
@@ -54,7 +54,7 @@ fn first_octet(high: u8, context: bool, low: u8) -> u8
     high << 4 | class_bit(context) | low
 }
 
-/// Whether the first octet tells all of what such a tag announces.
+/// Whether the first octet says all that such a tag announces.
 #[inline(always)]
 fn is_told_by_low_bits(kind: Kind) -> bool
     ensures { IsTrue result ↔ (length_octets kind (shortest_length kind) ≡ []) }
@@ -65,8 +65,8 @@ fn is_told_by_low_bits(kind: Kind) -> bool
     }
 }
 
-/// Appends the shortest encoding of the tag, which is one octet for most. After an `Err` a front of it
-/// may stand there.
+/// Appends the shortest encoding of the tag, which is one octet for most. After an `Err` the buffer
+/// may hold a front of it.
 #[inline(always)]
 pub fn put_tag(out: &mut Vec<u8>, tag: Tag) -> Result<(), AllocError>
     ensures { IsAppended (canonical (tag_view tag)) out.old out.new result }
@@ -80,8 +80,8 @@ pub fn put_tag(out: &mut Vec<u8>, tag: Tag) -> Result<(), AllocError>
     put_long_tag(out, tag)
 }
 
-/// Appends the shortest encoding of a tag of any number and kind. After an `Err` a front of it may stand
-/// there.
+/// Appends the shortest encoding of a tag of any number and kind. After an `Err` the buffer may hold
+/// a front of it.
 #[inline(never)]
 fn put_long_tag(out: &mut Vec<u8>, tag: Tag) -> Result<(), AllocError>
     ensures { IsAppended (canonical (tag_view tag)) out.old out.new result }
@@ -101,7 +101,7 @@ fn put_long_tag(out: &mut Vec<u8>, tag: Tag) -> Result<(), AllocError>
 ///
 /// # Errors
 ///
-/// 1 Memory, only where the buffer had no room for the tag.
+/// 1 Memory, only if the buffer had no room for the tag.
 #[inline(always)]
 pub fn write_tag(out: &mut Vec<u8>, tag: Tag) -> Result<(), AllocError>
     ensures { IsAppendedWhole (canonical (tag_view tag)) out.old out.new result }

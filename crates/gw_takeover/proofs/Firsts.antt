@@ -46,7 +46,7 @@ firsts test alike before s same (x ∷ xs) =
         ap₂ (λ (r l : Bool). not r || l) (any_same (test x) alike (λ y. same x y e) before) ih ∙ settled (list_any alike before) rest
     by false later rest e ih = ih
 
--- nothing is taken over exactly if it isn't configured or stands before
+-- nothing is taken over exactly if it isn't configured or appears before
 pub absent : (configured repeated : Bool) → is_some (absence_of configured repeated) ≡ not (configured && not repeated)
 absent true true = refl
 absent true false = refl

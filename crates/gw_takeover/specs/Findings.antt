@@ -39,7 +39,7 @@ use Rattle.gw_takeover.specs.declared.finding.TableFate.TheVariants as tables
 use Rattle.gw_takeover.specs.declared.finding.ValueFate.{ValueFate}
 use Rattle.gw_takeover.specs.declared.finding.ValueFate.TheVariants as values
 
--- nothing is taken over of what isn't configured, nor of what stands in the state for the second time
+-- nothing is taken over of what isn't configured, nor of what appears in the state for the second time
 abbrev pub absence_of : Bool → Bool → Option Absence
 absence_of configured repeated =
     if configured then (if repeated then Some Twice else None) else Some NotConfigured

@@ -1,4 +1,4 @@
--- What is known of the objects, properties, priorities and networks that requests name: all that a decoder tells, or nothing.
+-- What is known of the objects, properties, priorities and networks in requests: all that a decoder gives, or nothing.
 use Rattle.std.proofs.Common.{◌≡◌, ℕ, ◌≤◌, List, [], ◌∷◌, Ok}
 use Rattle.std.specs.Prelude.{⊤}
 use Rattle.std.specs.List.{AllByRecursion}

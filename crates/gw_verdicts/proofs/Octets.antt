@@ -1,4 +1,4 @@
--- What a decoder reads of octets: the numbers of an NPDU, an APDU and a service's body, and the octets behind them.
+-- What a decoder reads of octets: the numbers of an NPDU, an APDU and a service's body, and the octets after them.
 use Rattle.std.proofs.Common.{◌≡◌, ◌∙◌, ◌⊎◌, inl, inr, sym, ap, refl, subst, ℕ, zero, suc, ◌+◌, ◌≤◌, ◌<◌, Bool, true, false, List, [], ◌∷◌, ◌++◌, length, nat_le, Option, Some, None, Result, Ok, Err, arith}
 use Rattle.std.specs.Prelude.{◌≢◌, ◌^◌, ◌*◌, IfSome, IsSomeAnd, MatchOption, if◌then◌else◌, ⊤}
 use Rattle.std.specs.Option.{ok_or}
@@ -130,7 +130,7 @@ header_asks sizes (header.Abort invoke reason) fits = inr (omega arith, omega ar
 behind_first : (octets : List ℕ) (f : Apdu) → AreOctets octets → (is : IsApdu octets f) → AreOctets (fixed_part is.sizes f.header ++ f.rest)
 behind_first octets f fits is = AreOctets-rest is.first (fixed_part is.sizes f.header ++ f.rest) (subst AreOctets is.parts fits)
 
--- what is behind a header are octets
+-- what follows a header is octets
 pub apdu_rest : (octets : List ℕ) (f : Apdu) → AreOctets octets → apdu_at octets ≡ Ok f → AreOctets f.rest
 apdu_rest octets f fits e =
     let is = (apdu_is octets f).0 e in

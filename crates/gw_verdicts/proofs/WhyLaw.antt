@@ -1,4 +1,4 @@
--- A line of the log tells which rule denied it.
+-- A line of the log says which rule denied it.
 use Rattle.std.proofs.Common.{◌≡◌, ◌∙◌, ◌⊎◌, inl, inr, sym, ap, refl, subst, ℕ, ◌+◌, ◌-◌, ◌≤◌, Bool, true, false, List, [], ◌∷◌, ◌++◌, length, Option, Some, None, Result, Ok, Err, arith, length-append}
 use Rattle.std.specs.Prelude.{◌==◌, not, if◌then◌else◌, slice_get, codes, filter, map, ⊤}
 use Rattle.std.specs.Int.{w16, to_be_bytes}
@@ -361,7 +361,7 @@ denied_so w e sent = received_so w (receive w e) (sent_at w e sent)
 
 -- ---- the answer
 
--- a line tells one ask
+-- a line shows one ask
 one_ask : (line : List ℕ) (d : Denial) (shown : ShownAsk) → IsShowable d → IsLineOf line d → TellsAsk line shown → shown ≡ shown_ask d
 one_ask line d shown is spelled tells =
     let told : Some shown ≡ Some (shown_ask d) =

@@ -1,6 +1,6 @@
 -- Every ask that a gateway raises lies in a shape of its configuration, so a rule that no ask of
--- the shapes comes to never decides, nor does one of which a lint finds so. And what the log shows of
--- a denied ask is enough to tell which rule denied it.
+-- the shapes reaches never decides, nor does one of which a lint finds so. And what the log shows of
+-- a denied ask is enough to know which rule denied it.
 use Rattle.std.specs.Prelude.{◌≡◌, ◌⊎◌, ℕ, ◌+◌, ◌≤◌, Bool, true, false, List, [], ◌∷◌, ◌++◌, None, Some, codes, ⊤}
 use Rattle.std.specs.Fmt.{decimal}
 use Rattle.std.specs.List.{AllByRecursion}

@@ -16,7 +16,7 @@ pub fn findings()
 {}
 
 /// Every ask that a gateway raises lies in a shape of its configuration, whatever came before; so a
-/// rule that no ask of the shapes comes to decides nothing that the gateway does.
+/// rule that no ask of the shapes reaches decides nothing that the gateway does.
 pub fn shapes()
     ensures lie { AsksLieInShapes }
     ensures never { NeverFirstNeverDecides }
@@ -27,7 +27,7 @@ pub fn registrations()
     ensures { PeersRaiseTheAsk }
 {}
 
-/// A line of the log tells which rule denied it: under the configuration that it was written under,
+/// A line of the log says which rule denied it: under the configuration that it was written under,
 /// whatever came before, [`why`](crate::why) answers with the rule whose name the line shows.
 pub fn lines()
     ensures { WhyNamesTheRule }

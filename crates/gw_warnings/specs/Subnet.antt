@@ -1,4 +1,4 @@
--- Subnets of IPv4, as far as an own and a broadcast address tell of them, and masks.
+-- Subnets of IPv4, as far as an own and a broadcast address show them, and masks.
 use Rattle.std.specs.Prelude.{ℕ, ◌+◌, ◌-◌, ◌/◌, ◌%◌, ◌^◌, ◌==◌, Bool, ◌&&◌, not, nat_le, List, map, slice_index}
 use Rattle.std.specs.Int.{w32, from_be_bytes}
 use Rattle.std.specs.List.{list_any, range_with_len}

@@ -1,4 +1,4 @@
--- What a configuration has that is accepted and can't be meant, and the lines that tell it.
+-- What a configuration has that is accepted and can't be meant, and the lines that say it.
 use Rattle.std.specs.Prelude.{ℕ, ◌+◌, ◌-◌, ◌==◌, Bool, true, false, ◌&&◌, ◌||◌, not, nat_lt, if◌then◌else◌, List, [], ◌∷◌, ◌++◌}
 use Rattle.std.specs.Prelude.{length, drop, codes, decimal, Option, Some, None, position, slice_get}
 use Rattle.std.specs.Int.{w64, to_be_bytes}
@@ -264,7 +264,7 @@ register_line place index peer number =
     codes "warning: " ++ spot_words (PeerAddress place index) ++ text_of peer ++ codes " may register by rule "
     ++ decimal number ++ codes ": two that register at each other pass a broadcast on without end" ++ 10 ∷ []
 
--- A port may list itself as a peer: nothing is told of that.
+-- A port may list itself as a peer: no line reports that.
 abbrev pub register_lines : Format → List Rule → ℕ → Port → ℕ → BipAddr → List ℕ
 register_lines format rules place port index peer =
     if key peer == key port.address then []

@@ -1,4 +1,4 @@
-//! What can't be meant of an address, and the line that tells it.
+//! What can't be meant of an address, and the line that says it.
 ghost use Rattle.std.specs.Prelude.{◌++◌};
 ghost use Rattle.gw_addr.specs.Address.{text_of};
 ghost use Rattle.gw_addr.specs.Appending.{IsAppended};
@@ -30,7 +30,7 @@ pub(crate) enum Oddity {
     Elsewhere(usize),
 }
 
-/// Appends words, and an address behind them.
+/// Appends words, and an address after them.
 fn put_with(out: &mut Vec<u8>, words: &[u8], address: BipAddr) -> Result<(), AllocError>
     ensures { IsAppended (words.now ++ text_of address) out.old out.new result }
 {

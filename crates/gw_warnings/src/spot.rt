@@ -64,7 +64,7 @@ fn put_peer_key(out: &mut Vec<u8>, port: usize, peer: usize, key: &[u8]) -> Resu
     put_slice(out, key)
 }
 
-/// Appends a place, a colon behind each of its parts.
+/// Appends a place, a colon after each of its parts.
 pub(crate) fn put_spot(out: &mut Vec<u8>, spot: Spot) -> Result<(), AllocError>
     ensures { IsAppended (spot_words spot) out.old out.new result }
 {

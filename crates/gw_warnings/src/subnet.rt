@@ -1,4 +1,4 @@
-//! Subnets of IPv4, as far as an own and a broadcast address tell of them, and masks.
+//! Subnets of IPv4, as far as an own and a broadcast address show them, and masks.
 ghost use Rattle.std.specs.Prelude.{◌≡◌, ◌<◌, ◌^◌, ◌==◌, ◌&&◌};
 ghost use Rattle.std.specs.List.{list_any};
 ghost use Rattle.gw_warnings.specs.Subnet.{has_holes, is_beside, is_broadcast_for, is_elsewhere, is_limited, is_multicast, is_off_subnet, is_subnet, number_of, sizes};

@@ -29,7 +29,7 @@ pub fn put_warnings(config: &Config, out: &mut Vec<u8>) -> Result<(), AllocError
     keep_whole(out, len, put)
 }
 
-/// Appends the lines. A front of them stands there where a growth was refused.
+/// Appends the lines. If a growth was refused, `out` has a front of them.
 fn put_lines(out: &mut Vec<u8>, config: &Config) -> Result<(), AllocError>
     ensures { IsAppended (warnings_text config.now) out.old out.new result }
 {

@@ -45,7 +45,7 @@ pub record IsEnded {C S : Type 0} (held : S → Option (List ℕ)) (due : List �
   pub number : c.number ≡ last
   pub text : IsWritten held due b c ⊎ IsLost held due count b c
 
--- Records are written, a line for each behind the end of a cut line; or they are lost. If there is none, nothing is done.
+-- Records are written, a line each after the end of a cut line; or they are lost. If there is none, nothing is done.
 abbrev pub IsRecorded : {C S : Type 0} → (S → Option (List ℕ)) → List ℕ → List Denial → Beside C S → Beside C S → Type 0
 IsRecorded held front [] b c = c ≡ b
 IsRecorded held front (d ∷ due) b c =

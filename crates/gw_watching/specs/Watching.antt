@@ -37,7 +37,7 @@ IsTried held w asked (Some b) (Some c) =
     IsRecorded held [] (records (denied_by b.choice) b.choice b.number w.ticks asked) b c
 IsTried held w asked _ _ = ⊥
 
--- the asks that a marked rule allowed are recorded, behind the word `allow`
+-- the asks that a marked rule allowed are recorded, after the word `allow`
 abbrev pub IsAudited : {A : Type 0} → (A → Option (List ℕ)) → State → List Asked → (before after : Option (Beside (List Bool) A)) → Type 0
 IsAudited held w asked None None = ⊤
 IsAudited held w asked (Some b) (Some c) =

@@ -1,7 +1,7 @@
 -- Decimal digits, as they are read and written piece by piece.
 use Rattle.std.specs.Prelude.{ℕ, List, [], ◌∷◌, length, Bool, false, ◌==◌, nat_le, ◌&&◌, if◌then◌else◌}
 
--- a digit other than 0 stands first, or 0 alone
+-- a digit other than 0 is first, or 0 alone
 abbrev pub begins_canonical_of : List ℕ → Bool
 begins_canonical_of [] = false
 begins_canonical_of (first ∷ digits) =

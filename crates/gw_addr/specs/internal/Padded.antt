@@ -1,4 +1,4 @@
--- How the octets of a station are kept: in front, with zeros behind them.
+-- How the octets of a station are kept: in front, with zeros after them.
 use Rattle.std.specs.Prelude.{◌≡◌, ℕ, ◌-◌, ◌≤◌, List, ◌++◌, length, take, replicate}
 use Rattle.std.proofs.Common.{sym, ap, refl, ◌∙◌}
 use Rattle.gw_addr.specs.declared.station.Mac.TheInside.{Inside}

@@ -51,6 +51,6 @@ station_text station = option_map_or key_text station absent
 abbrev pub end_text : Denial → List ℕ
 end_text d = rule_text d.rule ++ stations_text (stations_of d.ask) ++ 10 ∷ []
 
--- the pieces of a line, one behind the other
+-- the pieces of a line, one after the other
 abbrev pub pieces_text : Denial → List ℕ
 pieces_text d = counts_text d ++ asked_text d.source d.ask ++ end_text d

@@ -41,11 +41,11 @@ Gives view None reading = reading ≡ None
 
 -- ---- a word
 
--- what stands before the first such character, and what stands behind it
+-- what is before the first such character, and what is after it
 abbrev pub parted_at : ℕ → List ℕ → Option (List ℕ × List ℕ)
 parted_at c text = option_map (λ place. (take place text, drop (place + 1) text)) (position (λ x. x == c) text)
 
--- what stands behind a label
+-- what follows a label
 abbrev pub behind : List ℕ → List ℕ → Option (List ℕ)
 behind label text =
     if pointwise nat_eq (take (length label) text) label then Some (drop (length label) text) else None
@@ -117,9 +117,9 @@ port_of number = if nat_lt number (2 ^ 8) then Some number else None
 abbrev pub net_of : ℕ → Option ℕ
 net_of number = if nat_lt number (2 ^ 16) then network_of number else None
 
--- ---- one behind the other
+-- ---- one after the other
 
--- what is read up to a character, and what stands behind it
+-- what is read up to a character, and what follows it
 abbrev pub up_to : {A : Type 0} → (List ℕ → Option A) → ℕ → List ℕ → Option (A × List ℕ)
 up_to read c text = do
   word ← parted_at c text
@@ -138,7 +138,7 @@ key_to c text = up_to key_in c text
 abbrev pub mac_to : ℕ → List ℕ → Option (List ℕ × List ℕ)
 mac_to c text = up_to mac_in c text
 
--- a field behind its label, up to a character
+-- a field after its label, up to a character
 abbrev pub labelled_to : List ℕ → ℕ → List ℕ → Option (Option ℕ × List ℕ)
 labelled_to label c text = behind label text >>= (λ rest. field_to c rest)
 
@@ -172,7 +172,7 @@ target_at text = do
   property ← labelled_to (codes "prop=") 32 instance.1
   Some (record { object_type = kind.0; instance = instance.0; property = property.0 }, property.1)
 
--- a text up to its first space, or whole where it has none, and what stands from there on
+-- a text up to its first space, or whole if it has none, and the rest from there on
 abbrev pub word_len : List ℕ → ℕ
 word_len text = option_map_or (λ place. place) (position (λ x. x == 32) text) (length text)
 

@@ -9,7 +9,7 @@ pub record LimitedState : Type 0 where
   pub left : ℕ
   pub octets : Option (List ℕ)
 
--- more octets behind these, where as many are left
+-- more octets after these, if so many are left
 abbrev pub followed : ℕ → Option (List ℕ) → List ℕ → LimitedState
 followed left None more = record { left = left; octets = None }
 followed left (Some octets) more =

@@ -1,4 +1,4 @@
--- Where the first object of each identifier and of each name stands.
+-- The place of the first object of each identifier and of each name.
 use Rattle.std.specs.Prelude.{◌≡◌, ℕ, Bool, if◌then◌else◌, List, [], ◌∷◌, ◌++◌, position, is_some, Vec}
 use Rattle.std.specs.Map.{lookup}
 use Rattle.std.specs.declared.alloc.Global.{Global}

@@ -27,7 +27,7 @@ admits_all ask fields rule = list_all (λ field. admits_in field (value_of field
 abbrev pub is_marked : (Rule → Bool) → List Rule → ℕ → Bool
 is_marked test rules place = option_map_or test (slice_get rules place) false
 
--- each bit is set exactly where the rule at its place passes the test
+-- each bit is set exactly if the rule at its place passes the test
 abbrev pub Marks : List ℕ → (Rule → Bool) → List Rule → Type 0
 Marks words test rules =
     (k b : ℕ) → k < WORDS → b < WORD_BITS →

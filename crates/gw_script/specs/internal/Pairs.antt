@@ -1,4 +1,4 @@
--- Pairs of digits that are read without a look back: whether all of them were digits is told at the end.
+-- Pairs of digits that are read without a look back: whether all of them were digits is checked at the end.
 use Rattle.std.specs.Prelude.{◌≡◌, ℕ, ◌+◌, ◌*◌, ◌<◌, ◌≤◌, List, slice_index, Some, None, Ok, IsErr}
 use Rattle.hex.specs.Hex.{decode_of, hex_digit_value, pair_value}
 

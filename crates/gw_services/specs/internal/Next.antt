@@ -1,4 +1,4 @@
--- What comes behind a reference, without where its octets lie in memory.
+-- What follows a reference, without where its octets lie in memory.
 use Rattle.std.specs.Option.{option_map}
 use Rattle.gw_tags.specs.Object.{object_view}
 use Rattle.gw_services.specs.declared.next.Next.{Next as RustNext}

@@ -1,4 +1,4 @@
--- What is behind a value's tag.
+-- What follows a value's tag.
 use Rattle.gw_tags.specs.declared.body.Body.{Body as RustBody}
 use Rattle.gw_tags.specs.Reading.{Body}
 

@@ -1,4 +1,4 @@
--- What stands at the front of a list.
+-- What is at the front of a list.
 use Rattle.gw_tags.specs.declared.element.Element.{Element as RustElement}
 use Rattle.gw_tags.specs.declared.element.Element.TheVariants.{Value, Opened, Closed}
 use Rattle.gw_tags.specs.Walk.{Element, value, opened, closed}
