@@ -6,7 +6,7 @@ ghost use Rattle.gw_regions.specs.Merging.{AreJoint, AreKept, IsJoined, has_but,
 ghost use Rattle.gw_regions.specs.declared.comparison.Found.{Found as SpecFound};
 
 use crate::Found;
-use crate::region::{Region, set};
+use crate::region::Region;
 use gw_rules::FieldName;
 use std::alloc::{AllocError, Global};
 
@@ -103,7 +103,7 @@ fn join(alloc: Global, field: FieldName, mut one: Found, other: Found) -> Result
     let here = one.region.get(field);
     let there = other.region.get(field);
     let values = here.united(alloc, there)?;
-    set(&mut one.region, field, values);
+    one.region.set(field, values);
     Ok(one)
 }
 

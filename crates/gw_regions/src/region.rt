@@ -26,52 +26,7 @@ pub fn lies(region: &Region, ask: &Ask) -> bool
 fn copy_region(alloc: Global, region: &Region) -> Result<Region, AllocError>
     ensures { IfOk result (λ copied. copied ≡ region.now) }
 {
-    let operation = region.operation.copy(alloc)?;
-    let port = region.port.copy(alloc)?;
-    let source_network = region.source_network.copy(alloc)?;
-    let source_key = region.source_key.copy(alloc)?;
-    let destination_network = region.destination_network.copy(alloc)?;
-    let service = region.service.copy(alloc)?;
-    let object_type = region.object_type.copy(alloc)?;
-    let instance = region.instance.copy(alloc)?;
-    let property = region.property.copy(alloc)?;
-    let priority = region.priority.copy(alloc)?;
-    let sender = region.sender.copy(alloc)?;
-    let station = region.station.copy(alloc)?;
-    Ok(Fields {
-        operation,
-        port,
-        source_network,
-        source_key,
-        destination_network,
-        service,
-        object_type,
-        instance,
-        property,
-        priority,
-        sender,
-        station,
-    })
-}
-
-/// Gives a field other values.
-pub(crate) fn set(region: &mut Region, field: FieldName, values: Values)
-    ensures { region.new ≡ with_value field values region.old }
-{
-    match field {
-        FieldName::Operation => region.operation = values,
-        FieldName::Port => region.port = values,
-        FieldName::SourceNetwork => region.source_network = values,
-        FieldName::SourceKey => region.source_key = values,
-        FieldName::DestinationNetwork => region.destination_network = values,
-        FieldName::Service => region.service = values,
-        FieldName::ObjectType => region.object_type = values,
-        FieldName::Instance => region.instance = values,
-        FieldName::Property => region.property = values,
-        FieldName::Priority => region.priority = values,
-        FieldName::Sender => region.sender = values,
-        FieldName::Station => region.station = values,
-    }
+    Fields::try_from_each(|field| region.get(field).copy(alloc))
 }
 
 /// The region with other values for a field.
@@ -84,7 +39,7 @@ pub(crate) fn with_values(
     ensures { IfOk result (λ made. made ≡ with_value field values region.now) }
 {
     let mut made = copy_region(alloc, region)?;
-    set(&mut made, field, values);
+    made.set(field, values);
     Ok(made)
 }
 
@@ -121,7 +76,7 @@ fn part_at(
     let outer = region.get(field).refused(alloc, ranges)?;
     push_piece(alloc, out, field, region, outer)?;
     let inner = region.get(field).admitted(alloc, ranges)?;
-    set(region, field, inner);
+    region.set(field, inner);
     Ok(())
 }
 

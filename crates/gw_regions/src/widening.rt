@@ -7,7 +7,7 @@ ghost use Rattle.gw_regions.specs.Regions.{Region as SpecRegion};
 
 use crate::Found;
 use crate::meeting::ask_within;
-use crate::region::{Region, set, with_values};
+use crate::region::{Region, with_values};
 use gw_rules::FieldName;
 use std::alloc::{AllocError, Global};
 
@@ -25,7 +25,7 @@ fn free(
     let wide = here.united(alloc, &rest)?;
     let beyond = with_values(alloc, region, field, rest)?;
     match ask_within(&beyond, shapes) {
-        None => set(region, field, wide),
+        None => region.set(field, wide),
         Some(_) => {}
     }
     Ok(())

@@ -210,32 +210,7 @@ fn index_fields(alloc: Global, rules: &[Rule]) -> Result<Fields<FieldIndex>, All
     ensures { IfOk result (λ fields. (field : FieldName) →
         IsIndexOf rules.now field (value_of field fields)) }
 {
-    let operation = FieldIndex::build(alloc, rules, FieldName::Operation)?;
-    let port = FieldIndex::build(alloc, rules, FieldName::Port)?;
-    let source_network = FieldIndex::build(alloc, rules, FieldName::SourceNetwork)?;
-    let source_key = FieldIndex::build(alloc, rules, FieldName::SourceKey)?;
-    let destination_network = FieldIndex::build(alloc, rules, FieldName::DestinationNetwork)?;
-    let service = FieldIndex::build(alloc, rules, FieldName::Service)?;
-    let object_type = FieldIndex::build(alloc, rules, FieldName::ObjectType)?;
-    let instance = FieldIndex::build(alloc, rules, FieldName::Instance)?;
-    let property = FieldIndex::build(alloc, rules, FieldName::Property)?;
-    let priority = FieldIndex::build(alloc, rules, FieldName::Priority)?;
-    let sender = FieldIndex::build(alloc, rules, FieldName::Sender)?;
-    let station = FieldIndex::build(alloc, rules, FieldName::Station)?;
-    Ok(Fields {
-        operation,
-        port,
-        source_network,
-        source_key,
-        destination_network,
-        service,
-        object_type,
-        instance,
-        property,
-        priority,
-        sender,
-        station,
-    })
+    Fields::try_from_each(|field| FieldIndex::build(alloc, rules, field))
 }
 
 /// Whether each rule says allow, in order.

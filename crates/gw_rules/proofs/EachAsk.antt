@@ -22,7 +22,7 @@ pub each_weaker : {X : Type 0} (P Q : X → Type 0) → ((x : X) → P x → Q x
 each_weaker P Q so [] h = tt
 each_weaker P Q so (x ∷ xs) h = (so x h.0, each_weaker P Q so xs h.1)
 
--- where no ask is such, none that is such is allowed
+-- if no ask is such, none that is such is allowed
 pub none_allowed : (Such : Ask → Type 0) (rules : List Rule) (asks : List Ask) → AllByRecursion (λ ask. Such ask → ⊥) asks → NoneAllowed Such rules asks
 none_allowed Such rules asks h = each_weaker (λ ask. Such ask → ⊥) _ (λ ask no_such such. absurd (no_such such)) asks h
 

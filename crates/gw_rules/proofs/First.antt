@@ -21,7 +21,7 @@ uncounted : (o : Option ℕ) → option_map (λ place. place + 1) o ≡ None →
 uncounted None e = refl
 uncounted (Some place) e = absurd (cc)
 
--- none is found past the places where the test fails
+-- none is found past the places at which the test fails
 none_below : {X : Type 0} (test : X → Bool) (xs : List X) → position test xs ≡ None → length xs ≤ position_or_len test xs
 none_below test xs e =
     ltb-false (position_or_len test xs) (length xs) (cond_none (nat_lt (position_or_len test xs) (length xs)) (position_or_len test xs) e)
@@ -80,7 +80,7 @@ first_once rules ask m n a b =
       ]
     ]
 
--- `first` answers a number exactly where the rule of that number is the first that matches
+-- `first` answers a number exactly if the rule of that number is the first that matches
 pub first_iff : (rules : List Rule) (ask : Ask) (number : ℕ) → (first rules ask ≡ Some number) ↔ IsFirst rules ask number
 first_iff rules ask number =
     (found rules ask number, λ is. only (first rules ask) refl is)
@@ -89,7 +89,7 @@ first_iff rules ask number =
     only None e is = absurd (never_first rules ask number (unmatched rules ask e) is)
     only (Some other) e is = ap (λ n. Some n) (first_once rules ask other number (found rules ask other e) is)
 
--- and none exactly where no rule matches
+-- and none exactly if no rule matches
 pub none_iff : (rules : List Rule) (ask : Ask) → (first rules ask ≡ None) ↔ All (λ rule. ¬ Matches rule ask) rules
 none_iff rules ask =
     (unmatched rules ask, λ none. only (first rules ask) refl none)

@@ -156,7 +156,7 @@ covered_of may must rules h place rule there allow is =
       sure = d.certain;
     }
 
--- `hides` is true exactly where each allow rule that may match stands behind a deny rule that must match
+-- `hides` is true exactly if each allow rule that may match comes after a deny rule that must match
 pub hides_iff : (may must : Rule → Bool) (rules : List Rule) → (hides may must rules ≡ true) ↔ Hides may must rules
 hides_iff may must rules =
     (λ t. words_of may must rules (covered may must rules t), λ h. hides_from_words may must rules (covered_of may must rules h))
@@ -237,7 +237,7 @@ all_where rule net key any kind instance ask reads t =
     matches_where rule net key any kind instance ask reads may.0
     (unnamed_admits rule.ranges.source_key ask.source_key may.1) whole.1
 
--- an ask that the rules which match it may, and those that must match it do, isn't allowed where it is hidden
+-- an ask that the rules which match it may, and those that must match it do, isn't allowed if it is hidden
 never : (may must : Rule → Bool) (rules : List Rule) (ask : Ask) → ((rule : Rule) → matches rule ask ≡ true → may rule ≡ true)
     → ((rule : Rule) → must rule ≡ true → matches rule ask ≡ true) → Hides may must rules → allows rules ask ≡ true → ⊥
 never may must rules ask so sure h t =
@@ -250,7 +250,7 @@ not_true : (b : Bool) → (b ≡ true → ⊥) → b ≡ false
 not_true true no_way = absurd (no_way refl)
 not_true false no_way = refl
 
--- where it is hidden so, no ask to read is allowed
+-- if it is hidden so, no ask to read is allowed
 pub hidden : (rules : List Rule) (net : ℕ) (key : Option ℕ) (kind instance : ℕ) → hides_from rules net key kind instance ≡ true
     → IsHidden rules net key kind instance
 hidden rules net key kind instance t ask reads =

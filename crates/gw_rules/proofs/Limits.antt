@@ -1,5 +1,5 @@
 -- The tests that code makes of a list's limits are the limits.
-use Rattle.std.proofs.Common.{◌≡◌, ◌+◌, ◌*◌, ◌≤◌, ◌&&◌, Bool, true, List, [], ◌∷◌, length, ◌↔◌, nat_le, arith, suc}
+use Rattle.std.proofs.Common.{◌≡◌, ◌*◌, ◌≤◌, ◌&&◌, Bool, true, List, [], ◌∷◌, length, ◌↔◌, nat_le, arith, suc}
 use Rattle.std.specs.List.{All, list_all}
 use Rattle.std.proofs.lemmas.Bool.{leb-true, le-leb, and_parts, and_from}
 use Rattle.std.proofs.lemmas.List.Elements.{All-weaker}
@@ -56,14 +56,14 @@ within_iff : (outer : Range) (ranges : List Range) → (list_all (is_within oute
 within_iff outer ranges =
     all_iff (is_within outer) (λ range. (outer.low ≤ range.low) × (range.high ≤ outer.high)) (lies_within outer) (within_passes outer) ranges
 
--- each range is within its field's bounds exactly where the test holds
+-- each range is within its field's bounds exactly if the test holds
 pub bounded_iff : (format : Format) (rule : Rule) → (are_bounded format rule.ranges ≡ true) ↔ HasBoundedRanges format rule
 bounded_iff format rule = (
   λ t field. (within_iff (bounds format field) (ranges_of field rule)).0 (each_field_at (λ f. list_all (is_within (bounds format f)) (ranges_of f rule)) t field),
   λ bounded. each_field_from (λ f. list_all (is_within (bounds format f)) (ranges_of f rule)) (λ f. (within_iff (bounds format f) (ranges_of f rule)).1 (bounded f)),
 )
 
--- the counts are kept exactly where there are few rules, each with few ranges
+-- the counts are kept exactly if there are few rules, each with few ranges
 pub counts_iff : (rules : List Rule) → (keeps_counts rules ≡ true) ↔ KeepsCounts rules
 counts_iff rules =
     let few = all_iff has_few_ranges HasFewRanges has_few few_passes rules in (
@@ -124,6 +124,6 @@ short_is_long rules keeps = record {
 pub short_passes : (rules : List Rule) → keeps_counts rules ≡ true → keeps_long_counts rules ≡ true
 short_passes rules t = (long_counts_iff rules).1 (short_is_long rules ((counts_iff rules).0 t))
 
--- the order is kept exactly where each range of each rule is the right way round
+-- the order is kept exactly if each range of each rule is the right way round
 pub order_iff : (rules : List Rule) → (keeps_order rules ≡ true) ↔ KeepsOrder rules
 order_iff rules = all_iff has_ordered_ranges HasOrderedRanges has_order order_passes rules

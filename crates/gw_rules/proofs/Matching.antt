@@ -41,7 +41,7 @@ some_range range ranges value =
     let there : (length (range ∷ ranges) == 0) ≡ false = ne_eqb (length (range ∷ ranges)) 0 (λ e. omega arith) in
     ap (λ b. b || option_map_or (λ number. list_any (holds number) (range ∷ ranges)) value false) there
 
--- ranges admit a value exactly where there are none, or one of them holds the value that is there
+-- ranges admit a value exactly if there are none, or one of them holds the value that is there
 met_by : (ranges : List Range) (value : Option ℕ) → option_map_or (λ number. list_any (holds number) ranges) value false ≡ true → IsSomeAnd value (λ number. Any (Lies number) ranges)
 met_by ranges None t = false≢true t
 met_by ranges (Some number) t = any_lies number ranges t
@@ -58,7 +58,7 @@ admitted : (ranges : List Range) (value : Option ℕ) → (0 < length ranges →
 admitted [] value h = refl
 admitted (range ∷ ranges) value h = some_range range ranges value ∙ admitted_by (range ∷ ranges) value (h (omega arith))
 
--- a rule matches exactly where every field that it names is met
+-- a rule matches exactly if every field that it names is met
 pub matches_iff : (rule : Rule) (ask : Ask) → (matches rule ask ≡ true) ↔ Matches rule ask
 unfolding matches
 matches_iff rule ask =

@@ -1,4 +1,4 @@
--- Numbers that tell apart what they stand for.
+-- Numbers that differ for what differs.
 use Rattle.std.proofs.Common.{◌≡◌, ◌<◌, arith, ap}
 use Rattle.gw_rules.specs.declared.service.Service.{Service}
 use Rattle.gw_rules.specs.declared.service.Service.TheVariants.{Confirmed, Unconfirmed, NetworkMessage, BvllFunction, Pdu}

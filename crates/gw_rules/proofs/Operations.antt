@@ -31,7 +31,7 @@ name_is_found o = elim o as (λ o. by_name (operation_name o) ≡ Some o) [ Cast
 number_is_found : (o : Operation) → by_number (operation_number o) ≡ Some o
 number_is_found o = elim o as (λ o. by_number (operation_number o) ≡ Some o) [ Cast ↦ refl | Route ↦ refl | Register ↦ refl | Delete ↦ refl | ReadTable ↦ refl | WriteTable ↦ refl | Learn ↦ refl | Network ↦ refl | Read ↦ refl | Write ↦ refl | Listing ↦ refl | Enter ↦ refl | Claim ↦ refl ]
 
--- a name is found exactly where it is an operation's
+-- a name is found exactly if it is an operation's
 pub name_found : (found : Option Operation) (text : List ℕ) → found ≡ by_name text → (o : Operation) → (found ≡ Some o) ↔ (text ≡ operation_name o)
 name_found found text is o = (
   λ e. sym (same_text (operation_name o) text (sym (found_passes (λ p. pointwise nat_eq (operation_name p) text) ALL o (sym is ∙ e)))),
@@ -53,6 +53,6 @@ one_name a b e = let same : Some a ≡ Some b = sym (name_is_found a) ∙ ap by_
 pub one_number : (a b : Operation) → operation_number a ≡ operation_number b → a ≡ b
 one_number a b e = let same : Some a ≡ Some b = sym (number_is_found a) ∙ ap by_number e ∙ number_is_found b in cc
 
--- each stands at its place in the list of all
+-- each is at its place in the list of all
 pub operation_places : (o : Operation) → slice_get ALL (operation_number o - 1) ≡ Some o
 operation_places o = elim o as (λ o. slice_get ALL (operation_number o - 1) ≡ Some o) [ Cast ↦ refl | Route ↦ refl | Register ↦ refl | Delete ↦ refl | ReadTable ↦ refl | WriteTable ↦ refl | Learn ↦ refl | Network ↦ refl | Read ↦ refl | Write ↦ refl | Listing ↦ refl | Enter ↦ refl | Claim ↦ refl ]

@@ -5,7 +5,7 @@ use Rattle.gw_rules.specs.declared.operation.Operation.{Operation}
 use Rattle.gw_rules.specs.Fields.{in_each}
 use Rattle.gw_rules.specs.Operation.{operation_number}
 
--- what the policy is to judge: a number for each field, or none where the datagram doesn't have it
+-- what the policy is to judge: a number for each field, or none if the datagram doesn't have it
 abbrev pub Ask : Type 0
 Ask = Fields (Option ℕ)
 

@@ -58,11 +58,11 @@ names_no_other rule =
     && is_unnamed rule.ranges.priority && is_unnamed rule.ranges.sender
     && is_unnamed rule.ranges.station
 
--- it must match where it may match and names no other field
+-- it must match if it may match and names no other field
 abbrev pub must_match : Ask → Rule → Bool
 must_match ask rule = may_match ask rule && names_no_other rule
 
--- it must match every source where it also names no source key
+-- it must match every source if it also names no source key
 abbrev pub must_match_all : Ask → Rule → Bool
 must_match_all ask rule = may_match_some ask rule && is_unnamed rule.ranges.source_key && names_no_other rule
 
@@ -72,7 +72,7 @@ must_match_all ask rule = may_match_some ask rule && is_unnamed rule.ranges.sour
 abbrev pub settles : (Rule → Bool) → (Rule → Bool) → Rule → Bool
 settles may must rule = if rule.allow then may rule else must rule
 
--- it is hidden where the first rule that settles it denies, or there is none
+-- it is hidden if the first rule that settles it denies, or there is none
 unfoldable pub hides : (Rule → Bool) → (Rule → Bool) → List Rule → Bool
 hides may must rules = option_map_or (λ rule. not rule.allow) (find (settles may must) rules) true
 
@@ -85,7 +85,7 @@ pub record IsDeniedBefore (must : Rule → Bool) (rules : List Rule) (number : �
   pub denies : IsFalse rule.allow
   pub certain : IsTrue (must rule)
 
--- Each allow rule that may match stands behind a deny rule that must match: what `hides` computes, in words.
+-- Each allow rule that may match comes after a deny rule that must match: what `hides` computes, in words.
 abbrev pub Hides : (Rule → Bool) → (Rule → Bool) → List Rule → Type 0
 Hides may must rules =
     (number : ℕ) (rule : Rule) → HasNumber rules number rule → IsTrue rule.allow → IsTrue (may rule) →

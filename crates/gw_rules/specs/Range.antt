@@ -12,6 +12,6 @@ holds value range = nat_le range.low value && nat_le value range.high
 abbrev pub is_ordered : Range → Bool
 is_ordered range = nat_le range.low range.high
 
--- a field is admitted where the rule has no range for it, or the ask has the field and a range holds its value
+-- a field is admitted if the rule has no range for it, or the ask has the field and a range holds its value
 abbrev pub admits : List Range → Option ℕ → Bool
 admits ranges value = (length ranges == 0) || option_map_or (λ number. list_any (holds number) ranges) value false

@@ -19,7 +19,7 @@ ranges_of field rule = value_of field rule.ranges
 abbrev pub rule_without_fields : List ℕ → Bool → Rule
 rule_without_fields name allow = record { name = name; allow = allow; ranges = in_each [] }
 
--- the rule with one more range for a field, behind those that it has
+-- the rule with one more range for a field, after those that it has
 abbrev pub with_range : FieldName → Range → Rule → Rule
 with_range field range rule =
     record rule { ranges = with_value field (ranges_of field rule ++ range ∷ []) rule.ranges }
@@ -28,7 +28,7 @@ with_range field range rule =
 abbrev pub each_field : (FieldName → Bool) → Bool
 each_field test = list_all test ALL
 
--- a rule matches an ask where, in each field, its ranges admit what the ask has
+-- a rule matches an ask if, in each field, its ranges admit what the ask has
 unfoldable pub matches : Rule → Ask → Bool
 matches rule ask = each_field (λ field. admits (ranges_of field rule) (value_of field ask))
 

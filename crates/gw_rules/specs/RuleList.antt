@@ -24,7 +24,7 @@ IsNumberOf rules number = (1 ≤ number) × (number ≤ length rules)
 abbrev pub allows_at : List Rule → ℕ → Bool
 allows_at rules number = option_map_or (λ rule. rule.allow) (slice_get rules (number - 1)) false
 
--- a policy allows an ask where there is a first rule that matches, and it says allow
+-- a policy allows an ask if there is a first rule that matches, and it says allow
 unfoldable pub allows : List Rule → Ask → Bool
 allows rules ask = option_map_or (allows_at rules) (first rules ask) false
 

@@ -26,7 +26,7 @@ pub trait Asker {
     /// The allocator of what it keeps.
     fn alloc(&self) -> Global;
 
-    /// Whether the policy allows the ask. What is to be kept of it is added behind what was kept
+    /// Whether the policy allows the ask. What is to be kept of it is added after what was kept
     /// before. With `AllocError` the ask counts as not put, and nothing changed.
     fn authorize(&mut self, ask: &Ask) -> Result<bool, AllocError>
         ensures answer { (rules : List Rule) → StandsFor self.old rules →

@@ -45,7 +45,7 @@ impl<'a, J: Judge> Authorizer<'a, J> {
         self.alloc
     }
 
-    /// Whether the policy allows the ask. A denied ask is kept, behind those that were denied
+    /// Whether the policy allows the ask. A denied ask is kept, after those that were denied
     /// before. Only that may want memory; with `AllocError` the refusals stay as they are, and the
     /// ask counts as not put.
     pub fn authorize(&mut self, ask: &Ask) -> Result<bool, AllocError>

@@ -7,7 +7,7 @@ pub enum Decision {
     Allow,
     /// The first rule that matches says deny, or none matches.
     Deny {
-        /// The number of that rule, counted from 1; `None` where no rule matches.
+        /// The number of that rule, counted from 1; `None` if no rule matches.
         by: Option<u16>,
     },
 }

@@ -1,6 +1,7 @@
 //! A value for each of the twelve fields.
-ghost use Rattle.std.specs.Prelude.{◌≡◌};
-ghost use Rattle.gw_rules.specs.Fields.{value_of};
+ghost use Rattle.std.specs.Prelude.{◌≡◌, Ok, IfOk};
+ghost use Rattle.gw_rules.specs.Fields.{value_of, with_value};
+ghost use Rattle.gw_rules.specs.declared.field.FieldName.{FieldName as SpecField};
 
 use crate::FieldName;
 
@@ -52,6 +53,51 @@ impl<T> Fields<T> {
             FieldName::Priority => &self.priority,
             FieldName::Sender => &self.sender,
             FieldName::Station => &self.station,
+        }
+    }
+}
+
+impl<T: Drop> Fields<T> {
+    /// What a function returns for each field, from the first to the last, or the first `Err`.
+    pub fn try_from_each<E: Drop, F: Fn(FieldName) -> Result<T, E> + Drop>(
+        make: F,
+    ) -> Result<Self, E>
+        requires { F.IsAlwaysCallable make }
+        ensures { IfOk result (λ fields. (field : SpecField) → F.post make field (Ok (value_of field fields))) }
+    {
+        Ok(Fields {
+            operation: make(FieldName::Operation)?,
+            port: make(FieldName::Port)?,
+            source_network: make(FieldName::SourceNetwork)?,
+            source_key: make(FieldName::SourceKey)?,
+            destination_network: make(FieldName::DestinationNetwork)?,
+            service: make(FieldName::Service)?,
+            object_type: make(FieldName::ObjectType)?,
+            instance: make(FieldName::Instance)?,
+            property: make(FieldName::Property)?,
+            priority: make(FieldName::Priority)?,
+            sender: make(FieldName::Sender)?,
+            station: make(FieldName::Station)?,
+        })
+    }
+
+    /// Gives a field another value.
+    pub fn set(&mut self, field: FieldName, value: T)
+        ensures { self.new ≡ with_value field value self.old }
+    {
+        match field {
+            FieldName::Operation => self.operation = value,
+            FieldName::Port => self.port = value,
+            FieldName::SourceNetwork => self.source_network = value,
+            FieldName::SourceKey => self.source_key = value,
+            FieldName::DestinationNetwork => self.destination_network = value,
+            FieldName::Service => self.service = value,
+            FieldName::ObjectType => self.object_type = value,
+            FieldName::Instance => self.instance = value,
+            FieldName::Property => self.property = value,
+            FieldName::Priority => self.priority = value,
+            FieldName::Sender => self.sender = value,
+            FieldName::Station => self.station = value,
         }
     }
 }

@@ -23,13 +23,13 @@ use crate::{
     MAX_RULES, Operation, Range, Refusal,
 };
 
-/// A rule matches an ask exactly where, for every field that the rule names, the ask has that field
+/// A rule matches an ask exactly if, for every field that the rule names, the ask has that field
 /// and one of the rule's ranges holds its value.
 pub fn matching()
     ensures { (rule : Rule) (ask : Ask) → IsTrue (matches rule ask) ↔ Matches rule ask }
 {}
 
-/// The first rule is the one of the least number that matches, and there is none exactly where no
+/// The first rule is the one of the least number that matches, and there is none exactly if no
 /// rule matches. Its number is that of a rule.
 pub fn first_match()
     ensures least { (rules : List Rule) (ask : Ask) (number : ℕ) →
@@ -40,7 +40,7 @@ pub fn first_match()
         IfSome (first rules ask) (IsNumberOf rules) }
 {}
 
-/// An ask is allowed exactly where there is a first rule that matches, and it says allow. Every
+/// An ask is allowed exactly if there is a first rule that matches, and it says allow. Every
 /// other ask is denied, by the first rule that matches or by none.
 pub fn decision()
     ensures allows { (rules : List Rule) (ask : Ask) →

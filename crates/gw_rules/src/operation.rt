@@ -76,7 +76,7 @@ impl Operation {
         }
     }
 
-    /// The operation of this name, or `None` where none has it.
+    /// The operation of this name, or `None` if none has it.
     pub fn from_name(text: &str) -> Option<Self>
         ensures { (operation : Operation) →
             (result ≡ Some operation) ↔ (text.now ≡ operation_name operation) }
@@ -91,7 +91,7 @@ impl Operation {
         self as u64
     }
 
-    /// The operation of this number, or `None` where none has it.
+    /// The operation of this number, or `None` if none has it.
     pub fn from_number(number: u64) -> Option<Self>
         ensures { (operation : Operation) →
             (result ≡ Some operation) ↔ (number ≡ operation_number operation) }

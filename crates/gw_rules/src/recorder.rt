@@ -45,7 +45,7 @@ impl<'a, J: Judge> Recorder<'a, J> {
         self.alloc
     }
 
-    /// Whether the policy allows the ask. It is kept with its verdict behind those before. Only that may
+    /// Whether the policy allows the ask. It is kept with its verdict after those before. Only that may
     /// want memory; with `AllocError` the verdicts stay as they are, and the ask counts as not put.
     pub fn authorize(&mut self, ask: &Ask) -> Result<bool, AllocError>
         ensures answer { (rules : List Rule) → J.StandsFor self.old.judge rules →

@@ -8,7 +8,7 @@ use gw_addr::Sequence;
 pub struct Refusal {
     /// What was asked.
     pub ask: Ask,
-    /// The number of the rule that denies it, counted from 1; `None` where no rule matches.
+    /// The number of the rule that denies it, counted from 1; `None` if no rule matches.
     pub by: Option<u16>,
 }
 

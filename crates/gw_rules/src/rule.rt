@@ -17,12 +17,12 @@ pub const MAX_RANGES: usize = 4;
 /// How many it may have in one that [`RuleList::new_long`](crate::RuleList::new_long) makes.
 pub const MAX_LONG_RANGES: usize = 256;
 
-/// A rule. It matches an ask where, for every field that the rule names, the ask has that field and
+/// A rule. It matches an ask if, for every field that the rule names, the ask has that field and
 /// one of the rule's ranges holds the value. A field with no range isn't named.
 ///
 /// Build one by [`Rule::new`] and [`Rule::with`], or as a struct.
 pub struct Rule {
-    /// The name that the log shows where the rule denies.
+    /// The name that the log shows if the rule denies.
     pub name: RuleName,
     /// Whether an ask is allowed whose first matching rule this is.
     pub allow: bool,
@@ -56,7 +56,7 @@ impl Rule {
         })
     }
 
-    /// The rule with one more range for a field, behind those that it has. With `Memory` the rule
+    /// The rule with one more range for a field, after those that it has. With `Memory` the rule
     /// is dropped.
     pub fn with(mut self, field: FieldName, range: Range) -> Result<Self, RuleFault>
         ensures rule { IfOk result (λ rule. rule ≡ with_range field range self) }
@@ -212,7 +212,7 @@ fn no_ranges(alloc: Global) -> Fields<Ranges>
     }
 }
 
-/// Puts one more range for a field behind those that are there.
+/// Puts one more range for a field after those that are there.
 fn put(ranges: &mut Fields<Ranges>, field: FieldName, range: Range) -> Result<(), AllocError>
     ensures { OnOk result (ranges.new ≡
         with_value field (value_of field ranges.old ++ range ∷ []) ranges.old) }

@@ -135,7 +135,7 @@ impl RuleList {
 
     /// Whether the policy hides an object, of this type and instance, from a source of this network and
     /// source key, or of none, as far as the rules' fields of operation, source and object tell: each
-    /// allow rule that may match there stands behind a deny rule that must match there. Then no ask of
+    /// allow rule that may match there comes after a deny rule that must match there. Then no ask of
     /// that source to read the object is allowed. A false says nothing.
     pub fn hides(&self, net: u64, key: Option<u64>, kind: u64, instance: u64) -> bool
         ensures hides { IsTrue result ↔ HidesFrom self.now net key kind instance }

@@ -11,7 +11,7 @@ const BVLL_FUNCTION: u64 = 768;
 /// The number of PDU type 0.
 const PDU_TYPE: u64 = 1024;
 
-/// A service, or what stands in its place in a message that is no request. The standard numbers
+/// A service, or what takes its place in a message that is no request. The standard numbers
 /// each kind from 0, so each kind has a base of its own. The bases are this project's own.
 #[derive(Clone, Copy)]
 pub enum Service {

@@ -10,7 +10,7 @@ pub struct Verdict {
     pub ask: Ask,
     /// Whether the policy allows it.
     pub is_allowed: bool,
-    /// The number of the first rule that matches it, counted from 1; `None` where no rule matches.
+    /// The number of the first rule that matches it, counted from 1; `None` if no rule matches.
     pub by: Option<u16>,
 }
 
