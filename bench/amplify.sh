@@ -7,7 +7,7 @@
 #     bench/amplify.sh --write      # prints them, and writes them there
 #     BACGW=PROGRAM bench/amplify.sh
 #
-# Octets are those of the UDP datagrams; a factor counts 28 more for each, its headers of IP and UDP. The line behind the tables says
+# Octets are those of the UDP datagrams; a factor counts 28 more for each, its headers of IP and UDP. The line after the tables says
 # what a flood writes; its last sentence is the best of three runs on this machine, and isn't compared.
 #
 # It wants python3 and the built program: ./bacgw prove. The status is 1 where the page has another number than was measured.

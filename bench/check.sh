@@ -2,7 +2,7 @@
 # How long `bacgw check` takes on the greatest configuration: every list is as long as it may be, and every rule names all that it may.
 # Then on texts of 1 MiB, the most that is read, that are no configuration: each is answered within a second.
 #
-#     bench/check.sh [RUNS]      # the least time of 11 runs unless told otherwise, and the peak memory
+#     bench/check.sh [RUNS]      # the least time of 11 runs by default, and the peak memory
 #
 # It wants the program built, as `./bacgw prove` leaves it, and python3 and /usr/bin/time.
 set -euo pipefail
@@ -65,7 +65,7 @@ for _ in $(seq "$runs"); do
 done | sort -n | head -1 | sed 's/$/ microseconds at least/'
 { /usr/bin/time -f '%M KiB at most' "$program" check --config "$work/greatest.toml" > /dev/null; } 2>&1
 
-# Texts of 1 MiB at most: many of one thing, one thing that is long, and what stands deep in another.
+# Texts of 1 MiB at most: many of one thing, one thing that is long, and what is deep in another.
 python3 - "$work" <<'PYTHON'
 import sys
 

@@ -1,7 +1,7 @@
 #!/usr/bin/env bash
 # Floods the gateway, and sees that each flood leaves what it should: tables within their limits, a log without a gap, flat memory.
 #
-#     bench/floods.sh [EVENTS]      # a million denied reads unless told otherwise
+#     bench/floods.sh [EVENTS]      # a million denied reads by default
 #     BACGW=PROGRAM bench/floods.sh
 #
 # It wants python3, /usr/bin/time and the built program: ./bacgw prove. It prints a line for each flood, with its seconds and its peak of memory,

@@ -2,7 +2,7 @@
 # Mutates the datagrams that are worked in this repository, and sees that nothing goes wrong with them: the proved program and a trial
 # of the same sources, which checks each step as it runs, answer alike and neither aborts.
 #
-#     bench/fuzz.sh [DATAGRAMS [SEED]]        # a million datagrams, seed 1, unless told otherwise
+#     bench/fuzz.sh [DATAGRAMS [SEED]]        # a million datagrams, seed 1 by default
 #     YARDSTICK=PROGRAM bench/fuzz.sh         # compares with another gateway's `replay --config FILE` in the place of the trial
 #     FORMAT=2 bench/fuzz.sh                  # under the second format of the policy
 #     FORMAT=3 bench/fuzz.sh                  # under the third: with stations, forged claims and strangers

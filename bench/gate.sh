@@ -2,7 +2,7 @@
 # Runs the gate, `rt ci --anew`, on a clean clone of HEAD and, where it is green, adds its row to docs/GATE.md. That page says what the
 # columns are and how they are measured. A run that fails one writes no row.
 #
-#     bench/gate.sh [PAGE]      # docs/GATE.md unless told otherwise
+#     bench/gate.sh [PAGE]      # docs/GATE.md by default
 #
 # It wants git, python3 and rt on the path, a Linux /proc, and about 4 GB of free disk.
 set -euo pipefail
@@ -42,7 +42,7 @@ def content(path):
 
 
 def processes():
-    """Each process: its parent, its processor time in seconds, and when it started, which tells two of one number apart."""
+    """Each process: its parent, its processor time in seconds, and when it started, by which two of one number differ."""
     found = {}
     for name in filter(str.isdigit, os.listdir("/proc")):
         fields = content(f"/proc/{name}/stat").rpartition(b")")[2].split()

@@ -1,7 +1,7 @@
 #!/usr/bin/env bash
 # Refuses each growth of the built programs in turn: the first of a run, then in a new run the second, until none is refused.
 #
-#     bench/growths.sh [--only KIND] [FOLDER]      # of scripts, as in examples/, which is taken unless told otherwise
+#     bench/growths.sh [--only KIND] [FOLDER]      # a folder of scripts, examples/ by default
 #     JOBS=2 bench/growths.sh                      # so many cases side by side; else as many as there are processors
 #
 # A library that is loaded before the program, bench/fail_alloc.c, makes the runs of a case, each a child from before `main`.
@@ -9,7 +9,7 @@
 # It goes over the cases of the three programs, crates/gw_*_vectors, each in a run of its own, and over `bacgw replay` on each script of the folder; with --only
 # over the cases of one kind alone, as `again` or `edits`. A script is played twice: by `replay`, and as a case of `again`, where each
 # datagram that found no memory is given once more. A case then comes to what it does with ample memory; or it tells that
-# there was none, in its line or behind whole blocks of a script; or the program ends with status 1. Of a case of `serve` the events
+# there was none, in its line or after whole blocks of a script; or the program ends with status 1. Of a case of `serve` the events
 # that found no memory may be dropped. A case of `run` may end as the program does then, tell its fault without the note that explains
 # it, or serve on without the datagram; one of `fronts` is runs over and over, one of `behind` scripts once more, one of `brief` a long script in short, and one of `trial` two
 # runs, of which one may end for want of memory: they are passed by. A replay does what it does with ample memory, or ends with `bacgw: out of memory` and status 1, and what it wrote is

@@ -2,7 +2,7 @@
 # Kills the gateway by SIGKILL at random moments, while it is written to, and starts it again on its state: no write that was
 # acknowledged may be missing, and no state may be refused.
 #
-#     bench/kill.sh [TIMES]        # 1,000 unless told otherwise
+#     bench/kill.sh [TIMES]        # 1,000 by default
 #
 # A client writes eight points and a table of peers, registers foreign devices and says which networks it reaches, over the loopback
 # device. Of each point and the table it keeps what was acknowledged last and what was sent after it; after the start the gateway must

@@ -2,7 +2,7 @@
 # Looks for leaks between peers: plays random scripts under random configurations, each twice, the second time without some of its
 # datagrams, and compares what the events that both have do, but for the numbers of denials.
 #
-#     bench/leaks.sh [PAIRS [SEED]]      # 1200 pairs, seed 1, unless told otherwise
+#     bench/leaks.sh [PAIRS [SEED]]      # 1200 pairs, seed 1 by default
 #     FORMAT=3 bench/leaks.sh            # under the third format of the policy: with stations, strangers and forged claims
 #
 # A third of the pairs leaves out writes of an object that the policy hides from some sources, and compares the events of those

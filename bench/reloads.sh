@@ -6,7 +6,7 @@
 # - a file that is renamed over without end while it is read: each answer is of one whole policy, by which the point then reads;
 # - kill -9 between a request and its answer: the next run takes the request, and the written value is there.
 #
-#     bench/reloads.sh [RELOADS [SWAPS]]      # 1000 and 60 unless told otherwise; a reload takes a second, the gateway's tick
+#     bench/reloads.sh [RELOADS [SWAPS]]      # 1000 and 60 by default; a reload takes a second, the gateway's tick
 #
 # It wants python3 and the built program: ./bacgw prove. Status 1 if anything isn't so.
 set -euo pipefail

@@ -3,7 +3,7 @@
 # three mixes the misses of the instruction cache, the least time of several runs and the peak memory. It writes the table of docs/PERFORMANCE.md, beside the same figures of
 # another gateway, one in plain Rust, where it is given.
 #
-#     bench/replay.sh [RUNS]                         # 11 runs unless told otherwise; writes docs/PERFORMANCE.md
+#     bench/replay.sh [RUNS]                         # 11 runs by default; writes docs/PERFORMANCE.md
 #     bench/replay.sh --print [RUNS]                 # prints the table alone
 #     YARDSTICK=PROGRAM bench/replay.sh [RUNS]       # the other gateway, whose `replay` has the same built-in configuration
 #

@@ -2,7 +2,7 @@
 # Judges requests that are routed: plays random ones, whole and broken, under random policies of all formats, and compares what
 # `bacgw replay` prints with what a second reading of the rules says, here, from docs/spec/policy.md, routing.md, services.md and tags.md.
 #
-#     bench/routed.sh [SCRIPTS [SEED]]      # 600 scripts of twelve datagrams, seed 1, unless told otherwise
+#     bench/routed.sh [SCRIPTS [SEED]]      # 600 scripts of twelve datagrams, seed 1 by default
 #     PROGRAM=FILE bench/routed.sh          # of another program with the same words
 #
 # It wants python3 and the built program: ./bacgw prove. The last line says how many scripts agreed, and how much they had of each kind;

@@ -1,7 +1,7 @@
 #!/usr/bin/env bash
 # Tries the wrong bodies that the gate leaves out, crates/*/slips/*.edit: the check must refuse each.
 #
-#     bench/slips.sh [CRATE...]      # every crate that has some, unless told otherwise
+#     bench/slips.sh [CRATE...]      # every crate that has some by default
 #     JOBS=2 bench/slips.sh          # so many crates side by side; else one for each two processors
 #     LOGS=FOLDER bench/slips.sh     # keeps what each check said
 #

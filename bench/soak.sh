@@ -3,7 +3,7 @@
 # and go, interfaces go down and up, and the process is stopped for a while. It sees that each probe is answered as `bacgw replay`
 # answers it, that memory stays flat, that the log is numbered without a gap, and that the gateway never ends.
 #
-#     sudo bench/soak.sh [MINUTES [DATAGRAMS]]      # 5 minutes at 200 datagrams a second, unless told otherwise
+#     sudo bench/soak.sh [MINUTES [DATAGRAMS]]      # 5 minutes at 200 datagrams a second by default
 #
 # It wants root, for the namespaces, and ip, python3 and the built program: ./bacgw prove. What it made is gone when it ends.
 set -euo pipefail
@@ -94,7 +94,7 @@ minutes, rate = float(sys.argv[5]), int(sys.argv[6])
 SUBNETS, PORT = 8, 47808
 STOPPED = 30  # seconds that the process is stopped
 DOWN = 5  # seconds that an interface is down
-STILL = 3  # seconds without a probe behind either
+STILL = 3  # seconds without a probe on either side
 TIMEOUT, RETRIES = 3, 3  # the seconds that a probe waits, and how often it asks again
 chance = random.Random(1)
 

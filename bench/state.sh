@@ -3,7 +3,7 @@
 # changes and where it doesn't, and beside them a bare loop that replaces a file of the same size (write, fsync, rename, fsync of the
 # folder). Prints the median and the worst of each, in milliseconds.
 #
-#     bench/state.sh [WRITES [FOLDER]]      # 500 unless told otherwise; FOLDER is where the state lies, else a folder of /var/tmp
+#     bench/state.sh [WRITES [FOLDER]]      # 500 by default; FOLDER is where the state is, else a folder of /var/tmp
 #
 # It wants python3 and the built program: ./bacgw prove.
 set -euo pipefail

@@ -1,9 +1,9 @@
 #!/usr/bin/env bash
 # How fast `bacgw run` is over sockets of the loopback device, with 1, 2 and 8 ports: reads at the first port that are answered a second,
-# with 1 and with 64 in flight, the processor time and the calls of the system a datagram, and the memory at the end. Beside it stands a
+# with 1 and with 64 in flight, the processor time and the calls of the system a datagram, and the memory at the end. Beside it is a
 # plain echo of the same octets in Rust, bench/udp/echo.rs. It writes the second table of docs/PERFORMANCE.md.
 #
-#     bench/udp.sh [COUNT]            # 200,000 datagrams a figure unless told otherwise; writes docs/PERFORMANCE.md
+#     bench/udp.sh [COUNT]            # 200,000 datagrams a figure by default; writes docs/PERFORMANCE.md
 #     bench/udp.sh --print [COUNT]    # prints the table alone
 #
 # It wants the program built, as `./bacgw prove` leaves it, and rustc. Calls are counted by strace; where it isn't there, or may not

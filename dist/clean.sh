@@ -1,7 +1,7 @@
 #!/usr/bin/env bash
 # Installs the Debian package in a clean root, lets the gateway serve and answer there, and removes it again.
 #
-#     sudo dist/clean.sh [PACKAGE.deb]       # what dist/release.sh left in dist/out unless told otherwise
+#     sudo dist/clean.sh [PACKAGE.deb]       # what dist/release.sh left in dist/out by default
 #     sudo ROOT=FOLDER dist/clean.sh ..      # in a copy of this root, as debootstrap makes one, and not in one that it makes
 #
 # It wants root, debootstrap (or ROOT), ip and python3. The gateway runs in a chroot, in a network namespace of its own with the addresses

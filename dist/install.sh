@@ -2,13 +2,13 @@
 # Installs the gateway: the program, its manual page, the completions for shells, the unit for systemd with its drop-in, the size of its
 # journal, the settings of the kernel, the firewall, the file for logrotate and a configuration to begin with.
 #
-#     dist/install.sh [--prefix DIR] [--root DIR]      # DIR is /usr/local, and the root /, unless told otherwise
+#     dist/install.sh [--prefix DIR] [--root DIR]      # DIR is /usr/local, and the root / by default
 #
 # What the operator writes (the configuration, the drop-in, the firewall) stays as it is if it is there. Any other file outside of the
 # program's own that was edited stays too, and the new one is put beside it, as FILE.new: share/bacgw/installed below the prefix has the
 # checksums of what was installed. Nothing is loaded or started.
 #
-# It takes the program that stands beside it, as in a release, or else the one that `./bacgw prove` built. --root installs below a
+# It takes the program beside it, as in a release, or else the one that `./bacgw prove` built. --root installs below a
 # folder, as for a package.
 set -euo pipefail
 

@@ -1,7 +1,7 @@
 #!/usr/bin/env bash
 # Packs the built program for machines without the kit: bacgw-VERSION-x86_64.tar.gz, with its sha256 beside it, and a Debian package.
 #
-#     dist/release.sh [--gate FILE] [FOLDER]      # into the folder dist/out unless told otherwise
+#     dist/release.sh [--gate FILE] [FOLDER]      # into the folder dist/out by default
 #
 # It wants the program built, as `./bacgw prove` leaves it, with the stamp that it is the proved program of these sources, and of a
 # commit, with nothing changed since. FILE is what `rt ci` printed for that commit: its last line goes into the release, and a gate that

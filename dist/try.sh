@@ -2,7 +2,7 @@
 # Tries a release: unpacks it, installs it to a scratch folder twice, and lets the installed program answer a read; then the same with the
 # Debian package, where there is one.
 #
-#     dist/try.sh [FOLDER]      # what dist/release.sh left in dist/out unless told otherwise
+#     dist/try.sh [FOLDER]      # what dist/release.sh left in dist/out by default
 set -euo pipefail
 
 from=$(cd "${1:-$(dirname "$0")/out}" && pwd)

@@ -27,6 +27,7 @@ NOTES = {
     "gw_state_text": "a saved state as a text",
     "gw_continuity": "that nothing is lost",
     "gw_takeover": "what of a state is kept",
+    "gw_state_words": "that in words",
     "gw_suggest": "rules from what was seen",
     "gw_json": "a log for programs",
     "gw_command_line": "what the words ask for",

@@ -23,7 +23,7 @@ agrees() {
     fi
 }
 
-# tells WHAT STATUS LINE: the last run told this line on standard error
+# tells WHAT STATUS LINE: the last run wrote this line on standard error
 tells() {
     printf '%s\n' "$3" > "$work/line"
     # `run --verbose` may warn of this machine: its routing is none of this test's business.
@@ -130,7 +130,7 @@ flawed '1 192.168.1.5:47808 81F' 'its octets have an odd number of digits'
 flawed '1 192.168.1.5:47808 8x' 'its octets are no pairs of digits'
 flawed 'tack' 'it is neither tick nor a port, an address and octets'
 
-# refused WORDS...: the words are refused, and behind the line stands what is wrong with them
+# refused WORDS...: the words are refused, and the line says what is wrong with them
 refused() {
     "$program" "$@" < /dev/null > "$work/out" 2> "$work/told"
     status=$?
@@ -280,7 +280,7 @@ same 'who may read a log that was made' "$(stat -c %a "$work/made.log")" 600
 ln -s "$work/made.log" "$work/link.log"
 ran 1 'bacgw: log failed' --config "$work/loopback.toml" --log "$work/link.log" --turns 1
 
-# Where standard error is closed, what is told there doesn't land in the log.
+# If standard error is closed, what is written there doesn't land in the log.
 "$program" run --config "$work/loopback.toml" --log "$work/log" --turns 1 --verbose < /dev/null 2>&-
 same 'the status where standard error is closed' "$?" 0
 "$program" run --config "$work/loopback.toml" --log "$work/log" --turns 1 --verbose <&- >&- 2>&-
@@ -311,7 +311,7 @@ idle without a datagram
 127.3.0.10 810A0018010800640101300B0C0C0140000119553E91013F
 127.3.0.10 810A0011010800640101500C0C9102911B
 status -15'
-# The second denial is six seconds behind the first, which comes in the first seconds of the run.
+# The second denial comes six seconds after the first, which comes in the first seconds of the run.
 same 'the log has the denials with their ticks behind a line that was cut' \
     "$(sed -E 's/^1 [0-9] /1 . /; s/^2 ([5-9]|1[0-9]) /2 . /' "$work/log")" \
     'a line that was cut
@@ -409,7 +409,7 @@ status 2
 reload refused: configuration: NotToml: '"$("$program" check --config "$work/changed.toml" --explain 2> /dev/null)"'
 127.3.0.10 810A001801080064010130200C0C0140000219553E91003F'
 
-# taken ADDRESS PORT SOCKET: while another socket stands at this address, `run` says which port and which socket can't be opened
+# taken ADDRESS PORT SOCKET: while another socket has this address, `run` says which port and which socket can't be opened
 taken() {
     python3 "$here/loopback.py" taken "$program" "$work/served.toml" "$1" > "$work/out" 2> "$work/err"
     status=$?
@@ -434,7 +434,7 @@ same 'each socket of eight ports is heard' "$(cat "$work/out")" '48 of 48 reads 
 48 of 48 in a flood at 127.3.0.10
 48 of 48 in a flood at 127.4.0.255'
 
-# A configuration of many octets is read whole: its last rule stands behind them.
+# A configuration of many octets is read whole: its last rule comes after them.
 for octets in 4000 900000; do
     { cat "$here/two_subnets.toml"; head -c "$octets" /dev/zero | tr '\0' '#'; printf '\n[[rule]]\nname = "last"\nallow = true\n'; } > "$work/long.toml"
     checked "$work/long.toml"
@@ -459,7 +459,7 @@ done
 checked "$work"
 tells 'a folder in the place of a configuration' 1 'bacgw: cannot read configuration'
 
-# What the policy hides is told behind the first line, where that is asked for.
+# What the policy hides follows the first line, if that is asked for.
 hiding '' > "$work/hiding.toml"
 "$program" check --config "$work/hiding.toml" --explain < /dev/null > "$work/out" 2> "$work/err"
 status=$?
@@ -470,7 +470,7 @@ checked "$work/hiding.toml"
 echo 'ok 2 ports 2 objects 2 rules' > "$work/line"
 agrees 'a check that explains nothing' 0 "$work/line" /dev/null
 
-# What is odd about the rules is told where a lint is asked for, and what can't be meant of the rest with the explanation.
+# What is odd about the rules is shown by a lint, and what can't be meant of the rest by the explanation.
 "$program" check --config "$here/lint.toml" --lint < /dev/null > "$work/out" 2> "$work/err"
 status=$?
 agrees 'a lint' 0 "$here/lint.out" /dev/null

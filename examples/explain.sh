@@ -1,6 +1,6 @@
 #!/usr/bin/env bash
 # Runs the built `bacgw check --explain` on each wrong text of docs/spec/configuration.md and of wrong_texts.tsv, and compares the fault
-# and the line that explains it. A row has what stands in the text (base.toml with wrong_texts.toml behind it), what is written in its
+# and the line that explains it. A row has what is in the text (base.toml, then wrong_texts.toml), what is written in its
 # place, the fault and the line; `\n` is a line feed. It wants the program built, as `./bacgw prove` leaves it, and python3. The last
 # line says how many agreed.
 set -euo pipefail

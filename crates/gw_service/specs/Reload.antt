@@ -15,7 +15,7 @@ use Rattle.gw_rule_changes.specs.Changes.{changes_of, changes_text}
 use Rattle.gw_saved.specs.Saved.{Origin, Saved, origin_of}
 use Rattle.gw_serving.specs.Keeping.{one_more}
 use Rattle.gw_takeover.specs.Findings.{take_over}
-use Rattle.gw_takeover.specs.Words.{take_over_words}
+use Rattle.gw_state_words.specs.Words.{take_over_words}
 use Rattle.gw_system.specs.declared.reading.ReadFailure.{ReadFailure}
 use Rattle.gw_system.specs.declared.reading.ReadFailure.TheVariants as reading
 use Rattle.gw_service.specs.declared.reload.Adopted.{Adopted}

@@ -15,7 +15,7 @@ use Rattle.gw_state_text.specs.declared.fault.FaultKind.TheVariants as kinds
 use Rattle.gw_state_text.specs.declared.fault.StateFault.{StateFault}
 use Rattle.gw_system.specs.declared.reading.ReadFailure.{ReadFailure}
 use Rattle.gw_system.specs.declared.reading.ReadFailure.TheVariants as reading
-use Rattle.gw_takeover.specs.Words.{dropped_words}
+use Rattle.gw_state_words.specs.Words.{dropped_words}
 use Rattle.gw_service.specs.Counts.{GoesOnFrom}
 use Rattle.gw_service.specs.declared.fault.ServiceFault.{ServiceFault}
 use Rattle.gw_service.specs.declared.fault.ServiceFault.TheVariants as fault

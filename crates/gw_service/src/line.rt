@@ -12,7 +12,8 @@ use gw_explanation::{Explanation, explain};
 use gw_rule_changes::{changes_of, put_changes};
 use gw_saved::Saved;
 use gw_system::ReadFailure;
-use gw_takeover::{put_take_over, take_over};
+use gw_state_words::put_take_over;
+use gw_takeover::take_over;
 use std::alloc::{AllocError, Global};
 
 /// The line of a configuration that a gateway takes over, of which this was saved: how many rules it has and how they

@@ -4,7 +4,7 @@ use Rattle.gw_configuration.specs.Configuration.{Configuration}
 use Rattle.gw_saved.specs.Saved.{Saved}
 use Rattle.gw_state_text.specs.Place.{IsPlaceOf}
 use Rattle.gw_state_text.specs.Text.{state_text}
-use Rattle.gw_takeover.specs.Words.{state_words}
+use Rattle.gw_state_words.specs.Words.{state_words}
 use Rattle.gw_shell.specs.declared.fault.Fault.{Fault}
 use Rattle.gw_shell.specs.declared.fault.Fault.TheVariants as fault
 

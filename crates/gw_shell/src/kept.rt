@@ -1,7 +1,7 @@
 //! What a kept state holds, and what of it a configuration takes over, in words.
 
 ghost use Rattle.std.specs.Prelude.{◌≡◌, IfOk};
-ghost use Rattle.gw_takeover.specs.Words.{state_words};
+ghost use Rattle.gw_state_words.specs.Words.{state_words};
 ghost use Rattle.gw_shell.specs.Files.{result_map};
 ghost use Rattle.gw_shell.specs.Kept.{IsSaidOf, IsSaidOfText};
 
@@ -9,7 +9,7 @@ use crate::fault::Fault;
 use gw_configuration::Config;
 use gw_saved::Saved;
 use gw_state_text::read_state;
-use gw_takeover::put_state_words;
+use gw_state_words::put_state_words;
 use std::alloc::{AllocError, Global};
 
 /// What the text of a state holds, and what of it this configuration takes over. Faults: those of reading; `State`

@@ -1,8 +1,6 @@
-mod Appending
 mod Networks
 mod Firsts
 mod PortLaws
 mod RouteLaws
 mod FullLaw
 mod ObjectLaws
-mod TextLaws

@@ -1,7 +1,7 @@
 -- What the lines say is what a gateway takes over.
-use Rattle.std.specs.Prelude.{◌≡◌, ◌↔◌, ℕ, ◌+◌, ◌<◌, ◌≤◌, Bool, true, false, not, nat_eq, nat_le, ◌&&◌, List, [], ◌∷◌, ◌++◌, length}
+use Rattle.std.specs.Prelude.{◌≡◌, ◌↔◌, ℕ, ◌+◌, ◌≤◌, Bool, true, false, not, nat_eq, ◌&&◌, List, [], ◌∷◌, ◌++◌, length}
 use Rattle.std.specs.Prelude.{map, find, filter_map, is_some, Option, Some, None}
-use Rattle.std.specs.List.{AllByRecursion, list_all, list_any, sum_by}
+use Rattle.std.specs.List.{list_any, sum_by}
 use Rattle.gw_addr.specs.declared.entry.BdtEntry.{BdtEntry}
 use Rattle.gw_bdt_fdt.specs.Kept.{row_of}
 use Rattle.gw_bdt_fdt.specs.declared.tables.PortTables.{PortTables}
@@ -29,7 +29,6 @@ use Rattle.gw_takeover.specs.declared.finding.ValueFate.TheVariants as values
 use Rattle.gw_takeover.specs.Findings.{are_same, default_fate, devices_kept, findings, first_table, is_written}
 use Rattle.gw_takeover.specs.Findings.{object_absence, object_finding, object_name, port_absence, port_finding}
 use Rattle.gw_takeover.specs.Findings.{route_fate, routes_kept, sizes_of}
-use Rattle.gw_takeover.specs.Words.{quoted}
 
 -- ---- ports
 
@@ -173,12 +172,3 @@ LostObjectsAreLost =
     (objects : List ConfiguredObject) (before : List SavedObject) (s : SavedObject)
     → is_some (object_absence objects before s)
     ≡ not (list_any (λ object. is_first (is_object object) before s) objects)
-
--- ---- texts
-
-abbrev pub is_printable : ℕ → Bool
-is_printable octet = nat_le 32 octet && nat_le octet 126
-
--- Whatever octets a text has, what is shown of it has only printable characters of ASCII.
-abbrev pub TextsArePrintable : Type 0
-TextsArePrintable = (octets : List ℕ) → AllByRecursion (λ n. n < 256) octets → list_all is_printable (quoted octets) ≡ true

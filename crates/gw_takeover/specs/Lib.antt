@@ -1,4 +1,3 @@
 pub mod Findings
 pub mod Losses
-pub mod Words
 pub mod Laws

@@ -1,7 +1,7 @@
 //! Laws of what is taken over. The functions do nothing: their contracts are the laws.
 ghost use Rattle.gw_saved.specs.declared.port.SavedPort.{SavedPort};
 ghost use Rattle.gw_saved.specs.Saved.{SavedObject};
-ghost use Rattle.gw_takeover.specs.Laws.{DefaultsAreAsSaid, DevicesAreCounted, DroppedSlotsAreEmpty, FirstsAreFound, FullTablesAreFull, LostObjectsAreLost, LostPortsAreLost, PortsAreAsSaid, RoutesAreAsSaid, SlotsAreAsSaid, TextsArePrintable};
+ghost use Rattle.gw_takeover.specs.Laws.{DefaultsAreAsSaid, DevicesAreCounted, DroppedSlotsAreEmpty, FirstsAreFound, FullTablesAreFull, LostObjectsAreLost, LostPortsAreLost, PortsAreAsSaid, RoutesAreAsSaid, SlotsAreAsSaid};
 
 /// What is said of a configured port is so of the tables that it takes over. A saved port is said to be
 /// dropped exactly if no configured port takes anything over of it. The foreign devices that are said to be
@@ -34,9 +34,4 @@ pub fn objects()
     ensures defaults { DefaultsAreAsSaid }
     ensures lost { LostObjectsAreLost }
     ensures found { FirstsAreFound SavedObject }
-{}
-
-/// What is shown of a text has only printable characters of ASCII, whatever octets the text has.
-pub fn texts()
-    ensures { TextsArePrintable }
 {}

@@ -1,11 +1,11 @@
 //! What a saved state holds, and what of it is taken over.
 ghost use Rattle.std.specs.Prelude.{◌≡◌, ◌++◌, IfOk, OnErr, OnOk};
 ghost use Rattle.std.specs.List.{flat_map};
-ghost use Rattle.gw_takeover.specs.Words.{counts_line, dropped_line, dropped_words, line, state_words};
+ghost use Rattle.gw_state_words.specs.Words.{counts_line, dropped_line, dropped_words, line, state_words};
 
 use crate::lines::put_line;
 use crate::words::put_counted;
-use crate::{Finding, take_over};
+use gw_takeover::{Finding, take_over};
 use gw_addr::{keep_whole, put_slice};
 use gw_configuration::Config;
 use gw_saved::{Saved, SavedCounts};

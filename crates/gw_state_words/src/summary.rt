@@ -1,13 +1,13 @@
 //! What is taken over, in one line.
 ghost use Rattle.std.specs.Prelude.{◌≡◌, ◌++◌, count_by, find, option_copied, IfOk, OnErr, OnOk};
 ghost use Rattle.std.specs.List.{flat_map};
-ghost use Rattle.gw_takeover.specs.Words.{is_loss, kept_words, kinds, loss_words, many_word, one_word, short_held_words, short_value_words, short_words, take_over_words};
+ghost use Rattle.gw_state_words.specs.Words.{is_loss, kept_words, kinds, loss_words, many_word, one_word, short_held_words, short_value_words, short_words, take_over_words};
 
 use crate::lines::{put_reason, put_refusal};
 use crate::words::{
     put_absence, put_counted, put_devices, put_identifier, put_numbered, put_port, put_value,
 };
-use crate::{Finding, Held, Loss, RouteFinding, TakeOver, ValueFinding};
+use gw_takeover::{Finding, Held, Loss, RouteFinding, TakeOver, ValueFinding};
 use gw_addr::{keep_whole, put_decimal, put_slice};
 use std::alloc::{AllocError, Global};
 

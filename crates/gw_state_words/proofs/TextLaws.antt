@@ -3,8 +3,8 @@ use Rattle.std.proofs.Common.{◌≡◌, ◌∙◌, refl, ap, ap₂, ℕ, ◌<�
 use Rattle.std.specs.List.{AllByRecursion, flat_map, list_all}
 use Rattle.std.proofs.lemmas.Bool.{agree_below_at}
 use Rattle.std.proofs.lemmas.List.Folds.{list_all-append}
-use Rattle.gw_takeover.specs.Laws.{TextsArePrintable, is_printable}
-use Rattle.gw_takeover.specs.Words.{shown}
+use Rattle.gw_state_words.specs.Laws.{TextsArePrintable, is_printable}
+use Rattle.gw_state_words.specs.Words.{shown}
 
 shown_plainly : (n : ℕ) → n < 256 → list_all is_printable (shown n) ≡ true
 shown_plainly n small = agree_below_at (λ k. list_all is_printable (shown k)) (λ k. true) 256 n refl small

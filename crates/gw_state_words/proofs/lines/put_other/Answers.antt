@@ -1,7 +1,7 @@
 use Rattle.std.proofs.Common.{codes}
-use Rattle.gw_takeover.specs.Words.{peers_words}
-use Rattle.gw_takeover.proofs.Appending.{two}
-use Rattle.gw_takeover.proofs.lines.put_other.Goals as goal
+use Rattle.gw_state_words.specs.Words.{peers_words}
+use Rattle.gw_state_words.proofs.Appending.{two}
+use Rattle.gw_state_words.proofs.lines.put_other.Goals as goal
 
 pub returns : goal.returns
 returns c =

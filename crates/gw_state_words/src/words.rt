@@ -2,9 +2,9 @@
 ghost use Rattle.std.specs.Prelude.{◌≡◌, ◌<◌, ◌++◌, ◌==◌, if◌then◌else◌, option_map, OnOk};
 ghost use Rattle.std.specs.List.{flat_map};
 ghost use Rattle.gw_addr.specs.Station.{digit_of, two_digits};
-ghost use Rattle.gw_takeover.specs.Words.{absence_words, active_words, counted, devices_words, identifier_words, is_plain, numbered_words, object_words, peers_words, port_words, quoted, shown, tables_words, type_words, value_words};
+ghost use Rattle.gw_state_words.specs.Words.{absence_words, active_words, counted, devices_words, identifier_words, is_plain, numbered_words, object_words, peers_words, port_words, quoted, shown, tables_words, type_words, value_words};
 
-use crate::{Absence, ObjectName, PortName, Sizes};
+use gw_takeover::{Absence, ObjectName, PortName, Sizes};
 use gw_addr::put_decimal;
 use gw_names::object_type_name;
 use gw_objects::PropertyValue;

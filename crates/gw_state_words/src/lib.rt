@@ -1,0 +1,11 @@
+//! What a saved state holds, and what of it a gateway of a configuration takes over, in words.
+#![tactic(auto)]
+
+pub mod laws;
+mod lines;
+mod state;
+mod summary;
+mod words;
+
+pub use state::{put_dropped, put_state_words};
+pub use summary::put_take_over;

@@ -1,5 +1,0 @@
-use Rattle.gw_takeover.proofs.TextLaws.{texts_are_printable}
-use Rattle.gw_takeover.proofs.laws.texts.Goals as goal
-
-pub returns : goal.returns
-returns c = texts_are_printable
