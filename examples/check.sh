@@ -125,7 +125,7 @@ flawed() {
 flawed 'tick\r\n' 'it ends with a carriage return'
 flawed "$(printf '%04100d' 0)" 'it has more than 4096 octets'
 flawed '3 192.168.1.5:47808 -\n' 'there is no such port'
-flawed '1 192.168.1.5 -\n' 'behind its port stands no address and a space'
+flawed '1 192.168.1.5 -\n' 'after its port there is no address and a space'
 flawed '1 192.168.1.5:47808 81F' 'its octets have an odd number of digits'
 flawed '1 192.168.1.5:47808 8x' 'its octets are no pairs of digits'
 flawed 'tack' 'it is neither tick nor a port, an address and octets'

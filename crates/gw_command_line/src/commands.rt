@@ -185,7 +185,7 @@ fn make_log<'a>(alloc: Global) -> Result<Command<'a>, AllocError>
     ensures app { IfOk result (λ command. app_of command ≡ log) }
     ensures local { IfOk result (λ command. (out-Command command).has_globals ≡ false) }
 {
-    let help = "Also tells when each denial was, if the log began then: 2026-11-25T08:00:00+01:00";
+    let help = "Also shows when each denial was, if the log began then: 2026-11-25T08:00:00+01:00";
     let start = make_option(alloc, "start", "TIME", help);
     let help = "Makes each line a JSON object instead; without --start";
     let json = make_flag(alloc, "json", help);

@@ -36,7 +36,7 @@ words_of flaw.Long = codes "it has more than 4096 octets"
 words_of flaw.CarriageReturn = codes "it ends with a carriage return"
 words_of flaw.Form = codes "it is neither tick nor a port, an address and octets"
 words_of flaw.Port = codes "there is no such port"
-words_of flaw.Address = codes "behind its port stands no address and a space"
+words_of flaw.Address = codes "after its port there is no address and a space"
 words_of flaw.OddDigits = codes "its octets have an odd number of digits"
 words_of flaw.Digits = codes "its octets are no pairs of digits"
 

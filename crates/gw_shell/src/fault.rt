@@ -186,7 +186,7 @@ pub fn words_of(flaw: LineFlaw) -> &'static str
         LineFlaw::CarriageReturn => "it ends with a carriage return",
         LineFlaw::Form => "it is neither tick nor a port, an address and octets",
         LineFlaw::Port => "there is no such port",
-        LineFlaw::Address => "behind its port stands no address and a space",
+        LineFlaw::Address => "after its port there is no address and a space",
         LineFlaw::OddDigits => "its octets have an odd number of digits",
         LineFlaw::Digits => "its octets are no pairs of digits",
     }

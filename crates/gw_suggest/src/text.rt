@@ -30,7 +30,7 @@ fn put_unread(out: &mut Vec<u8>, unread: u64) -> Result<(), AllocError> {
         return Ok(());
     }
     out.extend_from_slice(b"# ")?;
-    put_counted(out, unread, b"line tells", b"lines tell")?;
+    put_counted(out, unread, b"line shows", b"lines show")?;
     out.extend_from_slice(b" no ask\n")
 }
 
