@@ -6,9 +6,9 @@ ghost use Rattle.gw_saved.specs.Saved.{Origin};
 ghost use Rattle.gw_service.specs.Keeping.{IsKeptAtTick, IsKeptFor, IsPassed, failing_in, unkept_in};
 ghost use Rattle.gw_serving.specs.declared.store.StoreFault.{StoreFault};
 
-use gw_core::Gateway;
+use gw_core::{AllAsked, Gateway, Taken};
 use gw_saved::Origin;
-use gw_serving::{Guard, Keeper, Seen, Store, StoreFault};
+use gw_serving::{Guard, Keeper, Store, StoreFault};
 use std::alloc::Global;
 
 /// What keeps the state of a gateway from stretch to stretch.
@@ -60,10 +60,16 @@ impl<S: Store + Drop> Guard for Kept<S> {
         false
     }
 
-    fn pass(&mut self, alloc: Global, gateway: &Gateway, seen: &Seen) -> bool {
+    fn pass(
+        &mut self,
+        alloc: Global,
+        gateway: &Gateway,
+        taken: &Taken,
+        asked: Option<&AllAsked>,
+    ) -> bool {
         match self {
             Kept::Nowhere => true,
-            Kept::In(keeper) => keeper.pass(alloc, gateway, seen),
+            Kept::In(keeper) => keeper.pass(alloc, gateway, taken, asked),
         }
     }
 }

@@ -10,7 +10,8 @@ use Rattle.gw_core.specs.State.{State}
 use Rattle.gw_relay.specs.Sends.{Sending}
 use Rattle.gw_serving.specs.Serve.{EndsBy, LeadTo, Scene, Turn, count_fault, count_turn, counts_after, empty_turn, events_of, failed_turn, failures, lines_of, lost_event, scene, successes, taken_event, turn_events}
 use Rattle.gw_serving.specs.ServeTurn.{AreTried, GuardedEnd, TurnEnd}
-use Rattle.gw_serving.specs.Stretch.{AreGuarded, GuardsTurn, IsLoggedLast, IsTaken, Moment, count_taken, moment}
+use Rattle.gw_core.specs.declared.asked.Asked.{Asked}
+use Rattle.gw_serving.specs.Stretch.{AreGuarded, GuardsTurn, IsLoggedLast, IsSeen, IsTaken, Moment, count_taken, moment}
 use Rattle.gw_serving.specs.Tally.{tally_from}
 use Rattle.gw_serving.specs.Wire.{Call}
 use Rattle.gw_serving.specs.declared.serving.ServeFault.{ServeFault}
@@ -98,3 +99,11 @@ unguarded g h a m s t was is true p =
     let turn = p.0 in
     (turn, p.1.went, one_counted s t turn p.1.counts, p.1.tally ∙ ap (tally_from a.gateway was) (single turn_events turn))
 unguarded g h a m s t was is false p = absurd (true≢false (sym p.1.passes))
+
+-- ---- what is handed to a guard
+
+-- what was seen of the asks, as a guard is handed it
+pub seen_by : (is watching : Bool) (w : State) (event : Event) (kept handed : Option (List Asked)) → is ≡ watching → handed ≡ kept
+    → IsSeen is w event kept → IsSeen watching w event handed
+seen_by is watching w event kept handed same given seen =
+    subst (λ (b : Bool). IsSeen b w event handed) same (subst (λ (o : Option (List Asked)). IsSeen is w event o) (sym given) seen)

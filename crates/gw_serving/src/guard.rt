@@ -1,13 +1,12 @@
 //! What is done about an event that was taken, before anything of it is sent.
 
-ghost use Rattle.std.specs.Prelude.{◌≡◌, ◌||◌, Bool, false, true};
+ghost use Rattle.std.specs.Prelude.{◌≡◌, ◌||◌, Bool, false, option_map, true};
 ghost use Rattle.gw_script.specs.Event.{Event};
 ghost use Rattle.gw_core.specs.State.{State};
 ghost use Rattle.gw_serving.specs.Both.{PassesBoth};
 ghost use Rattle.gw_serving.specs.Stretch.{IsSeen, IsTaken};
 
-use crate::seen::Seen;
-use gw_core::Gateway;
+use gw_core::{AllAsked, Gateway, Taken};
 use std::alloc::Global;
 
 /// What is done about an event that was taken and whose denials are logged, before anything of it is sent.
@@ -23,10 +22,17 @@ pub trait Guard {
     fn watches(&self) -> bool
         ensures { result ≡ watching self.now };
 
-    /// Passes an event that the gateway took, and says whether its datagrams may go.
-    fn pass(&mut self, alloc: Global, gateway: &Gateway, seen: &Seen) -> bool
-        ensures { (w : State) (event : Event) → IsTaken w event gateway.now seen.now.taken →
-            IsSeen (watching self.old) w event seen.now.asked → Passes self.old w event self.new result };
+    /// Passes an event that the gateway took, and says whether its datagrams may go. If the guard watches what it asked and
+    /// there was memory to keep that, it is there.
+    fn pass(
+        &mut self,
+        alloc: Global,
+        gateway: &Gateway,
+        taken: &Taken,
+        asked: Option<&AllAsked>,
+    ) -> bool
+        ensures { (w : State) (event : Event) → IsTaken w event gateway.now taken.now →
+            IsSeen (watching self.old) w event (option_map (λ a. a.now) asked.entry) → Passes self.old w event self.new result };
 }
 
 /// No guard: all datagrams may go.
@@ -44,7 +50,13 @@ impl Guard for Unguarded {
     }
 
     #[inline(always)]
-    fn pass(&mut self, _alloc: Global, _gateway: &Gateway, _seen: &Seen) -> bool {
+    fn pass(
+        &mut self,
+        _alloc: Global,
+        _gateway: &Gateway,
+        _taken: &Taken,
+        _asked: Option<&AllAsked>,
+    ) -> bool {
         true
     }
 }
@@ -67,9 +79,15 @@ impl<G: Guard, H: Guard> Guard for Both<G, H> {
         self.first.watches() || self.second.watches()
     }
 
-    fn pass(&mut self, alloc: Global, gateway: &Gateway, seen: &Seen) -> bool {
-        let first = self.first.pass(alloc, gateway, seen);
-        let second = self.second.pass(alloc, gateway, seen);
+    fn pass(
+        &mut self,
+        alloc: Global,
+        gateway: &Gateway,
+        taken: &Taken,
+        asked: Option<&AllAsked>,
+    ) -> bool {
+        let first = self.first.pass(alloc, gateway, taken, asked);
+        let second = self.second.pass(alloc, gateway, taken, asked);
         first && second
     }
 }

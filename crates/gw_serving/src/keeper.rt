@@ -7,9 +7,8 @@ ghost use Rattle.gw_serving.specs.Keeping.{HasPassed, Holds, IsHeld, IsTried, Ke
 
 use crate::alike::{Part, is_same};
 use crate::guard::Guard;
-use crate::seen::Seen;
 use crate::store::{Store, StoreFault};
-use gw_core::Gateway;
+use gw_core::{AllAsked, Gateway, Taken};
 use gw_saved::{Origin, Saved};
 use gw_state_text::put_state;
 use std::alloc::Global;
@@ -213,7 +212,13 @@ impl<S: Store + Drop> Guard for Keeper<S> {
         false
     }
 
-    fn pass(&mut self, alloc: Global, gateway: &Gateway, seen: &Seen) -> bool {
-        !seen.taken.lasts || self.keep_changed(alloc, gateway, Part::Lasting)
+    fn pass(
+        &mut self,
+        alloc: Global,
+        gateway: &Gateway,
+        taken: &Taken,
+        _asked: Option<&AllAsked>,
+    ) -> bool {
+        !taken.lasts || self.keep_changed(alloc, gateway, Part::Lasting)
     }
 }

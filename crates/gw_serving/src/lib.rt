@@ -19,7 +19,6 @@ pub use guard::{Both, Guard, Unguarded};
 pub use keeper::Keeper;
 pub use report::{Report, report_of, tell_report};
 pub use reporting::serve_with_reports;
-pub use seen::Seen;
 pub use serving::{ServeFault, ServeState, ServeStop, Served, serve};
 pub use store::{Store, StoreFault};
 pub use stretch::Pause;

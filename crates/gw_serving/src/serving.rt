@@ -210,8 +210,9 @@ impl ServeState {
                 return Ok(true);
             }
         };
-        let seen = match take_seen(alloc, gateway, &event, guard.watches()) {
-            Ok(seen) => seen,
+        let mut asked = None;
+        let taken = match take_seen(alloc, gateway, &event, guard.watches(), &mut asked) {
+            Ok(taken) => taken,
             Err(StepFault::Memory) => {
                 self.served.memory_drops += 1;
                 return Ok(true);
@@ -219,10 +220,9 @@ impl ServeState {
             Err(StepFault::CountEnd) => return Err(ServeFault::CountEnd),
         };
         self.served.taken += 1;
-        let taken = &seen.taken;
         log_denials(&mut self.lines, log, &taken.effects.denials)?;
         self.tally.count(taken.drop, &taken.effects.denials);
-        if !guard.pass(alloc, gateway, &seen) {
+        if !guard.pass(alloc, gateway, &taken, asked.as_ref()) {
             return Ok(false);
         }
         try_sends(wire, &taken.effects.sends, &mut self.served);

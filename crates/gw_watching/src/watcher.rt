@@ -6,10 +6,10 @@ ghost use Rattle.gw_watching.specs.Watching.{AreCounted, HasWatched, Missed, Wat
 
 use crate::audit::Marks;
 use crate::beside::Beside;
-use gw_core::{Asked, Gateway};
+use gw_core::{AllAsked, Asked, Gateway, Taken};
 use gw_rule_index::Policy;
 use gw_script::OctetSink;
-use gw_serving::{Guard, Seen};
+use gw_serving::Guard;
 use gw_tally::Tally;
 use std::alloc::Global;
 use std::marker::Model;
@@ -145,8 +145,14 @@ impl<T: OctetSink + Drop, A: OctetSink + Drop> Guard for Watcher<T, A> {
         self.trial.is_some() || self.audit.is_some() || self.counts.is_some()
     }
 
-    fn pass(&mut self, alloc: Global, gateway: &Gateway, seen: &Seen) -> bool {
-        match &seen.asked {
+    fn pass(
+        &mut self,
+        alloc: Global,
+        gateway: &Gateway,
+        _taken: &Taken,
+        asked: Option<&AllAsked>,
+    ) -> bool {
+        match asked {
             Some(asked) => self.watch(alloc, gateway, asked.as_slice()),
             None => self.miss(),
         }

@@ -6,8 +6,8 @@ use Rattle.gw_script.proofs.Passing.{passes_on}
 use Rattle.gw_core.specs.declared.effects.Effects.{Effects}
 use Rattle.gw_serving.specs.Serve.{empty_turn, failed_turn, lines_of, lost_event, scene}
 use Rattle.gw_serving.specs.ServeTurn.{GuardedEnd}
-use Rattle.gw_serving.specs.Stretch.{IsLoggedLast, IsSeen, count_taken, moment}
-use Rattle.gw_serving.proofs.GuardLemmas.{guarded_fault, guarded_with, guarded_without}
+use Rattle.gw_serving.specs.Stretch.{IsLoggedLast, count_taken, moment}
+use Rattle.gw_serving.proofs.GuardLemmas.{guarded_fault, guarded_with, guarded_without, seen_by}
 use Rattle.gw_serving.proofs.ServeLemmas.{arrives, ends_by, lead_without, tallied, tried_counted}
 use Rattle.gw_serving.proofs.serving.ServeState.take_guarded_turn.Goals as goal
 
@@ -44,7 +44,7 @@ returns-in_err-log_denials-clause-end g c =
     let before = scene c.args.gateway.now (g.L.OctetSink.held c.args.log.now) told in
     let after = scene c.take_seen.new.gateway (g.L.OctetSink.held c.log_denials.new.log) tells in
     let fault = c.in_err-log_denials.field-0.0 in
-    let last = ends_by fault before after event c.in-Ok.seen.taken.effects c.args.self.now.served taken.effects c.in_err-log_denials.ensures.end
+    let last = ends_by fault before after event c.in-Ok.taken.effects c.args.self.now.served taken.effects c.in_err-log_denials.ensures.end
     (record { counts = taken.counts; gateway = taken.gateway; calls = came_in }) in
     let s = c.args.self.now.served in
     passes_on (λ r. GuardedEnd g.G.Guard.Passes (moment before c.args.guard.now s c.args.self.now.tally) r
@@ -64,10 +64,11 @@ returns-then-not-pass-clause-end g c =
       taken = record { counts = taken.counts; gateway = taken.gateway; calls = came_in };
       log = subst (λ (x : Effects). Appends before.log middle.log (lines_of x.denials)) taken.effects c.in_ok-log_denials.ensures.end;
     } in
-    let counted = tallied c.args.gateway.now c.args.self.now.tally c.count.new.self event c.in-Ok.seen.taken.effects c.in-Ok.seen.taken.drop taken.effects
+    let counted = tallied c.args.gateway.now c.args.self.now.tally c.count.new.self event c.in-Ok.taken.effects c.in-Ok.taken.drop taken.effects
     taken.drop c.count.ensures in
     let guard = c.args.guard.now in
-    let seen = subst (λ (b : Bool). IsSeen b c.args.gateway.now event c.in-Ok.seen.asked) c.watches.ensures c.in-Ok.ensures.seen in
+    let seen = seen_by c.watches.result (g.G.Guard.watching c.args.guard.now) c.args.gateway.now event _ _ c.watches.ensures c.as_ref.ensures.value
+    (c.in-Ok.ensures.seen refl) in
     let withheld = subst (λ (b : Bool). g.G.Guard.Passes guard c.args.gateway.now event c.pass.new.self b) c.if-not-pass.true
     (c.pass.ensures c.args.gateway.now event taken seen) in
     (event, record { logged = logged; passes = withheld; counts = refl; tally = counted })
@@ -85,14 +86,15 @@ returns-clause-end g c =
       taken = record { counts = taken.counts; gateway = taken.gateway; calls = came_in };
       log = subst (λ (x : Effects). Appends before.log middle.log (lines_of x.denials)) taken.effects c.in_ok-log_denials.ensures.end;
     } in
-    let counted = tallied c.args.gateway.now c.args.self.now.tally c.count.new.self event c.in-Ok.seen.taken.effects c.in-Ok.seen.taken.drop taken.effects
+    let counted = tallied c.args.gateway.now c.args.self.now.tally c.count.new.self event c.in-Ok.taken.effects c.in-Ok.taken.drop taken.effects
     taken.drop c.count.ensures in
     let guard = c.args.guard.now in
-    let seen = subst (λ (b : Bool). IsSeen b c.args.gateway.now event c.in-Ok.seen.asked) c.watches.ensures c.in-Ok.ensures.seen in
+    let seen = seen_by c.watches.result (g.G.Guard.watching c.args.guard.now) c.args.gateway.now event _ _ c.watches.ensures c.as_ref.ensures.value
+    (c.in-Ok.ensures.seen refl) in
     let passes = subst (λ (b : Bool). g.G.Guard.Passes guard c.args.gateway.now event c.pass.new.self b) c.if-not-pass.false
     (c.pass.ensures c.args.gateway.now event taken seen) in
     guarded_with g.G.Guard.Passes guard c.pass.new.self before middle (g.W.Wire.calls c.try_sends.new.wire) c.args.self.now.served
-    c.try_sends.new.served c.args.self.now.tally c.count.new.self _ _ event c.in-Ok.seen.taken taken logged counted passes c.try_sends.ensures.tried
+    c.try_sends.new.served c.args.self.now.tally c.count.new.self _ _ event c.in-Ok.taken taken logged counted passes c.try_sends.ensures.tried
 
 pub returns-clause-few : goal.returns-clause-few
 returns-clause-few g c = omega (arith, tried_counted _ _ _ _ _ _ _ c.try_sends.ensures.tried, c.try_sends.ensures.few)
