@@ -1,1 +1,2 @@
 pub mod SubnetLaw
+mod RangesLaw

@@ -3,7 +3,7 @@ ghost use Rattle.std.specs.Prelude.{◌≡◌, IsTrue};
 
 use gw_addr::BdtEntry;
 use gw_configuration::{Device, Object, ObjectValue, Port, Route, Subnet, Text, laws};
-use gw_rules::{Format, Range, Rule};
+use gw_rules::{FieldName, Format, Range, Rule};
 
 /// What can be compared.
 pub trait Same {
@@ -179,23 +179,10 @@ impl Same for Rule {
 fn have_same_ranges(rule: &Rule, other: &Rule) -> bool
     ensures { IsTrue result → rule.now.ranges ≡ other.now.ranges }
 {
-    let (some, others) = (&rule.ranges, &other.ranges);
-    are_same(some.operation.as_slice(), others.operation.as_slice())
-        && are_same(some.port.as_slice(), others.port.as_slice())
-        && are_same(
-            some.source_network.as_slice(),
-            others.source_network.as_slice(),
-        )
-        && are_same(some.source_key.as_slice(), others.source_key.as_slice())
-        && are_same(
-            some.destination_network.as_slice(),
-            others.destination_network.as_slice(),
-        )
-        && are_same(some.service.as_slice(), others.service.as_slice())
-        && are_same(some.object_type.as_slice(), others.object_type.as_slice())
-        && are_same(some.instance.as_slice(), others.instance.as_slice())
-        && are_same(some.property.as_slice(), others.property.as_slice())
-        && are_same(some.priority.as_slice(), others.priority.as_slice())
-        && are_same(some.sender.as_slice(), others.sender.as_slice())
-        && are_same(some.station.as_slice(), others.station.as_slice())
+    for field in FieldName::ALL.iter() {
+        if !are_same(rule.ranges(*field).as_slice(), other.ranges(*field).as_slice()) {
+            return false;
+        }
+    }
+    true
 }

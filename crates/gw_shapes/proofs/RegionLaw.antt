@@ -53,7 +53,7 @@ has_within side (Some n) is = number_from side n is
 
 -- ---- a shape
 
-at : (field : FieldName) (shape : Shape) → value_of field (region_of shape) ≡ values_of (value_of field shape)
+pub at : (field : FieldName) (shape : Shape) → value_of field (region_of shape) ≡ values_of (value_of field shape)
 at field shape = elim field as (λ f. value_of f (region_of shape) ≡ values_of (value_of f shape)) [ Operation ↦ refl | Port ↦ refl | SourceNetwork ↦ refl | SourceKey ↦ refl | DestinationNetwork ↦ refl | Service ↦ refl | ObjectType ↦ refl | Instance ↦ refl | Property ↦ refl | Priority ↦ refl | Sender ↦ refl | Station ↦ refl ]
 
 pub is_inner : (shape : Shape) (ask : Ask) → lies (region_of shape) ask ≡ true → LiesIn shape ask

@@ -36,30 +36,5 @@ pub fn region_of(alloc: Global, shape: &Shape) -> Result<Region, AllocError>
 fn region_by_field(alloc: Global, shape: &Shape) -> Result<Region, AllocError>
     ensures { IfOk result (λ region. region ≡ region_of shape.now) }
 {
-    let operation = values_of(alloc, &shape.operation)?;
-    let port = values_of(alloc, &shape.port)?;
-    let source_network = values_of(alloc, &shape.source_network)?;
-    let source_key = values_of(alloc, &shape.source_key)?;
-    let destination_network = values_of(alloc, &shape.destination_network)?;
-    let service = values_of(alloc, &shape.service)?;
-    let object_type = values_of(alloc, &shape.object_type)?;
-    let instance = values_of(alloc, &shape.instance)?;
-    let property = values_of(alloc, &shape.property)?;
-    let priority = values_of(alloc, &shape.priority)?;
-    let sender = values_of(alloc, &shape.sender)?;
-    let station = values_of(alloc, &shape.station)?;
-    Ok(Fields {
-        operation,
-        port,
-        source_network,
-        source_key,
-        destination_network,
-        service,
-        object_type,
-        instance,
-        property,
-        priority,
-        sender,
-        station,
-    })
+    Fields::try_from_each(|field| values_of(alloc, shape.get(field)))
 }
