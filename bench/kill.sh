@@ -6,9 +6,12 @@
 #
 # A client writes eight points and a table of peers, registers foreign devices and says which networks it reaches, over the loopback
 # device. Of each point and the table it keeps what was acknowledged last and what was sent after it; after the start the gateway must
-# have one of these. If strace is there, the gateway is then killed at each of the first 60 calls of the system that a kept state takes
-# (openat, write, fsync, rename). The last line says how many starts there were, how many acknowledged writes, and how many were missing;
-# the status is 0 if none was.
+# have one of these. Then each point's value, slots and default and the table are read, and each answer must be that of a gateway in
+# memory (`bacgw replay`) after all acknowledged writes. If strace is there, the gateway is then killed at each of the first 60 calls of
+# the system that a kept state takes (openat, write, fsync, rename). If a tmpfs can be mounted, the state is kept on one of 1 MiB that is
+# then filled: a granted write gets no answer, a read does, and once there is room again all that was written outlives a kill. The last
+# line says how many starts there were, how many acknowledged writes, how many were missing, and how many reads were compared and
+# differed; the status is 0 if none was missing, refused or other.
 #
 # It wants python3 and the built program: ./bacgw prove.
 set -euo pipefail
@@ -23,6 +26,7 @@ trap 'rm -rf "$work"' EXIT
 exec python3 - "$program" "$work" "${1:-1000}" << 'PYTHON'
 import os
 import random
+import select
 import shutil
 import signal
 import socket
@@ -62,7 +66,7 @@ state = work / "state"
 
 line = socket.socket(socket.AF_INET, socket.SOCK_DGRAM)
 line.bind((CLIENT, UDP))
-counts = {"starts": 0, "acknowledged": 0, "missing": 0, "refused": 0}
+counts = {"starts": 0, "acknowledged": 0, "missing": 0, "refused": 0, "compared": 0, "other": 0}
 invoke_id = 0
 
 
@@ -93,10 +97,15 @@ def point_of(instance):
     return b"\x0c" + (48 << 22 | instance).to_bytes(4, "big") + b"\x19\x55"
 
 
+def write_of(instance, value):
+    """A write of a point at priority 8, and what tells its acknowledgement."""
+    octets, number = request(0x0F, point_of(instance) + b"\x3e\x22" + value.to_bytes(2, "big") + b"\x3f\x49\x08")
+    return octets, lambda message: message[-3:] == bytes([0x20, number, 0x0F])
+
+
 def write(instance, value):
     """Writes a point at priority 8: whether that was acknowledged."""
-    octets, number = request(0x0F, point_of(instance) + b"\x3e\x22" + value.to_bytes(2, "big") + b"\x3f\x49\x08")
-    return ask(octets, lambda message: message[-3:] == bytes([0x20, number, 0x0F])) is not None
+    return ask(*write_of(instance, value)) is not None
 
 
 def read(instance, seconds=0.5):
@@ -122,8 +131,9 @@ def managed(octets):
     return False
 
 
-def write_table(table):
-    return managed(b"\x81\x01" + (len(table) + 4).to_bytes(2, "big") + table)
+def table_of(table):
+    """A write of the table of peers."""
+    return b"\x81\x01" + (len(table) + 4).to_bytes(2, "big") + table
 
 
 def read_table():
@@ -153,35 +163,70 @@ def refused(gateway):
 
 
 def kill(gateway):
+    """Kills a gateway, and whatever traces it, and waits until both are gone: they hold its socket."""
     try:
         os.killpg(gateway.pid, signal.SIGKILL)
+        gateway.wait()
+        for _ in range(500):
+            os.killpg(gateway.pid, 0)
+            time.sleep(0.01)
     except ProcessLookupError:
         pass
     gateway.wait()
 
 
-# Of each point and of the table what may be there: what was acknowledged last, and what was sent after it.
-may_be = {n: [0] for n in POINTS}
-may_be["table"] = [b""]
+# Of each point and of the table what may be there, each with the datagram that wrote it: what was acknowledged last, and what was sent
+# after it.
+may_be = {n: [(0, None)] for n in POINTS}
+may_be["table"] = [(b"", None)]
+# What a gateway in memory gets: the last write of each point and of the table that is there.
+there = {}
 
 
-def sent(name, value, send):
+def sent(name, value, octets, is_answered):
     """Sends a write, and keeps what may be there then."""
-    may_be[name].append(value)
-    if send():
-        may_be[name] = [value]
+    may_be[name].append((value, octets))
+    if is_answered():
+        may_be[name] = [(value, octets)]
         counts["acknowledged"] += 1
 
 
 def look():
-    """Compares what is there with what may be there."""
+    """Compares what is there with what may be there, and then with a gateway in memory."""
     for name in may_be:
         found = read_table() if name == "table" else read(name)
-        if found is None or found not in may_be[name]:
+        can_be = [(value, octets) for value, octets in may_be[name] if value == found]
+        if not can_be:
             counts["missing"] += 1
             print("missing:", name, found, may_be[name], file=sys.stderr)
         else:
-            may_be[name] = [found]
+            may_be[name] = can_be[-1:]
+            there[name] = can_be[-1][1]
+    compare()
+
+
+def reads():
+    """A read of each point's value, slots and default and of the table, each with what tells its answer."""
+    for instance in POINTS:
+        for property_number in (0x55, 0x57, 0x68):
+            octets, number = request(0x0C, point_of(instance)[:-1] + bytes([property_number]))
+            yield octets, lambda message, number=number: bytes([0x30, number, 0x0C]) in message
+    yield bytes.fromhex("81020004"), lambda message: message[:2] == b"\x81\x03"
+
+
+def compare():
+    """Compares the answer to each read with that of a gateway in memory after the writes that are there."""
+    front = f"1 {CLIENT}:{UDP} "
+    asked = [(octets, ask(octets, is_answer)) for octets, is_answer in reads()]
+    script = [octets for octets in there.values() if octets is not None] + [octets for octets, _ in asked]
+    text = "".join(front + octets.hex() + "\n" for octets in script)
+    replay = subprocess.run([program, "replay", "--config", str(config)], input=text, capture_output=True, text=True, check=True)
+    events = replay.stdout.split("end\n")[:-1][-len(asked):]
+    for (octets, answer), event in zip(asked, events, strict=True):
+        counts["compared"] += 1
+        if answer is None or event != f"send {front}{answer.hex().upper()}\n":
+            counts["other"] += 1
+            print("other:", octets.hex(), answer and answer.hex(), event, file=sys.stderr)
 
 
 def disturb(moment):
@@ -190,21 +235,22 @@ def disturb(moment):
         kind = chance.randrange(8)
         if kind == 0:
             table = entries(chance.randrange(60000))
-            sent("table", table, lambda: write_table(table))
+            sent("table", table, table_of(table), lambda: managed(table_of(table)))
         elif kind == 1:
             managed(bytes.fromhex("81050006") + chance.randrange(1, 600).to_bytes(2, "big"))
         elif kind == 2:
             line.sendto(bytes.fromhex("810B0009018001") + chance.randrange(200, 900).to_bytes(2, "big"), (GATEWAY, UDP))
         else:
             n, value = chance.choice(POINTS), chance.randrange(256, 65536)
-            sent(n, value, lambda: write(n, value))
+            octets, is_acknowledged = write_of(n, value)
+            sent(n, value, octets, lambda: ask(octets, is_acknowledged) is not None)
 
 
 # The first start makes the state; the table is then the configured one.
 gateway = start()
 if gateway is None:
     sys.exit("the gateway doesn't start")
-may_be["table"] = [read_table()]
+may_be["table"] = [(read_table(), None)]
 for _ in range(times):
     disturb(time.monotonic() + chance.uniform(0.001, 0.06))
     kill(gateway)
@@ -230,6 +276,64 @@ if gateway is not None and shutil.which("strace"):
             break
 if gateway is not None:
     kill(gateway)
+
+
+def told(gateway, line, seconds=5):
+    """Whether the gateway says that within so many seconds."""
+    until = time.monotonic() + seconds
+    while (left := until - time.monotonic()) > 0:
+        if select.select([gateway.stderr], [], [], left)[0] and gateway.stderr.readline().decode().rstrip("\n") == line:
+            return True
+    return False
+
+
+def is_so(what, holds):
+    counts["full"] += 1
+    if not holds:
+        counts["other"] += 1
+        print("full disk, not so:", what, file=sys.stderr)
+
+
+def fill(folder):
+    """A state on a disk that is full for a while."""
+    global state
+    state = folder / "state"
+    gateway = start()
+    if gateway is None:
+        return
+    is_so("a write is acknowledged", write(1, 1000))
+    with open(folder / "filler", "wb", buffering=0) as filler:
+        try:
+            while filler.write(bytes(4096)):
+                pass
+        except OSError:
+            pass
+    kept = state.read_bytes()
+    is_so("a write on a full disk gets no answer", not write(2, 2000))
+    is_so("the gateway says so", told(gateway, "bacgw: state isn't kept: no space"))
+    is_so("a read is answered", read(1) == 1000)
+    is_so("the old state stays", state.read_bytes() == kept)
+    (folder / "filler").unlink()
+    is_so("the gateway says that it is kept again", told(gateway, "bacgw: state is kept again"))
+    is_so("a write is acknowledged again", write(3, 3000))
+    kill(gateway)
+    gateway = start()
+    if gateway is not None:
+        is_so("what was written outlives a kill", [read(1), read(2), read(3)] == [1000, 2000, 3000])
+        kill(gateway)
+
+
+# Then on a disk that is full for a while.
+folder = work / "full"
+folder.mkdir()
+counts["full"] = 0
+if subprocess.run(["mount", "-t", "tmpfs", "-o", "size=1m", "none", str(folder)], capture_output=True).returncode == 0:
+    try:
+        fill(folder)
+    finally:
+        subprocess.run(["umount", str(folder)], check=True)
+else:
+    print("no tmpfs can be mounted: a full disk isn't tried")
 print(", ".join(f"{count} {name}" for name, count in counts.items()))
-sys.exit(0 if counts["missing"] == counts["refused"] == 0 else 1)
+sys.exit(0 if counts["missing"] == counts["refused"] == counts["other"] == 0 else 1)
 PYTHON

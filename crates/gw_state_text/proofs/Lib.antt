@@ -6,3 +6,5 @@ pub mod StateLemmas
 pub mod PortLemmas
 pub mod SlotLemmas
 pub mod ObjectLemmas
+pub mod ValueLemmas
+pub mod LengthLemmas

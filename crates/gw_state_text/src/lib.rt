@@ -4,6 +4,7 @@
 mod block;
 mod fault;
 mod items;
+pub mod laws;
 mod lines;
 mod object;
 mod port;
