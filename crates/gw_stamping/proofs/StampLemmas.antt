@@ -72,16 +72,16 @@ piece_stays (c ∷ []) (suc n) ends =
 piece_stays (c ∷ d ∷ piece) (suc n) ends =
     rw (ne_eqb c 10 (ends 0 (omega arith))) (ap (λ (t : List ℕ). c ∷ t) (piece_stays (d ∷ piece) n (λ i lt. ends (suc i) (omega arith))))
 
-pub piece_ends : (piece : List ℕ) (n : ℕ) → EndsAtMost piece → 0 < n → n ≤ length piece
-    → ends_in_stamp false (take n piece) ≡ (slice_index piece (n - 1) == 10)
+pub piece_ends : (piece : List ℕ) (k : ℕ) → EndsAtMost piece → k < length piece
+    → ends_in_stamp false (take (suc k) piece) ≡ (slice_index piece k == 10)
 unfolding ends_in_stamp
-piece_ends piece zero ends some most = absurd (omega arith)
-piece_ends [] (suc n) ends some most = absurd (omega arith)
-piece_ends (c ∷ []) (suc zero) ends some most = refl
-piece_ends (c ∷ []) (suc (suc n)) ends some most = absurd (omega arith)
-piece_ends (c ∷ d ∷ piece) (suc zero) ends some most = refl
-piece_ends (c ∷ d ∷ piece) (suc (suc n)) ends some most =
-    rw (ne_eqb c 10 (ends 0 (omega arith))) (piece_ends (d ∷ piece) (suc n) (λ i lt. ends (suc i) (omega arith)) (omega arith) (omega arith))
+piece_ends [] k ends within = absurd (omega arith)
+piece_ends (c ∷ []) zero ends within = refl
+piece_ends (c ∷ []) (suc k) ends within = absurd (omega arith)
+piece_ends (c ∷ d ∷ piece) zero ends within = refl
+piece_ends (c ∷ d ∷ piece) (suc k) ends within =
+    ap (λ (b : Bool). ends_in_stamp b (take (suc k) (d ∷ piece))) (ne_eqb c 10 (ends 0 (omega arith)))
+    ∙ piece_ends (d ∷ piece) k (λ i lt. ends (suc i) (omega arith)) (omega arith)
 
 -- ---- what is held
 

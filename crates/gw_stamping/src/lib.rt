@@ -10,5 +10,6 @@ mod stamped;
 mod telling;
 
 pub use calendar::{Calendar, SystemCalendar, moment_after};
+pub use fields::ask_front;
 pub use stamped::Stamped;
 pub use telling::tell_log;
