@@ -1,17 +1,14 @@
 -- Which fields are looked for, and that a denial's line is told as before.
-use Rattle.std.proofs.Common.{◌≡◌, ◌∙◌, ◌-◌, ◌++◌, ◌≤◌, rules, ℕ, Bool, true, false, List, [], ◌∷◌, length, take, drop, Option, Some, None, Result, Ok, Err, refl, sym, ap, subst, arith}
+use Rattle.std.proofs.Common.{◌≡◌, ◌∙◌, ◌-◌, ◌++◌, ◌≤◌, rules, ℕ, Bool, true, List, [], ◌∷◌, length, take, drop, Option, Some, None, Result, Ok, Err, refl, sym, ap, subst, arith}
 use Rattle.std.specs.Prelude.{is_some, IsTrue, OnOk}
 use Rattle.std.proofs.lemmas.List.{length-drop}
-use Rattle.gw_audit.specs.Entry.{IsLineOf, IsShowable, TellsAsk}
 use Rattle.gw_audit.specs.Told.{IsToldAs}
-use Rattle.gw_audit.specs.declared.denial.Denial.{Denial}
-use Rattle.gw_audit.specs.declared.entry.ShownAsk.{ShownAsk}
 use Rattle.gw_audit.specs.declared.moment.Moment.{Moment}
 use Rattle.gw_audit.specs.internal.Reading.{line_in, told_by}
 use Rattle.gw_audit.proofs.TellingLemmas.{line_again, line_takes, told_again, told_takes}
 use Rattle.gw_stamping.specs.Fields.{fields_of, is_denial, shows_ask}
 use Rattle.gw_stamping.specs.Laws.{AreFields, StaysAsBefore}
-use Rattle.gw_stamping.specs.Telling.{IsToldBehind, IsToldOf}
+use Rattle.gw_stamping.specs.Telling.{IsToldOf}
 use Rattle.gw_stamping.proofs.FieldsLemmas.{end_found}
 
 is_true : (b : Bool) → IsTrue b → b ≡ true

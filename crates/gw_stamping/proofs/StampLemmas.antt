@@ -1,5 +1,5 @@
 -- A text without its stamps.
-use Rattle.std.proofs.Common.{◌≡◌, ◌≢◌, ◌∙◌, ◌<◌, ◌≤◌, ◌+◌, ◌-◌, ℕ, zero, suc, Bool, true, false, List, [], ◌∷◌, ◌++◌, length, take, Option, Some, None, Result, Ok, Err, refl, sym, ap, ap₂, subst, arith, append_assoc}
+use Rattle.std.proofs.Common.{◌≡◌, ◌∙◌, ◌<◌, ℕ, zero, suc, Bool, true, false, List, [], ◌∷◌, ◌++◌, length, take, Option, Some, None, Result, Ok, Err, refl, sym, ap, ap₂, subst, arith}
 use Rattle.std.specs.Prelude.{◌==◌, not, slice_index, IfOk, OnErr}
 use Rattle.std.specs.Io.KnownBytes.{Appends, Keeps, WriteAppends}
 use Rattle.std.proofs.lemmas.Bool.{ne_eqb}
@@ -126,11 +126,11 @@ front_keeps (Some a) (Some b) front lacks grown = by (ends_in_stamp true a) refl
     by false e = keeps_none _ _ (held_none true a e)
     by true e =
         let ends : ends_in_stamp true b ≡ true =
-            ap (ends_in_stamp true) grown ∙ ends_both true a front ∙ ap (λ (s : Bool). ends_in_stamp s front) e ∙ word_stays front lacks in
+        ap (ends_in_stamp true) grown ∙ ends_both true a front ∙ ap (λ (s : Bool). ends_in_stamp s front) e ∙ word_stays front lacks in
         let same : without_stamps true b ≡ without_stamps true a =
-            ap (without_stamps true) grown ∙ without_both true a front
-            ∙ ap (λ (t : List ℕ). without_stamps true a ++ t) (ap (λ (s : Bool). without_stamps s front) e ∙ word_gone front lacks)
-            ∙ append-nil (without_stamps true a) in
+        ap (without_stamps true) grown ∙ without_both true a front
+        ∙ ap (λ (t : List ℕ). without_stamps true a ++ t) (ap (λ (s : Bool). without_stamps s front) e ∙ word_gone front lacks)
+        ∙ append-nil (without_stamps true a) in
         keeps_some _ _ (without_stamps true a) (without_stamps true b) (held_is true a e) (held_is true b ends) same
 
 -- nor does a whole stamp
@@ -144,11 +144,11 @@ stamp_keeps (Some a) (Some b) word lacks grown = by (ends_in_stamp true a) refl
     by true e =
         let stamp = word ++ 32 ∷ [] in
         let ends : ends_in_stamp true b ≡ false =
-            ap (ends_in_stamp true) grown ∙ ends_both true a stamp ∙ ap (λ (s : Bool). ends_in_stamp s stamp) e ∙ stamp_ends word lacks in
+        ap (ends_in_stamp true) grown ∙ ends_both true a stamp ∙ ap (λ (s : Bool). ends_in_stamp s stamp) e ∙ stamp_ends word lacks in
         let same : without_stamps true b ≡ without_stamps true a =
-            ap (without_stamps true) grown ∙ without_both true a stamp
-            ∙ ap (λ (t : List ℕ). without_stamps true a ++ t) (ap (λ (s : Bool). without_stamps s stamp) e ∙ stamp_gone word lacks)
-            ∙ append-nil (without_stamps true a) in
+        ap (without_stamps true) grown ∙ without_both true a stamp
+        ∙ ap (λ (t : List ℕ). without_stamps true a ++ t) (ap (λ (s : Bool). without_stamps s stamp) e ∙ stamp_gone word lacks)
+        ∙ append-nil (without_stamps true a) in
         keeps_some _ _ (without_stamps true a) (without_stamps true b) (held_is true a e) (held_is false b (so_within b ends)) same
 
 -- octets of a line come as they are
@@ -161,10 +161,10 @@ piece_grows a b piece is ends n grown last = by (ends_in_stamp true a) refl
     by false e =
         let more = take n piece in
         let ends_is : ends_in_stamp true b ≡ is =
-            ap (ends_in_stamp true) grown ∙ ends_both true a more ∙ ap (λ (s : Bool). ends_in_stamp s more) e ∙ sym last in
+        ap (ends_in_stamp true) grown ∙ ends_both true a more ∙ ap (λ (s : Bool). ends_in_stamp s more) e ∙ sym last in
         let same : without_stamps true b ≡ without_stamps true a ++ more =
-            ap (without_stamps true) grown ∙ without_both true a more
-            ∙ ap (λ (t : List ℕ). without_stamps true a ++ t) (ap (λ (s : Bool). without_stamps s more) e ∙ piece_stays piece n ends) in
+        ap (without_stamps true) grown ∙ without_both true a more
+        ∙ ap (λ (t : List ℕ). without_stamps true a ++ t) (ap (λ (s : Bool). without_stamps s more) e ∙ piece_stays piece n ends) in
         appends_some _ _ (without_stamps true a) (without_stamps true b) more (held_is false a (so_within a e)) (held_is is b (so_as is b ends_is)) same
 
 pub piece_writes : {E : Type 0} (x y : Option (List ℕ)) (is : Bool) (r : Result ℕ E) (piece : List ℕ) → EndsAtMost piece

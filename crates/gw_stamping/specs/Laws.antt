@@ -1,11 +1,11 @@
 -- Nothing changes for a line with nothing in front.
-use Rattle.std.specs.Prelude.{◌≡◌, ◌↔◌, ◌++◌, ◌∷◌, [], ℕ, List, Option, Some, IsTrue}
+use Rattle.std.specs.Prelude.{ℕ, List, Option, IsTrue}
 use Rattle.gw_audit.specs.Entry.{IsLineOf, IsShowable, TellsAsk}
 use Rattle.gw_audit.specs.Told.{IsToldAs}
 use Rattle.gw_audit.specs.declared.denial.Denial.{Denial}
 use Rattle.gw_audit.specs.declared.entry.ShownAsk.{ShownAsk}
 use Rattle.gw_audit.specs.declared.moment.Moment.{Moment}
-use Rattle.gw_stamping.specs.Fields.{fields_of, is_denial, shows_ask}
+use Rattle.gw_stamping.specs.Fields.{is_denial, shows_ask}
 use Rattle.gw_stamping.specs.Telling.{IsToldBehind}
 
 -- the line of a denial has itself as its own fields, and becomes what it became

@@ -1,4 +1,3 @@
-use Rattle.std.proofs.Common.{sym}
 use Rattle.gw_stamping.proofs.LawLemmas.{ok_then, told_behind, told_whole}
 use Rattle.gw_stamping.proofs.telling.tell_any.Goals as goal
 

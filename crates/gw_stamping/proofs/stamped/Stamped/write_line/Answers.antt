@@ -1,4 +1,4 @@
-use Rattle.std.proofs.Common.{◌≡◌, ◌∙◌, ◌++◌, ◌∷◌, [], Bool, List, ℕ, Option, Result, true, false, refl, sym, ap, subst}
+use Rattle.std.proofs.Common.{◌∙◌, Bool, ℕ, Result, true, false, refl, sym, ap, subst}
 use Rattle.std.specs.Io.KnownBytes.{Keeps, WriteAppends}
 use Rattle.gw_script.proofs.Passing.{passes_on}
 use Rattle.gw_script.proofs.UnreadLemmas.{keeps_same}
@@ -16,7 +16,7 @@ returns-in_err-write_stamp-clause-octets g c =
     let kept = front_keeps (held was.sink) (held is.sink) front.0 front.1 front.2 in
     let before = subst (λ (b : Bool). Keeps (held_without b (held was.sink)) (held_without true (held is.sink))) (sym c.if-self.true) kept in
     let both = subst (λ (b : Bool). Keeps (held_without was.in_stamp (held was.sink)) (held_without b (held is.sink)))
-        (sym (c.in_err-write_stamp.ensures.still ∙ c.if-self.true)) before in
+    (sym (c.in_err-write_stamp.ensures.still ∙ c.if-self.true)) before in
     passes_on (λ (r : Result ℕ _). WriteAppends (held_without was.in_stamp (held was.sink)) (held_without is.in_stamp (held is.sink)) r c.args.piece.now)
     c.in_err-write_stamp.field-0.0 c.from_residual.result c.from_residual.ensures both
 
@@ -28,17 +28,17 @@ returns-clause-octets g c =
     let is = c.write_piece.new.self in
     let piece = c.args.piece.now in
     let wrote = piece_writes (held then.sink) (held is.sink) is.in_stamp c.write_piece.result piece c.requires.ends
-        c.write_piece.ensures.octets c.write_piece.ensures.ends c.write_piece.ensures.still in
+    c.write_piece.ensures.octets c.write_piece.ensures.ends c.write_piece.ensures.still in
     let kept : Keeps (held_without was.in_stamp (held was.sink)) (held_without false (held then.sink)) = elim c.if-self.branch [
-      then-self+in_ok-write_stamp w ↦
-        subst (λ s. Keeps (held_without was.in_stamp (held was.sink)) (held_without false (held s.sink))) (sym w.self-is)
-        (subst (λ (b : Bool). Keeps (held_without b (held was.sink)) (held_without false (held w.write_stamp.new.self.sink))) (sym w.if-self.true)
-        (let stamp = w.in_ok-write_stamp.ensures.stamp in
-        stamp_keeps (held was.sink) (held w.write_stamp.new.self.sink) _ stamp.2 stamp.3))
+      | then-self+in_ok-write_stamp w ↦
+          subst (λ s. Keeps (held_without was.in_stamp (held was.sink)) (held_without false (held s.sink))) (sym w.self-is)
+          (subst (λ (b : Bool). Keeps (held_without b (held was.sink)) (held_without false (held w.write_stamp.new.self.sink))) (sym w.if-self.true)
+          (let stamp = w.in_ok-write_stamp.ensures.stamp in
+          stamp_keeps (held was.sink) (held w.write_stamp.new.self.sink) _ stamp.2 stamp.3))
       | else-self w ↦
-        subst (λ s. Keeps (held_without was.in_stamp (held was.sink)) (held_without false (held s.sink))) (sym w.self-is)
-        (subst (λ (b : Bool). Keeps (held_without b (held was.sink)) (held_without false (held was.sink))) (sym w.if-self.false)
-        (keeps_same (held_without false (held was.sink)) _ refl))
+          subst (λ s. Keeps (held_without was.in_stamp (held was.sink)) (held_without false (held s.sink))) (sym w.self-is)
+          (subst (λ (b : Bool). Keeps (held_without b (held was.sink)) (held_without false (held was.sink))) (sym w.if-self.false)
+          (keeps_same (held_without false (held was.sink)) _ refl))
     ] in
     writes_along _ _ _ c.write_piece.result piece kept wrote
 
@@ -50,14 +50,14 @@ returns-clause-stamped g c =
     let piece = c.args.piece.now in
     let r = c.write_piece.result in
     elim c.if-self.branch [
-      then-self+in_ok-write_stamp w ↦
-        let stamp = w.in_ok-write_stamp.ensures.stamp in
-        let then = w.write_stamp.new.self in
-        let same = c.write_piece.ensures.calendar ∙ ap (λ s. s.calendar) w.self-is in
-        let wrote = subst (λ s. WriteAppends (held s.sink) (held is.sink) r piece) w.self-is c.write_piece.ensures.octets in
-        written_after (g.C.Calendar.Shows is.calendar) was.in_stamp (held was.sink) (held then.sink) (held is.sink) r piece stamp.0
-        w.if-self.true (subst (λ k. g.C.Calendar.Shows k stamp.0) (sym same) stamp.1) stamp.3 wrote
+      | then-self+in_ok-write_stamp w ↦
+          let stamp = w.in_ok-write_stamp.ensures.stamp in
+          let then = w.write_stamp.new.self in
+          let same = c.write_piece.ensures.calendar ∙ ap (λ s. s.calendar) w.self-is in
+          let wrote = subst (λ s. WriteAppends (held s.sink) (held is.sink) r piece) w.self-is c.write_piece.ensures.octets in
+          written_after (g.C.Calendar.Shows is.calendar) was.in_stamp (held was.sink) (held then.sink) (held is.sink) r piece stamp.0
+          w.if-self.true (subst (λ k. g.C.Calendar.Shows k stamp.0) (sym same) stamp.1) stamp.3 wrote
       | else-self w ↦
-        let wrote = subst (λ s. WriteAppends (held s.sink) (held is.sink) r piece) w.self-is c.write_piece.ensures.octets in
-        written_within (g.C.Calendar.Shows is.calendar) was.in_stamp (held was.sink) (held is.sink) r piece w.if-self.false wrote
+          let wrote = subst (λ s. WriteAppends (held s.sink) (held is.sink) r piece) w.self-is c.write_piece.ensures.octets in
+          written_within (g.C.Calendar.Shows is.calendar) was.in_stamp (held was.sink) (held is.sink) r piece w.if-self.false wrote
     ]

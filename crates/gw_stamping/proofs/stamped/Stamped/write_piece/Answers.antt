@@ -10,6 +10,6 @@ returns-clause-ends g c =
     let some = c.in_ok-count.ensures.some c.requires.some in
     let last : n ≡ suc (n - 1) = omega (arith, some) in
     sym (
-      ap (λ (k : ℕ). ends_in_stamp false (take k piece)) last
-      ∙ piece_ends piece (n - 1) c.requires.ends (omega (arith, some, c.in_ok-count.ensures.bound))
+    ap (λ (k : ℕ). ends_in_stamp false (take k piece)) last
+    ∙ piece_ends piece (n - 1) c.requires.ends (omega (arith, some, c.in_ok-count.ensures.bound))
     )
