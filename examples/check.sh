@@ -105,6 +105,12 @@ refusals() {
     status=$?
     agrees "a log in words: $1" 0 "$1.log.out" /dev/null
 
+    # The same with something in front of each line, which stays there.
+    sed 's/^/Nov 27 08:00:00 gate bacgw[12]: /' "$work/lines" | "$program" log > "$work/stamped" 2> "$work/err"
+    status=$?
+    sed 's/^Nov 27 08:00:00 gate bacgw\[12\]: //' "$work/stamped" > "$work/out"
+    agrees "a log in words after a prefix: $1" 0 "$1.log.out" /dev/null
+
     # And with the moments, for a run that began at eight.
     "$program" log --start 2026-11-25T08:00:00+01:00 < "$work/lines" > "$work/out" 2> "$work/err"
     status=$?

@@ -180,7 +180,10 @@ fn have_same_ranges(rule: &Rule, other: &Rule) -> bool
     ensures { IsTrue result → rule.now.ranges ≡ other.now.ranges }
 {
     for field in FieldName::ALL.iter() {
-        if !are_same(rule.ranges(*field).as_slice(), other.ranges(*field).as_slice()) {
+        if !are_same(
+            rule.ranges(*field).as_slice(),
+            other.ranges(*field).as_slice(),
+        ) {
             return false;
         }
     }

@@ -11,8 +11,8 @@ use gw_core::Gateway;
 use gw_explanation::{Explanation, explain};
 use gw_rule_changes::{changes_of, put_changes};
 use gw_saved::Saved;
-use gw_system::ReadFailure;
 use gw_state_words::put_take_over;
+use gw_system::ReadFailure;
 use gw_takeover::take_over;
 use std::alloc::{AllocError, Global};
 

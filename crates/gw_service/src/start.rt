@@ -11,8 +11,8 @@ use gw_core::{Counts, Gateway};
 use gw_permissions::put_shown;
 use gw_saved::Saved;
 use gw_state_text::{FaultKind, StateFault, read_state};
-use gw_system::ReadFailure;
 use gw_state_words::put_dropped;
+use gw_system::ReadFailure;
 use std::alloc::{AllocError, Global};
 
 /// How many octets the text of a state has at most.

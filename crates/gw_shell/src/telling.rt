@@ -7,13 +7,14 @@ ghost use Rattle.gw_shell.specs.Telling.{Tells};
 
 use crate::fault::Fault;
 use crate::lines::first_lines_fault;
-use gw_audit::{Moment, tell_log};
+use gw_audit::Moment;
 use gw_script::OctetSource;
+use gw_stamping::tell_log;
 use std::alloc::Global;
 use std::io::{BufWriter, Write};
 
-/// Writes in words each line of the log that `reader` has left, with the moments of the denials if it
-/// is known when the log began. What was written is flushed at every
+/// Writes in words each line of the log that `reader` has left, after what is in front of its own fields, with the
+/// moments of the denials if it is known when the log began. What was written is flushed at every
 /// outcome. Faults: those of the lines, and `Write` also if the flush alone fails.
 pub fn tell<R: OctetSource, W: Write + Drop>(
     alloc: Global,

@@ -6,11 +6,11 @@ use crate::words::{
     put_absence, put_counted, put_devices, put_numbered, put_object, put_peers, put_port,
     put_tables, put_value,
 };
+use gw_addr::put_decimal;
 use gw_takeover::{
     Absence, Finding, Held, ObjectName, PortName, RouteFate, RouteFinding, Sizes, TableFate,
     ValueFate, ValueFinding,
 };
-use gw_addr::put_decimal;
 use std::alloc::AllocError;
 
 /// Appends the line of what is found of a part.

@@ -5,10 +5,10 @@ ghost use Rattle.gw_state_words.specs.Words.{counts_line, dropped_line, dropped_
 
 use crate::lines::put_line;
 use crate::words::put_counted;
-use gw_takeover::{Finding, take_over};
 use gw_addr::{keep_whole, put_slice};
 use gw_configuration::Config;
 use gw_saved::{Saved, SavedCounts};
+use gw_takeover::{Finding, take_over};
 use std::alloc::{AllocError, Global};
 
 /// Appends what a saved state holds, line by line, and what of it a gateway of this configuration takes over

@@ -7,8 +7,8 @@ use crate::lines::{put_reason, put_refusal};
 use crate::words::{
     put_absence, put_counted, put_devices, put_identifier, put_numbered, put_port, put_value,
 };
-use gw_takeover::{Finding, Held, Loss, RouteFinding, TakeOver, ValueFinding};
 use gw_addr::{keep_whole, put_decimal, put_slice};
+use gw_takeover::{Finding, Held, Loss, RouteFinding, TakeOver, ValueFinding};
 use std::alloc::{AllocError, Global};
 
 /// The kinds of losses, in the order in which they are reported.

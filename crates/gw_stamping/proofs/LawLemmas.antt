@@ -1,0 +1,59 @@
+-- Which fields are looked for, and that a denial's line is told as before.
+use Rattle.std.proofs.Common.{◌≡◌, ◌∙◌, ◌-◌, ◌++◌, ◌≤◌, rules, ℕ, Bool, true, List, [], ◌∷◌, length, take, drop, Option, Some, None, Result, Ok, Err, refl, sym, ap, subst, arith}
+use Rattle.std.specs.Prelude.{is_some, IsTrue, OnOk}
+use Rattle.std.proofs.lemmas.List.{length-drop}
+use Rattle.gw_audit.specs.Told.{IsToldAs}
+use Rattle.gw_audit.specs.declared.moment.Moment.{Moment}
+use Rattle.gw_audit.specs.internal.Reading.{line_in, told_by}
+use Rattle.gw_audit.proofs.TellingLemmas.{line_again, line_takes, told_again, told_takes}
+use Rattle.gw_stamping.specs.Fields.{fields_of, is_denial, shows_ask}
+use Rattle.gw_stamping.specs.Laws.{AreFields, StaysAsBefore}
+use Rattle.gw_stamping.specs.Telling.{IsToldOf}
+use Rattle.gw_stamping.proofs.FieldsLemmas.{end_found}
+
+is_true : (b : Bool) → IsTrue b → b ≡ true
+is_true b t = search rules
+
+from_true : (b : Bool) → b ≡ true → IsTrue b
+from_true b e = search rules
+
+some_there : {A : Type 0} (r : Option A) → is_some r ≡ true → (x : A) × (r ≡ Some x)
+some_there (Some x) e = (x, refl)
+some_there None e = absurd cc
+
+pub are_fields : (text : List ℕ) → AreFields text
+are_fields text = record {
+  denial = λ t.
+      let found = some_there (line_in text) (is_true (is_denial text) t) in
+      let taken = line_takes text found.0 found.1 in
+      (found.0, taken.is, taken.line);
+  of_denial = λ d is line. from_true (is_denial text) (ap is_some (line_again text d is line));
+  ask = λ t.
+      let found = some_there (told_by (line_in text) text) (is_true (shows_ask text) t) in
+      (found.0, told_takes text found.0 found.1);
+  of_ask = λ ask tells. from_true (shows_ask text) (ap is_some (told_again text ask tells));
+}
+
+itself : (n : ℕ) (line told : List ℕ) → n ≡ 0 → take n line ++ told ≡ told
+itself n line told none = ap (λ (k : ℕ). take k line ++ told) none
+
+pub stays_as_before : StaysAsBefore
+stays_as_before start d line text is spelled told =
+    let own : fields_of is_denial line ≡ Some line = end_found is_denial true line refl (ap is_some (line_again line d is spelled)) in
+    let found = subst (λ (f : Option (List ℕ)). IsToldOf start line f text) own told in
+    subst (IsToldAs start line) (sym (found.2 ∙ itself (length line - length line) line found.0 (omega arith))) found.1
+
+pub told_behind : (start : Option Moment) (line : List ℕ) (at : ℕ) (fields : Option (List ℕ)) (text told : List ℕ) → Some (drop at line) ≡ fields
+    → at ≤ length line → IsToldAs start (drop at line) told → text ≡ take at line ++ told → IsToldOf start line fields text
+told_behind start line at fields text told is within says written =
+    let place : at ≡ length line - length (drop at line) = omega (arith, within, length-drop at line) in
+    subst (λ (f : Option (List ℕ)). IsToldOf start line f text) is
+    (told, says, written ∙ ap (λ (n : ℕ). take n line ++ told) place)
+
+pub told_whole : (start : Option Moment) (line : List ℕ) (fields : Option (List ℕ)) (text : List ℕ) → None ≡ fields → text ≡ line ++ 10 ∷ []
+    → IsToldOf start line fields text
+told_whole start line fields text is written = subst (λ (f : Option (List ℕ)). IsToldOf start line f text) is written
+
+pub ok_then : {E P Q : Type 0} (r : Result (Unit {0}) E) → OnOk r P → (P → Q) → OnOk r Q
+ok_then (Ok done) p f = f p
+ok_then (Err e) p f = p

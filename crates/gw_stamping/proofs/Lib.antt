@@ -1,0 +1,3 @@
+pub mod FieldsLemmas
+pub mod LawLemmas
+pub mod StampLemmas

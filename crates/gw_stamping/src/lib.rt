@@ -1,0 +1,15 @@
+//! Stamps in a log: a log whose lines begin with the time at which they came, and lines that are read
+//! whatever is in front of their own fields.
+#![tactic(auto)]
+
+mod calendar;
+mod fields;
+mod form;
+pub mod laws;
+mod stamped;
+mod telling;
+
+pub use calendar::{Calendar, SystemCalendar, moment_after};
+pub use fields::ask_front;
+pub use stamped::Stamped;
+pub use telling::tell_log;
