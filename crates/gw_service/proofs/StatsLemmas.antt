@@ -1,5 +1,6 @@
 -- Texts that are written one after the other.
 use Rattle.std.proofs.Common.{◌≡◌, ◌∙◌, ℕ, ◌+◌, ◌<◌, List, [], ◌++◌, Option, Result, Ok, Err, OnOk, ap, append_assoc, arith, get_or, length, refl, subst, sym, take}
+use Rattle.std.proofs.Math.Seq.{take-length}
 use Rattle.gw_script.specs.Order.{in_order}
 use Rattle.gw_script.proofs.Order.{in_order_next}
 use Rattle.std.specs.Io.KnownBytes.{Appends}
@@ -38,3 +39,9 @@ told_one text a b c items place d line inside is first second =
     subst (λ (t : List ℕ). Appends a c t) (sym next)
     (appends_two a b c (in_order text 1 (take place items)) (text (1 + place) (get_or items place d)) first
     (subst (λ (t : List ℕ). Appends b c t) (is ∙ ap (λ (n : ℕ). text n (get_or items place d)) number) second))
+
+-- the lines of all rules
+pub told_all : {A : Type 0} (text : ℕ → A → List ℕ) (a b : Option (List ℕ)) (items : List A) (place : ℕ) → place ≡ length items
+    → Appends a b (in_order text 1 (take place items)) → Appends a b (in_order text 1 items)
+told_all text a b items place ends told =
+    subst (λ (xs : List _). Appends a b (in_order text 1 xs)) (ap (λ (n : ℕ). take n items) ends ∙ take-length items) told

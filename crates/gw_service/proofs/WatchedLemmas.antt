@@ -1,15 +1,18 @@
 -- A run that is watched is one that isn't, but for what is reported.
-use Rattle.std.proofs.Common.{◌≡◌, ℕ, List, [], ◌∷◌, ◌++◌, Bool, true, false, true≢false, refl, sym, ap, subst}
+use Rattle.std.proofs.Common.{◌≡◌, ℕ, List, [], ◌∷◌, ◌++◌, ◌&&◌, Bool, true, false, true≢false, refl, sym, ap, subst}
 use Rattle.std.specs.Prelude.{Result, Ok, Err}
 use Rattle.gw_configuration.specs.Configuration.{Configuration}
 use Rattle.gw_core.specs.State.{State}
-use Rattle.gw_serving.specs.Both.{LetsAllGo, first_moment}
-use Rattle.gw_serving.specs.Stretch.{EndsStretch}
+use Rattle.gw_core.specs.History.{state_from}
+use Rattle.gw_script.specs.Event.{Event}
+use Rattle.gw_serving.specs.Both.{LetsAllGo, PassesBoth, first_moment}
+use Rattle.gw_serving.specs.Serve.{Turn, empty_turn, failed_turn, lost_event, taken_event, turn_events}
+use Rattle.gw_serving.specs.Stretch.{AreGuarded, EndsStretch, GoOn, GuardsTurn, Moment}
 use Rattle.gw_serving.specs.declared.guard.Both.{Both}
 use Rattle.gw_serving.specs.declared.serving.ServeFault.{ServeFault}
 use Rattle.gw_serving.specs.declared.serving.Served.{Served}
 use Rattle.gw_serving.specs.declared.tally.Tally.{Tally}
-use Rattle.gw_serving.proofs.BothLemmas.{first_goes, first_withheld, under_first}
+use Rattle.gw_serving.proofs.BothLemmas.{under_first}
 use Rattle.gw_watching.specs.Watching.{HasWatched, Watching}
 use Rattle.gw_service.specs.Chain.{AreLinks, AtTick, IsLink, IsLooked, Link, Look, Manner, Runs, Stage, Standing, chain_text, look_text, stage, standing}
 use Rattle.gw_service.specs.Chain.{refused, served, taken_over, ticked, unrequested, withheld}
@@ -23,16 +26,64 @@ use Rattle.gw_service.specs.declared.keeping.Kept.{Kept}
 use Rattle.gw_service.specs.declared.reload.ReloadCounts.{ReloadCounts}
 use Rattle.gw_service.specs.declared.troubles.Troubles.{Troubles}
 
+-- ---- the first of two guards
+
+first_of : (one two : Bool) → true ≡ (one && two) → one ≡ true
+first_of true two is = refl
+first_of false two is = absurd cc
+
+first_withholds : (one two : Bool) → false ≡ (one && two) → two ≡ true → one ≡ false
+first_withholds true true is lets = absurd cc
+first_withholds false two is lets = refl
+first_withholds true false is lets = absurd cc
+
+first_turn : {G H : Type 0} (First : G → State → Event → G → Bool → Type 0) (Second : H → State → Event → H → Bool → Type 0) (g h : Both G H)
+    (w : State) (turn : Turn) → GuardsTurn (PassesBoth First Second) g w turn h → GuardsTurn First g.first w turn h.first
+first_turn First Second g h w empty_turn p = ap (λ (b : Both _ _). b.first) p
+first_turn First Second g h w failed_turn p = ap (λ (b : Both _ _). b.first) p
+first_turn First Second g h w (lost_event event) p = ap (λ (b : Both _ _). b.first) p
+first_turn First Second g h w (taken_event event tries) p =
+    subst (λ (b : Bool). First g.first w event h.first b) (first_of p.0 p.1 p.4) p.2
+
+first_turns : {G H : Type 0} (First : G → State → Event → G → Bool → Type 0) (Second : H → State → Event → H → Bool → Type 0) (g h : Both G H)
+    (w : State) (turns : List Turn) → AreGuarded (PassesBoth First Second) g w turns h → AreGuarded First g.first w turns h.first
+unfolding AreGuarded
+first_turns First Second g h w [] p = ap (λ (b : Both _ _). b.first) p
+first_turns First Second g h w (turn ∷ turns) p = (
+  p.0.first,
+  first_turn First Second g p.0 w turn p.1,
+  first_turns First Second p.0 h (state_from w (turn_events turn)) turns p.2,
+)
+
+first_goes : {G H : Type 0} (First : G → State → Event → G → Bool → Type 0) (Second : H → State → Event → H → Bool → Type 0)
+    (before after : Moment (Both G H)) (turns : List Turn) → GoOn (PassesBoth First Second) before turns after
+    → GoOn First (first_moment before) turns (first_moment after)
+first_goes First Second before after turns p = record {
+  went = p.went;
+  guarded = first_turns First Second before.guard after.guard before.scene.gateway turns p.guarded;
+  counts = p.counts;
+  tally = p.tally;
+}
+
+first_withheld : {G H : Type 0} (First : G → State → Event → G → Bool → Type 0) (Second : H → State → Event → H → Bool → Type 0)
+    → LetsAllGo Second → (g h : Both G H) (w : State) (event : Event) → PassesBoth First Second g w event h false
+    → First g.first w event h.first false
+first_withheld First Second lets g h w event p = by p.1 refl
+  where
+    by : (two : Bool) → p.1 ≡ two → First g.first w event h.first false
+    by true is = subst (λ (b : Bool). First g.first w event h.first b) (first_withholds p.0 p.1 p.4 is) p.2
+    by false is = absurd (lets g.second h.second w event (subst (λ (b : Bool). Second g.second w event h.second b) is p.3))
+
 -- what watches lets all go
 lets : {T A : Type 0} (trial : T → _) (audit : A → _) → LetsAllGo (HasWatched trial audit)
 lets trial audit g h w event p = absurd (true≢false (sym p.0))
 
 -- ---- without what watches
 
-unwatched : {S L : Type 0} → Stage (Both (Kept S) (Watching L L)) → Stage (Kept S)
+abbrev unwatched : {S L : Type 0} → Stage (Both (Kept S) (Watching L L)) → Stage (Kept S)
 unwatched s = stage s.config (first_moment s.now) s.requests s.counts (of_state s.told.state)
 
-standing_of : {S L : Type 0} → Standing (Both (Kept S) (Watching L L)) → Standing (Kept S)
+abbrev standing_of : {S L : Type 0} → Standing (Both (Kept S) (Watching L L)) → Standing (Kept S)
 standing_of s = standing s.gateway s.keeper.first s.requests s.counts
 
 looked : {S L : Type 0} (held : S → _) (c d : Configuration) (s t : Standing (Both (Kept S) (Watching L L))) (look : Look)
@@ -125,7 +176,7 @@ chained held log_held how s t [] chain = ([], ap unwatched chain)
 chained held log_held how s t (link ∷ links) chain =
     let first = linked held log_held how s chain.0 link chain.1 in
     let later = chained held log_held how chain.0 t links chain.2 in
-    (first.0 ∷ later.0, unwatched chain.0, first.1, later.1)
+    (first.0 ∷ later.0, (unwatched chain.0, first.1, later.1))
 
 -- ---- a run
 

@@ -11,3 +11,4 @@ pub mod Kept
 pub mod Stats
 pub mod Laws
 pub mod Watch
+pub mod Scheduled

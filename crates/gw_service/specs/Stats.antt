@@ -6,7 +6,6 @@ use Rattle.gw_serving.specs.Reports.{report_line, report_of}
 use Rattle.gw_serving.specs.declared.serving.Served.{Served}
 use Rattle.gw_serving.specs.declared.tally.Tally.{Tally}
 use Rattle.gw_service.specs.declared.reload.ReloadCounts.{ReloadCounts}
-use Rattle.gw_service.specs.declared.stats.Schedule.{Schedule}
 
 -- The counts of a gateway in this state didn't fall since it began with these, and each tick is an event that was taken.
 abbrev pub has_gone_on : Counts → State → Served → Bool
@@ -36,9 +35,6 @@ pub record Reporting : Type 0 where
 abbrev pub reporting : Option ℕ → Counts → (keeps reloads : Bool) → Reporting
 reporting seconds start keeps reloads =
     record { seconds = seconds; start = start; keeps = keeps; reloads = reloads }
-
-abbrev pub reporting_by : Schedule → Reporting
-reporting_by s = reporting s.seconds s.start s.keeps s.reloads
 
 -- how often the state couldn't be kept and the configuration was read again, and what else the keeper reports
 abbrev pub tries_text : {K : Type 0} → (K → ℕ) → (K → State → List ℕ) → Reporting → K → ReloadCounts → State → List ℕ

@@ -121,7 +121,7 @@ BeginAnew new before after = after ≡ option_map (λ _. new) before
 pub record WatchesOn {T A : Type 0} (c : Configuration) (before after : Watching T A) : Type 0 where
   pub counts : List ℕ
   pub tally : IsTally c.rules [] counts
-  pub after : after ≡ record before { audit = option_map (with_marks c.audits) before.audit; counts = option_map (λ _. counts) before.counts }
+  pub goes_on : after ≡ record before { audit = option_map (with_marks c.audits) before.audit; counts = option_map (λ _. counts) before.counts }
 
 abbrev pub IsKeptForBeside : {S T A : Type 0} → (S → Option (List ℕ)) → Both (Kept S) (Watching T A) → Configuration → State
     → Both (Kept S) (Watching T A) → Type 0
@@ -157,13 +157,23 @@ abbrev pub counts_text : List Rule → Option (List ℕ) → List ℕ
 counts_text rules None = []
 counts_text rules (Some counts) = if length counts == length rules + 1 then tally_text rules counts else []
 
+abbrev pub logs_text : {T A : Type 0} → Watching T A → List ℕ
+logs_text w = trial_text w.trial ++ audit_text w.audit
+
+abbrev pub asks_text : {T A : Type 0} → List Rule → Watching T A → List ℕ
+asks_text rules w = unseen_text w.unseen ++ counts_text rules w.counts
+
 abbrev pub watch_text : {T A : Type 0} → List Rule → Watching T A → List ℕ
-watch_text rules w = trial_text w.trial ++ (audit_text w.audit ++ (unseen_text w.unseen ++ counts_text rules w.counts))
+watch_text rules w = logs_text w ++ asks_text rules w
 
 abbrev pub more_of : {S T A : Type 0} → Both (Kept S) (Watching T A) → State → List ℕ
 more_of k w = watch_text w.rules k.second
 
--- what is written of rules that say that they are audited, if no audit is named
+-- a rule says that it is audited, and no audit is named
+abbrev pub is_unaudited : (audits : List Bool) → (is_named : Bool) → Bool
+is_unaudited audits is_named = not is_named && list_any (λ audit. audit) audits
+
+-- what is written then
 abbrev pub unaudited_note : (audits : List Bool) → (is_named : Bool) → List ℕ
 unaudited_note audits is_named =
-    if not is_named && list_any (λ audit. audit) audits then codes "bacgw: audit = true writes nothing without --audit\n" else []
+    if is_unaudited audits is_named then codes "bacgw: audit = true writes nothing without --audit\n" else []

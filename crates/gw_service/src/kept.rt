@@ -1,6 +1,6 @@
 //! A run that keeps its state, or reads its configuration again.
 
-ghost use Rattle.std.specs.Prelude.{◌≡◌, ◌<◌, ◌^◌, ℕ, List, None, Ok, [], option_map, string_bytes, IfErr, IfOk, OnOk};
+ghost use Rattle.std.specs.Prelude.{◌≡◌, ◌<◌, ◌^◌, ◌||◌, ℕ, List, None, Ok, [], is_some, option_map, string_bytes, IfErr, IfOk, OnOk};
 ghost use Rattle.std.specs.Io.Buffered.{writer_buffer, writer_contents};
 ghost use Rattle.std.specs.Io.KnownBytes.{Appends};
 ghost use Rattle.gw_configuration.specs.Configuration.{Configuration};
@@ -264,6 +264,13 @@ fn outcome_of(answer: Result<(), ServeFault>) -> Result<(), ServiceFault>
     }
 }
 
+/// Whether the state is kept, or requests are looked for.
+fn is_kept<S, Q, T: OctetSink + Drop>(before: &Before<S, Q, T>) -> bool
+    ensures { result ≡ (is_some before.now.requests || is_some before.now.store) }
+{
+    before.requests.is_some() || before.store.is_some()
+}
+
 /// Runs a gateway of this configuration on a log, for so many turns, and says at the start if its state isn't kept.
 /// Faults: `Log`, `Memory` and `CountEnd`.
 fn run_on<
@@ -283,13 +290,13 @@ fn run_on<
     options: &RunOptions,
 ) -> Result<(), ServiceFault>
     requires failures { X.failure_count sockets.old < 2 ^ 127 }
-    ensures ran { (text : List ℕ) × LeavesKept (given S.held Q.told T.held before.entry) config (service options.now.turns options.now.stats)
+    ensures ran { (text : List ℕ) × LeavesKept (given S.held Q.told T.held before) config (service options.now.turns options.now.stats)
         (ends (L.held log.old) (X.calls sockets.old)) (ends (L.held log.new) (X.calls sockets.new)) text result
         × (E.NeverFails errors.old → Appends (E.held errors.old) (E.held errors.new) text) }
     ensures lasting { E.NeverFails errors.old → E.NeverFails errors.new }
 {
     let reloads = before.requests.is_some();
-    let keeps = reloads || before.store.is_some();
+    let keeps = is_kept(&before);
     let watcher = before.watcher.take();
     let mut running = make_running(alloc, config, before)?;
     let schedule = Schedule {

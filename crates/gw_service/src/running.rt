@@ -14,7 +14,8 @@ ghost use Rattle.gw_service.specs.Notices.{no_troubles, notice_of};
 ghost use Rattle.gw_service.specs.Reload.{refusal_line};
 ghost use Rattle.gw_service.specs.Kept.{RunsFrom};
 ghost use Rattle.gw_service.specs.Serving.{ends};
-ghost use Rattle.gw_service.specs.Stats.{due_stats, end_stats, reporting_by};
+ghost use Rattle.gw_service.specs.Scheduled.{reporting_by};
+ghost use Rattle.gw_service.specs.Stats.{due_stats, end_stats};
 
 use crate::keeping::StateKeeper;
 use crate::line::{line_with_place, refusal_line};

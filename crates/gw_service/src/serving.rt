@@ -12,7 +12,8 @@ ghost use Rattle.gw_serving.specs.Serve.{scene};
 ghost use Rattle.gw_service.specs.Announcement.{startup_line};
 ghost use Rattle.gw_system.specs.Host.{OpensAtLine};
 ghost use Rattle.gw_service.specs.Kept.{LeavesChosen, LeavesService, is_plain, state_machine, whole_machine};
-ghost use Rattle.gw_service.specs.Watch.{unaudited_note};
+ghost use Rattle.std.specs.List.{list_any};
+ghost use Rattle.gw_service.specs.Watch.{is_unaudited, unaudited_note};
 ghost use Rattle.gw_service.specs.Serving.{AreOpen, ArentOpen, IsFlushedFor, LeavesServed, LogIsOpen, LogIsShut, LogStays, Serves, ServesFrom, ends, log_held, machine, outcome_of, service};
 ghost use Rattle.gw_service.specs.declared.fault.ServiceFault.TheVariants as fault;
 
@@ -310,11 +311,25 @@ fn serve_chosen<H: Host, W: Write + Drop, E: OctetSink>(
     }
 }
 
+/// Whether a rule says `audit = true`.
+fn has_audit(audits: &[bool]) -> bool
+    ensures { result ≡ list_any (λ audit. audit) audits.now }
+{
+    audits.iter().any(|audit| *audit)
+}
+
+/// Whether a rule says `audit = true`, and no audit is named.
+fn is_unaudited(config: &Config, options: &RunOptions) -> bool
+    ensures { result ≡ is_unaudited config.now.audits (is_some options.now.audit) }
+{
+    !options.audit.is_some() && has_audit(config.audits())
+}
+
 /// What is written of rules that say `audit = true` if no audit is named.
 fn unaudited_note(config: &Config, options: &RunOptions) -> &'static str
     ensures { result.now ≡ unaudited_note config.now.audits (is_some options.now.audit) }
 {
-    if !options.audit.is_some() && config.audits().iter().any(|audit| *audit) {
+    if is_unaudited(config, options) {
         "bacgw: audit = true writes nothing without --audit\n"
     } else {
         ""

@@ -4,7 +4,7 @@ ghost use Rattle.std.proofs.Props.{props};
 ghost use Rattle.std.specs.Prelude.{◌≡◌, ◌++◌, ◌-◌, ◌%◌, ◌==◌, ◌<◌, ◌≤◌, IfSome, IsOk, IsTrue, OnOk, decimal, if◌then◌else◌, [], List, ℕ, true};
 ghost use Rattle.std.specs.Io.KnownBytes.{Appends};
 ghost use Rattle.gw_serving.specs.ReportTurn.{HasGoneOn};
-ghost use Rattle.gw_service.specs.Stats.{due_stats, end_stats, has_gone_on, is_due, reloads_text, reporting_by, stats_text, tries_text, unkept_text};
+ghost use Rattle.gw_service.specs.Stats.{due_stats, end_stats, has_gone_on, is_due, reloads_text, reporting, stats_text, tries_text, unkept_text};
 
 use crate::keeping::StateKeeper;
 use crate::reload::ReloadCounts;
@@ -112,7 +112,7 @@ impl Schedule {
         errors: &mut E,
     )
         ensures told { E.NeverFails errors.old → Appends (E.held errors.old) (E.held errors.new)
-            (tries_text K.unkept K.more (reporting_by self.now) keeper.now counts gateway.now) }
+            (tries_text K.unkept K.more (reporting self.now.seconds self.now.start self.now.keeps self.now.reloads) keeper.now counts gateway.now) }
         ensures lasts { E.NeverFails errors.old → E.NeverFails errors.new }
     {
         tell_unkept(self.keeps, keeper.unkept(), errors);
@@ -130,8 +130,8 @@ impl Schedule {
         errors: &mut E,
     )
         ensures told { E.NeverFails errors.old → Appends (E.held errors.old) (E.held errors.new)
-            (stats_text (reporting_by self.now) gateway.now state.now.served state.now.tally
-            (tries_text K.unkept K.more (reporting_by self.now) keeper.now counts gateway.now)) }
+            (stats_text (reporting self.now.seconds self.now.start self.now.keeps self.now.reloads) gateway.now state.now.served state.now.tally
+            (tries_text K.unkept K.more (reporting self.now.seconds self.now.start self.now.keeps self.now.reloads) keeper.now counts gateway.now)) }
         ensures lasts { E.NeverFails errors.old → E.NeverFails errors.new }
     {
         if has_gone_on(self.start, gateway, &state.served) {
@@ -151,7 +151,7 @@ impl Schedule {
         errors: &mut E,
     )
         ensures told { E.NeverFails errors.old → Appends (E.held errors.old) (E.held errors.new)
-            (due_stats K.unkept K.more (reporting_by self.now) keeper.now counts gateway.now state.now.served state.now.tally) }
+            (due_stats K.unkept K.more (reporting self.now.seconds self.now.start self.now.keeps self.now.reloads) keeper.now counts gateway.now state.now.served state.now.tally) }
         ensures lasts { E.NeverFails errors.old → E.NeverFails errors.new }
     {
         if let Some(seconds) = self.seconds {
@@ -171,7 +171,7 @@ impl Schedule {
         errors: &mut E,
     )
         ensures told { E.NeverFails errors.old → Appends (E.held errors.old) (E.held errors.new)
-            (end_stats K.unkept K.more (reporting_by self.now) keeper.now counts gateway.now state.now.served state.now.tally) }
+            (end_stats K.unkept K.more (reporting self.now.seconds self.now.start self.now.keeps self.now.reloads) keeper.now counts gateway.now state.now.served state.now.tally) }
         ensures lasts { E.NeverFails errors.old → E.NeverFails errors.new }
     {
         if self.seconds.is_some() {

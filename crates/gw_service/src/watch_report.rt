@@ -3,7 +3,7 @@
 ghost use Rattle.std.specs.Prelude.{◌≡◌, ◌++◌, ◌+◌, codes, decimal, length, IsOk, OnOk};
 ghost use Rattle.std.specs.Io.KnownBytes.{Appends};
 ghost use Rattle.gw_script.specs.Order.{in_order};
-ghost use Rattle.gw_service.specs.Watch.{audit_text, beside_text, counts_text, trial_text, unseen_text, watch_text};
+ghost use Rattle.gw_service.specs.Watch.{asks_text, audit_text, beside_text, counts_text, logs_text, trial_text, unseen_text, watch_text};
 ghost use Rattle.gw_tally.specs.Tally.{line_in, rule_line};
 
 use crate::stats::write_count;
@@ -129,6 +129,32 @@ fn tell_counts<E: OctetSink>(rules: &RuleList, counts: &Option<Tally>, errors: &
     }
 }
 
+/// Reports what the logs of a watcher have and lost.
+fn tell_logs<T: OctetSink + Drop, A: OctetSink + Drop, E: OctetSink>(
+    watcher: &Watcher<T, A>,
+    errors: &mut E,
+)
+    ensures told { E.NeverFails errors.old → Appends (E.held errors.old) (E.held errors.new) (logs_text watcher.now) }
+    ensures lasts { E.NeverFails errors.old → E.NeverFails errors.new }
+{
+    tell_trial(watcher.trial(), errors);
+    tell_audit(watcher.audit(), errors);
+}
+
+/// Reports how many events a watcher didn't see, and how many asks each of these rules decided.
+fn tell_asks<T: OctetSink + Drop, A: OctetSink + Drop, E: OctetSink>(
+    rules: &RuleList,
+    watcher: &Watcher<T, A>,
+    errors: &mut E,
+)
+    ensures told { E.NeverFails errors.old →
+        Appends (E.held errors.old) (E.held errors.new) (asks_text rules.now watcher.now) }
+    ensures lasts { E.NeverFails errors.old → E.NeverFails errors.new }
+{
+    tell_unseen(watcher.unseen(), errors);
+    tell_counts(rules, watcher.counts(), errors);
+}
+
 /// Reports what a watcher recorded and lost, and how many asks each of these rules decided.
 pub(crate) fn tell_watched<T: OctetSink + Drop, A: OctetSink + Drop, E: OctetSink>(
     rules: &RuleList,
@@ -139,8 +165,6 @@ pub(crate) fn tell_watched<T: OctetSink + Drop, A: OctetSink + Drop, E: OctetSin
         Appends (E.held errors.old) (E.held errors.new) (watch_text rules.now watcher.now) }
     ensures lasts { E.NeverFails errors.old → E.NeverFails errors.new }
 {
-    tell_trial(watcher.trial(), errors);
-    tell_audit(watcher.audit(), errors);
-    tell_unseen(watcher.unseen(), errors);
-    tell_counts(rules, watcher.counts(), errors);
+    tell_logs(watcher, errors);
+    tell_asks(rules, watcher, errors);
 }

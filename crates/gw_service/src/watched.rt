@@ -1,7 +1,7 @@
 //! A gateway whose state may be kept, and which is watched.
 
-ghost use Rattle.std.specs.Prelude.{◌≡◌, ◌++◌};
-ghost use Rattle.gw_service.specs.Watch.{BeginAnew, IsKeptAtTickBeside, IsKeptForBeside, more_of, troubles_of};
+ghost use Rattle.std.specs.Prelude.{◌≡◌};
+ghost use Rattle.gw_service.specs.Watch.{BeginAnew, IsKeptAtTickBeside, IsKeptForBeside, has_lost, more_of, troubles_of};
 ghost use Rattle.gw_service.specs.Keeping.{unkept_in};
 
 use crate::keeping::{Kept, StateKeeper};

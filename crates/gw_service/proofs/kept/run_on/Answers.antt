@@ -32,35 +32,35 @@ returns-in-None-clause-ran g c =
     let held = g.E.OctetSink.held in
     let told = told_by g.Q.Requests.told in
     ran_kept (given g.S.Store.held g.Q.Requests.told g.T.OctetSink.held c.args.before) c.args.config
-    (service c.args.options.now.turns c.args.options.now.stats) c.counts.result c.keeps c.is_some-reloads.result run.gateway run.keeper
+    (service c.args.options.now.turns c.args.options.now.stats) c.counts.result c.is_kept-keeps.result c.is_some-reloads.result run.gateway run.keeper
     run.state.served run.state.tally (told run.requests) run.counts
     (ends (g.L.OctetSink.held c.args.log.now) (g.X.Wire.calls c.args.sockets.now))
     (ends (g.L.OctetSink.held c.run-in-None.new.log) (g.X.Wire.calls c.run-in-None.new.wire)) c.run-in-None.result c.outcome_of-in-None.result
     (g.E.OctetSink.NeverFails c.args.errors.now) (held c.args.errors.now) (held c.run-in-None.new.errors)
-    (sym c.take-watcher.ensures.result ∙ c.in-None.is)
+    (sym c.take-watcher.ensures.value ∙ c.in-None.is)
     (same_counts c.counts.result run.gateway c.counts.ensures.ticks c.counts.ensures.denials) is.begins is.keeps is.served is.tally
-    (ap told is.requests) is.counts refl c.is_some-reloads.ensures c.outcome_of-in-None.ensures (c.run-in-None.ensures.runs c.args.config is.origin)
+    (ap told is.requests) is.counts c.is_kept-keeps.ensures c.is_some-reloads.ensures c.outcome_of-in-None.ensures (c.run-in-None.ensures.runs c.args.config is.origin)
 
 pub returns-in-Some-clause-ran : goal.returns-in-Some-clause-ran
 returns-in-Some-clause-ran g c =
     let run = c.in_ok-running.running in
     let is = c.in_ok-running.ensures in
-    let watched = c.watched_by.result in
-    let by = c.watched_by.ensures in
+    let watched = c.watched_by-watched.result in
+    let by = c.watched_by-watched.ensures in
     let held = g.E.OctetSink.held in
     let told = told_by g.Q.Requests.told in
     let from = given g.S.Store.held g.Q.Requests.told g.T.OctetSink.held c.args.before in
     ran_watched from c.in-Some.watcher c.args.config
-    (service c.args.options.now.turns c.args.options.now.stats) c.counts.result c.keeps c.is_some-reloads.result watched.gateway watched.keeper
+    (service c.args.options.now.turns c.args.options.now.stats) c.counts.result c.is_kept-keeps.result c.is_some-reloads.result watched.gateway watched.keeper
     watched.state.served watched.state.tally (told watched.requests) watched.counts
     (ends (g.L.OctetSink.held c.args.log.now) (g.X.Wire.calls c.args.sockets.now))
-    (ends (g.L.OctetSink.held c.run-in-Some.new.log) (g.X.Wire.calls c.run-in-Some.new.wire)) c.run-in-Some.result c.outcome_of-in-Some.result
-    (g.E.OctetSink.NeverFails c.args.errors.now) (held c.args.errors.now) (held c.run-in-Some.new.errors)
-    (sym c.take-watcher.ensures.result ∙ c.in-Some.is)
+    (ends (g.L.OctetSink.held c.run.new.log) (g.X.Wire.calls c.run.new.wire)) c.run.result c.outcome_of.result
+    (g.E.OctetSink.NeverFails c.args.errors.now) (held c.args.errors.now) (held c.run.new.errors)
+    (sym c.take-watcher.ensures.value ∙ c.in-Some.is)
     (same_counts c.counts.result run.gateway c.counts.ensures.ticks c.counts.ensures.denials ∙ ap counts_of (sym by.gateway))
     (subst (λ (w : State). BeginsAs c.args.config from.saved from.line w) (sym by.gateway) is.begins)
     (subst (λ (k : Kept _). KeepsFirst from.held from.store c.args.config watched.gateway k) (sym by.first)
     (subst (λ (w : State). KeepsFirst from.held from.store c.args.config w run.keeper) (sym by.gateway) is.keeps))
     by.second (ap (λ (x : ServeState). x.served) by.state ∙ is.served) (ap (λ (x : ServeState). x.tally) by.state ∙ is.tally)
     (ap told by.requests ∙ ap told is.requests) (by.counts ∙ is.counts ∙ ap (λ (w : State). counts_since w.ticks) (sym by.gateway))
-    refl c.is_some-reloads.ensures c.outcome_of-in-Some.ensures (c.run-in-Some.ensures.runs c.args.config (by.origin ∙ is.origin))
+    c.is_kept-keeps.ensures c.is_some-reloads.ensures c.outcome_of.ensures (c.run.ensures.runs c.args.config (by.origin ∙ is.origin))

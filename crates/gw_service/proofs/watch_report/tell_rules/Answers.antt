@@ -2,7 +2,7 @@ use Rattle.std.proofs.Common.{◌≡◌, ◌+◌, ◌<◌, ℕ, List, arith, get
 use Rattle.std.specs.Io.KnownBytes.{Appends}
 use Rattle.gw_script.specs.Order.{in_order}
 use Rattle.gw_tally.specs.Tally.{line_in}
-use Rattle.gw_service.proofs.StatsLemmas.{told_none, told_one}
+use Rattle.gw_service.proofs.StatsLemmas.{told_all, told_none, told_one}
 use Rattle.gw_service.proofs.watch_report.tell_rules.Goals as goal
 
 pub loop-place-init : goal.loop-place-init
@@ -22,4 +22,9 @@ loop-place-preserved g c =
     )
 
 pub returns-clause-told : goal.returns-clause-told
-returns-clause-told g c = ?
+returns-clause-told g c = λ never.
+    let all = c.args.rules.now in
+    let text = line_in c.args.counts.now in
+    let held = g.E.OctetSink.held in
+    let ends : c.loop-place.place ≡ length all = omega (arith, c.loop-place.auto.place-end, c.loop-place-test.false) in
+    told_all text (held c.args.errors.now) (held c.loop-place.errors) all c.loop-place.place ends (c.loop-place.invariant.0 never)

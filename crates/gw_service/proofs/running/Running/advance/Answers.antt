@@ -8,7 +8,8 @@ use Rattle.gw_service.specs.declared.troubles.Troubles.{Troubles}
 use Rattle.gw_serving.specs.declared.stretch.Pause.TheVariants as pause
 use Rattle.gw_service.specs.Chain.{look_text, manner, served, standing, ticked, withheld}
 use Rattle.gw_service.specs.Notices.{notice_of}
-use Rattle.gw_service.specs.Stats.{due_stats, reporting_by}
+use Rattle.gw_service.specs.Scheduled.{reporting_by}
+use Rattle.gw_service.specs.Stats.{due_stats}
 use Rattle.gw_service.proofs.ChainLemmas.{ends_as, more_at_tick, more_at_turns, more_withheld}
 use Rattle.gw_service.proofs.ServingLemmas.{appends_nothing, appends_two}
 use Rattle.gw_service.proofs.running.Running.advance.Goals as goal

@@ -4,7 +4,8 @@ use Rattle.gw_serving.specs.Stretch.{moment}
 use Rattle.gw_configuration.specs.Configuration.{Configuration}
 use Rattle.gw_service.specs.Chain.{manner, stage}
 use Rattle.gw_service.specs.Serving.{ends}
-use Rattle.gw_service.specs.Stats.{due_stats, end_stats, reporting_by}
+use Rattle.gw_service.specs.Scheduled.{reporting_by}
+use Rattle.gw_service.specs.Stats.{due_stats, end_stats}
 use Rattle.gw_service.specs.declared.troubles.Troubles.{Troubles}
 use Rattle.gw_service.proofs.KeptLemmas.{ran_from}
 use Rattle.gw_service.proofs.running.Running.run.Goals as goal

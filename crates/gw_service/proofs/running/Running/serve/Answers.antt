@@ -5,7 +5,8 @@ use Rattle.gw_serving.specs.Serve.{scene}
 use Rattle.gw_serving.specs.Stretch.{moment}
 use Rattle.gw_serving.specs.declared.serving.ServeFault.{ServeFault}
 use Rattle.gw_service.specs.Chain.{Stage, manner, stage}
-use Rattle.gw_service.specs.Stats.{due_stats, reporting_by}
+use Rattle.gw_service.specs.Scheduled.{reporting_by}
+use Rattle.gw_service.specs.Stats.{due_stats}
 use Rattle.gw_service.proofs.ChainLemmas.{Ran, chained_more, chained_none, ran_until}
 use Rattle.gw_service.proofs.running.Running.serve.Goals as goal
 

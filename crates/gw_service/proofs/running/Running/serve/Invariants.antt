@@ -3,7 +3,8 @@ use Rattle.gw_configuration.specs.Configuration.{Configuration}
 use Rattle.gw_serving.specs.Serve.{scene}
 use Rattle.gw_serving.specs.Stretch.{CanCount, moment}
 use Rattle.gw_service.specs.Chain.{manner, stage}
-use Rattle.gw_service.specs.Stats.{due_stats, reporting_by}
+use Rattle.gw_service.specs.Scheduled.{reporting_by}
+use Rattle.gw_service.specs.Stats.{due_stats}
 use Rattle.gw_service.proofs.ChainLemmas.{Chained}
 use Rattle.gw_service.proofs.running.Running.serve.Given as goal
 
