@@ -9,7 +9,7 @@ _bacgw() {
         equals=yes before=${COMP_WORDS[COMP_CWORD - 2]}
     elif [[ $word == --*=* ]]; then
         case $word in
-            --config=* | --with=* | --log=* | --state=* | --reload=*) mapfile -t COMPREPLY < <(compgen -f -P "${word%%=*}=" -- "${word#*=}") ;;
+            --config=* | --with=* | --log=* | --state=* | --reload=* | --trial=* | --trial-log=* | --audit=*) mapfile -t COMPREPLY < <(compgen -f -P "${word%%=*}=" -- "${word#*=}") ;;
         esac
         return
     fi
@@ -17,14 +17,14 @@ _bacgw() {
         options='check replay run why compare log state reload suggest help --help --version'
     else
         case $before in
-            --config | --with | --log | --state | --reload) compopt -o default; return ;;
+            --config | --with | --log | --state | --reload | --trial | --trial-log | --audit) compopt -o default; return ;;
             --turns | --stats | --start | --most) return ;;
         esac
         if [ "$equals" ]; then return; fi
         case ${COMP_WORDS[1]} in
             check) options='--config --explain --lint --help' ;;
             replay) options='--config --explain --help' ;;
-            run) options='--config --log --turns --stats --verbose --state --reload --help' ;;
+            run) options='--config --log --turns --stats --verbose --state --reload --trial --trial-log --audit --help' ;;
             why) options='--config --count --json --help' ;;
             state) options='--config --state --help' ;;
             reload) options='--config --reload --help' ;;

@@ -31,10 +31,14 @@ pub record CallsAreTaken : Type 0 where
     stats = None;
     state = None;
     reload = None;
+    trial = None;
+    trial_log = None;
+    audit = None;
   })
   pub run_whole : Calls
       (codes "run" ∷ on_site (codes "--log" ∷ codes "denials.log" ∷ codes "--turns" ∷ codes "100" ∷ codes "--verbose"
-      ∷ codes "--stats" ∷ codes "60" ∷ codes "--state" ∷ codes "state.txt" ∷ codes "--reload" ∷ codes "again" ∷ []))
+      ∷ codes "--stats" ∷ codes "60" ∷ codes "--state" ∷ codes "state.txt" ∷ codes "--reload" ∷ codes "again"
+      ∷ codes "--trial" ∷ codes "new.toml" ∷ codes "--trial-log" ∷ codes "new.log" ∷ codes "--audit" ∷ codes "writes.log" ∷ []))
       (Serves record {
         config = site;
         log = Some (codes "denials.log");
@@ -43,6 +47,9 @@ pub record CallsAreTaken : Type 0 where
         stats = Some 60;
         state = Some (codes "state.txt");
         reload = Some (codes "again");
+        trial = Some (codes "new.toml");
+        trial_log = Some (codes "new.log");
+        audit = Some (codes "writes.log");
       })
   pub why : Calls (codes "why" ∷ on_site []) (Explains site false)
   pub why_count : Calls (codes "why" ∷ on_site (codes "--count" ∷ [])) (Explains site true)

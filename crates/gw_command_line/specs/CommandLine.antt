@@ -34,6 +34,9 @@ service options = record {
   stats = options.stats;
   state = option_map string_bytes options.state;
   reload = option_map string_bytes options.reload;
+  trial = option_map string_bytes options.trial;
+  trial_log = option_map string_bytes options.trial_log;
+  audit = option_map string_bytes options.audit;
 }
 
 -- a choice is what was asked for

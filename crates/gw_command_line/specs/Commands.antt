@@ -29,15 +29,22 @@ check = with_rule check_of_explanation (flag (codes "migrate"))
 abbrev pub replay : App
 replay = with_rule (with_rule (new_app (codes "replay")) (option (codes "config"))) (flag (codes "explain"))
 
--- `run --config FILE [--log FILE] [--turns N] [--verbose] [--stats SECONDS] [--state FILE] [--reload FILE]`
+-- `run --config FILE [--log FILE] [--turns N] [--verbose] [--stats SECONDS] [--state FILE] [--reload FILE] [--trial FILE]
+-- [--trial-log FILE] [--audit FILE]`
 abbrev pub run_of_turns : App
 run_of_turns = with_rule (with_rule (of_file (codes "run")) (option (codes "log"))) (option (codes "turns"))
 
 abbrev pub run_of_reports : App
 run_of_reports = with_rule (with_rule run_of_turns (flag (codes "verbose"))) (option (codes "stats"))
 
+abbrev pub run_of_state : App
+run_of_state = with_rule (with_rule run_of_reports (option (codes "state"))) (option (codes "reload"))
+
+abbrev pub run_of_trial : App
+run_of_trial = with_rule (with_rule run_of_state (option (codes "trial"))) (option (codes "trial-log"))
+
 abbrev pub run : App
-run = with_rule (with_rule run_of_reports (option (codes "state"))) (option (codes "reload"))
+run = with_rule run_of_trial (option (codes "audit"))
 
 -- `why --config FILE [--count] [--json]`
 abbrev pub why : App

@@ -16,6 +16,9 @@ pub record Service : Type 0 where
   pub stats : Option ℕ
   pub state : Option Text
   pub reload : Option Text
+  pub trial : Option Text
+  pub trial_log : Option Text
+  pub audit : Option Text
 
 -- what a call asks for: the files that it names, and what is to be done with them
 pub data Request : Type 0 where
@@ -78,17 +81,27 @@ check_asked file value =
     then if explains || lints then None else Some (Migrates file)
     else Some (Checks file explains lints)
 
--- `run`, whose numbers have to be such
+-- two options are both given, or neither
+abbrev pub are_paired : Option Text → Option Text → Bool
+are_paired (Some one) (Some two) = true
+are_paired None None = true
+are_paired _ _ = false
+
+-- `run`, whose numbers have to be such, with a trial and its log, or neither
 abbrev pub service_of : Text → Values → Option ℕ → Option (Option ℕ) → Option Request
-service_of file value (Some turns) (Some stats) = Some (Serves record {
-  config = file;
-  log = value (codes "log");
-  turns = turns;
-  verbose = is_true (value (codes "verbose"));
-  stats = stats;
-  state = value (codes "state");
-  reload = value (codes "reload");
-})
+service_of file value (Some turns) (Some stats) =
+    if are_paired (value (codes "trial")) (value (codes "trial-log")) then Some (Serves record {
+      config = file;
+      log = value (codes "log");
+      turns = turns;
+      verbose = is_true (value (codes "verbose"));
+      stats = stats;
+      state = value (codes "state");
+      reload = value (codes "reload");
+      trial = value (codes "trial");
+      trial_log = value (codes "trial-log");
+      audit = value (codes "audit");
+    }) else None
 service_of file value _ _ = None
 
 abbrev pub run_asked : Text → Values → Option Request

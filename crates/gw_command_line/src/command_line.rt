@@ -1,10 +1,10 @@
 //! The command line: which command the words choose, read with `clap`.
 
-ghost use Rattle.std.specs.Prelude.{Some, codes, map, string_bytes};
+ghost use Rattle.std.specs.Prelude.{◌≡◌, Some, codes, map, option_map, string_bytes};
 ghost use Rattle.std.specs.Option.{option_and_then};
 ghost use Rattle.clap.specs.Words.{first_value, found_of, kind_of, subcommand_rows_of};
 ghost use Rattle.gw_command_line.specs.CommandLine.{AskFor, Chooses, IsAnswer, IsChosen, IsRefusal};
-ghost use Rattle.gw_command_line.specs.Requests.{Request, TellsLog, asked, asked_by, asked_of_file, check_asked, compare_asked, list_asked, log_asked, reload_asked, run_asked, state_asked, why_asked};
+ghost use Rattle.gw_command_line.specs.Requests.{Request, TellsLog, are_paired, asked, asked_by, asked_of_file, check_asked, compare_asked, list_asked, log_asked, reload_asked, run_asked, state_asked, why_asked};
 
 use crate::commands::make_commands;
 use crate::fault::WordsFault;
@@ -118,6 +118,16 @@ fn check_choice(matches: &ArgMatches<'_>, file: String) -> Result<Choice, WordsF
     Ok(Choice::Migrate(file))
 }
 
+/// Whether two options are both given, or neither.
+fn are_paired(one: &Option<String>, two: &Option<String>) -> bool
+    ensures { result ≡ are_paired (option_map string_bytes one.now) (option_map string_bytes two.now) }
+{
+    match (one, two) {
+        (Some(_), Some(_)) | (None, None) => true,
+        _ => false,
+    }
+}
+
 /// What `run` asks for under the configuration in this file.
 fn run_choice(alloc: Global, matches: &ArgMatches<'_>, config: String) -> Result<Choice, WordsFault>
     ensures { IsChosen (run_asked (string_bytes config) (first_value (found_of matches.now))) result }
@@ -128,6 +138,11 @@ fn run_choice(alloc: Global, matches: &ArgMatches<'_>, config: String) -> Result
     let Some(stats) = period_of(matches, "stats") else {
         return Err(WordsFault::CommandLine);
     };
+    let trial = file_of(alloc, matches, "trial")?;
+    let trial_log = file_of(alloc, matches, "trial-log")?;
+    if !are_paired(&trial, &trial_log) {
+        return Err(WordsFault::CommandLine);
+    }
     Ok(Choice::Run(RunOptions {
         config,
         log: file_of(alloc, matches, "log")?,
@@ -136,6 +151,9 @@ fn run_choice(alloc: Global, matches: &ArgMatches<'_>, config: String) -> Result
         stats,
         state: file_of(alloc, matches, "state")?,
         reload: file_of(alloc, matches, "reload")?,
+        trial,
+        trial_log,
+        audit: file_of(alloc, matches, "audit")?,
     }))
 }
 

@@ -3,7 +3,7 @@
 ghost use Rattle.std.specs.Prelude.{◌≡◌, false, codes, IfOk};
 ghost use Rattle.clap.specs.Words.{app_of, rule_of};
 ghost use Rattle.clap.specs.declared.builder.command.Command.TheViews.{out-Command};
-ghost use Rattle.gw_command_line.specs.Commands.{check, check_of_explanation, commands, compare, first_commands, flag, log, needed, of_file, option, program, reload, replay, run, run_of_reports, run_of_turns, state, suggest, why};
+ghost use Rattle.gw_command_line.specs.Commands.{check, check_of_explanation, commands, compare, first_commands, flag, log, needed, of_file, option, program, reload, replay, run, run_of_reports, run_of_state, run_of_trial, run_of_turns, state, suggest, why};
 
 use clap::{Arg, ArgAction, Command};
 use std::alloc::{AllocError, Global};
@@ -114,6 +114,26 @@ fn make_replay<'a>(alloc: Global) -> Result<Command<'a>, AllocError>
 
 fn make_run<'a>(alloc: Global) -> Result<Command<'a>, AllocError>
     ensures app { IfOk result (λ command. app_of command ≡ run) }
+    ensures local { IfOk result (λ command. (out-Command command).has_globals ≡ false) }
+{
+    let help = "What the asks are appended to that a rule with audit = true allows";
+    let audit = make_option(alloc, "audit", FILE, help);
+    make_run_of_trial(alloc)?.arg(audit)
+}
+
+fn make_run_of_trial<'a>(alloc: Global) -> Result<Command<'a>, AllocError>
+    ensures app { IfOk result (λ command. app_of command ≡ run_of_trial) }
+    ensures local { IfOk result (λ command. (out-Command command).has_globals ≡ false) }
+{
+    let help = "A configuration whose rules are only tried; with --trial-log";
+    let trial = make_option(alloc, "trial", FILE, help);
+    let help = "What the asks are appended to that the rules of --trial deny";
+    let log = make_option(alloc, "trial-log", FILE, help);
+    make_run_of_state(alloc)?.arg(trial)?.arg(log)
+}
+
+fn make_run_of_state<'a>(alloc: Global) -> Result<Command<'a>, AllocError>
+    ensures app { IfOk result (λ command. app_of command ≡ run_of_state) }
     ensures local { IfOk result (λ command. (out-Command command).has_globals ≡ false) }
 {
     let help = "Keeps the state in this file, and begins with what it holds";

@@ -20,6 +20,12 @@ pub struct RunOptions {
     pub state: Option<String>,
     /// The file whose being there asks for the configuration to be read again. Without one it is read once.
     pub reload: Option<String>,
+    /// The configuration whose rules are on trial. It is there if `trial_log` is.
+    pub trial: Option<String>,
+    /// The file that what the rules on trial deny is appended to.
+    pub trial_log: Option<String>,
+    /// The file that allowed asks are appended to whose deciding rule says so.
+    pub audit: Option<String>,
     pub ghost few: { turns < 2 ^ 63 },
     pub ghost seconds: { IfSome stats (λ n. 0 < n) } by { Prim.hlevel props },
 }

@@ -21,6 +21,12 @@ use std::io;
 use std::io::{BufWriter, ErrorKind};
 use std::process::ExitCode;
 
+/// The name of the configuration that is on trial.
+const TRIAL: &str = "trial";
+
+/// The names of the logs beside the log.
+const BESIDE: [&str; 2] = ["trial.log", "audit.log"];
+
 /// The name of the one file that can't be read.
 const UNREADABLE: &str = "unreadable";
 
@@ -165,6 +171,8 @@ type Closed = (MemSockets, Option<MemWriter>);
 struct MemHost {
     alloc: Global,
     log: Option<usize>,
+    beside: Option<usize>,
+    trial: Option<Vec<u8>>,
     is_cut: bool,
     failing: Option<usize>,
     routes: bool,
@@ -208,8 +216,13 @@ impl Host for MemHost {
 
     ghost Closes = { λ host sockets log. host.closed ≡ Some (sockets, log) };
 
-    fn open_log(&self, _alloc: Global, _name: &str) -> Result<MemWriter, LogFailure> {
-        match self.log {
+    fn open_log(&self, _alloc: Global, name: &str) -> Result<MemWriter, LogFailure> {
+        let room = if BESIDE.contains(&name) {
+            self.beside
+        } else {
+            self.log
+        };
+        match room {
             Some(room) => Ok(MemWriter::with_room(self.alloc, room, true)?),
             None => Err(LogFailure::Failed),
         }
@@ -252,8 +265,13 @@ impl Host for MemHost {
         if name == UNREADABLE {
             return Err(ReadFailure::Unreadable);
         }
-        match &self.state {
-            Some(state) => Ok(Some(Vec::from_slice(alloc, state)?)),
+        let text = if name == TRIAL {
+            &self.trial
+        } else {
+            &self.state
+        };
+        match text {
+            Some(text) => Ok(Some(Vec::from_slice(alloc, text)?)),
             None => Ok(None),
         }
     }
@@ -364,6 +382,36 @@ fn state_of(alloc: Global, lines: &str) -> Result<Option<Vec<u8>>, AllocError> {
     text_if(alloc, has_line(lines, "state cut"), "bacgw state 1\n")
 }
 
+/// A text with another in the place of this part.
+fn text_with(alloc: Global, text: &str, old: &str, new: &str) -> Result<Option<Vec<u8>>, AllocError> {
+    let mut made = Vec::new(alloc);
+    for (place, part) in text.split(old).enumerate() {
+        if place > 0 {
+            made.extend_from_slice(new.as_bytes())?;
+        }
+        made.extend_from_slice(part.as_bytes())?;
+    }
+    Ok(Some(made))
+}
+
+/// The configuration that is on trial: that of the section; one with another broadcast address, or of another format; one that
+/// is none; or nothing.
+fn trial_of(alloc: Global, lines: &str, config: &str) -> Result<Option<Vec<u8>>, AllocError> {
+    if has_line(lines, "trial other ports") {
+        return text_with(alloc, config, "192.168.1.255", "192.168.1.254");
+    }
+    if has_line(lines, "trial other format") {
+        return text_with(alloc, config, "format = 1", "format = 2");
+    }
+    if has_line(lines, "trial denies") {
+        return text_with(alloc, config, "allow = true", "allow = false");
+    }
+    if has_line(lines, "trial faulty") {
+        return text_if(alloc, true, "format = 4\n");
+    }
+    text_if(alloc, has_line(lines, "trial same"), config)
+}
+
 /// The text that a section's request has: that of the configuration, one that is none, or nothing if it can't be read.
 fn reload_of(alloc: Global, lines: &str, config: &str) -> Result<Option<Vec<u8>>, AllocError> {
     if has_line(lines, "reload same") {
@@ -411,6 +459,8 @@ fn run_with(alloc: Global, config: &str, section: &str, room: usize) -> Result<L
     let mut host = MemHost {
         alloc,
         log: number_behind(lines, '\n', "log "),
+        beside: number_behind(lines, '\n', "beside "),
+        trial: trial_of(alloc, lines, config)?,
         is_cut: has_line(lines, "cut log"),
         failing: number_behind(lines, '\n', "failing port "),
         routes: has_line(lines, "routes ip"),

@@ -7,6 +7,7 @@ use gw_script::LineFlaw;
 use gw_serving::StoreFault;
 use gw_shell::{Choice, Fault, RunOptions, WordsFault, choice_of, end};
 use gw_state_text::{FaultKind, StateFault};
+use gw_watch_files::TrialFault;
 use itoa::Buffer;
 use std::alloc::{AllocError, Global};
 use std::io;
@@ -117,7 +118,10 @@ fn put_options(options: &RunOptions, out: &mut Vec<u8>) -> Result<(), AllocError
     }
     put_flag(out, " verbose", options.verbose)?;
     put_file(out, " state=", &options.state)?;
-    put_file(out, " reload=", &options.reload)
+    put_file(out, " reload=", &options.reload)?;
+    put_file(out, " trial=", &options.trial)?;
+    put_file(out, " trial-log=", &options.trial_log)?;
+    put_file(out, " audit=", &options.audit)
 }
 
 /// Appends what is in front of a file and its name, if there is one.
@@ -163,6 +167,12 @@ pub fn faults(alloc: Global, out: &mut Vec<u8>) -> io::Result<()> {
         Fault::Memory,
         Fault::CountEnd,
         Fault::StateUnreadable,
+        Fault::Trial(TrialFault::Unreadable),
+        Fault::Trial(TrialFault::Configuration(ConfigFault::Range)),
+        Fault::Trial(TrialFault::Format),
+        Fault::Trial(TrialFault::Ports),
+        Fault::Trial(TrialFault::Log),
+        Fault::Audit,
         Fault::State(StateFault {
             line: 7,
             kind: FaultKind::Range,

@@ -20,6 +20,7 @@ use Rattle.gw_system.specs.Requests.{Exchange, GoesOn, answered, asked}
 use Rattle.gw_system.specs.declared.reading.ReadFailure.{ReadFailure}
 use Rattle.gw_service.specs.Chain.{Advances, AreLinks, IsLink, IsLooked, Link, Look, Looks, Manner, Runs, Stage, chain_text, link_text, look_text}
 use Rattle.gw_service.specs.Chain.{refused, standing, taken_over, unrequested}
+use Rattle.gw_service.specs.Keeping.{IsSuccessor}
 use Rattle.gw_service.specs.Reload.{IsRefusalLine, IsRefused, IsReloaded, refusal_line, reload_line, with_refused, with_taken_over}
 use Rattle.gw_service.specs.declared.reload.Adopted.{Adopted}
 use Rattle.gw_service.specs.declared.reload.ReloadCounts.{ReloadCounts}
@@ -66,10 +67,10 @@ turns_counted s (taken_event e tries ∷ turns) =
 -- ---- a request
 
 -- a configuration that is taken over, and what is answered and reported of it
-pub taken_so : {K : Type 0} (Adopts : K → Origin → State → K → Type 0) (o : Origin) (w : State) (k l : K)
+pub taken_so : {K : Type 0} (Adopts : K → Configuration → State → K → Type 0) (o : Origin) (w : State) (k l : K)
     (read : Result (Option (List ℕ)) ReadFailure) (made : Adopted) (first middle last : Option (List Exchange)) (line : List ℕ)
     (counts then : ReloadCounts) (Never : Type 0) (held holds : Option (List ℕ)) → IsReloaded w o read made
-    → Adopts k made.kept made.gateway l → GoesOn first middle (asked read ∷ []) → GoesOn middle last (answered line ∷ [])
+    → ((c : Configuration) → IsSuccessor c made.successor → Adopts k c made.gateway l) → GoesOn first middle (asked read ∷ []) → GoesOn middle last (answered line ∷ [])
     → line ≡ made.line.items → then ≡ with_taken_over counts w.ticks → (Never → Appends held holds line)
     → Looks (IsLooked Adopts) o (standing w k first counts) made.origin (standing made.gateway l last then) Never held holds
 taken_so {K} Adopts o w k l (Ok (Some text)) made first middle last line counts then Never held holds is adopts asks answers is_line is_counts
@@ -85,7 +86,7 @@ taken_so {K} Adopts o w k l (Ok (Some text)) made first middle last line counts 
         reads = is.reads;
         ports = is.ports;
         gateway = is.adopted.gateway ∙ ap (carried new) same;
-        keeper = subst (λ (x : Origin). Adopts k x made.gateway l) is.adopted.kept adopts;
+        keeper = adopts new is.adopted.successor;
         requests = subst (λ (t : List ℕ). GoesOn first last (asked (Ok (Some text)) ∷ answered t ∷ [])) is_text
             (goes_two first middle last (asked (Ok (Some text))) (answered line) asks answers);
         counts = is_counts;
@@ -98,7 +99,7 @@ taken_so Adopts o w k l (Err failure) made first middle last line counts then Ne
     absurd is
 
 -- one that isn't
-pub refused_so : {K : Type 0} (Adopts : K → Origin → State → K → Type 0) (o : Origin) (w : State) (k : K)
+pub refused_so : {K : Type 0} (Adopts : K → Configuration → State → K → Type 0) (o : Origin) (w : State) (k : K)
     (read : Result (Option (List ℕ)) ReadFailure) (fault : ReloadFault) (first middle last : Option (List Exchange)) (line : List ℕ)
     (counts then : ReloadCounts) (Never : Type 0) (held holds : Option (List ℕ)) → IsRefused w read fault → IsRefusalLine read fault line
     → GoesOn first middle (asked read ∷ []) → GoesOn middle last (answered line ∷ []) → then ≡ with_refused counts

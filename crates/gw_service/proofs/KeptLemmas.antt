@@ -11,95 +11,153 @@ use Rattle.gw_serving.specs.Tally.{no_tally}
 use Rattle.gw_serving.specs.Wire.{Call}
 use Rattle.gw_serving.specs.declared.serving.ServeFault.{ServeFault}
 use Rattle.gw_serving.specs.declared.serving.Served.{Served}
-use Rattle.gw_serving.specs.declared.store.StoreFault.{StoreFault}
 use Rattle.gw_serving.specs.declared.tally.Tally.{Tally}
 use Rattle.gw_system.specs.Requests.{Exchange, told_by}
 use Rattle.gw_service.specs.Chain.{Link, Manner, Runs, Stage, chain_text, stage}
-use Rattle.gw_service.specs.Keeping.{failing_in, unkept_in}
-use Rattle.gw_service.specs.Kept.{Given, KeepsFirst, LeavesKept, RunsKept, manner_of, outcome_by, reporting_of}
-use Rattle.gw_service.specs.Notices.{notice_of}
+use Rattle.gw_service.specs.Keeping.{troubles_in, unkept_in}
+use Rattle.gw_service.specs.Watch.{more_of, troubles_of}
+use Rattle.gw_service.specs.declared.troubles.Troubles.{Troubles}
+use Rattle.gw_service.specs.Kept.{Given, KeepsFirst, LeavesKept, RunsBy, RunsFrom, manner_of, no_more, outcome_by, reporting_of, unkept_of, watched_manner_of}
+use Rattle.gw_service.specs.Notices.{no_troubles, notice_of}
 use Rattle.gw_service.specs.Serving.{Ends, Service, ends, log_held}
 use Rattle.gw_service.specs.Start.{BeginsAs, counts_of}
 use Rattle.gw_service.specs.Reload.{counts_since}
 use Rattle.gw_service.specs.Stats.{Reporting, end_stats, reporting}
 use Rattle.gw_service.specs.declared.fault.ServiceFault.{ServiceFault}
 use Rattle.gw_service.specs.declared.fault.ServiceFault.TheVariants as fault
-use Rattle.std.specs.Prelude.{Bool, is_some}
+use Rattle.std.specs.Prelude.{Bool, is_some, ◌||◌}
+use Rattle.gw_serving.specs.declared.guard.Both.{Both}
+use Rattle.gw_watching.specs.Watching.{Watching}
 use Rattle.gw_service.specs.declared.keeping.Kept.{Kept}
 use Rattle.gw_service.specs.declared.reload.ReloadCounts.{ReloadCounts}
-use Rattle.gw_service.proofs.ChainLemmas.{Ran}
 use Rattle.gw_service.proofs.ServingLemmas.{appends_nothing, appends_two}
 
+-- A run reports first what isn't kept or recorded, and last what was done.
+pub ran_from : {K : Type 0} (manner : Manner K) (report : K → ReloadCounts → State → Served → Tally → List ℕ) (count : ℕ) (at : Troubles → Stage K)
+    (p : Origin) (was is troubles : Troubles) (last : Configuration → Stage K) (answer : Result (Unit {0}) ServeFault) (after : Ends)
+    (Never Then : Type 0) (held middle third holds : Option (List ℕ)) → was ≡ no_troubles → is ≡ troubles → ((t : Troubles) → (at t).told ≡ t)
+    → ((d : Configuration) × (links : List Link) × (p ≡ origin_of d) × Runs manner count (at is) answer links (last d)
+    × (Then → Appends middle third (chain_text links)))
+    → ((d : Configuration) → (last d).now.scene.log ≡ after.log) → ((d : Configuration) → (last d).now.scene.calls ≡ after.calls)
+    → (Never → Appends held middle (notice_of was is)) → (Never → Then)
+    → ((d : Configuration) → Never → Appends third holds
+    (report (last d).now.guard (last d).counts (last d).now.scene.gateway (last d).now.served (last d).now.tally))
+    → (text : List ℕ) × RunsFrom manner report count (at troubles) answer after text × (Never → Appends held holds text)
+ran_from manner report count at p was is troubles last answer after Never Then held middle third holds untold failing tells led log calls noticed lasts
+    reported =
+    let notice = notice_of no_troubles troubles in
+    let now = (last led.0).now in
+    let final = report now.guard (last led.0).counts now.scene.gateway now.served now.tally in
+    let same : notice_of was is ≡ notice =
+    ap (λ (x : Troubles). notice_of x is) untold ∙ ap (notice_of no_troubles) failing in (
+      (notice ++ chain_text led.1) ++ final,
+      record {
+        links = led.1;
+        last = last led.0;
+        runs = subst (λ (x : Troubles). Runs manner count (at x) answer led.1 (last led.0)) failing led.3;
+        log = log led.0;
+        calls = calls led.0;
+        told = ap (λ (x : Troubles). (notice_of no_troubles x ++ chain_text led.1) ++ final) (sym (tells troubles));
+      },
+      λ never. appends_two held third holds (notice ++ chain_text led.1) final
+          (appends_two held middle third notice (chain_text led.1)
+          (subst (λ (x : List ℕ). Appends held middle x) same (noticed never)) (led.4 (lasts never)))
+          (reported led.0 never),
+    )
+
 -- a run from a stage whose parts are these
-runs_from : {K : Type 0} (how : Manner K) (count : ℕ) (c : Configuration) (now : Scene) (k : K) (s z : Served) (t n : Tally)
-    (q r : Option (List Exchange)) (u v : ReloadCounts) (f e : Option StoreFault) (answer : Result (Unit {0}) ServeFault) (links : List Link)
-    (last : Stage K) → s ≡ z → t ≡ n → q ≡ r → u ≡ v → f ≡ e → Runs how count (stage c (moment now k s t) q u f) answer links last
-    → Runs how count (stage c (moment now k z n) r v e) answer links last
-runs_from how count c now k s z t n q r u v f e answer links last served tally requests counts told runs =
-    subst (λ (x : Served). Runs how count (stage c (moment now k x n) r v e) answer links last) served
-    (subst (λ (x : Tally). Runs how count (stage c (moment now k s x) r v e) answer links last) tally
-    (subst (λ (x : Option (List Exchange)). Runs how count (stage c (moment now k s t) x v e) answer links last) requests
-    (subst (λ (x : ReloadCounts). Runs how count (stage c (moment now k s t) q x e) answer links last) counts
-    (subst (λ (x : Option StoreFault). Runs how count (stage c (moment now k s t) q u x) answer links last) told runs))))
+from_start : {K : Type 0} (how : Manner K) (report : K → ReloadCounts → State → Served → Tally → List ℕ) (count : ℕ) (c : Configuration) (now : Scene)
+    (k : K) (s z : Served) (t n : Tally) (q r : Option (List Exchange)) (u v : ReloadCounts) (f : Troubles) (answer : Result (Unit {0}) ServeFault)
+    (after : Ends) (text : List ℕ) → s ≡ z → t ≡ n → q ≡ r → u ≡ v
+    → RunsFrom how report count (stage c (moment now k s t) q u f) answer after text
+    → RunsFrom how report count (stage c (moment now k z n) r v f) answer after text
+from_start how report count c now k s z t n q r u v f answer after text served tally requests counts runs =
+    subst (λ (x : Served). RunsFrom how report count (stage c (moment now k x n) r v f) answer after text) served
+    (subst (λ (x : Tally). RunsFrom how report count (stage c (moment now k s x) r v f) answer after text) tally
+    (subst (λ (x : Option (List Exchange)). RunsFrom how report count (stage c (moment now k s t) x v f) answer after text) requests
+    (subst (λ (x : ReloadCounts). RunsFrom how report count (stage c (moment now k s t) q x f) answer after text) counts runs)))
 
 -- the counts of a gateway, one by one
 pub same_counts : (k : Counts) (w : State) → k.ticks ≡ w.ticks → k.denials ≡ w.denials → k ≡ counts_of w
 same_counts k w ticks denials =
     ap (λ (n : ℕ). record k { ticks = n }) ticks ∙ ap (λ (n : ℕ). record k { ticks = w.ticks; denials = n }) denials
 
+-- what is reported of a run, by its parts
+is_reporting : (stats : Option ℕ) (start other : Counts) (keeps kept reloads read : Bool) → start ≡ other → keeps ≡ kept → reloads ≡ read
+    → reporting stats start keeps reloads ≡ reporting stats other kept read
+is_reporting stats start other keeps kept reloads read starts is_kept is_read =
+    ap (λ (x : Counts). reporting stats x keeps reloads) starts ∙ ap (λ (x : Bool). reporting stats other x reloads) is_kept
+    ∙ ap (reporting stats other kept) is_read
+
 -- A gateway that began so ran so.
-pub ran_kept : {S Q : Type 0} (given : Given S Q) (c : Configuration) (how : Service) (start : Counts) (w : State) (k : Kept S) (s : Served) (t : Tally)
-    (q : Option (List Exchange)) (u : ReloadCounts) (reloads : Bool) (f told : Option StoreFault) (before after : Ends) (answer : Result (Unit {0}) ServeFault)
-    (outcome : Result (Unit {0}) ServiceFault) (o p : Origin) (last : Configuration → Stage (Kept S)) (Never Then : Type 0)
-    (held middle third holds : Option (List ℕ)) → start ≡ counts_of w → BeginsAs c given.saved given.line w → KeepsFirst given.held given.store c w k
-    → s ≡ zero_counts → t ≡ no_tally → q ≡ told_by given.told given.requests → u ≡ counts_since w.ticks
-    → reloads ≡ is_some given.requests → f ≡ failing_in k → told ≡ None → o ≡ origin_of c
-    → Ran (manner_of given.held (reporting how.stats start reloads)) how.turns o
-    (λ (d : Configuration). stage d (moment (scene w before.log before.calls) k s t) q u f) answer p last Then middle third
-    → outcome ≡ outcome_by answer → ((d : Configuration) → (last d).now.scene.log ≡ after.log)
-    → ((d : Configuration) → (last d).now.scene.calls ≡ after.calls)
-    → (Never → Appends held middle (notice_of told f)) → (Never → Then)
-    → ((d : Configuration) → Never → Appends third holds (end_stats unkept_in (reporting how.stats start reloads) (last d).now.guard
-    (last d).counts (last d).now.scene.gateway (last d).now.served (last d).now.tally))
+pub ran_kept : {S Q L : Type 0} (given : Given S Q L) (c : Configuration) (how : Service) (start : Counts) (keeps reloads : Bool) (w : State) (k : Kept S)
+    (s : Served) (t : Tally) (q : Option (List Exchange)) (u : ReloadCounts) (before after : Ends) (answer : Result (Unit {0}) ServeFault)
+    (outcome : Result (Unit {0}) ServiceFault) (Never : Type 0) (held holds : Option (List ℕ)) → given.watcher ≡ None → start ≡ counts_of w
+    → BeginsAs c given.saved given.line w → KeepsFirst given.held given.store c w k → s ≡ zero_counts → t ≡ no_tally
+    → q ≡ told_by given.told given.requests → u ≡ counts_since w.ticks → keeps ≡ (is_some given.requests || is_some given.store)
+    → reloads ≡ is_some given.requests → outcome ≡ outcome_by answer
+    → ((text : List ℕ) × RunsFrom (manner_of given.held (reporting how.stats start keeps reloads))
+    (end_stats unkept_in no_more (reporting how.stats start keeps reloads)) how.turns
+    (stage c (moment (scene w before.log before.calls) k s t) q u (troubles_in k)) answer after text × (Never → Appends held holds text))
     → (text : List ℕ) × LeavesKept given c how before after text outcome × (Never → Appends held holds text)
-ran_kept {S} given c how start w k s t q u reloads f told before after answer outcome o p last Never Then held middle third holds is_start begins
-    keeps served tally requests is_counts is_reloads failing untold origin ran answers log calls noticed lasts reported =
-    let led = ran c origin in
-    let notice = notice_of None (failing_in k) in
-    let now = (last led.0).now in
-    let reports : Reporting → List ℕ = λ (x : Reporting).
-    end_stats unkept_in x now.guard (last led.0).counts now.scene.gateway now.served now.tally in
-    let is_reporting : reporting how.stats start reloads ≡ reporting_of given how w =
-    ap (λ (x : Counts). reporting how.stats x reloads) is_start ∙ ap (reporting how.stats (counts_of w)) is_reloads in
-    let report = reports (reporting_of given how w) in
-    let same : notice_of told f ≡ notice =
-    ap (λ (x : Option StoreFault). notice_of x f) untold ∙ ap (notice_of None) failing in (
-      (notice ++ chain_text led.1) ++ report,
-      inl (record {
+ran_kept {S} given c how start keeps reloads w k s t q u before after answer outcome Never held holds unwatched is_start begins is_kept served tally
+    requests is_counts is_keeps is_reloads answers ran =
+    let at = stage c (moment (scene w before.log before.calls) k s t) q u (troubles_in k) in
+    let same = is_reporting how.stats start (counts_of w) keeps (is_some given.requests || is_some given.store) reloads (is_some given.requests)
+    is_start is_keeps is_reloads in (
+      ran.0,
+      inl (subst (λ (o : Option (Watching _ _)). RunsBy given o c how before after ran.0 outcome) (sym unwatched) (record {
         gateway = w;
         begins = begins;
         keeper = k;
-        keeps = keeps;
+        keeps = is_kept;
         answer = answer;
-        links = led.1;
-        last = last led.0;
-        runs = runs_from (manner_of given.held (reporting_of given how w)) how.turns c (scene w before.log before.calls) k s zero_counts t no_tally q
-            (told_by given.told given.requests) u (counts_since w.ticks) f (failing_in k) answer led.1 (last led.0) served tally requests is_counts
-            failing (subst (λ (x : Reporting). Runs (manner_of given.held x) how.turns
-            (stage c (moment (scene w before.log before.calls) k s t) q u f) answer led.1 (last led.0)) is_reporting led.3);
-        log = log led.0;
-        calls = calls led.0;
+        runs = from_start (manner_of given.held (reporting_of given how w)) (end_stats unkept_in no_more (reporting_of given how w)) how.turns c
+            (scene w before.log before.calls) k s zero_counts t no_tally q (told_by given.told given.requests) u (counts_since w.ticks) (troubles_in k)
+            answer after ran.0 served tally requests is_counts
+            (subst (λ (x : Reporting). RunsFrom (manner_of given.held x) (end_stats unkept_in no_more x) how.turns at answer after ran.0) same ran.1);
         answers = answers;
-        told = refl;
-      }),
-      λ never. appends_two held third holds (notice ++ chain_text led.1) report
-          (appends_two held middle third notice (chain_text led.1)
-          (subst (λ (x : List ℕ). Appends held middle x) same (noticed never)) (led.4 (lasts never)))
-          (subst (λ (x : Reporting). Appends third holds (reports x)) is_reporting (reported led.0 never)),
+      })),
+      ran.2,
+    )
+
+-- So did one that is watched.
+pub ran_watched : {S Q L : Type 0} (given : Given S Q L) (watcher : Watching L L) (c : Configuration) (how : Service) (start : Counts)
+    (keeps reloads : Bool) (w : State) (k : Both (Kept S) (Watching L L)) (s : Served) (t : Tally) (q : Option (List Exchange)) (u : ReloadCounts)
+    (before after : Ends) (answer : Result (Unit {0}) ServeFault) (outcome : Result (Unit {0}) ServiceFault) (Never : Type 0)
+    (held holds : Option (List ℕ)) → given.watcher ≡ Some watcher → start ≡ counts_of w
+    → BeginsAs c given.saved given.line w → KeepsFirst given.held given.store c w k.first → k.second ≡ watcher → s ≡ zero_counts → t ≡ no_tally
+    → q ≡ told_by given.told given.requests → u ≡ counts_since w.ticks → keeps ≡ (is_some given.requests || is_some given.store)
+    → reloads ≡ is_some given.requests → outcome ≡ outcome_by answer
+    → ((text : List ℕ) × RunsFrom (watched_manner_of given.held given.log_held (reporting how.stats start keeps reloads))
+    (end_stats unkept_of more_of (reporting how.stats start keeps reloads)) how.turns
+    (stage c (moment (scene w before.log before.calls) k s t) q u (troubles_of k)) answer after text × (Never → Appends held holds text))
+    → (text : List ℕ) × LeavesKept given c how before after text outcome × (Never → Appends held holds text)
+ran_watched {S} given watcher c how start keeps reloads w k s t q u before after answer outcome Never held holds watched is_start begins is_kept watches
+    served tally requests is_counts is_keeps is_reloads answers ran =
+    let at = stage c (moment (scene w before.log before.calls) k s t) q u (troubles_of k) in
+    let same = is_reporting how.stats start (counts_of w) keeps (is_some given.requests || is_some given.store) reloads (is_some given.requests)
+    is_start is_keeps is_reloads in (
+      ran.0,
+      inl (subst (λ (o : Option (Watching _ _)). RunsBy given o c how before after ran.0 outcome) (sym watched) (record {
+        gateway = w;
+        begins = begins;
+        keeper = k;
+        keeps = is_kept;
+        watches = watches;
+        answer = answer;
+        runs = from_start (watched_manner_of given.held given.log_held (reporting_of given how w)) (end_stats unkept_of more_of (reporting_of given how w))
+            how.turns c (scene w before.log before.calls) k s zero_counts t no_tally q (told_by given.told given.requests) u (counts_since w.ticks)
+            (troubles_of k) answer after ran.0 served tally requests is_counts
+            (subst (λ (x : Reporting). RunsFrom (watched_manner_of given.held given.log_held x) (end_stats unkept_of more_of x) how.turns at answer after
+            ran.0) same ran.1);
+        answers = answers;
+      })),
+      ran.2,
     )
 
 -- nothing ran where there was no memory to begin
-pub unbegun : {S Q : Type 0} (given : Given S Q) (c : Configuration) (how : Service) (at : Ends) (Never : Type 0) (held : Option (List ℕ))
+pub unbegun : {S Q L : Type 0} (given : Given S Q L) (c : Configuration) (how : Service) (at : Ends) (Never : Type 0) (held : Option (List ℕ))
     → (text : List ℕ) × LeavesKept given c how at at text (Err fault.Memory) × (Never → Appends held held text)
 unbegun given c how at Never held = ([], inr (refl, refl, refl), λ never. appends_nothing held)
 

@@ -8,7 +8,6 @@ use Rattle.gw_rules.specs.Authorizer.{denied_of}
 use Rattle.gw_rules.specs.declared.refusal.Refusal.{Refusal}
 use Rattle.gw_core.specs.Asks.{asks_for}
 use Rattle.gw_core.specs.Receive.{Origin as Sender, origin, receive}
-use Rattle.gw_saved.specs.Saved.{Origin}
 use Rattle.gw_core.specs.declared.event.Counts.{Counts}
 use Rattle.gw_service.specs.Counts.{counts_after, greater, less}
 use Rattle.gw_audit.specs.declared.denial.Denial.{Denial}
@@ -43,7 +42,7 @@ went_rules Passes a b turns went =
     ap (λ (w : State). w.rules) went.went.gateway ∙ rules_stay a.scene.gateway (events_of turns)
 
 -- what comes of a request leaves the rules of the configuration in force
-looked_rules : {K : Type 0} (Adopts : K → Origin → State → K → Type 0) (c d : Configuration) (s t : Standing K) (look : Look)
+looked_rules : {K : Type 0} (Adopts : K → Configuration → State → K → Type 0) (c d : Configuration) (s t : Standing K) (look : Look)
     → IsLooked Adopts c s look d t
     → s.gateway.rules ≡ c.rules → t.gateway.rules ≡ d.rules
 looked_rules Adopts c d s t unrequested is has =

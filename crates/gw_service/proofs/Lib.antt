@@ -4,3 +4,4 @@ mod KeptLemmas
 mod LawLemmas
 pub mod ServingLemmas
 mod StatsLemmas
+mod WatchedLemmas

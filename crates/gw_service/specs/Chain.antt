@@ -14,7 +14,6 @@ use Rattle.gw_serving.specs.Serve.{Try, Turn, taken_event}
 use Rattle.gw_serving.specs.Stretch.{EndsFaulty, GoOn, IsWithheld, Moment}
 use Rattle.gw_serving.specs.declared.serving.ServeFault.{ServeFault}
 use Rattle.gw_serving.specs.declared.serving.Served.{Served}
-use Rattle.gw_serving.specs.declared.store.StoreFault.{StoreFault}
 use Rattle.gw_serving.specs.declared.tally.Tally.{Tally}
 use Rattle.gw_system.specs.Requests.{Exchange, GoesOn, answered, asked, unasked}
 use Rattle.gw_system.specs.declared.reading.ReadFailure.{ReadFailure}
@@ -22,25 +21,26 @@ use Rattle.gw_service.specs.Reload.{IsRefusalLine, IsRefused, have_same_ports, r
 use Rattle.gw_service.specs.Notices.{notice_of}
 use Rattle.gw_service.specs.declared.reload.ReloadCounts.{ReloadCounts}
 use Rattle.gw_service.specs.declared.reload.ReloadFault.{ReloadFault}
+use Rattle.gw_service.specs.declared.troubles.Troubles.{Troubles}
 
 -- ---- what keeps the state
 
--- What a keeper of states does at an event, at a tick, and if the gateway goes on as one of another configuration; and why
--- the last try failed, if it did; and what is reported after a tick.
+-- What a keeper of states does at an event, at a tick, and if the gateway goes on as one of another configuration; and what
+-- isn't kept or recorded; and what is reported after a tick.
 pub record Manner (K : Type 0) : Type 1 where
   pub Passes : K → State → Event → K → Bool → Type 0
   pub Ticks : K → State → K → Type 0
-  pub Adopts : K → Origin → State → K → Type 0
-  pub failing : K → Option StoreFault
+  pub Adopts : K → Configuration → State → K → Type 0
+  pub troubles : K → Troubles
   pub report : K → ReloadCounts → State → Served → Tally → List ℕ
 
 abbrev pub manner : {K : Type 0} → (K → State → Event → K → Bool → Type 0) → (K → State → K → Type 0)
-    → (K → Origin → State → K → Type 0) → (K → Option StoreFault) → (K → ReloadCounts → State → Served → Tally → List ℕ) → Manner K
-manner Passes Ticks Adopts failing report = record {
+    → (K → Configuration → State → K → Type 0) → (K → Troubles) → (K → ReloadCounts → State → Served → Tally → List ℕ) → Manner K
+manner Passes Ticks Adopts troubles report = record {
   Passes = Passes;
   Ticks = Ticks;
   Adopts = Adopts;
-  failing = failing;
+  troubles = troubles;
   report = report;
 }
 
@@ -79,13 +79,13 @@ pub record IsRefusedSo {K : Type 0} (c : Configuration) (s : Standing K) (read :
   pub counts : t.counts ≡ with_refused s.counts
 
 -- The configuration of the text is in force: the gateway goes on as one of it that takes over what is saved.
-pub record IsTakenOver {K : Type 0} (Adopts : K → Origin → State → K → Type 0) (c : Configuration) (s : Standing K) (text : List ℕ) (new : Configuration)
+pub record IsTakenOver {K : Type 0} (Adopts : K → Configuration → State → K → Type 0) (c : Configuration) (s : Standing K) (text : List ℕ) (new : Configuration)
     (d : Configuration) (t : Standing K) : Type 0 where
   pub config : d ≡ new
   pub reads : configuration text ≡ Ok new
   pub ports : have_same_ports s.gateway.relay.links new.ports ≡ true
   pub gateway : t.gateway ≡ carried new (saved c s.gateway)
-  pub keeper : Adopts s.keeper (origin_of new) t.gateway t.keeper
+  pub keeper : Adopts s.keeper new t.gateway t.keeper
   pub requests : GoesOn s.requests t.requests
       (asked (Ok (Some text)) ∷ answered (reload_line s.gateway new (saved c s.gateway)) ∷ [])
   pub counts : t.counts ≡ with_taken_over s.counts s.gateway.ticks
@@ -96,7 +96,7 @@ pub record IsUnrequested {K : Type 0} (c : Configuration) (s : Standing K) (d : 
   pub requests : GoesOn s.requests t.requests (unasked ∷ [])
   pub counts : t.counts ≡ s.counts
 
-abbrev pub IsLooked : {K : Type 0} → (Adopts : K → Origin → State → K → Type 0) → Configuration → Standing K → Look
+abbrev pub IsLooked : {K : Type 0} → (Adopts : K → Configuration → State → K → Type 0) → Configuration → Standing K → Look
     → Configuration → Standing K → Type 0
 IsLooked Adopts c s unrequested d t = IsUnrequested c s d t
 IsLooked Adopts c s (refused read fault line) d t = IsRefusedSo c s read fault line d t
@@ -109,7 +109,7 @@ look_text c s (refused read fault line) = line
 look_text c s (taken_over text new) = reload_line s.gateway new (saved c s.gateway)
 
 -- At a tick the keeper does what is due, and then a request is looked for.
-pub record AtTick {K : Type 0} (Ticks : K → State → K → Type 0) (Adopts : K → Origin → State → K → Type 0) (c : Configuration)
+pub record AtTick {K : Type 0} (Ticks : K → State → K → Type 0) (Adopts : K → Configuration → State → K → Type 0) (c : Configuration)
     (s : Standing K) (look : Look) (d : Configuration) (t : Standing K) : Type 0 where
   pub keeper : K
   pub ticks : Ticks s.keeper s.gateway keeper
@@ -126,15 +126,15 @@ Looks Done o s p t Never held holds =
 -- ---- one stretch, and what is done after it
 
 -- what there is between two stretches: the configuration in force; the gateway, the log, the wire, the keeper and what was
--- counted; what was asked and answered, and how often; and what was reported last of the state that is kept
+-- counted; what was asked and answered, and how often; and what was reported last of what isn't kept or recorded
 pub record Stage (K : Type 0) : Type 0 where
   pub config : Configuration
   pub now : Moment K
   pub requests : Option (List Exchange)
   pub counts : ReloadCounts
-  pub told : Option StoreFault
+  pub told : Troubles
 
-abbrev pub stage : {K : Type 0} → Configuration → Moment K → Option (List Exchange) → ReloadCounts → Option StoreFault → Stage K
+abbrev pub stage : {K : Type 0} → Configuration → Moment K → Option (List Exchange) → ReloadCounts → Troubles → Stage K
 stage config now requests counts told =
     record { config = config; now = now; requests = requests; counts = counts; told = told }
 
@@ -174,7 +174,7 @@ pub record IsTicked {K : Type 0} (manner : Manner K) (s : Stage K) (turns : List
   pub done : AtTick manner.Ticks manner.Adopts s.config (standing_at then s.requests s.counts) look t.config
       (standing_at t.now t.requests t.counts)
   pub rest : IsIdle then t.now
-  pub told : t.told ≡ manner.failing t.now.guard
+  pub told : t.told ≡ manner.troubles t.now.guard
   pub lines : text ≡ (look_text s.config (standing_at then s.requests s.counts) look ++ notice_of s.told t.told)
       ++ manner.report t.now.guard t.counts t.now.scene.gateway t.now.served t.now.tally
 
@@ -187,7 +187,7 @@ pub record IsHeldBack {K : Type 0} (manner : Manner K) (s : Stage K) (turns : Li
   pub config : t.config ≡ s.config
   pub requests : t.requests ≡ s.requests
   pub counts : t.counts ≡ s.counts
-  pub told : t.told ≡ manner.failing t.now.guard
+  pub told : t.told ≡ manner.troubles t.now.guard
   pub lines : text ≡ notice_of s.told t.told
 
 abbrev pub IsLink : {K : Type 0} → Manner K → Stage K → Link → Stage K → Type 0

@@ -1,13 +1,24 @@
 -- What keeps the state of a gateway from stretch to stretch, if something does.
-use Rattle.std.specs.Prelude.{◌≡◌, ⊤, ℕ, Bool, true, List, Option, None}
+use Rattle.std.specs.Prelude.{◌≡◌, ⊤, ℕ, Bool, true, List, [], Option, None}
+use Rattle.gw_configuration.specs.Configuration.{Configuration}
 use Rattle.gw_core.specs.State.{State}
-use Rattle.gw_saved.specs.Saved.{Origin}
+use Rattle.gw_saved.specs.Saved.{origin_of}
 use Rattle.gw_script.specs.Event.{Event}
 use Rattle.gw_serving.specs.Keeping.{HasPassed, IsTried, KeepsAtTick, Keeping, failing_of}
 use Rattle.gw_serving.specs.declared.keeper.Keeper.{Keeper}
 use Rattle.gw_serving.specs.declared.store.StoreFault.{StoreFault}
 use Rattle.gw_service.specs.declared.keeping.Kept.{Kept}
 use Rattle.gw_service.specs.declared.keeping.Kept.TheVariants.{Nowhere, In}
+use Rattle.gw_service.specs.declared.successor.Successor.{Successor}
+use Rattle.gw_service.specs.declared.troubles.Troubles.{Troubles}
+use Rattle.gw_service.specs.Notices.{of_state}
+use Rattle.gw_tally.specs.Tally.{IsTally}
+
+-- what is made of this configuration: what can be written, which rules are audited, and counts of which none began
+pub record IsSuccessor (c : Configuration) (s : Successor) : Type 0 where
+  pub origin : s.origin ≡ origin_of c
+  pub marks : s.marks ≡ c.audits
+  pub counts : IsTally c.rules [] s.counts
 
 -- at an event
 abbrev pub IsPassed : {S : Type 0} → (S → Option (List ℕ)) → Kept S → State → Event → Kept S → Bool → Type 0
@@ -21,16 +32,19 @@ IsKeptAtTick held Nowhere w Nowhere = ⊤
 IsKeptAtTick held (In k) w (In l) = KeepsAtTick held k w l
 IsKeptAtTick held _ w _ = ⊥
 
--- if the gateway goes on as one of which this is configured: its state is kept at once
-abbrev pub IsKeptFor : {S : Type 0} → (S → Option (List ℕ)) → Kept S → Origin → State → Kept S → Type 0
-IsKeptFor held Nowhere o w Nowhere = ⊤
-IsKeptFor held (In k) o w (In l) = IsTried held (record k { origin = o }) w l
-IsKeptFor held _ o w _ = ⊥
+-- if the gateway goes on as one of this configuration: its state is kept at once
+abbrev pub IsKeptFor : {S : Type 0} → (S → Option (List ℕ)) → Kept S → Configuration → State → Kept S → Type 0
+IsKeptFor held Nowhere c w Nowhere = ⊤
+IsKeptFor held (In k) c w (In l) = IsTried held (record k { origin = origin_of c }) w l
+IsKeptFor held _ c w _ = ⊥
 
 -- why the last try failed, if it did
 abbrev pub failing_in : {S : Type 0} → Kept S → Option StoreFault
 failing_in Nowhere = None
 failing_in (In k) = failing_of k.kept
+
+abbrev pub troubles_in : {S : Type 0} → Kept S → Troubles
+troubles_in k = of_state (failing_in k)
 
 -- how many tries failed
 abbrev pub unkept_in : {S : Type 0} → Kept S → ℕ

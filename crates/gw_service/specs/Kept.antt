@@ -1,15 +1,21 @@
 -- What a run leaves that keeps its state or reads its configuration again.
-use Rattle.std.specs.Prelude.{◌≡◌, ◌⊎◌, ⊤, ℕ, ◌&&◌, Bool, true, false, is_some, not, List, [], ◌++◌, Option, Some, None, Result, Ok, Err, option_map, string_bytes}
+use Rattle.std.specs.Prelude.{◌≡◌, ◌⊎◌, ⊤, ℕ, ◌&&◌, ◌||◌, Bool, true, false, is_some, not, List, [], ◌++◌, Option, Some, None, Result, Ok, Err, option_map, string_bytes}
 use Rattle.std.specs.Global.{Vec}
 use Rattle.gw_configuration.specs.Configuration.{Configuration}
 use Rattle.gw_core.specs.State.{State}
 use Rattle.gw_saved.specs.Saved.{Saved, origin_of}
+use Rattle.gw_serving.specs.Both.{PassesBoth}
 use Rattle.gw_serving.specs.Keeping.{IsTried, nothing_kept}
 use Rattle.gw_serving.specs.Serve.{scene, zero_counts}
 use Rattle.gw_serving.specs.Stretch.{moment}
 use Rattle.gw_serving.specs.Tally.{no_tally}
 use Rattle.gw_serving.specs.declared.serving.ServeFault.{ServeFault}
+use Rattle.gw_serving.specs.declared.guard.Both.{Both}
+use Rattle.gw_serving.specs.declared.serving.Served.{Served}
 use Rattle.gw_serving.specs.declared.store.StoreFault.{StoreFault}
+use Rattle.gw_serving.specs.declared.tally.Tally.{Tally}
+use Rattle.gw_system.specs.Host.{LogOpening}
+use Rattle.gw_watching.specs.Watching.{HasWatched, Watching}
 use Rattle.gw_system.specs.Opening.{IsNote}
 use Rattle.gw_system.specs.Requests.{Exchange, told_by}
 use Rattle.gw_system.specs.declared.opening.OpenFailure.{OpenFailure}
@@ -18,8 +24,9 @@ use Rattle.gw_system.specs.declared.reading.ReadFailure.TheVariants as reading
 use Rattle.gw_service.specs.Chain.{Link, Manner, Runs, Stage, chain_text, manner, stage}
 use Rattle.gw_service.specs.Announcement.{IsWarning, startup_line}
 use Rattle.gw_service.specs.Fault.{fault_of_opening, fault_of_serving}
-use Rattle.gw_service.specs.Keeping.{IsKeptAtTick, IsKeptFor, IsPassed, failing_in, unkept_in}
-use Rattle.gw_service.specs.Notices.{notice_of}
+use Rattle.gw_service.specs.Keeping.{IsKeptAtTick, IsKeptFor, IsPassed, troubles_in, unkept_in}
+use Rattle.gw_service.specs.Notices.{no_troubles, notice_of}
+use Rattle.gw_service.specs.Watch.{IsKeptAtTickBeside, IsKeptForBeside, IsUnwatched, IsWatcherUnder, WatchNames, is_watched, more_of, troubles_of, unaudited_note, watch_names}
 use Rattle.gw_service.specs.Serving.{AreOpen, ArentOpen, Ends, LeavesServed, LogStays, Machine, Service, ends, log_held, service}
 use Rattle.gw_service.specs.Start.{BeginsAs, IsStateRead, counts_of, start_text}
 use Rattle.gw_service.specs.Reload.{counts_since}
@@ -27,6 +34,8 @@ use Rattle.gw_service.specs.Stats.{Reporting, due_stats, end_stats, reporting}
 use Rattle.gw_service.specs.declared.fault.ServiceFault.{ServiceFault}
 use Rattle.gw_service.specs.declared.fault.ServiceFault.TheVariants as fault
 use Rattle.gw_service.specs.declared.keeping.Kept.{Kept}
+use Rattle.gw_service.specs.declared.reload.ReloadCounts.{ReloadCounts}
+use Rattle.gw_service.specs.declared.troubles.Troubles.{Troubles}
 use Rattle.gw_service.specs.declared.keeping.Kept.TheVariants.{Nowhere, In}
 use Rattle.gw_service.specs.declared.kept.Before.{Before}
 use Rattle.gw_command_line.specs.declared.options.RunOptions.{RunOptions}
@@ -92,29 +101,47 @@ KeepsFirst held _ c w _ = ⊥
 
 -- ---- a run
 
--- what a store holds and what requests say, what was saved, the last line of the log, and the store and the requests,
--- if there are some
-pub record Given (S Q : Type 0) : Type 0 where
+-- what a store holds, what requests say and what a log beside the log holds; what was saved, the last line of the log, and the
+-- store, the requests and what watches, if there are some
+pub record Given (S Q L : Type 0) : Type 0 where
   pub held : S → Option (List ℕ)
   pub told : Q → Option (List Exchange)
+  pub log_held : L → Option (List ℕ)
   pub saved : Option Saved
   pub line : Option (List ℕ)
   pub store : Option S
   pub requests : Option Q
+  pub watcher : Option (Watching L L)
 
-abbrev pub given : {S Q : Type 0} → (S → Option (List ℕ)) → (Q → Option (List Exchange)) → Before S Q → Given S Q
-given held told before = record {
+abbrev pub given : {S Q L : Type 0} → (S → Option (List ℕ)) → (Q → Option (List Exchange)) → (L → Option (List ℕ)) → Before S Q L → Given S Q L
+given held told log_held before = record {
   held = held;
   told = told;
+  log_held = log_held;
   saved = before.saved;
   line = option_map (λ line. line.items) before.line;
   store = before.store;
   requests = before.requests;
+  watcher = before.watcher;
 }
+
+-- what keeps the state of a gateway, by a store, reports no more of itself
+abbrev pub no_more : {S : Type 0} → Kept S → State → List ℕ
+no_more k w = []
 
 -- what keeps the state of a gateway, by a store
 abbrev pub manner_of : {S : Type 0} → (S → Option (List ℕ)) → Reporting → Manner (Kept S)
-manner_of held how = manner (IsPassed held) (IsKeptAtTick held) (IsKeptFor held) failing_in (due_stats unkept_in how)
+manner_of held how = manner (IsPassed held) (IsKeptAtTick held) (IsKeptFor held) troubles_in (due_stats unkept_in no_more how)
+
+-- the same, and what watches it
+abbrev pub unkept_of : {S L : Type 0} → Both (Kept S) (Watching L L) → ℕ
+unkept_of k = unkept_in k.first
+
+abbrev pub watched_manner_of : {S L : Type 0} → (S → Option (List ℕ)) → (L → Option (List ℕ)) → Reporting
+    → Manner (Both (Kept S) (Watching L L))
+watched_manner_of held log_held how =
+    manner (PassesBoth (IsPassed held) (HasWatched log_held log_held)) (IsKeptAtTickBeside held) (IsKeptForBeside held) troubles_of
+    (due_stats unkept_of more_of how)
 
 -- the outcome of a run, by the answer of serving
 abbrev pub outcome_by : Result (Unit {0}) ServeFault → Result (Unit {0}) ServiceFault
@@ -122,43 +149,69 @@ outcome_by (Ok done) = Ok done
 outcome_by (Err fault) = Err (fault_of_serving fault)
 
 -- the first stage: nothing was counted, and it was reported whether the state is kept
-abbrev pub first_stage : {S Q : Type 0} → Given S Q → Configuration → State → Kept S → Ends → Stage (Kept S)
-first_stage given c w keeper ends =
+abbrev pub first_stage : {S Q L K : Type 0} → Given S Q L → Configuration → State → K → Troubles → Ends → Stage K
+first_stage given c w keeper troubles ends =
     stage c (moment (scene w ends.log ends.calls) keeper zero_counts no_tally) (told_by given.told given.requests) (counts_since w.ticks)
-    (failing_in keeper)
+    troubles
 
--- What is reported of such a run, of which a gateway in this state begins: how often its configuration was read again, if
--- requests are looked for.
-abbrev pub reporting_of : {S Q : Type 0} → Given S Q → Service → State → Reporting
-reporting_of given how w = reporting how.stats (counts_of w) (is_some given.requests)
+-- What is reported of such a run, of which a gateway in this state begins: how often its state couldn't be kept, if it is or
+-- requests are looked for, and how often its configuration was read again, if they are.
+abbrev pub reporting_of : {S Q L : Type 0} → Given S Q L → Service → State → Reporting
+reporting_of given how w =
+    reporting how.stats (counts_of w) (is_some given.requests || is_some given.store) (is_some given.requests)
+
+-- A run of so many turns from a stage, by its answer: what isn't kept or recorded is reported first, and last what was done.
+pub record RunsFrom {K : Type 0} (manner : Manner K) (last_report : K → ReloadCounts → State → Served → Tally → List ℕ) (turns : ℕ)
+    (first : Stage K) (answer : Result (Unit {0}) ServeFault) (after : Ends) (text : List ℕ) : Type 0 where
+  pub links : List Link
+  pub last : Stage K
+  pub runs : Runs manner turns first answer links last
+  pub log : last.now.scene.log ≡ after.log
+  pub calls : last.now.scene.calls ≡ after.calls
+  pub told : text ≡ (notice_of no_troubles first.told ++ chain_text links)
+      ++ last_report last.now.guard last.counts last.now.scene.gateway last.now.served last.now.tally
 
 -- A gateway of this configuration begins with what was saved, its state is kept at once, and then it runs for so many turns, and
 -- reports what it did.
-pub record RunsKept {S Q : Type 0} (given : Given S Q) (c : Configuration) (how : Service) (before after : Ends) (text : List ℕ)
+pub record RunsKept {S Q L : Type 0} (given : Given S Q L) (c : Configuration) (how : Service) (before after : Ends) (text : List ℕ)
     (outcome : Result (Unit {0}) ServiceFault) : Type 0 where
   pub gateway : State
   pub begins : BeginsAs c given.saved given.line gateway
   pub keeper : Kept S
   pub keeps : KeepsFirst given.held given.store c gateway keeper
   pub answer : Result (Unit {0}) ServeFault
-  pub links : List Link
-  pub last : Stage (Kept S)
-  pub runs : Runs (manner_of given.held (reporting_of given how gateway)) how.turns (first_stage given c gateway keeper before) answer links last
-  pub log : last.now.scene.log ≡ after.log
-  pub calls : last.now.scene.calls ≡ after.calls
+  pub runs : RunsFrom (manner_of given.held (reporting_of given how gateway)) (end_stats unkept_in no_more (reporting_of given how gateway))
+      how.turns (first_stage given c gateway keeper (troubles_in keeper) before) answer after text
   pub answers : outcome ≡ outcome_by answer
-  pub told : text ≡ (notice_of None (failing_in keeper) ++ chain_text links)
-      ++ end_stats unkept_in (reporting_of given how gateway) last.now.guard last.counts last.now.scene.gateway last.now.served
-      last.now.tally
+
+-- So does one that is watched, beside what keeps its state.
+pub record RunsWatched {S Q L : Type 0} (given : Given S Q L) (watcher : Watching L L) (c : Configuration) (how : Service) (before after : Ends)
+    (text : List ℕ) (outcome : Result (Unit {0}) ServiceFault) : Type 0 where
+  pub gateway : State
+  pub begins : BeginsAs c given.saved given.line gateway
+  pub keeper : Both (Kept S) (Watching L L)
+  pub keeps : KeepsFirst given.held given.store c gateway keeper.first
+  pub watches : keeper.second ≡ watcher
+  pub answer : Result (Unit {0}) ServeFault
+  pub runs : RunsFrom (watched_manner_of given.held given.log_held (reporting_of given how gateway))
+      (end_stats unkept_of more_of (reporting_of given how gateway)) how.turns
+      (first_stage given c gateway keeper (troubles_of keeper) before) answer after text
+  pub answers : outcome ≡ outcome_by answer
+
+-- by whether something watches
+abbrev pub RunsBy : {S Q L : Type 0} → Given S Q L → Option (Watching L L) → Configuration → Service → Ends → Ends → List ℕ
+    → Result (Unit {0}) ServiceFault → Type 0
+RunsBy given None c how before after text outcome = RunsKept given c how before after text outcome
+RunsBy given (Some watcher) c how before after text outcome = RunsWatched given watcher c how before after text outcome
 
 -- Memory ran out before that: nothing was received or reported.
 abbrev pub IsUnbegun : (before after : Ends) → (text : List ℕ) → (outcome : Result (Unit {0}) ServiceFault) → Type 0
 IsUnbegun before after text outcome = (after ≡ before) × (text ≡ []) × (outcome ≡ Err fault.Memory)
 
 -- what a run leaves that keeps its state or reads its configuration again
-abbrev pub LeavesKept : {S Q : Type 0} → Given S Q → Configuration → Service → Ends → Ends → List ℕ → Result (Unit {0}) ServiceFault → Type 0
+abbrev pub LeavesKept : {S Q L : Type 0} → Given S Q L → Configuration → Service → Ends → Ends → List ℕ → Result (Unit {0}) ServiceFault → Type 0
 LeavesKept given c how before after text outcome =
-    RunsKept given c how before after text outcome ⊎ IsUnbegun before after text outcome
+    RunsBy given given.watcher c how before after text outcome ⊎ IsUnbegun before after text outcome
 
 -- ---- the whole
 
@@ -184,12 +237,14 @@ state_machine FileReads LastLines StoreOpens ReloadsOpen held told = record {
   told = told;
 }
 
--- the names of the files of a run: its configuration, and if there are some, its log, its state and its requests
+-- the names of the files of a run: its configuration, and if there are some, its log, its state, its requests, and those of what
+-- watches
 pub record Names : Type 0 where
   pub config : List ℕ
   pub log : Option (List ℕ)
   pub state : Option (List ℕ)
   pub reload : Option (List ℕ)
+  pub watch : WatchNames
 
 abbrev pub names_of : RunOptions → Names
 names_of options = record {
@@ -197,23 +252,26 @@ names_of options = record {
   log = option_map string_bytes options.log;
   state = option_map string_bytes options.state;
   reload = option_map string_bytes options.reload;
+  watch = watch_names options;
 }
 
--- what was read and made before anything was opened
-pub record IsPrepared {S Q : Type 0} (machine : StateMachine S Q) (names : Names) (c : Configuration) (is_verbose : Bool) (before : Before S Q)
-    : Type 0 where
+-- what was read and made before the log and the sockets were opened
+pub record IsPrepared {S Q Log : Type 0} (machine : StateMachine S Q) (LogOpens : LogOpening Log) (names : Names) (c : Configuration)
+    (is_verbose : Bool) (before : Before S Q Log) : Type 0 where
   pub saved : IsStateUnder machine.FileReads names.state (Ok before.saved)
   pub line : IsLastLine machine.LastLines names.state names.log (Ok (option_map (λ line. line.items) before.line))
   pub text : before.text.items ≡ text_before names.state is_verbose c before.saved
   pub store : IsStoreUnder machine.StoreOpens names.state (Ok before.store)
   pub requests : AreRequestsUnder machine.ReloadsOpen names.reload names.config before.requests
+  pub watcher : IsWatcherUnder machine.FileReads machine.LastLines LogOpens c names.watch before.watcher
 
--- Why it couldn't be: the state can't be read, or isn't one; the last line of the log can't be read; the store can't be opened; or
--- memory ran out.
-abbrev pub IsUnprepared : {S Q : Type 0} → StateMachine S Q → Names → ServiceFault → Type 0
-IsUnprepared machine names f =
+-- Why it couldn't be: the state can't be read, or isn't one; the last line of the log can't be read; the store can't be opened;
+-- what is to watch can't; or memory ran out.
+abbrev pub IsUnprepared : {S Q Log : Type 0} → StateMachine S Q → LogOpening Log → Names → Configuration → ServiceFault → Type 0
+IsUnprepared machine LogOpens names c f =
     IsStateUnder machine.FileReads names.state (Err f) ⊎ (IsLastLine machine.LastLines names.state names.log (Err f)
-    ⊎ (IsStoreUnder machine.StoreOpens names.state (Err f) ⊎ (f ≡ fault.Memory)))
+    ⊎ (IsStoreUnder machine.StoreOpens names.state (Err f)
+    ⊎ (IsUnwatched machine.FileReads machine.LastLines LogOpens c names.watch f ⊎ (f ≡ fault.Memory))))
 
 -- What such a run leaves under a configuration: its state or its log's last line can't be had, and nothing is opened; not all can
 -- be opened, and why may be written; or all was opened, this line, a warning of the machine and what is due of the state were
@@ -221,23 +279,23 @@ IsUnprepared machine names f =
 pub data LeavesWithState {Log Sockets S Q : Type 0} (machine : Machine Log Sockets) (states : StateMachine S Q) (names : Names)
     (held holds : Option (List ℕ)) (c : Configuration) (how : Service) (is_verbose : Bool) (line told : List ℕ)
     (outcome : Result (Unit {0}) ServiceFault) : Type 0 where
-  unprepared : (f : ServiceFault) → IsUnprepared states names f → outcome ≡ Err f → holds ≡ held → told ≡ [] →
+  unprepared : (f : ServiceFault) → IsUnprepared states machine.LogOpens names c f → outcome ≡ Err f → holds ≡ held → told ≡ [] →
       LeavesWithState machine states names held holds c how is_verbose line told outcome
   unopened : (failure : OpenFailure) → ArentOpen machine.LogOpens (machine.SocketsOpen c.ports) names.log held holds failure →
       outcome ≡ Err (fault_of_opening failure) → IsNote is_verbose failure told →
       LeavesWithState machine states names held holds c how is_verbose line told outcome
-  ran : (before : Before S Q) (log log_then : Option Log) (sockets sockets_then : Sockets) (output : Option (List ℕ))
-      (warning text : List ℕ) → IsPrepared states names c is_verbose before →
+  ran : (before : Before S Q Log) (log log_then : Option Log) (sockets sockets_then : Sockets) (output : Option (List ℕ))
+      (warning text : List ℕ) → IsPrepared states machine.LogOpens names c is_verbose before →
       AreOpen machine.LogOpens (machine.SocketsOpen c.ports) names.log held output log sockets →
       machine.Closes sockets_then log_then → LogStays log log_then output holds →
-      LeavesKept (given states.held states.told before) c how (ends (log_held machine.held log output) (machine.calls sockets))
+      LeavesKept (given states.held states.told machine.held before) c how (ends (log_held machine.held log output) (machine.calls sockets))
       (ends (log_held machine.held log_then holds) (machine.calls sockets_then)) text outcome →
       IsWarning machine.RoutesIp is_verbose warning → told ≡ ((line ++ warning) ++ before.text.items) ++ text →
       LeavesWithState machine states names held holds c how is_verbose line told outcome
 
--- neither a state nor a request file is named
+-- neither a state nor a request file is named, and nothing watches
 abbrev pub is_plain : RunOptions → Bool
-is_plain options = not (is_some options.state) && not (is_some options.reload)
+is_plain options = not (is_some options.state) && (not (is_some options.reload) && not (is_watched (watch_names options)))
 
 -- what a run leaves, by whether that is so
 abbrev pub LeavesBy : Bool → (Plain Stated : Type 0) → Type 0
@@ -254,11 +312,18 @@ whole_machine machine states = record { machine = machine; states = states }
 
 -- What a run leaves under a configuration, by its options: without a state and a request file it is served from the gateway's
 -- first state.
-abbrev pub LeavesService : {Log Sockets S Q : Type 0} → WholeMachine Log Sockets S Q → RunOptions → (held holds : Option (List ℕ))
+abbrev pub LeavesChosen : {Log Sockets S Q : Type 0} → WholeMachine Log Sockets S Q → RunOptions → (held holds : Option (List ℕ))
     → Configuration → List ℕ → Result (Unit {0}) ServiceFault → Type 0
-LeavesService whole options held holds c told outcome =
+LeavesChosen whole options held holds c told outcome =
     let name = option_map string_bytes options.log in
     let line = startup_line options.verbose c name in
     LeavesBy (is_plain options)
     (LeavesServed whole.machine name held holds c (service options.turns options.stats) options.verbose line told outcome)
     (LeavesWithState whole.machine whole.states (names_of options) held holds c (service options.turns options.stats) options.verbose line told outcome)
+
+-- and before all it is said if rules say that they are audited, and no audit is named
+abbrev pub LeavesService : {Log Sockets S Q : Type 0} → WholeMachine Log Sockets S Q → RunOptions → (held holds : Option (List ℕ))
+    → Configuration → List ℕ → Result (Unit {0}) ServiceFault → Type 0
+LeavesService whole options held holds c told outcome =
+    (rest : List ℕ) × (told ≡ unaudited_note c.audits (is_some options.audit) ++ rest)
+    × LeavesChosen whole options held holds c rest outcome

@@ -1,5 +1,5 @@
 -- Laws of a run that keeps its state or reads its configuration again.
-use Rattle.std.specs.Prelude.{◌≡◌, ℕ, ◌<◌, ◌≤◌, ◌^◌, List, Some, All}
+use Rattle.std.specs.Prelude.{◌≡◌, ℕ, ◌<◌, ◌≤◌, ◌^◌, List, Some, Result, All}
 use Rattle.gw_audit.specs.Entry.{IsLineOf, IsShowable}
 use Rattle.gw_audit.specs.declared.denial.Denial.{Denial}
 use Rattle.gw_core.specs.Effects.{effects_at}
@@ -8,7 +8,12 @@ use Rattle.gw_core.specs.State.{State}
 use Rattle.gw_core.specs.declared.event.Counts.{Counts}
 use Rattle.gw_script.specs.Event.{Event}
 use Rattle.gw_service.specs.Chain.{AreLinks, Link, Manner, Stage}
+use Rattle.gw_configuration.specs.Configuration.{Configuration}
+use Rattle.gw_watching.specs.Watching.{Watching}
 use Rattle.gw_service.specs.Counts.{GoesOnFrom}
+use Rattle.gw_service.specs.Kept.{Given, RunsKept, RunsWatched}
+use Rattle.gw_service.specs.Serving.{Ends, Service}
+use Rattle.gw_service.specs.declared.fault.ServiceFault.{ServiceFault}
 
 -- a gateway judges by the rules of the configuration in force
 abbrev pub HasItsRules : {K : Type 0} → Stage K → Type 0
@@ -30,3 +35,11 @@ NumbersGoOn =
     (counts later : Counts) (line : List ℕ) (shown : Denial) (w : State) (e : Event) → GoesOnFrom counts (Some line) later
     → IsShowable shown → IsLineOf line shown → shown.number ≤ 2 ^ 63 → w.denials ≡ later.denials
     → All (λ (d : Denial). (counts.denials < d.number) × (shown.number < d.number)) (effects_at w e).denials
+
+-- A run that is watched is one that isn't, but for what is reported: its log, its wire's calls, its state and its outcome are those
+-- of one without what watches.
+abbrev pub IsAsUnwatched : {S Q L : Type 0} → Given S Q L → Type 0
+IsAsUnwatched {S} {Q} {L} given =
+    (watcher : Watching L L) (c : Configuration) (how : Service) (before after : Ends) (text : List ℕ) (outcome : Result (Unit {0}) ServiceFault)
+    → RunsWatched given watcher c how before after text outcome
+    → (other : List ℕ) × RunsKept given c how before after other outcome

@@ -10,3 +10,5 @@ pub mod Keeping
 pub mod Kept
 pub mod Stats
 pub mod Laws
+pub mod Watch
+pub mod Scheduled

@@ -1,7 +1,15 @@
--- What an operator reads of the state that is kept, or isn't.
-use Rattle.std.specs.Prelude.{ℕ, List, [], Option, Some, None, codes, ◌++◌, ◌∷◌}
+-- What an operator reads of what is kept and recorded, or isn't.
+use Rattle.std.specs.Prelude.{ℕ, Bool, true, false, List, [], Option, Some, None, codes, ◌++◌, ◌∷◌}
 use Rattle.gw_serving.specs.declared.store.StoreFault.{StoreFault}
 use Rattle.gw_serving.specs.declared.store.StoreFault.TheVariants as store
+use Rattle.gw_service.specs.declared.troubles.Troubles.{Troubles}
+
+-- the state alone isn't kept
+abbrev pub of_state : Option StoreFault → Troubles
+of_state fault = record { state = fault; trial = false; audit = false }
+
+abbrev pub no_troubles : Troubles
+no_troubles = of_state None
 
 abbrev pub reason_of : StoreFault → List ℕ
 reason_of store.NoSpace = codes "no space"
@@ -15,8 +23,20 @@ abbrev pub unkept_line : StoreFault → List ℕ
 unkept_line fault = codes "bacgw: state isn't kept: " ++ reason_of fault ++ 10 ∷ []
 
 -- It is reported once, until the state is kept again, which is reported too.
-abbrev pub notice_of : (was is : Option StoreFault) → List ℕ
-notice_of None (Some fault) = unkept_line fault
-notice_of (Some fault) None = codes "bacgw: state is kept again\n"
-notice_of None None = []
-notice_of (Some a) (Some b) = []
+abbrev pub state_notice : (was is : Option StoreFault) → List ℕ
+state_notice None (Some fault) = unkept_line fault
+state_notice (Some fault) None = codes "bacgw: state is kept again\n"
+state_notice None None = []
+state_notice (Some a) (Some b) = []
+
+-- Lines that are lost are reported the first time.
+abbrev pub trial_notice : (was is : Bool) → List ℕ
+trial_notice false true = codes "bacgw: trial: lines are lost\n"
+trial_notice _ _ = []
+
+abbrev pub audit_notice : (was is : Bool) → List ℕ
+audit_notice false true = codes "bacgw: audit: lines are lost\n"
+audit_notice _ _ = []
+
+abbrev pub notice_of : (was is : Troubles) → List ℕ
+notice_of was is = state_notice was.state is.state ++ (trial_notice was.trial is.trial ++ audit_notice was.audit is.audit)

@@ -18,6 +18,7 @@ use Rattle.gw_takeover.specs.Findings.{take_over}
 use Rattle.gw_state_words.specs.Words.{take_over_words}
 use Rattle.gw_system.specs.declared.reading.ReadFailure.{ReadFailure}
 use Rattle.gw_system.specs.declared.reading.ReadFailure.TheVariants as reading
+use Rattle.gw_service.specs.Keeping.{IsSuccessor}
 use Rattle.gw_service.specs.declared.reload.Adopted.{Adopted}
 use Rattle.gw_service.specs.declared.reload.ReloadCounts.{ReloadCounts}
 use Rattle.gw_service.specs.declared.reload.ReloadFault.{ReloadFault}
@@ -112,7 +113,7 @@ reload_line w c s =
 pub record IsAdopted (w : State) (o : Origin) (c : Configuration) (made : Adopted) : Type 0 where
   pub gateway : made.gateway ≡ carried c (saved_of o w)
   pub origin : made.origin ≡ origin_of c
-  pub kept : made.kept ≡ origin_of c
+  pub successor : IsSuccessor c made.successor
   pub line : made.line.items ≡ reload_line w c (saved_of o w)
 
 -- the configuration is that of this text, and has the ports that are served

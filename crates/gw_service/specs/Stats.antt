@@ -12,9 +12,10 @@ abbrev pub has_gone_on : Counts → State → Served → Bool
 has_gone_on start w s =
     nat_le start.ticks w.ticks && (nat_le start.denials w.denials && nat_le w.ticks (start.ticks + s.taken))
 
--- how often the state couldn't be kept
-abbrev pub unkept_text : ℕ → List ℕ
-unkept_text unkept = codes "stats unkept=" ++ (decimal unkept ++ 10 ∷ [])
+-- how often the state couldn't be kept, if it is
+abbrev pub unkept_text : Bool → ℕ → List ℕ
+unkept_text false unkept = []
+unkept_text true unkept = codes "stats unkept=" ++ (decimal unkept ++ 10 ∷ [])
 
 -- how often a configuration was taken over and refused, and the tick since which the one in force is, if it is read again
 abbrev pub reloads_text : Bool → ReloadCounts → List ℕ
@@ -24,20 +25,25 @@ reloads_text true counts =
     ++ (codes " since=" ++ (decimal counts.since ++ 10 ∷ [])))))
 
 -- When what is reported: each so many seconds, if reports are asked for; since a gateway began with these counts; and whether
--- its configuration is read again.
+-- its state is kept or its configuration read again, and whether that is read again.
 pub record Reporting : Type 0 where
   pub seconds : Option ℕ
   pub start : Counts
+  pub keeps : Bool
   pub reloads : Bool
 
-abbrev pub reporting : Option ℕ → Counts → Bool → Reporting
-reporting seconds start reloads = record { seconds = seconds; start = start; reloads = reloads }
+abbrev pub reporting : Option ℕ → Counts → (keeps reloads : Bool) → Reporting
+reporting seconds start keeps reloads =
+    record { seconds = seconds; start = start; keeps = keeps; reloads = reloads }
 
--- a report of what was done since then
-abbrev pub stats_text : Reporting → ReloadCounts → State → Served → Tally → ℕ → List ℕ
-stats_text how counts w s tally unkept =
-    if has_gone_on how.start w s
-    then report_line (report_of how.start w s tally) ++ (unkept_text unkept ++ reloads_text how.reloads counts) else []
+-- how often the state couldn't be kept and the configuration was read again, and what else the keeper reports
+abbrev pub tries_text : {K : Type 0} → (K → ℕ) → (K → State → List ℕ) → Reporting → K → ReloadCounts → State → List ℕ
+tries_text unkept more how k counts w = unkept_text how.keeps (unkept k) ++ (reloads_text how.reloads counts ++ more k w)
+
+-- a report of what was done since then, and these tries
+abbrev pub stats_text : Reporting → State → Served → Tally → (tries : List ℕ) → List ℕ
+stats_text how w s tally tries =
+    if has_gone_on how.start w s then report_line (report_of how.start w s tally) ++ tries else []
 
 -- whether a multiple of so many seconds has passed
 abbrev pub is_due : Counts → State → ℕ → Bool
@@ -48,14 +54,15 @@ abbrev pub end_by : Option ℕ → (text : List ℕ) → List ℕ
 end_by None text = []
 end_by (Some seconds) text = text
 
-abbrev pub end_stats : {K : Type 0} → (K → ℕ) → Reporting → K → ReloadCounts → State → Served → Tally → List ℕ
-end_stats unkept how k counts w s tally = end_by how.seconds (stats_text how counts w s tally (unkept k))
+abbrev pub end_stats : {K : Type 0} → (K → ℕ) → (K → State → List ℕ) → Reporting → K → ReloadCounts → State → Served → Tally → List ℕ
+end_stats unkept more how k counts w s tally =
+    end_by how.seconds (stats_text how w s tally (tries_text unkept more how k counts w))
 
 -- what is reported at a tick: something if a multiple of so many seconds has passed
 abbrev pub due_by : Option ℕ → Counts → State → (text : List ℕ) → List ℕ
 due_by None start w text = []
 due_by (Some seconds) start w text = if is_due start w seconds then text else []
 
-abbrev pub due_stats : {K : Type 0} → (K → ℕ) → Reporting → K → ReloadCounts → State → Served → Tally → List ℕ
-due_stats unkept how k counts w s tally =
-    due_by how.seconds how.start w (stats_text how counts w s tally (unkept k))
+abbrev pub due_stats : {K : Type 0} → (K → ℕ) → (K → State → List ℕ) → Reporting → K → ReloadCounts → State → Served → Tally → List ℕ
+due_stats unkept more how k counts w s tally =
+    due_by how.seconds how.start w (stats_text how w s tally (tries_text unkept more how k counts w))

@@ -3,6 +3,7 @@
 use gw_serving::{ServeFault, StoreFault};
 use gw_state_text::StateFault;
 use gw_system::{LogFailure, OpenFailure, SocketFailure};
+use gw_watch_files::{TrialFault, WatchFault};
 use std::alloc::AllocError;
 
 /// Why a configuration isn't served, or not to the end.
@@ -22,6 +23,25 @@ pub enum ServiceFault {
     State(StateFault),
     /// 7: the place of the state can't be opened, and why.
     Store(StoreFault),
+    /// 8: the policy that is to be on trial isn't, and why.
+    Trial(TrialFault),
+    /// 9: the audit can't be opened, or the last line of it can't be read.
+    Audit,
+}
+
+impl From<WatchFault> for ServiceFault {
+    ghost use Rattle.std.specs.Prelude.{◌≡◌};
+    ghost use Rattle.gw_service.specs.Watch.{fault_of_watching};
+
+    ghost from_gives = { λ watching fault. fault ≡ fault_of_watching watching };
+
+    fn from(watching: WatchFault) -> ServiceFault {
+        match watching {
+            WatchFault::Trial(fault) => ServiceFault::Trial(fault),
+            WatchFault::Audit => ServiceFault::Audit,
+            WatchFault::Memory => ServiceFault::Memory,
+        }
+    }
 }
 
 impl From<ServeFault> for ServiceFault {

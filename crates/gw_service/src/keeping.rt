@@ -1,13 +1,18 @@
 //! What keeps the state of a gateway from stretch to stretch, or doesn't.
 
-ghost use Rattle.std.specs.Prelude.{◌≡◌, ℕ, Option, false};
+ghost use Rattle.std.specs.Prelude.{◌≡◌, [], ℕ, List, false};
+ghost use Rattle.std.specs.Io.KnownBytes.{Appends};
+ghost use Rattle.gw_configuration.specs.Configuration.{Configuration};
 ghost use Rattle.gw_core.specs.State.{State};
-ghost use Rattle.gw_saved.specs.Saved.{Origin};
-ghost use Rattle.gw_service.specs.Keeping.{IsKeptAtTick, IsKeptFor, IsPassed, failing_in, unkept_in};
-ghost use Rattle.gw_serving.specs.declared.store.StoreFault.{StoreFault};
+ghost use Rattle.gw_saved.specs.Saved.{origin_of};
+ghost use Rattle.gw_service.specs.Keeping.{IsKeptAtTick, IsKeptFor, IsPassed, IsSuccessor, failing_in, troubles_in, unkept_in};
+ghost use Rattle.gw_service.specs.declared.troubles.Troubles.{Troubles};
 
+use crate::successor::Successor;
+use crate::troubles::Troubles;
 use gw_core::{AllAsked, Gateway, Taken};
 use gw_saved::Origin;
+use gw_script::OctetSink;
 use gw_serving::{Guard, Keeper, Store, StoreFault};
 use std::alloc::Global;
 
@@ -17,29 +22,38 @@ pub trait StateKeeper: Guard {
     ghost Ticks: { Self → State → Self → Type 0 };
 
     /// What it does if a gateway of another configuration goes on in this state.
-    ghost Adopts: { Self → Origin → State → Self → Type 0 };
+    ghost Adopts: { Self → Configuration → State → Self → Type 0 };
 
-    /// Why the state isn't kept, if the last try failed.
-    ghost failing: { Self → Option StoreFault };
+    /// What isn't kept or recorded.
+    ghost troubles: { Self → Troubles };
 
     /// How many tries failed so far.
     ghost unkept: { Self → ℕ };
+
+    /// What it reports of itself beside that, by the state of the gateway.
+    ghost more: { Self → State → List ℕ };
 
     /// Does what is due at a tick.
     fn keep_at_tick(&mut self, alloc: Global, gateway: &Gateway)
         ensures { Ticks self.old gateway.now self.new };
 
-    /// Goes on with another gateway, of which this is configured.
-    fn adopt(&mut self, alloc: Global, origin: Origin, gateway: &Gateway)
-        ensures { Adopts self.old origin gateway.now self.new };
+    /// Goes on with another gateway, of whose configuration this is made.
+    fn adopt(&mut self, alloc: Global, successor: Successor, gateway: &Gateway)
+        ensures { (c : Configuration) → IsSuccessor c successor → Adopts self.old c gateway.now self.new };
 
-    /// Why the last try failed, if it did.
-    fn failing(&self) -> Option<StoreFault>
-        ensures { result ≡ failing self.now };
+    /// What isn't kept or recorded.
+    fn troubles(&self) -> Troubles
+        ensures { result ≡ troubles self.now };
 
     /// How many tries failed so far.
     fn unkept(&self) -> u64
         ensures { result ≡ unkept self.now };
+
+    /// Reports more of itself.
+    fn tell_more<E: OctetSink>(&self, gateway: &Gateway, errors: &mut E)
+        ensures told { E.NeverFails errors.old →
+            Appends (E.held errors.old) (E.held errors.new) (more self.now gateway.now) }
+        ensures lasts { E.NeverFails errors.old → E.NeverFails errors.new };
 }
 
 /// What keeps the state of a gateway, if something does.
@@ -79,9 +93,11 @@ impl<S: Store + Drop> StateKeeper for Kept<S> {
 
     ghost Adopts = { IsKeptFor S.held };
 
-    ghost failing = { failing_in };
+    ghost troubles = { troubles_in };
 
     ghost unkept = { unkept_in };
+
+    ghost more = { λ _ _. [] };
 
     fn keep_at_tick(&mut self, alloc: Global, gateway: &Gateway) {
         if let Kept::In(keeper) = self {
@@ -89,23 +105,41 @@ impl<S: Store + Drop> StateKeeper for Kept<S> {
         }
     }
 
-    fn adopt(&mut self, alloc: Global, origin: Origin, gateway: &Gateway) {
-        if let Kept::In(keeper) = self {
-            keeper.adopt(alloc, origin, gateway);
-        }
+    fn adopt(&mut self, alloc: Global, successor: Successor, gateway: &Gateway) {
+        self.keep_for(alloc, successor.origin, gateway);
     }
 
-    fn failing(&self) -> Option<StoreFault> {
-        match self {
-            Kept::Nowhere => None,
-            Kept::In(keeper) => keeper.failing(),
-        }
+    fn troubles(&self) -> Troubles {
+        Troubles::of_state(self.failing())
     }
 
     fn unkept(&self) -> u64 {
         match self {
             Kept::Nowhere => 0,
             Kept::In(keeper) => keeper.unkept(),
+        }
+    }
+
+    fn tell_more<E: OctetSink>(&self, _gateway: &Gateway, _errors: &mut E) {}
+}
+
+impl<S: Store + Drop> Kept<S> {
+    /// Keeps the state of another gateway at once, of which this is configured.
+    pub(crate) fn keep_for(&mut self, alloc: Global, origin: Origin, gateway: &Gateway)
+        ensures { (c : Configuration) → origin ≡ origin_of c → IsKeptFor S.held self.old c gateway.now self.new }
+    {
+        if let Kept::In(keeper) = self {
+            keeper.adopt(alloc, origin, gateway);
+        }
+    }
+
+    /// Why the last try failed, if it did.
+    pub(crate) fn failing(&self) -> Option<StoreFault>
+        ensures { result ≡ failing_in self.now }
+    {
+        match self {
+            Kept::Nowhere => None,
+            Kept::In(keeper) => keeper.failing(),
         }
     }
 }

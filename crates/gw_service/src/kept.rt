@@ -1,6 +1,6 @@
 //! A run that keeps its state, or reads its configuration again.
 
-ghost use Rattle.std.specs.Prelude.{◌≡◌, ◌<◌, ◌^◌, ℕ, List, None, Ok, [], option_map, string_bytes, IfErr, IfOk, OnOk};
+ghost use Rattle.std.specs.Prelude.{◌≡◌, ◌<◌, ◌^◌, ◌||◌, ℕ, List, None, Ok, [], is_some, option_map, string_bytes, IfErr, IfOk, OnOk};
 ghost use Rattle.std.specs.Io.Buffered.{writer_buffer, writer_contents};
 ghost use Rattle.std.specs.Io.KnownBytes.{Appends};
 ghost use Rattle.gw_configuration.specs.Configuration.{Configuration};
@@ -12,7 +12,9 @@ ghost use Rattle.gw_service.specs.Kept.{AreRequestsUnder, IsLastLine, IsStateUnd
 ghost use Rattle.gw_service.specs.Announcement.{startup_line};
 ghost use Rattle.gw_service.specs.Reload.{counts_since};
 ghost use Rattle.gw_service.specs.Serving.{IsFlushedFor, LogStays, ends, log_held, machine, service};
+ghost use Rattle.gw_service.specs.Notices.{no_troubles};
 ghost use Rattle.gw_service.specs.Start.{BeginsAs};
+ghost use Rattle.gw_service.specs.Watch.{IsWatcherUnder, watch_names};
 ghost use Rattle.gw_system.specs.Host.{OpensAtLine};
 
 use crate::announcement::warning_of;
@@ -24,6 +26,8 @@ use crate::serving::{Opening, open};
 use crate::start::{MAX_STATE_OCTETS, begin_after, saved_in, start_text};
 use crate::stats::Schedule;
 use crate::telling::tell;
+use crate::troubles::Troubles;
+use crate::watch::watcher_under;
 use gw_command_line::RunOptions;
 use gw_configuration::Config;
 use gw_core::Gateway;
@@ -31,13 +35,14 @@ use gw_saved::{Origin, Saved};
 use gw_script::OctetSink;
 use gw_serving::{Keeper, ServeFault, ServeState, Store, Wire};
 use gw_system::{Host, ReadFailure, Requests, note_of};
+use gw_watching::Watcher;
 use std::alloc::{AllocError, Global};
 use std::io::{BufWriter, Write};
 
-/// What is read and made before anything is opened: what was saved, the last line of the log, what is said of the state, its
-/// store, and what asks to read the configuration again.
+/// What is read and made before the log and the sockets are opened: what was saved, the last line of the log, what is said of
+/// the state, its store, and what asks to read the configuration again; and what watches.
 #[derive(Drop)]
-pub(crate) struct Before<S, Q> {
+pub(crate) struct Before<S, Q, L: OctetSink + Drop> {
     /// What was saved, if something was.
     pub saved: Option<Saved>,
     /// The last line of the log, if there is one.
@@ -48,6 +53,8 @@ pub(crate) struct Before<S, Q> {
     pub store: Option<S>,
     /// What asks to read the configuration again, if something does.
     pub requests: Option<Q>,
+    /// What watches, if something does.
+    pub watcher: Option<Watcher<L, L>>,
 }
 
 /// What was saved in the file of this name. Nothing is read if none is named.
@@ -140,7 +147,7 @@ pub(crate) fn prepare<H: Host>(
     config: &Config,
     options: &RunOptions,
     host: &H,
-) -> Result<Before<H::StateStore, H::Reloads>, ServiceFault>
+) -> Result<Before<H::StateStore, H::Reloads, H::Log>, ServiceFault>
     ensures saved { IfOk result (λ before.
         IsStateUnder (H.FileReads host.now) (option_map string_bytes options.now.state) (Ok before.saved)) }
     ensures line { IfOk result (λ before. IsLastLine (H.LastLines host.now) (option_map string_bytes options.now.state)
@@ -151,8 +158,12 @@ pub(crate) fn prepare<H: Host>(
         IsStoreUnder (H.StoreOpens host.now) (option_map string_bytes options.now.state) (Ok before.store)) }
     ensures requests { IfOk result (λ before. AreRequestsUnder (H.ReloadsOpen host.now)
         (option_map string_bytes options.now.reload) (string_bytes options.now.config) before.requests) }
+    ensures watcher { let LogOpens = OpensAtLine (H.LogOpens host.now) (H.LogIsCut host.now) H.Log.held in
+        IfOk result (λ before. IsWatcherUnder (H.FileReads host.now) (H.LastLines host.now) LogOpens config.now
+        (watch_names options.now) before.watcher) }
     ensures fault { IfErr result (IsUnprepared (state_machine (H.FileReads host.now) (H.LastLines host.now)
-        (H.StoreOpens host.now) (H.ReloadsOpen host.now) H.StateStore.held H.Reloads.told) (names_of options.now)) }
+        (H.StoreOpens host.now) (H.ReloadsOpen host.now) H.StateStore.held H.Reloads.told)
+        (OpensAtLine (H.LogOpens host.now) (H.LogIsCut host.now) H.Log.held) (names_of options.now) config.now) }
 {
     let saved = match saved_under(alloc, &options.state, host) {
         Ok(saved) => saved,
@@ -172,12 +183,17 @@ pub(crate) fn prepare<H: Host>(
     let Ok(requests) = requests_under(alloc, options, host) else {
         return Err(ServiceFault::Memory);
     };
+    let watcher = match watcher_under(alloc, config, options, host) {
+        Ok(watcher) => watcher,
+        Err(fault) => return Err(fault),
+    };
     Ok(Before {
         saved,
         line,
         text,
         store,
         requests,
+        watcher,
     })
 }
 
@@ -197,10 +213,10 @@ fn kept_in<S: Store + Drop>(
 }
 
 /// A gateway of this configuration that is about to run.
-fn make_running<S: Store + Drop, Q: Requests + Drop>(
+fn make_running<S: Store + Drop, Q: Requests + Drop, T: OctetSink + Drop>(
     alloc: Global,
     config: Config,
-    before: Before<S, Q>,
+    before: Before<S, Q, T>,
 ) -> Result<Running<Kept<S>, Option<Q>>, AllocError>
     ensures origin { IfOk result (λ r. r.origin ≡ origin_of config) }
     ensures begins { IfOk result
@@ -210,7 +226,7 @@ fn make_running<S: Store + Drop, Q: Requests + Drop>(
     ensures counts { IfOk result (λ r. r.counts ≡ counts_since r.gateway.ticks) }
     ensures served { IfOk result (λ r. r.state.served ≡ zero_counts) }
     ensures tally { IfOk result (λ r. r.state.tally ≡ no_tally) }
-    ensures told { IfOk result (λ r. r.told ≡ None) }
+    ensures told { IfOk result (λ r. r.told ≡ no_troubles) }
     ensures ready { IfOk result (λ r. (failures turns : ℕ) → failures < 2 ^ 127 → turns < 2 ^ 63 →
         CanCount r.state.served r.state.tally failures turns) }
 {
@@ -220,6 +236,7 @@ fn make_running<S: Store + Drop, Q: Requests + Drop>(
         text: _,
         store,
         requests,
+        watcher: _,
     } = before;
     let origin = Origin::of(alloc, &config)?;
     let kept = Origin::of(alloc, &config)?;
@@ -233,7 +250,7 @@ fn make_running<S: Store + Drop, Q: Requests + Drop>(
         requests,
         counts,
         state: ServeState::new(alloc),
-        told: None,
+        told: Troubles::none(),
     })
 }
 
@@ -247,40 +264,55 @@ fn outcome_of(answer: Result<(), ServeFault>) -> Result<(), ServiceFault>
     }
 }
 
+/// Whether the state is kept, or requests are looked for.
+fn is_kept<S, Q, T: OctetSink + Drop>(before: &Before<S, Q, T>) -> bool
+    ensures { result ≡ (is_some before.now.requests || is_some before.now.store) }
+{
+    before.requests.is_some() || before.store.is_some()
+}
+
 /// Runs a gateway of this configuration on a log, for so many turns, and says at the start if its state isn't kept.
 /// Faults: `Log`, `Memory` and `CountEnd`.
-fn run_on<S: Store + Drop, Q: Requests + Drop, X: Wire, L: OctetSink, E: OctetSink>(
+fn run_on<
+    S: Store + Drop,
+    Q: Requests + Drop,
+    T: OctetSink + Drop,
+    X: Wire,
+    L: OctetSink,
+    E: OctetSink,
+>(
     alloc: Global,
     config: Config,
-    before: Before<S, Q>,
+    mut before: Before<S, Q, T>,
     sockets: &mut X,
     log: &mut L,
     errors: &mut E,
     options: &RunOptions,
 ) -> Result<(), ServiceFault>
     requires failures { X.failure_count sockets.old < 2 ^ 127 }
-    ensures ran { (text : List ℕ) × LeavesKept (given S.held Q.told before) config (service options.now.turns options.now.stats)
+    ensures ran { (text : List ℕ) × LeavesKept (given S.held Q.told T.held before) config (service options.now.turns options.now.stats)
         (ends (L.held log.old) (X.calls sockets.old)) (ends (L.held log.new) (X.calls sockets.new)) text result
         × (E.NeverFails errors.old → Appends (E.held errors.old) (E.held errors.new) text) }
     ensures lasting { E.NeverFails errors.old → E.NeverFails errors.new }
 {
     let reloads = before.requests.is_some();
+    let keeps = is_kept(&before);
+    let watcher = before.watcher.take();
     let mut running = make_running(alloc, config, before)?;
-    running.told = running.notice(errors);
     let schedule = Schedule {
         start: running.gateway.counts(),
         seconds: options.stats,
+        keeps,
         reloads,
     };
-    let answer = running.serve(alloc, sockets, log, errors, &schedule, options.turns);
-    schedule.tell_last(
-        &running.gateway,
-        &running.state,
-        &running.keeper,
-        running.counts,
-        errors,
-    );
-    outcome_of(answer)
+    let turns = options.turns;
+    match watcher {
+        Some(watcher) => {
+            let mut watched = running.watched_by(watcher);
+            outcome_of(watched.run(alloc, sockets, log, errors, &schedule, turns))
+        }
+        None => outcome_of(running.run(alloc, sockets, log, errors, &schedule, turns)),
+    }
 }
 
 /// Runs on what is open. Each event's lines are written to standard output at once if the log is there.
@@ -288,13 +320,13 @@ fn run_open<
     S: Store + Drop,
     Q: Requests + Drop,
     X: Wire,
-    L: OctetSink,
+    L: OctetSink + Drop,
     W: Write + Drop,
     E: OctetSink,
 >(
     alloc: Global,
     config: Config,
-    before: Before<S, Q>,
+    before: Before<S, Q, L>,
     sockets: &mut X,
     log: &mut Option<L>,
     output: &mut BufWriter<W>,
@@ -305,7 +337,7 @@ fn run_open<
     requires unbuffered { log.old ≡ None → writer_buffer output.old ≡ [] }
     ensures ran { let held = writer_contents W.contents output.old in
         let holds = writer_contents W.contents output.new in
-        (text : List ℕ) × LeavesKept (given S.held Q.told before) config (service options.now.turns options.now.stats)
+        (text : List ℕ) × LeavesKept (given S.held Q.told L.held before) config (service options.now.turns options.now.stats)
         (ends (log_held L.held log.old held) (X.calls sockets.old))
         (ends (log_held L.held log.new holds) (X.calls sockets.new)) text result
         × (E.NeverFails errors.old → Appends (E.held errors.old) (E.held errors.new) text) }

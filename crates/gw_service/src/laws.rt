@@ -6,15 +6,19 @@ ghost use Rattle.gw_serving.specs.declared.serving.Served.{Served};
 ghost use Rattle.gw_serving.specs.declared.tally.Tally.{Tally};
 ghost use Rattle.gw_service.specs.Chain.{manner};
 ghost use Rattle.gw_service.specs.declared.reload.ReloadCounts.{ReloadCounts};
-ghost use Rattle.gw_service.specs.Laws.{NumbersGoOn, RulesAreInForce, RulesStay};
+ghost use Rattle.gw_service.specs.Kept.{Given};
+ghost use Rattle.gw_service.specs.Laws.{IsAsUnwatched, NumbersGoOn, RulesAreInForce, RulesStay};
 
 use crate::keeping::StateKeeper;
+use gw_script::OctetSink;
+use gw_serving::Store;
+use gw_system::Requests;
 
 /// Each event is judged by the rules of the configuration in force: wherever a run leads, the gateway has them, and in a stretch
 /// they stay.
 pub fn rules_are_in_force<K: StateKeeper>()
     ensures chain { (report : K → ReloadCounts → State → Served → Tally → List ℕ) →
-        RulesAreInForce (manner K.Passes K.Ticks K.Adopts K.failing report) }
+        RulesAreInForce (manner K.Passes K.Ticks K.Adopts K.troubles report) }
     ensures stretch { RulesStay }
 {}
 
@@ -22,4 +26,10 @@ pub fn rules_are_in_force<K: StateKeeper>()
 /// counted there, and after that of the last line of its log.
 pub fn numbers_go_on()
     ensures { NumbersGoOn }
+{}
+
+/// What watches changes nothing but what is reported: the log, the calls of the wire, the state and the outcome are those of a run
+/// without it.
+pub fn as_unwatched<S: Store + Drop, Q: Requests + Drop, L: OctetSink + Drop>()
+    ensures { (given : Given S Q L) → IsAsUnwatched given }
 {}

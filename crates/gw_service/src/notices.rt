@@ -1,8 +1,12 @@
-//! What an operator reads of the state that is kept, or isn't.
+//! What an operator reads of what is kept and recorded, or isn't.
 
 ghost use Rattle.std.specs.Prelude.{◌≡◌};
-ghost use Rattle.gw_service.specs.Notices.{notice_of, unkept_line};
+ghost use Rattle.std.specs.Io.KnownBytes.{Appends};
+ghost use Rattle.gw_service.specs.Notices.{audit_notice, notice_of, state_notice, trial_notice, unkept_line};
 
+use crate::telling::tell;
+use crate::troubles::Troubles;
+use gw_script::OctetSink;
 use gw_serving::StoreFault;
 
 /// The line of a state that isn't kept.
@@ -19,12 +23,44 @@ fn unkept_line(fault: StoreFault) -> &'static str
 }
 
 /// What is reported if the state was kept, or not, and is so now: a line if that changed, and else nothing.
-pub(crate) fn notice_of(was: Option<StoreFault>, is: Option<StoreFault>) -> &'static str
-    ensures { result.now ≡ notice_of was is }
+fn state_notice(was: Option<StoreFault>, is: Option<StoreFault>) -> &'static str
+    ensures { result.now ≡ state_notice was is }
 {
     match (was, is) {
         (None, Some(fault)) => unkept_line(fault),
         (Some(_), None) => "bacgw: state is kept again\n",
         _ => "",
     }
+}
+
+/// What is reported if lines of a policy on trial were lost before, and are now: a line the first time.
+fn trial_notice(was: bool, is: bool) -> &'static str
+    ensures { result.now ≡ trial_notice was is }
+{
+    if is && !was {
+        "bacgw: trial: lines are lost\n"
+    } else {
+        ""
+    }
+}
+
+/// What is reported if lines of an audit were lost before, and are now: a line the first time.
+fn audit_notice(was: bool, is: bool) -> &'static str
+    ensures { result.now ≡ audit_notice was is }
+{
+    if is && !was {
+        "bacgw: audit: lines are lost\n"
+    } else {
+        ""
+    }
+}
+
+/// Reports what isn't kept or recorded, if that changed.
+pub(crate) fn tell_notices<E: OctetSink>(was: Troubles, is: Troubles, errors: &mut E)
+    ensures told { E.NeverFails errors.old → Appends (E.held errors.old) (E.held errors.new) (notice_of was is) }
+    ensures lasts { E.NeverFails errors.old → E.NeverFails errors.new }
+{
+    tell(state_notice(was.state, is.state).as_bytes(), errors);
+    tell(trial_notice(was.trial, is.trial).as_bytes(), errors);
+    tell(audit_notice(was.audit, is.audit).as_bytes(), errors);
 }

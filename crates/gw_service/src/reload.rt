@@ -5,10 +5,12 @@ ghost use Rattle.std.specs.Cmp.Lexicographic.{pointwise};
 ghost use Rattle.gw_core.specs.Resumed.{saved_of};
 ghost use Rattle.gw_saved.specs.Saved.{origin_of};
 ghost use Rattle.gw_serving.specs.Keeping.{one_more};
+ghost use Rattle.gw_service.specs.Keeping.{IsSuccessor};
 ghost use Rattle.gw_service.specs.Reload.{IsAdopted, IsPortsOrMemory, IsRefused, IsReloaded, counts_since, have_same_ports, reload_line, same_port, with_refused, with_taken_over};
 ghost use Rattle.gw_system.specs.Requests.{text_found};
 
 use crate::line::reload_line;
+use crate::successor::Successor;
 use gw_configuration::{Config, ConfigFault, Port};
 use gw_core::Gateway;
 use gw_policy_text::read_config;
@@ -148,16 +150,16 @@ fn have_same_ports(links: &[PortState], ports: &[Port]) -> bool
     true
 }
 
-/// By what a gateway goes on: the gateway, what is configured of it, once for whoever saves it and once for the
-/// keeper of its state, and the line that is reported.
+/// By what a gateway goes on: the gateway, what is configured of it, what is made for the keeper of its state and what watches
+/// it, and the line that is reported.
 #[derive(Drop)]
 pub struct Adopted {
     /// The gateway.
     pub gateway: Gateway,
     /// What is configured of what can be written.
     pub origin: Origin,
-    /// The same.
-    pub kept: Origin,
+    /// What is made for what keeps its state and watches it.
+    pub successor: Successor,
     /// The line.
     pub line: Vec<u8>,
 }
@@ -167,7 +169,7 @@ pub struct Adopted {
 struct Prepared {
     saved: Saved,
     origin: Origin,
-    kept: Origin,
+    successor: Successor,
     line: Vec<u8>,
 }
 
@@ -180,18 +182,18 @@ fn prepare(
 ) -> Result<Prepared, AllocError>
     ensures saved { IfOk result (λ made. made.saved ≡ saved_of origin.now gateway.now) }
     ensures origin { IfOk result (λ made. made.origin ≡ origin_of config.now) }
-    ensures kept { IfOk result (λ made. made.kept ≡ origin_of config.now) }
+    ensures successor { IfOk result (λ made. IsSuccessor config.now made.successor) }
     ensures line { IfOk result
         (λ made. made.line.items ≡ reload_line gateway.now config.now (saved_of origin.now gateway.now)) }
 {
     let saved = gateway.save(alloc, origin)?;
     let line = reload_line(alloc, gateway, config, &saved)?;
     let origin = Origin::of(alloc, config)?;
-    let kept = Origin::of(alloc, config)?;
+    let successor = Successor::of(alloc, config)?;
     Ok(Prepared {
         saved,
         origin,
-        kept,
+        successor,
         line,
     })
 }
@@ -208,14 +210,14 @@ fn adopt(
     let Prepared {
         saved,
         origin,
-        kept,
+        successor,
         line,
     } = prepare(alloc, gateway, origin, &config)?;
     let gateway = Gateway::resume(alloc, config, &saved)?;
     Ok(Adopted {
         gateway,
         origin,
-        kept,
+        successor,
         line,
     })
 }

@@ -10,21 +10,25 @@ ghost use Rattle.gw_serving.specs.Serve.{scene};
 ghost use Rattle.gw_serving.specs.Stretch.{CanCount, moment};
 ghost use Rattle.gw_system.specs.Requests.{Exchange, GoesOn, asked, text_found};
 ghost use Rattle.gw_service.specs.Chain.{Advances, AtTick, IsLooked, Link, Looks, Runs, chain_text, manner, stage, standing};
-ghost use Rattle.gw_service.specs.Notices.{notice_of};
+ghost use Rattle.gw_service.specs.Notices.{no_troubles, notice_of};
 ghost use Rattle.gw_service.specs.Reload.{refusal_line};
-ghost use Rattle.gw_service.specs.Stats.{due_stats, reporting};
+ghost use Rattle.gw_service.specs.Kept.{RunsFrom};
+ghost use Rattle.gw_service.specs.Serving.{ends};
+ghost use Rattle.gw_service.specs.Scheduled.{reporting_by};
+ghost use Rattle.gw_service.specs.Stats.{due_stats, end_stats};
 
 use crate::keeping::StateKeeper;
 use crate::line::{line_with_place, refusal_line};
-use crate::notices::notice_of;
+use crate::notices::tell_notices;
 use crate::reload::{Adopted, ReloadCounts, ReloadFault, reloaded};
 use crate::stats::Schedule;
 use crate::telling::tell;
+use crate::troubles::Troubles;
 use gw_core::Gateway;
 use gw_policy_text::MAX_OCTETS;
 use gw_saved::Origin;
 use gw_script::OctetSink;
-use gw_serving::{Pause, ServeFault, ServeState, StoreFault, Wire};
+use gw_serving::{Both, Pause, ServeFault, ServeState, Wire};
 use gw_system::{ReadFailure, Requests};
 use std::alloc::Global;
 
@@ -43,8 +47,8 @@ pub struct Running<K, Q> {
     pub counts: ReloadCounts,
     /// What is kept from turn to turn, and what was counted.
     pub state: ServeState,
-    /// What was reported last of the state: why it isn't kept, or that it is.
-    pub told: Option<StoreFault>,
+    /// What was reported last of what isn't kept or recorded.
+    pub told: Troubles,
 }
 
 // By hand: a derived one is proved part by part wherever one is dropped (docs/GATE.md).
@@ -94,14 +98,14 @@ impl<K: StateKeeper, Q: Requests> Running<K, Q> {
                 Adopted {
                     gateway,
                     origin,
-                    kept,
+                    successor,
                     line,
                 },
             ) => {
                 self.counts = self.counts.with_taken_over(self.gateway.counts().ticks);
                 self.gateway = gateway;
                 self.origin = origin;
-                self.keeper.adopt(alloc, kept, &self.gateway);
+                self.keeper.adopt(alloc, successor, &self.gateway);
                 self.requests.answer(&line);
                 tell(&line, errors);
             }
@@ -130,19 +134,19 @@ impl<K: StateKeeper, Q: Requests> Running<K, Q> {
         }
     }
 
-    /// Reports whether the state is kept, if that changed since the last report; and returns why it isn't.
-    pub(crate) fn notice<E: OctetSink>(&self, errors: &mut E) -> Option<StoreFault>
-        ensures failing { result ≡ K.failing self.now.keeper }
+    /// Reports what isn't kept or recorded, if that changed since the last report; and returns it.
+    pub(crate) fn notice<E: OctetSink>(&self, errors: &mut E) -> Troubles
+        ensures troubles { result ≡ K.troubles self.now.keeper }
         ensures text { E.NeverFails errors.old →
             Appends (E.held errors.old) (E.held errors.new) (notice_of self.now.told result) }
         ensures lasts { E.NeverFails errors.old → E.NeverFails errors.new }
     {
-        let failing = self.keeper.failing();
-        tell(notice_of(self.told, failing).as_bytes(), errors);
-        failing
+        let troubles = self.keeper.troubles();
+        tell_notices(self.told, troubles, errors);
+        troubles
     }
 
-    /// Does what is due at a tick: keeps the state, and looks for a request.
+    /// Does what is due at a tick: does what is due of the state, and looks for a request.
     fn at_tick<E: OctetSink>(&mut self, alloc: Global, errors: &mut E)
         ensures done { Looks (AtTick K.Ticks K.Adopts) self.old.origin
             (standing self.old.gateway self.old.keeper (Q.told self.old.requests) self.old.counts)
@@ -171,8 +175,8 @@ impl<K: StateKeeper, Q: Requests> Running<K, Q> {
             let before = stage c (moment (scene self.old.gateway (L.held log.old) (W.calls wire.old)) self.old.keeper
             self.old.state.served self.old.state.tally) (Q.told self.old.requests) self.old.counts self.old.told in
             (d : Configuration) × (text : List ℕ) × (self.new.origin ≡ origin_of d)
-            × Advances (manner K.Passes K.Ticks K.Adopts K.failing
-            (due_stats K.unkept (reporting schedule.now.seconds schedule.now.start schedule.now.reloads))) turns before result text
+            × Advances (manner K.Passes K.Ticks K.Adopts K.troubles
+            (due_stats K.unkept K.more (reporting_by schedule.now))) turns before result text
             (stage d (moment (scene self.new.gateway (L.held log.new) (W.calls wire.new)) self.new.keeper
             self.new.state.served self.new.state.tally) (Q.told self.new.requests) self.new.counts self.new.told)
             × (E.NeverFails errors.old → Appends (E.held errors.old) (E.held errors.new) text) }
@@ -226,8 +230,8 @@ impl<K: StateKeeper, Q: Requests> Running<K, Q> {
             let before = stage c (moment (scene self.old.gateway (L.held log.old) (W.calls wire.old)) self.old.keeper
             self.old.state.served self.old.state.tally) (Q.told self.old.requests) self.old.counts self.old.told in
             (d : Configuration) × (links : List Link) × (self.new.origin ≡ origin_of d)
-            × Runs (manner K.Passes K.Ticks K.Adopts K.failing
-            (due_stats K.unkept (reporting schedule.now.seconds schedule.now.start schedule.now.reloads))) turns before result links
+            × Runs (manner K.Passes K.Ticks K.Adopts K.troubles
+            (due_stats K.unkept K.more (reporting_by schedule.now))) turns before result links
             (stage d (moment (scene self.new.gateway (L.held log.new) (W.calls wire.new)) self.new.keeper
             self.new.state.served self.new.state.tally) (Q.told self.new.requests) self.new.counts self.new.told)
             × (E.NeverFails errors.old → Appends (E.held errors.old) (E.held errors.new) (chain_text links)) }
@@ -243,5 +247,78 @@ impl<K: StateKeeper, Q: Requests> Running<K, Q> {
             left -= self.state.served.turns - before;
         }
         Ok(())
+    }
+
+    /// Serves a wire for so many turns as [`Running::serve`] does, reports before it what isn't kept or recorded, and reports
+    /// after it what was done, if the schedule asks for that.
+    ///
+    /// # Errors
+    ///
+    /// Those of [`serve`](gw_serving::serve).
+    pub(crate) fn run<W: Wire, L: OctetSink, E: OctetSink>(
+        &mut self,
+        alloc: Global,
+        wire: &mut W,
+        log: &mut L,
+        errors: &mut E,
+        schedule: &Schedule,
+        turns: u64,
+    ) -> Result<(), ServeFault>
+        requires count { CanCount self.old.state.served self.old.state.tally (W.failure_count wire.old) turns }
+        requires untold { self.old.told ≡ no_troubles }
+        ensures runs { (c : Configuration) → self.old.origin ≡ origin_of c →
+            let before = stage c (moment (scene self.old.gateway (L.held log.old) (W.calls wire.old)) self.old.keeper
+            self.old.state.served self.old.state.tally) (Q.told self.old.requests) self.old.counts (K.troubles self.old.keeper) in
+            let how = reporting_by schedule.now in
+            let after = ends (L.held log.new) (W.calls wire.new) in
+            (text : List ℕ) × RunsFrom (manner K.Passes K.Ticks K.Adopts K.troubles (due_stats K.unkept K.more how))
+            (end_stats K.unkept K.more how) turns before result after text
+            × (E.NeverFails errors.old → Appends (E.held errors.old) (E.held errors.new) text) }
+        ensures lasts { E.NeverFails errors.old → E.NeverFails errors.new }
+    {
+        self.told = self.notice(errors);
+        let answer = self.serve(alloc, wire, log, errors, schedule, turns);
+        schedule.tell_last(
+            &self.gateway,
+            &self.state,
+            &self.keeper,
+            self.counts,
+            errors,
+        );
+        answer
+    }
+
+    /// The same gateway, which is also watched.
+    pub(crate) fn watched_by<V>(self, watcher: V) -> Running<Both<K, V>, Q>
+        ensures gateway { result.gateway ≡ self.gateway }
+        ensures origin { result.origin ≡ self.origin }
+        ensures first { result.keeper.first ≡ self.keeper }
+        ensures second { result.keeper.second ≡ watcher }
+        ensures requests { result.requests ≡ self.requests }
+        ensures counts { result.counts ≡ self.counts }
+        ensures state { result.state ≡ self.state }
+        ensures told { result.told ≡ self.told }
+    {
+        let Running {
+            gateway,
+            origin,
+            keeper,
+            requests,
+            counts,
+            state,
+            told,
+        } = self;
+        Running {
+            gateway,
+            origin,
+            keeper: Both {
+                first: keeper,
+                second: watcher,
+            },
+            requests,
+            counts,
+            state,
+            told,
+        }
     }
 }

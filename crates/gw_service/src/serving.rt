@@ -3,7 +3,7 @@
 //! A function that owns a configuration or a gateway does nothing fallible after making it, and passes
 //! a reference on: each way out would drop a large value.
 
-ghost use Rattle.std.specs.Prelude.{◌≡◌, ◌⊎◌, ◌≤◌, ◌<◌, ◌^◌, [], ℕ, List, Ok, Err, None, Some, MatchResult, length, option_map, string_bytes, IfErr, IfOk, IfSome, OnErr, OnOk};
+ghost use Rattle.std.specs.Prelude.{◌≡◌, ◌⊎◌, ◌≤◌, ◌<◌, ◌^◌, [], ℕ, List, Ok, Err, None, Some, MatchResult, is_some, length, option_map, string_bytes, IfErr, IfOk, IfSome, OnErr, OnOk};
 ghost use Rattle.std.specs.Io.Buffered.{writer_buffer, writer_contents};
 ghost use Rattle.std.specs.Io.KnownBytes.{Appends, Keeps};
 ghost use Rattle.gw_core.specs.History.{state_after};
@@ -11,7 +11,9 @@ ghost use Rattle.gw_core.specs.Replay.{no_counts};
 ghost use Rattle.gw_serving.specs.Serve.{scene};
 ghost use Rattle.gw_service.specs.Announcement.{startup_line};
 ghost use Rattle.gw_system.specs.Host.{OpensAtLine};
-ghost use Rattle.gw_service.specs.Kept.{LeavesService, is_plain, state_machine, whole_machine};
+ghost use Rattle.gw_service.specs.Kept.{LeavesChosen, LeavesService, is_plain, state_machine, whole_machine};
+ghost use Rattle.std.specs.List.{list_any};
+ghost use Rattle.gw_service.specs.Watch.{is_unaudited, unaudited_note};
 ghost use Rattle.gw_service.specs.Serving.{AreOpen, ArentOpen, IsFlushedFor, LeavesServed, LogIsOpen, LogIsShut, LogStays, Serves, ServesFrom, ends, log_held, machine, outcome_of, service};
 ghost use Rattle.gw_service.specs.declared.fault.ServiceFault.TheVariants as fault;
 
@@ -19,6 +21,7 @@ use crate::announcement::{startup_line, warning_of};
 use crate::fault::ServiceFault;
 use crate::kept::serve_kept;
 use crate::telling::tell;
+use crate::watch::is_watched;
 use gw_command_line::RunOptions;
 use gw_configuration::Config;
 use gw_core::{Counts, Gateway};
@@ -274,21 +277,74 @@ fn serve_plain<H: Host, W: Write + Drop, E: OctetSink>(
     }
 }
 
-/// Whether the options name neither a state nor a request file.
+/// Whether the options name neither a state nor a request file, and nothing watches.
 fn is_plain(options: &RunOptions) -> bool
     ensures { result ≡ is_plain options.now }
 {
-    !options.state.is_some() && !options.reload.is_some()
+    !options.state.is_some() && !options.reload.is_some() && !is_watched(options)
+}
+
+/// Serves the ports of a configuration as the options ask. Faults: those of [`serve_ports`].
+fn serve_chosen<H: Host, W: Write + Drop, E: OctetSink>(
+    alloc: Global,
+    config: Config,
+    options: &RunOptions,
+    host: &mut H,
+    output: &mut BufWriter<W>,
+    errors: &mut E,
+) -> Result<(), ServiceFault>
+    ensures served { (told : List ℕ)
+        × LeavesChosen (whole_machine (machine (OpensAtLine (H.LogOpens host.old) (H.LogIsCut host.old) H.Log.held)
+        (H.SocketsOpen host.old) (H.RoutesIp host.old) (H.Closes host.new) H.Log.held H.Sockets.calls)
+        (state_machine (H.FileReads host.old) (H.LastLines host.old) (H.StoreOpens host.old)
+        (H.ReloadsOpen host.old) H.StateStore.held H.Reloads.told)) options.now
+        (writer_contents W.contents output.old) (writer_contents W.contents output.new) config told result
+        × (E.NeverFails errors.old → Appends (E.held errors.old) (E.held errors.new) told) }
+    ensures lasting { E.NeverFails errors.old → E.NeverFails errors.new }
+    ensures flush { OnOk result (IsFlushedFor (option_map string_bytes options.now.log)
+        (writer_buffer output.old) (writer_buffer output.new)) }
+{
+    if is_plain(options) {
+        serve_plain(alloc, config, options, host, output, errors)
+    } else {
+        serve_kept(alloc, config, options, host, output, errors)
+    }
+}
+
+/// Whether a rule says `audit = true`.
+fn has_audit(audits: &[bool]) -> bool
+    ensures { result ≡ list_any (λ audit. audit) audits.now }
+{
+    audits.iter().any(|audit| *audit)
+}
+
+/// Whether a rule says `audit = true`, and no audit is named.
+fn is_unaudited(config: &Config, options: &RunOptions) -> bool
+    ensures { result ≡ is_unaudited config.now.audits (is_some options.now.audit) }
+{
+    !options.audit.is_some() && has_audit(config.audits())
+}
+
+/// What is written of rules that say `audit = true` if no audit is named.
+fn unaudited_note(config: &Config, options: &RunOptions) -> &'static str
+    ensures { result.now ≡ unaudited_note config.now.audits (is_some options.now.audit) }
+{
+    if is_unaudited(config, options) {
+        "bacgw: audit = true writes nothing without --audit\n"
+    } else {
+        ""
+    }
 }
 
 /// Serves the ports of a configuration as the options ask. If they ask for more it writes at the start what is
 /// served and whether the machine routes IP past the gateway, or why sockets can't be opened. If they name a state it begins with
-/// that, and keeps it; if they name a request it reads the configuration again when it is asked to.
+/// that, and keeps it; if they name a request it reads the configuration again when it is asked to;
+/// if they name a trial or an audit, or ask for reports, what is asked is watched.
 ///
 /// # Errors
 ///
-/// `Log`, `Socket`, `Memory` and `CountEnd`; and, if a state is named, `StateUnreadable`, `State` and `Store`, and then nothing
-/// was opened.
+/// `Log`, `Socket`, `Memory` and `CountEnd`; if a state is named, `StateUnreadable`, `State` and `Store`; and if a trial or an
+/// audit is, `Trial` and `Audit`. At these neither the log nor a socket was opened.
 pub fn serve_ports<H: Host, W: Write + Drop, E: OctetSink>(
     alloc: Global,
     config: Config,
@@ -308,9 +364,6 @@ pub fn serve_ports<H: Host, W: Write + Drop, E: OctetSink>(
     ensures flush { OnOk result (IsFlushedFor (option_map string_bytes options.now.log)
         (writer_buffer output.old) (writer_buffer output.new)) }
 {
-    if is_plain(options) {
-        serve_plain(alloc, config, options, host, output, errors)
-    } else {
-        serve_kept(alloc, config, options, host, output, errors)
-    }
+    tell(unaudited_note(&config, options).as_bytes(), errors);
+    serve_chosen(alloc, config, options, host, output, errors)
 }

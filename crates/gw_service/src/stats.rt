@@ -4,7 +4,7 @@ ghost use Rattle.std.proofs.Props.{props};
 ghost use Rattle.std.specs.Prelude.{◌≡◌, ◌++◌, ◌-◌, ◌%◌, ◌==◌, ◌<◌, ◌≤◌, IfSome, IsOk, IsTrue, OnOk, decimal, if◌then◌else◌, [], List, ℕ, true};
 ghost use Rattle.std.specs.Io.KnownBytes.{Appends};
 ghost use Rattle.gw_serving.specs.ReportTurn.{HasGoneOn};
-ghost use Rattle.gw_service.specs.Stats.{due_stats, end_stats, has_gone_on, is_due, reloads_text, reporting, stats_text, unkept_text};
+ghost use Rattle.gw_service.specs.Stats.{due_stats, end_stats, has_gone_on, is_due, reloads_text, reporting, stats_text, tries_text, unkept_text};
 
 use crate::keeping::StateKeeper;
 use crate::reload::ReloadCounts;
@@ -14,13 +14,15 @@ use gw_serving::{ServeState, Served, report_of, tell_report};
 use itoa::Buffer;
 
 /// When a report is due: the counts of the gateway at first, and the seconds from one to the next, if reports are asked for;
-/// and whether it says how often the configuration was read again.
+/// and whether it says how often the state couldn't be kept, and how often the configuration was read again.
 #[derive(Clone, Copy)]
 pub struct Schedule {
     /// The counts of the gateway at first.
     pub start: Counts,
     /// How many seconds lie between two reports.
     pub seconds: Option<u64>,
+    /// Whether the state is kept, or the configuration read again if that is asked for.
+    pub keeps: bool,
     /// Whether the configuration is read again if that is asked for.
     pub reloads: bool,
     pub ghost some: { IfSome seconds (λ n. 0 < n) } by { Prim.hlevel props },
@@ -28,7 +30,7 @@ pub struct Schedule {
 
 /// Writes how often the state couldn't be kept.
 fn write_unkept<E: OctetSink>(unkept: u64, errors: &mut E) -> Result<(), WriteFailed>
-    ensures ok { OnOk result (Appends (E.held errors.old) (E.held errors.new) (unkept_text unkept)) }
+    ensures ok { OnOk result (Appends (E.held errors.old) (E.held errors.new) (unkept_text true unkept)) }
     ensures sure { E.NeverFails errors.old → IsOk result }
     ensures lasts { E.NeverFails errors.old → E.NeverFails errors.new }
 {
@@ -37,16 +39,18 @@ fn write_unkept<E: OctetSink>(unkept: u64, errors: &mut E) -> Result<(), WriteFa
     write_whole(errors, b"\n")
 }
 
-/// Reports how often the state couldn't be kept.
-fn tell_unkept<E: OctetSink>(unkept: u64, errors: &mut E)
-    ensures told { E.NeverFails errors.old → Appends (E.held errors.old) (E.held errors.new) (unkept_text unkept) }
+/// Reports how often the state couldn't be kept, if it is.
+fn tell_unkept<E: OctetSink>(is_kept: bool, unkept: u64, errors: &mut E)
+    ensures told { E.NeverFails errors.old → Appends (E.held errors.old) (E.held errors.new) (unkept_text is_kept unkept) }
     ensures lasts { E.NeverFails errors.old → E.NeverFails errors.new }
 {
-    let _ = write_unkept(unkept, errors);
+    if is_kept {
+        let _ = write_unkept(unkept, errors);
+    }
 }
 
 /// Writes a text and this count.
-fn write_count<E: OctetSink>(text: &str, count: u64, errors: &mut E) -> Result<(), WriteFailed>
+pub(crate) fn write_count<E: OctetSink>(text: &str, count: u64, errors: &mut E) -> Result<(), WriteFailed>
     ensures ok { OnOk result (Appends (E.held errors.old) (E.held errors.new) (text.now ++ decimal count)) }
     ensures sure { E.NeverFails errors.old → IsOk result }
     ensures lasts { E.NeverFails errors.old → E.NeverFails errors.new }
@@ -77,15 +81,6 @@ fn tell_reloads<E: OctetSink>(is_read: bool, counts: ReloadCounts, errors: &mut 
     }
 }
 
-/// Reports how often the state couldn't be kept, and how often the configuration was read again, if it is.
-fn tell_tries<E: OctetSink>(unkept: u64, is_read: bool, counts: ReloadCounts, errors: &mut E)
-    ensures told { E.NeverFails errors.old →
-        Appends (E.held errors.old) (E.held errors.new) (unkept_text unkept ++ reloads_text is_read counts) }
-    ensures lasts { E.NeverFails errors.old → E.NeverFails errors.new }
-{
-    tell_unkept(unkept, errors);
-    tell_reloads(is_read, counts, errors);
-}
 
 /// Whether a gateway's counts didn't fall since it began with these, and each tick is an event that was taken. It is always so.
 fn has_gone_on(start: Counts, gateway: &Gateway, served: &Served) -> bool
@@ -107,24 +102,42 @@ fn is_due(start: Counts, gateway: &Gateway, seconds: u64) -> bool
 }
 
 impl Schedule {
-    /// Reports what was done since a gateway began.
-    fn tell_stats<E: OctetSink>(
+    /// Reports how often the state couldn't be kept, if it is, how often the configuration was read again, if it is, and
+    /// what else the keeper reports.
+    fn tell_tries<K: StateKeeper, E: OctetSink>(
         &self,
         gateway: &Gateway,
-        state: &ServeState,
-        unkept: u64,
+        keeper: &K,
         counts: ReloadCounts,
         errors: &mut E,
     )
         ensures told { E.NeverFails errors.old → Appends (E.held errors.old) (E.held errors.new)
-            (stats_text (reporting self.now.seconds self.now.start self.now.reloads) counts gateway.now state.now.served
-            state.now.tally unkept) }
+            (tries_text K.unkept K.more (reporting self.now.seconds self.now.start self.now.keeps self.now.reloads) keeper.now counts gateway.now) }
+        ensures lasts { E.NeverFails errors.old → E.NeverFails errors.new }
+    {
+        tell_unkept(self.keeps, keeper.unkept(), errors);
+        tell_reloads(self.reloads, counts, errors);
+        keeper.tell_more(gateway, errors);
+    }
+
+    /// Reports what was done since a gateway began.
+    fn tell_stats<K: StateKeeper, E: OctetSink>(
+        &self,
+        gateway: &Gateway,
+        state: &ServeState,
+        keeper: &K,
+        counts: ReloadCounts,
+        errors: &mut E,
+    )
+        ensures told { E.NeverFails errors.old → Appends (E.held errors.old) (E.held errors.new)
+            (stats_text (reporting self.now.seconds self.now.start self.now.keeps self.now.reloads) gateway.now state.now.served state.now.tally
+            (tries_text K.unkept K.more (reporting self.now.seconds self.now.start self.now.keeps self.now.reloads) keeper.now counts gateway.now)) }
         ensures lasts { E.NeverFails errors.old → E.NeverFails errors.new }
     {
         if has_gone_on(self.start, gateway, &state.served) {
             let report = report_of(self.start, gateway, &state.served, state.tally);
             tell_report(&report, errors);
-            tell_tries(unkept, self.reloads, counts, errors);
+            self.tell_tries(gateway, keeper, counts, errors);
         }
     }
 
@@ -138,13 +151,12 @@ impl Schedule {
         errors: &mut E,
     )
         ensures told { E.NeverFails errors.old → Appends (E.held errors.old) (E.held errors.new)
-            (due_stats K.unkept (reporting self.now.seconds self.now.start self.now.reloads) keeper.now counts gateway.now
-            state.now.served state.now.tally) }
+            (due_stats K.unkept K.more (reporting self.now.seconds self.now.start self.now.keeps self.now.reloads) keeper.now counts gateway.now state.now.served state.now.tally) }
         ensures lasts { E.NeverFails errors.old → E.NeverFails errors.new }
     {
         if let Some(seconds) = self.seconds {
             if is_due(self.start, gateway, seconds) {
-                self.tell_stats(gateway, state, keeper.unkept(), counts, errors);
+                self.tell_stats(gateway, state, keeper, counts, errors);
             }
         }
     }
@@ -159,12 +171,11 @@ impl Schedule {
         errors: &mut E,
     )
         ensures told { E.NeverFails errors.old → Appends (E.held errors.old) (E.held errors.new)
-            (end_stats K.unkept (reporting self.now.seconds self.now.start self.now.reloads) keeper.now counts gateway.now
-            state.now.served state.now.tally) }
+            (end_stats K.unkept K.more (reporting self.now.seconds self.now.start self.now.keeps self.now.reloads) keeper.now counts gateway.now state.now.served state.now.tally) }
         ensures lasts { E.NeverFails errors.old → E.NeverFails errors.new }
     {
         if self.seconds.is_some() {
-            self.tell_stats(gateway, state, keeper.unkept(), counts, errors);
+            self.tell_stats(gateway, state, keeper, counts, errors);
         }
     }
 }

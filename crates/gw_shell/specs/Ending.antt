@@ -17,6 +17,8 @@ use Rattle.gw_serving.specs.declared.store.StoreFault.{StoreFault}
 use Rattle.gw_serving.specs.declared.store.StoreFault.TheVariants as store
 use Rattle.gw_suggest.specs.declared.fault.SuggestFault.{SuggestFault}
 use Rattle.gw_suggest.specs.declared.fault.SuggestFault.TheVariants as suggest
+use Rattle.gw_watch_files.specs.declared.fault.TrialFault.{TrialFault}
+use Rattle.gw_watch_files.specs.declared.fault.TrialFault.TheVariants as trial
 use Rattle.gw_shell.specs.declared.fault.Fault.{Fault}
 use Rattle.gw_shell.specs.declared.fault.Fault.TheVariants as fault
 use Rattle.gw_compare.specs.declared.comparison.Compared.{Compared}
@@ -64,6 +66,19 @@ store_words store.ReadOnly = codes "read-only"
 store_words store.Memory = codes "out of memory"
 store_words store.System = codes "refused by the system"
 
+-- why a policy isn't on trial
+abbrev pub trial_words : TrialFault → List ℕ
+trial_words trial.Unreadable = codes "cannot read configuration"
+trial_words (trial.Configuration f) = codes "configuration: "
+trial_words trial.Format = codes "it isn't of the configuration's format"
+trial_words trial.Ports = codes "its ports aren't the configuration's"
+trial_words trial.Log = codes "log failed"
+
+-- and the fault of its configuration, if that is why
+abbrev pub trial_reason : TrialFault → List ℕ
+trial_reason (trial.Configuration f) = name_of f
+trial_reason f = []
+
 -- the line on standard error, without its line feed, of a fault that has one
 abbrev pub text_of : Fault → List ℕ
 text_of fault.CommandLine = codes "bacgw: bad command line"
@@ -81,6 +96,8 @@ text_of fault.CountEnd = codes "bacgw: count at its end"
 text_of fault.StateUnreadable = codes "bacgw: cannot read state"
 text_of (fault.State f) = codes "bacgw: state: line " ++ decimal f.line ++ codes ": " ++ cause_of f.kind
 text_of (fault.Store f) = codes "bacgw: state isn't kept: " ++ store_words f
+text_of (fault.Trial f) = codes "bacgw: trial: " ++ (trial_words f ++ trial_reason f)
+text_of fault.Audit = codes "bacgw: audit failed"
 text_of (fault.Request f) = codes "bacgw: request failed: " ++ store_words f
 text_of fault.NoAnswer = codes "bacgw: no answer"
 text_of fault.TooManyAsks = codes "bacgw: suggestion: too many asks"
@@ -95,6 +112,14 @@ abbrev pub line_of : Fault → List ℕ
 line_of fault.Different = []
 line_of fault.Refused = []
 line_of f = text_of f ++ 10 ∷ []
+
+-- 2 if a policy can't be on trial, and 1 if a file of it can't be had
+abbrev pub status_of_trial : TrialFault → ℕ
+status_of_trial trial.Unreadable = 1
+status_of_trial (trial.Configuration f) = 2
+status_of_trial trial.Format = 2
+status_of_trial trial.Ports = 2
+status_of_trial trial.Log = 1
 
 -- 2 where what the program was given is wrong, 1 where what it needs failed
 abbrev pub status_of : Fault → ℕ
@@ -113,6 +138,8 @@ status_of fault.CountEnd = 1
 status_of fault.StateUnreadable = 1
 status_of (fault.State f) = 2
 status_of (fault.Store f) = 1
+status_of (fault.Trial f) = status_of_trial f
+status_of fault.Audit = 1
 status_of (fault.Request f) = 1
 status_of fault.NoAnswer = 1
 status_of fault.TooManyAsks = 2
@@ -206,6 +233,8 @@ fault_of_service service.CountEnd = fault.CountEnd
 fault_of_service service.StateUnreadable = fault.StateUnreadable
 fault_of_service (service.State f) = fault_of_state f f.kind
 fault_of_service (service.Store f) = fault_of_store f
+fault_of_service (service.Trial f) = fault.Trial f
+fault_of_service service.Audit = fault.Audit
 
 -- how serving ends, as the program reports it
 abbrev pub served : Result (Unit {0}) ServiceFault → Result (Unit {0}) Fault

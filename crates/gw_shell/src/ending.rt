@@ -7,7 +7,7 @@ ghost use Rattle.gw_shell.specs.declared.fault.Fault.TheVariants as fault;
 ghost use Rattle.gw_service.specs.Reload.{name_of};
 ghost use Rattle.gw_shell.specs.Ending.{cause_of, error_text, line_of, reason_of, status_after, status_by, store_words, text_of, usage_of, words_of};
 
-use crate::fault::{Fault, cause_of, reason_of, store_words, words_of};
+use crate::fault::{Fault, cause_of, reason_of, store_words, trial_reason, trial_words, words_of};
 use gw_command_line::Choice;
 use gw_configuration::ConfigFault;
 use gw_migration::MigrationFault;
@@ -15,6 +15,7 @@ use gw_script::{LineFlaw, OctetSink, WriteFailed, write_whole};
 use gw_service::name_of;
 use gw_serving::StoreFault;
 use gw_state_text::StateFault;
+use gw_watch_files::TrialFault;
 use itoa::Buffer;
 use std::process::ExitCode;
 
@@ -105,6 +106,19 @@ fn write_store_fault<E: OctetSink>(
     write_whole(errors, b"\n")
 }
 
+/// Writes why a policy isn't on trial.
+fn write_trial_fault<E: OctetSink>(why: TrialFault, errors: &mut E) -> Result<(), WriteFailed>
+    ensures ok { OnOk result (Appends (E.held errors.old) (E.held errors.new)
+        (text_of (fault.Trial why) ++ 10 ∷ [])) }
+    ensures sure { E.NeverFails errors.old → IsOk result }
+    ensures lasts { E.NeverFails errors.old → E.NeverFails errors.new }
+{
+    write_whole(errors, b"bacgw: trial: ")?;
+    write_whole(errors, trial_words(why).as_bytes())?;
+    write_whole(errors, trial_reason(why).as_bytes())?;
+    write_whole(errors, b"\n")
+}
+
 /// Writes the line of a fault, if it has one.
 fn write_fault<E: OctetSink>(fault: Fault, errors: &mut E) -> Result<(), WriteFailed>
     ensures ok { OnOk result (Appends (E.held errors.old) (E.held errors.new) (line_of fault)) }
@@ -134,6 +148,8 @@ fn write_fault<E: OctetSink>(fault: Fault, errors: &mut E) -> Result<(), WriteFa
         Fault::StateUnreadable => write_whole(errors, b"bacgw: cannot read state\n"),
         Fault::State(fault) => write_state_fault(fault, errors),
         Fault::Store(why) => write_store_fault("bacgw: state isn't kept: ", why, errors),
+        Fault::Trial(why) => write_trial_fault(why, errors),
+        Fault::Audit => write_whole(errors, b"bacgw: audit failed\n"),
         Fault::Request(why) => write_store_fault("bacgw: request failed: ", why, errors),
         Fault::NoAnswer => write_whole(errors, b"bacgw: no answer\n"),
         Fault::TooManyAsks => write_whole(errors, b"bacgw: suggestion: too many asks\n"),

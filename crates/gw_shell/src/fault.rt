@@ -1,7 +1,7 @@
 //! Why the program ends without success, and its exit status.
 
 ghost use Rattle.std.specs.Prelude.{◌≡◌, ◌≢◌};
-ghost use Rattle.gw_shell.specs.Ending.{IsUnanswered, cause_of, fault_of, fault_of_configuration, fault_of_migration, fault_of_request, fault_of_service, fault_of_state, fault_of_store, fault_of_suggestion, fault_of_words, reason_of, status_of, status_of_comparison, store_words, words_of};
+ghost use Rattle.gw_shell.specs.Ending.{IsUnanswered, cause_of, fault_of, fault_of_configuration, fault_of_migration, fault_of_request, fault_of_service, fault_of_state, fault_of_store, fault_of_suggestion, fault_of_words, reason_of, status_of, status_of_comparison, status_of_trial, store_words, trial_reason, trial_words, words_of};
 ghost use Rattle.gw_shell.specs.Lines.{fault_of_lines};
 ghost use Rattle.gw_shell.specs.declared.fault.Fault.TheVariants.{CommandLine, Memory};
 
@@ -10,10 +10,11 @@ use gw_configuration::ConfigFault;
 use gw_core::RunFault;
 use gw_migration::MigrationFault;
 use gw_script::{LineFlaw, LinesFault};
-use gw_service::ServiceFault;
+use gw_service::{ServiceFault, name_of};
 use gw_serving::StoreFault;
 use gw_state_text::{FaultKind, StateFault};
 use gw_suggest::SuggestFault;
+use gw_watch_files::TrialFault;
 use std::alloc::AllocError;
 use std::io::ErrorKind;
 
@@ -51,6 +52,10 @@ pub enum Fault {
     State(StateFault),
     /// The place of the state can't be opened, and why.
     Store(StoreFault),
+    /// The policy that is to be on trial isn't, and why.
+    Trial(TrialFault),
+    /// The audit can't be opened, or the last line of it can't be read.
+    Audit,
     /// The file of a request can't be made, and why.
     Request(StoreFault),
     /// No answer to a request came.
@@ -102,6 +107,7 @@ impl Fault {
         ensures { result ≡ status_of self }
     {
         match self {
+            Fault::Trial(fault) => status_of_trial(fault),
             Fault::CommandLine
             | Fault::Configuration(_)
             | Fault::Migration(_)
@@ -114,6 +120,7 @@ impl Fault {
             | Fault::Refused => 2,
             Fault::Unreadable
             | Fault::Store(_)
+            | Fault::Audit
             | Fault::Request(_)
             | Fault::NoAnswer
             | Fault::StateUnreadable
@@ -135,6 +142,39 @@ impl Fault {
             Fault::Different => 1,
             _ => 2,
         }
+    }
+}
+
+/// The exit status if a policy isn't on trial: 2 if it can't be, and 1 if a file of it can't be had.
+fn status_of_trial(fault: TrialFault) -> u8
+    ensures { result ≡ status_of_trial fault }
+{
+    match fault {
+        TrialFault::Configuration(_) | TrialFault::Format | TrialFault::Ports => 2,
+        TrialFault::Unreadable | TrialFault::Log => 1,
+    }
+}
+
+/// Why a policy isn't on trial, if its configuration isn't why.
+pub fn trial_words(fault: TrialFault) -> &'static str
+    ensures { result.now ≡ trial_words fault }
+{
+    match fault {
+        TrialFault::Unreadable => "cannot read configuration",
+        TrialFault::Configuration(_) => "configuration: ",
+        TrialFault::Format => "it isn't of the configuration's format",
+        TrialFault::Ports => "its ports aren't the configuration's",
+        TrialFault::Log => "log failed",
+    }
+}
+
+/// The fault of the configuration of a policy that isn't on trial, if that is why.
+pub fn trial_reason(fault: TrialFault) -> &'static str
+    ensures { result.now ≡ trial_reason fault }
+{
+    match fault {
+        TrialFault::Configuration(fault) => name_of(fault),
+        _ => "",
     }
 }
 
@@ -262,6 +302,8 @@ impl From<ServiceFault> for Fault {
             ServiceFault::StateUnreadable => Fault::StateUnreadable,
             ServiceFault::State(state) => Fault::from(state),
             ServiceFault::Store(store) => Fault::of_store(store),
+            ServiceFault::Trial(trial) => Fault::Trial(trial),
+            ServiceFault::Audit => Fault::Audit,
         }
     }
 }

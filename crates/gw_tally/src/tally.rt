@@ -1,6 +1,6 @@
 //! How many asks each rule of a policy decides.
 
-ghost use Rattle.std.specs.Prelude.{◌≡◌, ◌+◌, ◌<◌, [], length, slice_index, IfErr, IfOk, OnOk};
+ghost use Rattle.std.specs.Prelude.{◌≡◌, ◌==◌, ◌+◌, ◌<◌, [], length, slice_index, IfErr, IfOk, OnOk};
 ghost use Rattle.gw_script.specs.declared.lines.LinesFault.TheVariants as fault;
 ghost use Rattle.gw_tally.specs.Tally.{AddsOne, CountsOne, IsTally, place, place_of};
 
@@ -42,6 +42,13 @@ impl Tally {
             Some(count) => *count,
             None => 0,
         }
+    }
+
+    /// Whether these are counts for rules of this number: one for each, and one for none.
+    pub fn is_of(&self, rules: &RuleList) -> bool
+        ensures { result ≡ (length self.now == length rules.now + 1) }
+    {
+        self.counts.len() == rules.rules().len() + 1
     }
 
     /// Counts one ask more that the rule of this number decides, or no rule. A count of 2^64 - 1 stays, and a rule

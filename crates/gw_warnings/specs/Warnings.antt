@@ -227,12 +227,17 @@ none_lines rules = if length rules == 0 then none_line else []
 
 -- what is said of an audited rule, by whether it allows
 abbrev pub audit_words : Bool → List ℕ
-audit_words true = codes "audit: this version writes no audit"
+audit_words true = codes "audit: run --audit writes what it allows"
 audit_words false = codes "audit: what a rule denies is in the log, never in an audit"
+
+-- how a line on it begins: it is a warning if the rule denies
+abbrev pub audit_front : Bool → List ℕ
+audit_front true = codes "rule "
+audit_front false = codes "warning: rule "
 
 abbrev pub audit_line : ℕ → Rule → List ℕ
 audit_line index rule =
-    numbered (codes "warning: rule ") index ++ name_words rule.name ++ audit_words rule.allow ++ 10 ∷ []
+    numbered (audit_front rule.allow) index ++ name_words rule.name ++ audit_words rule.allow ++ 10 ∷ []
 
 -- whether the rule at a position is audited
 abbrev pub is_audited : List Bool → ℕ → Bool

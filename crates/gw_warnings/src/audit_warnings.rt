@@ -1,8 +1,9 @@
-//! Warnings of audits.
+//! What is said of audits.
+
 ghost use Rattle.std.specs.Prelude.{◌≡◌};
 ghost use Rattle.gw_addr.specs.Appending.{IsAppended};
 ghost use Rattle.gw_script.specs.Order.{in_order};
-ghost use Rattle.gw_warnings.specs.Warnings.{audit_line, audit_lines, audit_words, is_audited};
+ghost use Rattle.gw_warnings.specs.Warnings.{audit_front, audit_line, audit_lines, audit_words, is_audited};
 
 use crate::spot::{put_name, put_numbered};
 use gw_addr::{put_octet, put_slice};
@@ -32,7 +33,7 @@ fn put_audit(
     ensures { IsAppended (audit_lines audits.now index rule.now) out.old out.new result }
 {
     if is_audited(audits, index) {
-        put_useless(out, index, rule)
+        put_audited(out, index, rule)
     } else {
         Ok(())
     }
@@ -48,13 +49,20 @@ fn is_audited(audits: &[bool], index: usize) -> bool
     }
 }
 
-fn put_useless(out: &mut Vec<u8>, index: usize, rule: &Rule) -> Result<(), AllocError>
+fn put_audited(out: &mut Vec<u8>, index: usize, rule: &Rule) -> Result<(), AllocError>
     ensures { IsAppended (audit_line index rule.now) out.old out.new result }
 {
-    put_numbered(out, b"warning: rule ", index)?;
+    put_numbered(out, audit_front(rule.allow), index)?;
     put_name(out, &rule.name)?;
     put_words(out, rule.allow)?;
     put_octet(out, b'\n')
+}
+
+/// How a line on a rule that is audited begins, by whether it allows: it is a warning if the rule denies.
+fn audit_front(allows: bool) -> &'static [u8]
+    ensures { result.now ≡ audit_front allows }
+{
+    if allows { b"rule " } else { b"warning: rule " }
 }
 
 /// Appends what is said of a rule that is audited, by whether it allows.
@@ -62,7 +70,7 @@ fn put_words(out: &mut Vec<u8>, allows: bool) -> Result<(), AllocError>
     ensures { IsAppended (audit_words allows) out.old out.new result }
 {
     if allows {
-        put_slice(out, b"audit: this version writes no audit")
+        put_slice(out, b"audit: run --audit writes what it allows")
     } else {
         put_slice(
             out,

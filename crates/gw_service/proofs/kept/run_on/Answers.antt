@@ -1,21 +1,22 @@
-use Rattle.std.proofs.Common.{ℕ, List, Option, Result, ◌∙◌, ap, refl}
+use Rattle.std.proofs.Common.{ℕ, List, Option, Result, ◌∙◌, ap, refl, subst, sym}
+use Rattle.gw_core.specs.State.{State}
+use Rattle.gw_serving.specs.declared.serving.ServeState.{ServeState}
+use Rattle.gw_service.specs.Reload.{counts_since}
+use Rattle.gw_service.specs.Start.{BeginsAs, counts_of}
+use Rattle.gw_service.specs.declared.keeping.Kept.{Kept}
 use Rattle.std.specs.Io.KnownBytes.{Appends}
-use Rattle.gw_configuration.specs.Configuration.{Configuration}
 use Rattle.gw_script.proofs.Passing.{passes_on}
-use Rattle.gw_serving.specs.Serve.{scene}
-use Rattle.gw_serving.specs.Stretch.{moment}
 use Rattle.gw_system.specs.Requests.{told_by}
-use Rattle.gw_service.specs.Chain.{Stage, stage}
-use Rattle.gw_service.specs.Kept.{LeavesKept, given}
+use Rattle.gw_service.specs.Kept.{KeepsFirst, LeavesKept, given}
 use Rattle.gw_service.specs.Serving.{ends, service}
 use Rattle.gw_service.specs.declared.fault.ServiceFault.{ServiceFault}
 use Rattle.gw_service.specs.declared.fault.ServiceFault.TheVariants as fault
-use Rattle.gw_service.proofs.KeptLemmas.{ran_kept, same_counts, unbegun}
+use Rattle.gw_service.proofs.KeptLemmas.{ran_kept, ran_watched, same_counts, unbegun}
 use Rattle.gw_service.proofs.kept.run_on.Goals as goal
 
 pub returns-in_err-running-clause-ran : goal.returns-in_err-running-clause-ran
 returns-in_err-running-clause-ran g c =
-    let from = given g.S.Store.held g.Q.Requests.told c.args.before in
+    let from = given g.S.Store.held g.Q.Requests.told g.T.OctetSink.held c.args.before in
     let how = service c.args.options.now.turns c.args.options.now.stats in
     let at = ends (g.L.OctetSink.held c.args.log.now) (g.X.Wire.calls c.args.sockets.now) in
     let never = g.E.OctetSink.NeverFails c.args.errors.now in
@@ -24,26 +25,42 @@ returns-in_err-running-clause-ran g c =
     × (never → Appends held held text)) fault.Memory c.from_residual.result c.from_residual.ensures
     (unbegun from c.args.config how at never held)
 
-pub returns-clause-ran : goal.returns-clause-ran
-returns-clause-ran g c =
+pub returns-in-None-clause-ran : goal.returns-in-None-clause-ran
+returns-in-None-clause-ran g c =
     let run = c.in_ok-running.running in
     let is = c.in_ok-running.ensures in
-    let new = c.serve-answer.new.self in
     let held = g.E.OctetSink.held in
-    let never = g.E.OctetSink.NeverFails in
     let told = told_by g.Q.Requests.told in
-    ran_kept (given g.S.Store.held g.Q.Requests.told c.args.before) c.args.config (service c.args.options.now.turns c.args.options.now.stats)
-    c.counts.result run.gateway run.keeper run.state.served run.state.tally (told run.requests) run.counts c.is_some-reloads.result c.notice-running.result run.told
+    ran_kept (given g.S.Store.held g.Q.Requests.told g.T.OctetSink.held c.args.before) c.args.config
+    (service c.args.options.now.turns c.args.options.now.stats) c.counts.result c.is_kept-keeps.result c.is_some-reloads.result run.gateway run.keeper
+    run.state.served run.state.tally (told run.requests) run.counts
     (ends (g.L.OctetSink.held c.args.log.now) (g.X.Wire.calls c.args.sockets.now))
-    (ends (g.L.OctetSink.held c.serve-answer.new.log) (g.X.Wire.calls c.serve-answer.new.wire)) c.serve-answer.result c.outcome_of.result
-    run.origin new.origin
-    (λ (config : Configuration). stage config
-    (moment (scene new.gateway (g.L.OctetSink.held c.serve-answer.new.log) (g.X.Wire.calls c.serve-answer.new.wire))
-    new.keeper new.state.served new.state.tally) (told new.requests) new.counts new.told)
-    (never c.args.errors.now) (never c.notice-running.new.errors) (held c.args.errors.now) (held c.notice-running.new.errors)
-    (held c.serve-answer.new.errors) (held c.tell_last.new.errors)
-    (same_counts c.counts.result run.gateway c.counts.ensures.ticks c.counts.ensures.denials) is.begins is.keeps is.served is.tally (ap told is.requests)
-    is.counts c.is_some-reloads.ensures
-    c.notice-running.ensures.failing is.told is.origin c.serve-answer.ensures.runs c.outcome_of.ensures (λ d. refl) (λ d. refl)
-    c.notice-running.ensures.text c.notice-running.ensures.lasts
-    (λ d is_never. c.tell_last.ensures.told (c.serve-answer.ensures.lasts (c.notice-running.ensures.lasts is_never)))
+    (ends (g.L.OctetSink.held c.run-in-None.new.log) (g.X.Wire.calls c.run-in-None.new.wire)) c.run-in-None.result c.outcome_of-in-None.result
+    (g.E.OctetSink.NeverFails c.args.errors.now) (held c.args.errors.now) (held c.run-in-None.new.errors)
+    (sym c.take-watcher.ensures.value ∙ c.in-None.is)
+    (same_counts c.counts.result run.gateway c.counts.ensures.ticks c.counts.ensures.denials) is.begins is.keeps is.served is.tally
+    (ap told is.requests) is.counts c.is_kept-keeps.ensures c.is_some-reloads.ensures c.outcome_of-in-None.ensures (c.run-in-None.ensures.runs c.args.config is.origin)
+
+pub returns-in-Some-clause-ran : goal.returns-in-Some-clause-ran
+returns-in-Some-clause-ran g c =
+    let run = c.in_ok-running.running in
+    let is = c.in_ok-running.ensures in
+    let watched = c.watched_by-watched.result in
+    let by = c.watched_by-watched.ensures in
+    let held = g.E.OctetSink.held in
+    let told = told_by g.Q.Requests.told in
+    let from = given g.S.Store.held g.Q.Requests.told g.T.OctetSink.held c.args.before in
+    ran_watched from c.in-Some.watcher c.args.config
+    (service c.args.options.now.turns c.args.options.now.stats) c.counts.result c.is_kept-keeps.result c.is_some-reloads.result watched.gateway watched.keeper
+    watched.state.served watched.state.tally (told watched.requests) watched.counts
+    (ends (g.L.OctetSink.held c.args.log.now) (g.X.Wire.calls c.args.sockets.now))
+    (ends (g.L.OctetSink.held c.run.new.log) (g.X.Wire.calls c.run.new.wire)) c.run.result c.outcome_of.result
+    (g.E.OctetSink.NeverFails c.args.errors.now) (held c.args.errors.now) (held c.run.new.errors)
+    (sym c.take-watcher.ensures.value ∙ c.in-Some.is)
+    (same_counts c.counts.result run.gateway c.counts.ensures.ticks c.counts.ensures.denials ∙ ap counts_of (sym by.gateway))
+    (subst (λ (w : State). BeginsAs c.args.config from.saved from.line w) (sym by.gateway) is.begins)
+    (subst (λ (k : Kept _). KeepsFirst from.held from.store c.args.config watched.gateway k) (sym by.first)
+    (subst (λ (w : State). KeepsFirst from.held from.store c.args.config w run.keeper) (sym by.gateway) is.keeps))
+    by.second (ap (λ (x : ServeState). x.served) by.state ∙ is.served) (ap (λ (x : ServeState). x.tally) by.state ∙ is.tally)
+    (ap told by.requests ∙ ap told is.requests) (by.counts ∙ is.counts ∙ ap (λ (w : State). counts_since w.ticks) (sym by.gateway))
+    c.is_kept-keeps.ensures c.is_some-reloads.ensures c.outcome_of.ensures (c.run.ensures.runs c.args.config (by.origin ∙ is.origin))

@@ -4,7 +4,7 @@ use Rattle.gw_service.proofs.laws.rules_are_in_force.Goals as goal
 
 pub returns-clause-chain : goal.returns-clause-chain
 returns-clause-chain g c = λ report.
-    rules_in_force (manner g.K.Guard.Passes g.K.StateKeeper.Ticks g.K.StateKeeper.Adopts g.K.StateKeeper.failing report)
+    rules_in_force (manner g.K.Guard.Passes g.K.StateKeeper.Ticks g.K.StateKeeper.Adopts g.K.StateKeeper.troubles report)
 
 pub returns-clause-stretch : goal.returns-clause-stretch
 returns-clause-stretch g c = rules_stay

@@ -4,11 +4,12 @@ use Rattle.gw_script.specs.Event as event
 use Rattle.gw_serving.specs.Serve.{scene, taken_event}
 use Rattle.gw_serving.specs.Stretch.{moment}
 use Rattle.gw_serving.specs.declared.serving.ServeState.{ServeState}
-use Rattle.gw_serving.specs.declared.store.StoreFault.{StoreFault}
+use Rattle.gw_service.specs.declared.troubles.Troubles.{Troubles}
 use Rattle.gw_serving.specs.declared.stretch.Pause.TheVariants as pause
 use Rattle.gw_service.specs.Chain.{look_text, manner, served, standing, ticked, withheld}
 use Rattle.gw_service.specs.Notices.{notice_of}
-use Rattle.gw_service.specs.Stats.{due_stats, reporting}
+use Rattle.gw_service.specs.Scheduled.{reporting_by}
+use Rattle.gw_service.specs.Stats.{due_stats}
 use Rattle.gw_service.proofs.ChainLemmas.{ends_as, more_at_tick, more_at_turns, more_withheld}
 use Rattle.gw_service.proofs.ServingLemmas.{appends_nothing, appends_two}
 use Rattle.gw_service.proofs.running.Running.advance.Goals as goal
@@ -59,8 +60,8 @@ returns-in-Ok-Tick-clause-advances g c = λ config is_config.
     let look = look_text config (standing stretch.gateway stretch.guard (g.Q.Requests.told old.requests) old.counts) done.1 in
     let notice = notice_of old.told c.notice-self.result in
     let after = c.at_tick.new.self in
-    let report = due_stats g.K.StateKeeper.unkept
-    (reporting c.args.schedule.now.seconds c.args.schedule.now.start c.args.schedule.now.reloads) after.keeper after.counts after.gateway
+    let report = due_stats g.K.StateKeeper.unkept g.K.StateKeeper.more
+    (reporting_by c.args.schedule.now) after.keeper after.counts after.gateway
     after.state.served after.state.tally in
     let turns = end.turns ++ taken_event event.Tick end.tries ∷ [] in
     let then = moment (scene stretch.gateway (g.L.OctetSink.held stretch.log) (g.W.Wire.calls stretch.wire)) stretch.guard stretch.self.served stretch.self.tally in (
@@ -83,7 +84,7 @@ returns-in-Ok-Tick-clause-advances g c = λ config is_config.
             served = ap (λ (s : ServeState). s.served) c.at_tick.ensures.state;
             tally = ap (λ (s : ServeState). s.tally) c.at_tick.ensures.state;
           };
-          told = c.notice-self.ensures.failing;
+          told = c.notice-self.ensures.troubles;
           lines = refl;
         },
         refl,
@@ -92,7 +93,7 @@ returns-in-Ok-Tick-clause-advances g c = λ config is_config.
           let one = c.at_tick.ensures.lasts never in
           appends_two (held c.args.errors.now) (held c.notice-self.new.errors) (held c.tell_due.new.errors) (look ++ notice) report
           (appends_two (held c.args.errors.now) (held c.at_tick.new.errors) (held c.notice-self.new.errors) look notice (done.4 never)
-          (subst (λ (f : Option StoreFault). Appends (held c.at_tick.new.errors) (held c.notice-self.new.errors) (notice_of f c.notice-self.result))
+          (subst (λ (f : Troubles). Appends (held c.at_tick.new.errors) (held c.notice-self.new.errors) (notice_of f c.notice-self.result))
           c.at_tick.ensures.told (c.notice-self.ensures.text one)))
           (c.tell_due.ensures.told (c.notice-self.ensures.lasts one)),
     )
@@ -135,7 +136,7 @@ returns-in-Ok-Withheld-clause-advances g c = λ config is_config.
           config = refl;
           requests = refl;
           counts = refl;
-          told = c.notice-self-in-Ok-Withheld.ensures.failing;
+          told = c.notice-self-in-Ok-Withheld.ensures.troubles;
           lines = refl;
         },
         refl,

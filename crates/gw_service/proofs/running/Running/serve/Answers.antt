@@ -5,14 +5,15 @@ use Rattle.gw_serving.specs.Serve.{scene}
 use Rattle.gw_serving.specs.Stretch.{moment}
 use Rattle.gw_serving.specs.declared.serving.ServeFault.{ServeFault}
 use Rattle.gw_service.specs.Chain.{Stage, manner, stage}
-use Rattle.gw_service.specs.Stats.{due_stats, reporting}
+use Rattle.gw_service.specs.Scheduled.{reporting_by}
+use Rattle.gw_service.specs.Stats.{due_stats}
 use Rattle.gw_service.proofs.ChainLemmas.{Ran, chained_more, chained_none, ran_until}
 use Rattle.gw_service.proofs.running.Running.serve.Goals as goal
 
 pub loop-init : goal.loop-init
 loop-init g c =
-    let how = manner g.K.Guard.Passes g.K.StateKeeper.Ticks g.K.StateKeeper.Adopts g.K.StateKeeper.failing
-    (due_stats g.K.StateKeeper.unkept (reporting c.args.schedule.now.seconds c.args.schedule.now.start c.args.schedule.now.reloads)) in
+    let how = manner g.K.Guard.Passes g.K.StateKeeper.Ticks g.K.StateKeeper.Adopts g.K.StateKeeper.troubles
+    (due_stats g.K.StateKeeper.unkept g.K.StateKeeper.more (reporting_by c.args.schedule.now)) in
     let old = c.args.self.now in (
       omega arith,
       refl,
@@ -26,8 +27,8 @@ loop-init g c =
 
 pub loop-preserved : goal.loop-preserved
 loop-preserved g c =
-    let how = manner g.K.Guard.Passes g.K.StateKeeper.Ticks g.K.StateKeeper.Adopts g.K.StateKeeper.failing
-    (due_stats g.K.StateKeeper.unkept (reporting c.args.schedule.now.seconds c.args.schedule.now.start c.args.schedule.now.reloads)) in
+    let how = manner g.K.Guard.Passes g.K.StateKeeper.Ticks g.K.StateKeeper.Adopts g.K.StateKeeper.troubles
+    (due_stats g.K.StateKeeper.unkept g.K.StateKeeper.more (reporting_by c.args.schedule.now)) in
     let old = c.args.self.now in
     let now = c.loop.self in
     let new = c.advance.new.self in
@@ -55,8 +56,8 @@ loop-preserved g c =
 
 pub returns-in_err-advance-clause-runs : goal.returns-in_err-advance-clause-runs
 returns-in_err-advance-clause-runs g c =
-    let how = manner g.K.Guard.Passes g.K.StateKeeper.Ticks g.K.StateKeeper.Adopts g.K.StateKeeper.failing
-    (due_stats g.K.StateKeeper.unkept (reporting c.args.schedule.now.seconds c.args.schedule.now.start c.args.schedule.now.reloads)) in
+    let how = manner g.K.Guard.Passes g.K.StateKeeper.Ticks g.K.StateKeeper.Adopts g.K.StateKeeper.troubles
+    (due_stats g.K.StateKeeper.unkept g.K.StateKeeper.more (reporting_by c.args.schedule.now)) in
     let old = c.args.self.now in
     let now = c.loop.self in
     let new = c.advance.new.self in

@@ -3,7 +3,8 @@ use Rattle.gw_configuration.specs.Configuration.{Configuration}
 use Rattle.gw_serving.specs.Serve.{scene}
 use Rattle.gw_serving.specs.Stretch.{CanCount, moment}
 use Rattle.gw_service.specs.Chain.{manner, stage}
-use Rattle.gw_service.specs.Stats.{due_stats, reporting}
+use Rattle.gw_service.specs.Scheduled.{reporting_by}
+use Rattle.gw_service.specs.Stats.{due_stats}
 use Rattle.gw_service.proofs.ChainLemmas.{Chained}
 use Rattle.gw_service.proofs.running.Running.serve.Given as goal
 
@@ -14,8 +15,8 @@ invariant-loop g l =
     × (l.self.state.served.turns + l.left ≡ l.fn.self.state.served.turns + l.turns)
     × CanCount l.self.state.served l.self.state.tally (g.W.Wire.failure_count l.wire) l.left
     × (g.E.OctetSink.NeverFails l.fn.errors → g.E.OctetSink.NeverFails l.errors)
-    × Chained (manner g.K.Guard.Passes g.K.StateKeeper.Ticks g.K.StateKeeper.Adopts g.K.StateKeeper.failing
-    (due_stats g.K.StateKeeper.unkept (reporting l.fn.schedule.seconds l.fn.schedule.start l.fn.schedule.reloads))) l.fn.self.origin
+    × Chained (manner g.K.Guard.Passes g.K.StateKeeper.Ticks g.K.StateKeeper.Adopts g.K.StateKeeper.troubles
+    (due_stats g.K.StateKeeper.unkept g.K.StateKeeper.more (reporting_by l.fn.schedule))) l.fn.self.origin
     (λ (c : Configuration). stage c (moment (scene l.fn.self.gateway (g.L.OctetSink.held l.fn.log) (g.W.Wire.calls l.fn.wire)) l.fn.self.keeper
     l.fn.self.state.served l.fn.self.state.tally) (g.Q.Requests.told l.fn.self.requests) l.fn.self.counts l.fn.self.told)
     l.self.origin

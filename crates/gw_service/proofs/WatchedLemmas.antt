@@ -1,0 +1,231 @@
+-- A run that is watched is one that isn't, but for what is reported.
+use Rattle.std.proofs.Common.{◌≡◌, ℕ, List, [], ◌∷◌, ◌++◌, ◌&&◌, Bool, true, false, true≢false, refl, sym, ap, subst}
+use Rattle.std.specs.Prelude.{Result, Ok, Err}
+use Rattle.gw_configuration.specs.Configuration.{Configuration}
+use Rattle.gw_core.specs.State.{State}
+use Rattle.gw_core.specs.History.{state_from}
+use Rattle.gw_script.specs.Event.{Event}
+use Rattle.gw_serving.specs.Both.{LetsAllGo, PassesBoth, first_moment}
+use Rattle.gw_serving.specs.Serve.{Turn, empty_turn, failed_turn, lost_event, taken_event, turn_events}
+use Rattle.gw_serving.specs.Stretch.{AreGuarded, EndsStretch, GoOn, GuardsTurn, Moment}
+use Rattle.gw_serving.specs.declared.guard.Both.{Both}
+use Rattle.gw_serving.specs.declared.serving.ServeFault.{ServeFault}
+use Rattle.gw_serving.specs.declared.serving.Served.{Served}
+use Rattle.gw_serving.specs.declared.tally.Tally.{Tally}
+use Rattle.gw_serving.proofs.BothLemmas.{under_first}
+use Rattle.gw_watching.specs.Watching.{HasWatched, Watching}
+use Rattle.gw_service.specs.Chain.{AreLinks, AtTick, IsLink, IsLooked, Link, Look, Manner, Runs, Stage, Standing, chain_text, look_text, stage, standing}
+use Rattle.gw_service.specs.Chain.{refused, served, taken_over, ticked, unrequested, withheld}
+use Rattle.gw_service.specs.Keeping.{IsKeptAtTick, IsKeptFor, IsPassed, troubles_in, unkept_in}
+use Rattle.gw_service.specs.Kept.{Given, RunsFrom, manner_of, no_more, reporting_of, unkept_of, watched_manner_of}
+use Rattle.gw_service.specs.Laws.{IsAsUnwatched}
+use Rattle.gw_service.specs.Notices.{no_troubles, notice_of, of_state}
+use Rattle.gw_service.specs.Stats.{Reporting, end_stats}
+use Rattle.gw_service.specs.Watch.{IsKeptAtTickBeside, IsKeptForBeside, more_of, troubles_of}
+use Rattle.gw_service.specs.declared.keeping.Kept.{Kept}
+use Rattle.gw_service.specs.declared.reload.ReloadCounts.{ReloadCounts}
+use Rattle.gw_service.specs.declared.troubles.Troubles.{Troubles}
+
+-- ---- the first of two guards
+
+first_of : (one two : Bool) → true ≡ (one && two) → one ≡ true
+first_of true two is = refl
+first_of false two is = absurd cc
+
+first_withholds : (one two : Bool) → false ≡ (one && two) → two ≡ true → one ≡ false
+first_withholds true true is lets = absurd cc
+first_withholds false two is lets = refl
+first_withholds true false is lets = absurd cc
+
+first_turn : {G H : Type 0} (First : G → State → Event → G → Bool → Type 0) (Second : H → State → Event → H → Bool → Type 0) (g h : Both G H)
+    (w : State) (turn : Turn) → GuardsTurn (PassesBoth First Second) g w turn h → GuardsTurn First g.first w turn h.first
+first_turn First Second g h w empty_turn p = ap (λ (b : Both _ _). b.first) p
+first_turn First Second g h w failed_turn p = ap (λ (b : Both _ _). b.first) p
+first_turn First Second g h w (lost_event event) p = ap (λ (b : Both _ _). b.first) p
+first_turn First Second g h w (taken_event event tries) p =
+    subst (λ (b : Bool). First g.first w event h.first b) (first_of p.0 p.1 p.4) p.2
+
+first_turns : {G H : Type 0} (First : G → State → Event → G → Bool → Type 0) (Second : H → State → Event → H → Bool → Type 0) (g h : Both G H)
+    (w : State) (turns : List Turn) → AreGuarded (PassesBoth First Second) g w turns h → AreGuarded First g.first w turns h.first
+unfolding AreGuarded
+first_turns First Second g h w [] p = ap (λ (b : Both _ _). b.first) p
+first_turns First Second g h w (turn ∷ turns) p = (
+  p.0.first,
+  first_turn First Second g p.0 w turn p.1,
+  first_turns First Second p.0 h (state_from w (turn_events turn)) turns p.2,
+)
+
+first_goes : {G H : Type 0} (First : G → State → Event → G → Bool → Type 0) (Second : H → State → Event → H → Bool → Type 0)
+    (before after : Moment (Both G H)) (turns : List Turn) → GoOn (PassesBoth First Second) before turns after
+    → GoOn First (first_moment before) turns (first_moment after)
+first_goes First Second before after turns p = record {
+  went = p.went;
+  guarded = first_turns First Second before.guard after.guard before.scene.gateway turns p.guarded;
+  counts = p.counts;
+  tally = p.tally;
+}
+
+first_withheld : {G H : Type 0} (First : G → State → Event → G → Bool → Type 0) (Second : H → State → Event → H → Bool → Type 0)
+    → LetsAllGo Second → (g h : Both G H) (w : State) (event : Event) → PassesBoth First Second g w event h false
+    → First g.first w event h.first false
+first_withheld First Second lets g h w event p = by p.1 refl
+  where
+    by : (two : Bool) → p.1 ≡ two → First g.first w event h.first false
+    by true is = subst (λ (b : Bool). First g.first w event h.first b) (first_withholds p.0 p.1 p.4 is) p.2
+    by false is = absurd (lets g.second h.second w event (subst (λ (b : Bool). Second g.second w event h.second b) is p.3))
+
+-- what watches lets all go
+lets : {T A : Type 0} (trial : T → _) (audit : A → _) → LetsAllGo (HasWatched trial audit)
+lets trial audit g h w event p = absurd (true≢false (sym p.0))
+
+-- ---- without what watches
+
+abbrev unwatched : {S L : Type 0} → Stage (Both (Kept S) (Watching L L)) → Stage (Kept S)
+unwatched s = stage s.config (first_moment s.now) s.requests s.counts (of_state s.told.state)
+
+abbrev standing_of : {S L : Type 0} → Standing (Both (Kept S) (Watching L L)) → Standing (Kept S)
+standing_of s = standing s.gateway s.keeper.first s.requests s.counts
+
+looked : {S L : Type 0} (held : S → _) (c d : Configuration) (s t : Standing (Both (Kept S) (Watching L L))) (look : Look)
+    → IsLooked (IsKeptForBeside held) c s look d t → IsLooked (IsKeptFor held) c (standing_of s) look d (standing_of t)
+looked held c d s t unrequested is = record {
+  stays = record { config = is.stays.config; gateway = is.stays.gateway; keeper = ap (λ (k : Both _ _). k.first) is.stays.keeper };
+  requests = is.requests;
+  counts = is.counts;
+}
+looked held c d s t (refused read fault line) is = record {
+  why = is.why;
+  says = is.says;
+  stays = record { config = is.stays.config; gateway = is.stays.gateway; keeper = ap (λ (k : Both _ _). k.first) is.stays.keeper };
+  requests = is.requests;
+  counts = is.counts;
+}
+looked held c d s t (taken_over text new) is = record {
+  config = is.config;
+  reads = is.reads;
+  ports = is.ports;
+  gateway = is.gateway;
+  keeper = is.keeper.0;
+  requests = is.requests;
+  counts = is.counts;
+}
+
+-- ---- a link
+
+linked : {S L : Type 0} (held : S → _) (log_held : L → _) (how : Reporting) (s t : Stage (Both (Kept S) (Watching L L))) (link : Link)
+    → IsLink (watched_manner_of held log_held how) s link t → (other : Link) × IsLink (manner_of held how) (unwatched s) other (unwatched t)
+linked held log_held how s t (served turns) is = (
+  served turns,
+  record {
+    went = first_goes (IsPassed held) (HasWatched log_held log_held) s.now t.now turns is.went;
+    config = is.config;
+    requests = is.requests;
+    counts = is.counts;
+    told = ap (λ (x : Troubles). of_state x.state) is.told;
+  },
+)
+linked held log_held how s t (ticked turns look text) is =
+    let then = first_moment is.then in
+    let manner = manner_of held how in
+    let other = (look_text s.config (standing then.scene.gateway then.guard s.requests s.counts) look
+    ++ notice_of (of_state s.told.state) (of_state t.told.state))
+    ++ manner.report t.now.guard.first t.counts t.now.scene.gateway t.now.served t.now.tally in (
+      ticked turns look other,
+      record {
+        before = is.before;
+        tries = is.tries;
+        tick = is.tick;
+        then = then;
+        went = first_goes (IsPassed held) (HasWatched log_held log_held) s.now is.then turns is.went;
+        ticks = is.ticks;
+        done = record {
+          keeper = is.done.keeper.first;
+          ticks = is.done.ticks.0;
+          looked = looked held s.config t.config _ _ look is.done.looked;
+        };
+        rest = record { log = is.rest.log; calls = is.rest.calls; served = is.rest.served; tally = is.rest.tally };
+        told = ap (λ (x : Troubles). of_state x.state) is.told;
+        lines = refl;
+      },
+    )
+linked held log_held how s t (withheld turns event text) is = (
+  withheld turns event (notice_of (of_state s.told.state) (of_state t.told.state)),
+  record {
+    then = first_moment is.then;
+    went = first_goes (IsPassed held) (HasWatched log_held log_held) s.now is.then turns is.went;
+    last = record {
+      logged = is.last.logged;
+      passes = first_withheld (IsPassed held) (HasWatched log_held log_held) (lets log_held log_held) is.then.guard t.now.guard
+          is.then.scene.gateway event is.last.passes;
+      counts = is.last.counts;
+      tally = is.last.tally;
+    };
+    config = is.config;
+    requests = is.requests;
+    counts = is.counts;
+    told = ap (λ (x : Troubles). of_state x.state) is.told;
+    lines = refl;
+  },
+)
+
+chained : {S L : Type 0} (held : S → _) (log_held : L → _) (how : Reporting) (s t : Stage (Both (Kept S) (Watching L L))) (links : List Link)
+    → AreLinks (watched_manner_of held log_held how) s links t
+    → (others : List Link) × AreLinks (manner_of held how) (unwatched s) others (unwatched t)
+unfolding AreLinks
+chained held log_held how s t [] chain = ([], ap unwatched chain)
+chained held log_held how s t (link ∷ links) chain =
+    let first = linked held log_held how s chain.0 link chain.1 in
+    let later = chained held log_held how chain.0 t links chain.2 in
+    (first.0 ∷ later.0, (unwatched chain.0, first.1, later.1))
+
+-- ---- a run
+
+ran : {S L : Type 0} (held : S → _) (log_held : L → _) (how : Reporting) (count : ℕ) (s t : Stage (Both (Kept S) (Watching L L)))
+    (answer : Result (Unit {0}) ServeFault) (links : List Link) → Runs (watched_manner_of held log_held how) count s answer links t
+    → (others : List Link) × Runs (manner_of held how) count (unwatched s) answer others (unwatched t)
+ran held log_held how count s t (Ok done) links runs =
+    let chain = chained held log_held how s t links runs.chain in (chain.0, record { chain = chain.1; turns = runs.turns })
+ran held log_held how count s t (Err fault) links runs =
+    let chain = chained held log_held how s runs.then links runs.chain in (
+      chain.0,
+      record {
+        then = unwatched runs.then;
+        chain = chain.1;
+        left = runs.left;
+        most = runs.most;
+        ends = record {
+          ends = under_first (IsPassed held) (HasWatched log_held log_held) (lets log_held log_held) runs.left runs.then.now t.now (Err fault)
+              runs.ends.ends;
+          config = runs.ends.config;
+          requests = runs.ends.requests;
+          counts = runs.ends.counts;
+          told = ap (λ (x : Troubles). of_state x.state) runs.ends.told;
+        };
+      },
+    )
+
+pub as_unwatched : {S Q L : Type 0} (given : Given S Q L) → IsAsUnwatched given
+as_unwatched given w c how before after text outcome runs =
+    let reports = reporting_of given how runs.gateway in
+    let last = runs.runs.last in
+    let other = ran given.held given.log_held reports how.turns _ last runs.answer runs.runs.links runs.runs.runs in
+    let report = end_stats unkept_in no_more reports in
+    let final = report last.now.guard.first last.counts last.now.scene.gateway last.now.served last.now.tally in (
+      (notice_of no_troubles (troubles_in runs.keeper.first) ++ chain_text other.0) ++ final,
+      record {
+        gateway = runs.gateway;
+        begins = runs.begins;
+        keeper = runs.keeper.first;
+        keeps = runs.keeps;
+        answer = runs.answer;
+        runs = record {
+          links = other.0;
+          last = unwatched last;
+          runs = other.1;
+          log = runs.runs.log;
+          calls = runs.runs.calls;
+          told = refl;
+        };
+        answers = runs.answers;
+      },
+    )

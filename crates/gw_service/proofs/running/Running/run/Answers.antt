@@ -1,0 +1,33 @@
+use Rattle.std.proofs.Common.{refl}
+use Rattle.gw_serving.specs.Serve.{scene}
+use Rattle.gw_serving.specs.Stretch.{moment}
+use Rattle.gw_configuration.specs.Configuration.{Configuration}
+use Rattle.gw_service.specs.Chain.{manner, stage}
+use Rattle.gw_service.specs.Serving.{ends}
+use Rattle.gw_service.specs.Scheduled.{reporting_by}
+use Rattle.gw_service.specs.Stats.{due_stats, end_stats}
+use Rattle.gw_service.specs.declared.troubles.Troubles.{Troubles}
+use Rattle.gw_service.proofs.KeptLemmas.{ran_from}
+use Rattle.gw_service.proofs.running.Running.run.Goals as goal
+
+pub returns-clause-runs : goal.returns-clause-runs
+returns-clause-runs g c = λ config is_config.
+    let old = c.args.self.now in
+    let new = c.serve-answer.new.self in
+    let how = reporting_by c.args.schedule.now in
+    let held = g.E.OctetSink.held in
+    let never = g.E.OctetSink.NeverFails in
+    ran_from (manner g.K.Guard.Passes g.K.StateKeeper.Ticks g.K.StateKeeper.Adopts g.K.StateKeeper.troubles
+    (due_stats g.K.StateKeeper.unkept g.K.StateKeeper.more how))
+    (end_stats g.K.StateKeeper.unkept g.K.StateKeeper.more how) c.args.turns
+    (λ (t : Troubles). stage config (moment (scene old.gateway (g.L.OctetSink.held c.args.log.now) (g.W.Wire.calls c.args.wire.now)) old.keeper
+    old.state.served old.state.tally) (g.Q.Requests.told old.requests) old.counts t)
+    new.origin old.told c.notice-self.result (g.K.StateKeeper.troubles old.keeper)
+    (λ (d : Configuration). stage d (moment (scene new.gateway (g.L.OctetSink.held c.serve-answer.new.log) (g.W.Wire.calls c.serve-answer.new.wire))
+    new.keeper new.state.served new.state.tally) (g.Q.Requests.told new.requests) new.counts new.told)
+    c.serve-answer.result (ends (g.L.OctetSink.held c.serve-answer.new.log) (g.W.Wire.calls c.serve-answer.new.wire))
+    (never c.args.errors.now) (never c.notice-self.new.errors) (held c.args.errors.now) (held c.notice-self.new.errors)
+    (held c.serve-answer.new.errors) (held c.tell_last.new.errors) c.requires.untold c.notice-self.ensures.troubles (λ t. refl)
+    (c.serve-answer.ensures.runs config is_config) (λ d. refl) (λ d. refl)
+    c.notice-self.ensures.text c.notice-self.ensures.lasts
+    (λ d is_never. c.tell_last.ensures.told (c.serve-answer.ensures.lasts (c.notice-self.ensures.lasts is_never)))

@@ -1,0 +1,179 @@
+-- What watches a gateway beside what keeps its state: from where it begins, what is done with it, and what is reported of it.
+use Rattle.std.specs.Prelude.{◌≡◌, ◌⊎◌, ⊤, ℕ, ◌+◌, ◌==◌, ◌<◌, ◌||◌, Bool, true, false, is_some, nat_le, not, ◌&&◌, if◌then◌else◌, List, [], ◌∷◌, ◌++◌, length, codes, decimal, Option, Some, None, Result, Ok, Err, option_map, string_bytes}
+use Rattle.std.specs.List.{list_any}
+use Rattle.std.specs.Option.{option_map_or}
+use Rattle.gw_command_line.specs.declared.options.RunOptions.{RunOptions}
+use Rattle.gw_configuration.specs.Configuration.{Configuration}
+use Rattle.gw_core.specs.State.{State}
+use Rattle.gw_rules.specs.declared.rule.Rule.{Rule}
+use Rattle.gw_serving.specs.declared.guard.Both.{Both}
+use Rattle.gw_system.specs.Host.{LogOpening}
+use Rattle.gw_system.specs.declared.reading.ReadFailure.{ReadFailure}
+use Rattle.gw_tally.specs.Tally.{IsTally, tally_text}
+use Rattle.gw_watch_files.specs.Trial.{IsAuditBy, IsTrialBy}
+use Rattle.gw_watch_files.specs.declared.fault.WatchFault.{WatchFault}
+use Rattle.gw_watch_files.specs.declared.fault.WatchFault.TheVariants as watch
+use Rattle.gw_watching.specs.Watching.{Watching, with_marks}
+use Rattle.gw_watching.specs.declared.beside.Beside.{Beside}
+use Rattle.gw_service.specs.Keeping.{IsKeptAtTick, IsKeptFor, failing_in}
+use Rattle.gw_service.specs.declared.fault.ServiceFault.{ServiceFault}
+use Rattle.gw_service.specs.declared.fault.ServiceFault.TheVariants as fault
+use Rattle.gw_service.specs.declared.keeping.Kept.{Kept}
+use Rattle.gw_service.specs.declared.troubles.Troubles.{Troubles}
+
+-- ---- at the start
+
+-- the files of what watches, if there are some, and whether reports are asked for
+pub record WatchNames : Type 0 where
+  pub trial : Option (List ℕ)
+  pub trial_log : Option (List ℕ)
+  pub audit : Option (List ℕ)
+  pub counts : Bool
+
+abbrev pub watch_names : RunOptions → WatchNames
+watch_names options = record {
+  trial = option_map string_bytes options.trial;
+  trial_log = option_map string_bytes options.trial_log;
+  audit = option_map string_bytes options.audit;
+  counts = is_some options.stats;
+}
+
+abbrev pub is_watched : WatchNames → Bool
+is_watched names = is_some names.trial || (is_some names.audit || names.counts)
+
+-- the fault of what can't watch
+abbrev pub fault_of_watching : WatchFault → ServiceFault
+fault_of_watching (watch.Trial f) = fault.Trial f
+fault_of_watching watch.Audit = fault.Audit
+fault_of_watching watch.Memory = fault.Memory
+
+abbrev pub watch_outcome : {B : Type 0} → Result B WatchFault → Result (Option B) ServiceFault
+watch_outcome (Ok b) = Ok (Some b)
+watch_outcome (Err f) = Err (fault_of_watching f)
+
+-- the policy on trial, if its file and that of its log are named
+abbrev pub IsTrialNamed : {Log : Type 0} → (FileReads LastLines : List ℕ → Result (Option (List ℕ)) ReadFailure → Type 0) → LogOpening Log
+    → Configuration → (rules log : Option (List ℕ)) → Result (Option (Beside (List Rule) Log)) ServiceFault → Type 0
+IsTrialNamed {Log} FileReads LastLines LogOpens c (Some rules) (Some log) outcome =
+    (opened : Result (Beside (List Rule) Log) WatchFault) × IsTrialBy FileReads LastLines LogOpens c rules log opened
+    × (outcome ≡ watch_outcome opened)
+IsTrialNamed FileReads LastLines LogOpens c _ _ outcome = outcome ≡ Ok None
+
+abbrev pub IsTrialUnder : {Log : Type 0} → (FileReads LastLines : List ℕ → Result (Option (List ℕ)) ReadFailure → Type 0) → LogOpening Log
+    → Configuration → WatchNames → Result (Option (Beside (List Rule) Log)) ServiceFault → Type 0
+IsTrialUnder FileReads LastLines LogOpens c names outcome =
+    IsTrialNamed FileReads LastLines LogOpens c names.trial names.trial_log outcome
+
+-- the audit, if it is named
+abbrev pub IsAuditNamed : {Log : Type 0} → (LastLines : List ℕ → Result (Option (List ℕ)) ReadFailure → Type 0) → LogOpening Log
+    → Configuration → Option (List ℕ) → Result (Option (Beside (List Bool) Log)) ServiceFault → Type 0
+IsAuditNamed LastLines LogOpens c None outcome = outcome ≡ Ok None
+IsAuditNamed {Log} LastLines LogOpens c (Some name) outcome =
+    (opened : Result (Beside (List Bool) Log) WatchFault) × IsAuditBy LastLines LogOpens c name opened × (outcome ≡ watch_outcome opened)
+
+abbrev pub IsAuditUnder : {Log : Type 0} → (LastLines : List ℕ → Result (Option (List ℕ)) ReadFailure → Type 0) → LogOpening Log
+    → Configuration → WatchNames → Result (Option (Beside (List Bool) Log)) ServiceFault → Type 0
+IsAuditUnder LastLines LogOpens c names outcome = IsAuditNamed LastLines LogOpens c names.audit outcome
+
+-- counts of the rules, of which none began, if reports are asked for
+abbrev pub AreCountsOf : Configuration → Bool → Option (List ℕ) → Type 0
+AreCountsOf c false None = ⊤
+AreCountsOf c true (Some counts) = IsTally c.rules [] counts
+AreCountsOf c _ _ = ⊥
+
+abbrev pub AreCountsUnder : Configuration → WatchNames → Option (List ℕ) → Type 0
+AreCountsUnder c names counts = AreCountsOf c names.counts counts
+
+-- what watches at the start
+pub record WatchesUnder {Log : Type 0} (FileReads LastLines : List ℕ → Result (Option (List ℕ)) ReadFailure → Type 0) (LogOpens : LogOpening Log)
+    (c : Configuration) (names : WatchNames) (w : Watching Log Log) : Type 0 where
+  pub trial : IsTrialUnder FileReads LastLines LogOpens c names (Ok w.trial)
+  pub audit : IsAuditUnder LastLines LogOpens c names (Ok w.audit)
+  pub counts : AreCountsUnder c names w.counts
+  pub unseen : w.unseen ≡ 0
+
+-- something does if that is asked for
+abbrev pub IsWatcherUnder : {Log : Type 0} → (FileReads LastLines : List ℕ → Result (Option (List ℕ)) ReadFailure → Type 0) → LogOpening Log
+    → Configuration → WatchNames → Option (Watching Log Log) → Type 0
+IsWatcherUnder FileReads LastLines LogOpens c names None = is_watched names ≡ false
+IsWatcherUnder FileReads LastLines LogOpens c names (Some w) = WatchesUnder FileReads LastLines LogOpens c names w
+
+-- or why it can't
+abbrev pub IsUnwatched : {Log : Type 0} → (FileReads LastLines : List ℕ → Result (Option (List ℕ)) ReadFailure → Type 0) → LogOpening Log
+    → Configuration → WatchNames → ServiceFault → Type 0
+IsUnwatched FileReads LastLines LogOpens c names f =
+    IsTrialUnder FileReads LastLines LogOpens c names (Err f)
+    ⊎ (IsAuditUnder LastLines LogOpens c names (Err f) ⊎ (f ≡ fault.Memory))
+
+-- ---- while it runs
+
+-- At a tick what keeps the state does what is due, and what watches stays.
+abbrev pub IsKeptAtTickBeside : {S T A : Type 0} → (S → Option (List ℕ)) → Both (Kept S) (Watching T A) → State → Both (Kept S) (Watching T A)
+    → Type 0
+IsKeptAtTickBeside held k w l = IsKeptAtTick held k.first w l.first × (l.second ≡ k.second)
+
+-- counts begin anew, if there are some
+abbrev pub BeginAnew : (new : List ℕ) → (before after : Option (List ℕ)) → Type 0
+BeginAnew new before after = after ≡ option_map (λ _. new) before
+
+-- What watches goes on by another configuration: its rules are audited that say so, and counts of them begin anew. The trial
+-- stays.
+pub record WatchesOn {T A : Type 0} (c : Configuration) (before after : Watching T A) : Type 0 where
+  pub counts : List ℕ
+  pub tally : IsTally c.rules [] counts
+  pub goes_on : after ≡ record before { audit = option_map (with_marks c.audits) before.audit; counts = option_map (λ _. counts) before.counts }
+
+abbrev pub IsKeptForBeside : {S T A : Type 0} → (S → Option (List ℕ)) → Both (Kept S) (Watching T A) → Configuration → State
+    → Both (Kept S) (Watching T A) → Type 0
+IsKeptForBeside held k c w l = IsKeptFor held k.first c w l.first × WatchesOn c k.second l.second
+
+-- ---- what is reported
+
+-- lines of a log beside the log were lost
+abbrev pub has_lost : {C S : Type 0} → Option (Beside C S) → Bool
+has_lost log = option_map_or (λ (b : Beside _ _). nat_le 1 b.lost) log false
+
+abbrev pub troubles_of : {S T A : Type 0} → Both (Kept S) (Watching T A) → Troubles
+troubles_of k = record { state = failing_in k.first; trial = has_lost k.second.trial; audit = has_lost k.second.audit }
+
+-- the number of the last record of a log beside the log, and how many were lost
+abbrev pub beside_text : List ℕ → ℕ → ℕ → List ℕ
+beside_text front number lost = front ++ decimal number ++ codes " lost=" ++ decimal lost ++ codes "\n"
+
+abbrev pub trial_text : {C S : Type 0} → Option (Beside C S) → List ℕ
+trial_text None = []
+trial_text (Some b) = beside_text (codes "stats trial=") b.number b.lost
+
+abbrev pub audit_text : {C S : Type 0} → Option (Beside C S) → List ℕ
+audit_text None = []
+audit_text (Some b) = beside_text (codes "stats audit=") b.number b.lost
+
+-- how many events weren't watched
+abbrev pub unseen_text : ℕ → List ℕ
+unseen_text unseen = codes "stats unseen=" ++ decimal unseen ++ codes "\n"
+
+-- how many asks each rule decided, and how many none did
+abbrev pub counts_text : List Rule → Option (List ℕ) → List ℕ
+counts_text rules None = []
+counts_text rules (Some counts) = if length counts == length rules + 1 then tally_text rules counts else []
+
+abbrev pub logs_text : {T A : Type 0} → Watching T A → List ℕ
+logs_text w = trial_text w.trial ++ audit_text w.audit
+
+abbrev pub asks_text : {T A : Type 0} → List Rule → Watching T A → List ℕ
+asks_text rules w = unseen_text w.unseen ++ counts_text rules w.counts
+
+abbrev pub watch_text : {T A : Type 0} → List Rule → Watching T A → List ℕ
+watch_text rules w = logs_text w ++ asks_text rules w
+
+abbrev pub more_of : {S T A : Type 0} → Both (Kept S) (Watching T A) → State → List ℕ
+more_of k w = watch_text w.rules k.second
+
+-- a rule says that it is audited, and no audit is named
+abbrev pub is_unaudited : (audits : List Bool) → (is_named : Bool) → Bool
+is_unaudited audits is_named = not is_named && list_any (λ audit. audit) audits
+
+-- what is written then
+abbrev pub unaudited_note : (audits : List Bool) → (is_named : Bool) → List ℕ
+unaudited_note audits is_named =
+    if is_unaudited audits is_named then codes "bacgw: audit = true writes nothing without --audit\n" else []

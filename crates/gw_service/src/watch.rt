@@ -1,0 +1,102 @@
+//! What watches a gateway, as the options ask.
+
+ghost use Rattle.std.specs.Prelude.{◌≡◌, Ok, option_map, string_bytes, IfErr, IfOk};
+ghost use Rattle.gw_system.specs.Host.{OpensAtLine};
+ghost use Rattle.gw_service.specs.Watch.{AreCountsUnder, IsAuditUnder, IsTrialUnder, IsUnwatched, IsWatcherUnder, fault_of_watching, is_watched, watch_names};
+
+use crate::fault::ServiceFault;
+use gw_command_line::RunOptions;
+use gw_configuration::Config;
+use gw_rule_index::Policy;
+use gw_system::Host;
+use gw_tally::Tally;
+use gw_watch_files::{open_audit, open_trial};
+use gw_watching::{Beside, Marks, Watcher};
+use std::alloc::{AllocError, Global};
+
+/// Whether the options ask for something that watches: a trial, an audit, or reports, which have how often each rule decided.
+pub(crate) fn is_watched(options: &RunOptions) -> bool
+    ensures { result ≡ is_watched (watch_names options.now) }
+{
+    options.trial.is_some() || options.audit.is_some() || options.stats.is_some()
+}
+
+/// The policy that is on trial, if one is named, with its log.
+fn trial_under<H: Host>(
+    alloc: Global,
+    config: &Config,
+    options: &RunOptions,
+    host: &H,
+) -> Result<Option<Beside<Policy, H::Log>>, ServiceFault>
+    ensures { let LogOpens = OpensAtLine (H.LogOpens host.now) (H.LogIsCut host.now) H.Log.held in
+        IsTrialUnder (H.FileReads host.now) (H.LastLines host.now) LogOpens config.now (watch_names options.now) result }
+{
+    match (&options.trial, &options.trial_log) {
+        (Some(rules), Some(log)) => match open_trial(alloc, config, rules, log, host) {
+            Ok(trial) => Ok(Some(trial)),
+            Err(fault) => Err(ServiceFault::from(fault)),
+        },
+        _ => Ok(None),
+    }
+}
+
+/// The audit, if one is named.
+fn audit_under<H: Host>(
+    alloc: Global,
+    config: &Config,
+    options: &RunOptions,
+    host: &H,
+) -> Result<Option<Beside<Marks, H::Log>>, ServiceFault>
+    ensures { let LogOpens = OpensAtLine (H.LogOpens host.now) (H.LogIsCut host.now) H.Log.held in
+        IsAuditUnder (H.LastLines host.now) LogOpens config.now (watch_names options.now) result }
+{
+    match &options.audit {
+        Some(name) => match open_audit(alloc, config, name, host) {
+            Ok(audit) => Ok(Some(audit)),
+            Err(fault) => Err(ServiceFault::from(fault)),
+        },
+        None => Ok(None),
+    }
+}
+
+/// Counts of the rules, if reports are asked for.
+fn counts_under(
+    alloc: Global,
+    config: &Config,
+    options: &RunOptions,
+) -> Result<Option<Tally>, AllocError>
+    ensures { IfOk result (AreCountsUnder config.now (watch_names options.now)) }
+{
+    match options.stats {
+        Some(_) => Ok(Some(Tally::new(alloc, config.rules())?)),
+        None => Ok(None),
+    }
+}
+
+/// What watches a gateway of this configuration, if the options ask for something. Faults: `Trial`, `Audit` and `Memory`.
+pub(crate) fn watcher_under<H: Host>(
+    alloc: Global,
+    config: &Config,
+    options: &RunOptions,
+    host: &H,
+) -> Result<Option<Watcher<H::Log, H::Log>>, ServiceFault>
+    ensures watcher { let LogOpens = OpensAtLine (H.LogOpens host.now) (H.LogIsCut host.now) H.Log.held in
+        IfOk result (IsWatcherUnder (H.FileReads host.now) (H.LastLines host.now) LogOpens config.now (watch_names options.now)) }
+    ensures fault { let LogOpens = OpensAtLine (H.LogOpens host.now) (H.LogIsCut host.now) H.Log.held in
+        IfErr result (IsUnwatched (H.FileReads host.now) (H.LastLines host.now) LogOpens config.now (watch_names options.now)) }
+{
+    if !is_watched(options) {
+        return Ok(None);
+    }
+    let Ok(counts) = counts_under(alloc, config, options) else {
+        return Err(ServiceFault::Memory);
+    };
+    let trial = match trial_under(alloc, config, options, host) {
+        Ok(trial) => trial,
+        Err(fault) => return Err(fault),
+    };
+    match audit_under(alloc, config, options, host) {
+        Ok(audit) => Ok(Some(Watcher::new(alloc, trial, audit, counts))),
+        Err(fault) => Err(fault),
+    }
+}

@@ -1,0 +1,81 @@
+//! A gateway whose state may be kept, and which is watched.
+
+ghost use Rattle.std.specs.Prelude.{◌≡◌};
+ghost use Rattle.gw_service.specs.Watch.{BeginAnew, IsKeptAtTickBeside, IsKeptForBeside, has_lost, more_of, troubles_of};
+ghost use Rattle.gw_service.specs.Keeping.{unkept_in};
+
+use crate::keeping::{Kept, StateKeeper};
+use crate::successor::Successor;
+use crate::troubles::Troubles;
+use crate::watch_report::tell_watched;
+use gw_core::Gateway;
+use gw_script::OctetSink;
+use gw_serving::{Both, Store};
+use gw_tally::Tally;
+use gw_watching::{Beside, Watcher};
+use std::alloc::Global;
+
+/// Whether lines of a log beside the log were lost, if there is one.
+fn has_lost<C, S>(log: &Option<Beside<C, S>>) -> bool
+    ensures { result ≡ has_lost log.now }
+{
+    match log {
+        Some(log) => log.lost > 0,
+        None => false,
+    }
+}
+
+/// The counts from which a watcher goes on that has these so far: new ones, if it counts.
+fn begun_anew(so_far: &Option<Tally>, counts: Tally) -> Option<Tally>
+    ensures { BeginAnew counts so_far.now result }
+{
+    match so_far {
+        Some(_) => Some(counts),
+        None => None,
+    }
+}
+
+impl<S: Store + Drop, T: OctetSink + Drop, A: OctetSink + Drop> StateKeeper
+    for Both<Kept<S>, Watcher<T, A>>
+{
+    ghost Ticks = { IsKeptAtTickBeside S.held };
+
+    ghost Adopts = { IsKeptForBeside S.held };
+
+    ghost troubles = { troubles_of };
+
+    ghost unkept = { λ both. unkept_in both.first };
+
+    ghost more = { more_of };
+
+    fn keep_at_tick(&mut self, alloc: Global, gateway: &Gateway) {
+        self.first.keep_at_tick(alloc, gateway);
+    }
+
+    fn adopt(&mut self, alloc: Global, successor: Successor, gateway: &Gateway) {
+        let Successor {
+            origin,
+            marks,
+            counts,
+        } = successor;
+        self.first.keep_for(alloc, origin, gateway);
+        let counts = begun_anew(self.second.counts(), counts);
+        self.second.go_on(marks, counts);
+    }
+
+    fn troubles(&self) -> Troubles {
+        Troubles {
+            state: self.first.failing(),
+            trial: has_lost(self.second.trial()),
+            audit: has_lost(self.second.audit()),
+        }
+    }
+
+    fn unkept(&self) -> u64 {
+        self.first.unkept()
+    }
+
+    fn tell_more<E: OctetSink>(&self, gateway: &Gateway, errors: &mut E) {
+        tell_watched(gateway.rules(), &self.second, errors);
+    }
+}
