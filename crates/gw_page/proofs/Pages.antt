@@ -1,10 +1,8 @@
 -- Pages follow one another as one.
 use Rattle.std.proofs.Common.{◌≡◌, ◌∙◌, ◌++◌, ℕ, List, [], ◌∷◌, Result, Ok, Err, ap, append-nil, decimal, refl, subst, sym}
 use Rattle.std.specs.Prelude.{OnErr, OnOk}
-use Rattle.std.specs.Global.{Vec}
 use Rattle.std.specs.List.{flat_map}
 use Rattle.std.proofs.lemmas.Grind.{flat_map-append}
-use Rattle.gw_addr.specs.Appending.{IsAppendedWhole}
 use Rattle.gw_page.specs.Escape.{escaped}
 use Rattle.gw_page.specs.Mark.{mark_text}
 use Rattle.gw_page.specs.Page.{Constant, Count, Foreign, IsPage, Piece, piece_text}
@@ -29,9 +27,9 @@ pub then : (front rest : List ℕ) → IsPage front → IsPage rest → IsPage (
 then front rest first second = record {
   pieces = first.pieces ++ second.pieces;
   row =
-    ap (λ (t : List ℕ). t ++ rest) first.row
-    ∙ ap (λ (t : List ℕ). flat_map piece_text first.pieces ++ t) second.row
-    ∙ sym (flat_map-append piece_text first.pieces second.pieces);
+      ap (λ (t : List ℕ). t ++ rest) first.row
+      ∙ ap (λ (t : List ℕ). flat_map piece_text first.pieces ++ t) second.row
+      ∙ sym (flat_map-append piece_text first.pieces second.pieces);
 }
 
 -- what is appended whole or not at all leaves a page

@@ -1,9 +1,8 @@
 -- Escaped texts are rows of harmless parts.
-use Rattle.std.proofs.Common.{◌≡◌, ◌++◌, inl, inr, ℕ, ◌==◌, ◌||◌, Bool, true, false, List, [], ◌∷◌, ap, arith, cond, refl}
-use Rattle.std.specs.Prelude.{⊤}
+use Rattle.std.proofs.Common.{◌≡◌, ◌++◌, inl, inr, ℕ, ◌==◌, Bool, true, false, List, [], ◌∷◌, ap, arith, cond, refl}
 use Rattle.std.specs.List.{flat_map}
 use Rattle.gw_page.specs.Escape.{escaped, escaped_octet, is_control}
-use Rattle.gw_page.specs.Laws.{AreHarmless, IsHarmless, IsRow, TextsAreHarmless, is_plain}
+use Rattle.gw_page.specs.Laws.{AreHarmless, IsHarmless, TextsAreHarmless, is_plain}
 
 chosen : (b : Bool) (first other : List ℕ) → IsHarmless first → (b ≡ false → IsHarmless other) → IsHarmless (cond b first other)
 chosen true first other is rest = is

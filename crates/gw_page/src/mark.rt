@@ -154,11 +154,8 @@ fn closing(element: Element) -> &'static str
         Element::Table => "</table></div>\n",
         Element::Row => "</tr>\n",
         Element::Head => "</th>",
-        Element::Cell
-        | Element::Number
-        | Element::All
-        | Element::Some
-        | Element::Nothing => "</td>",
+        Element::Cell | Element::Number | Element::All | Element::Some | Element::Nothing =>
+            "</td>",
         Element::List => "</ul>\n",
         Element::Item => "</li>\n",
         Element::Code => "</code>",
