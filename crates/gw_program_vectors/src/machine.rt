@@ -36,7 +36,13 @@ struct MemFiles<'a> {
     text: &'a str,
 }
 
-impl ConfigFiles for MemFiles<'_> {
+impl<'a> ConfigFiles for MemFiles<'a> {
+    type Log = MemReader<'a>;
+
+    fn open_log(&self, name: &str) -> Option<MemReader<'a>> {
+        (name != UNREADABLE).then_some(MemReader::new(self.text.as_bytes(), None))
+    }
+
     ghost Reads = { λ _ _ _. ⊤ };
 
     fn read(&self, alloc: Global, name: &str) -> Result<Vec<u8>, Fault> {
