@@ -30,6 +30,8 @@ NOTES = {
     "gw_state_words": "that in words",
     "gw_suggest": "rules from what was seen",
     "gw_json": "a log for programs",
+    "gw_page": "a page of HTML",
+    "gw_report": "a site on a page",
     "gw_command_line": "what the words ask for",
     "gw_cases": "how tests are written",
     "gw_frame_vectors": "the tests of frames and rules",

@@ -14,7 +14,7 @@ _bacgw() {
         return
     fi
     if [ "$COMP_CWORD" = 1 ]; then
-        options='check replay run why compare log state reload suggest help --help --version'
+        options='check replay run why compare log state reload suggest report help --help --version'
     else
         case $before in
             --config | --with | --log | --state | --reload | --trial | --trial-log | --audit) compopt -o default; return ;;
@@ -30,8 +30,9 @@ _bacgw() {
             reload) options='--config --reload --help' ;;
             suggest) options='--config --fill --exact --help' ;;
             compare) options='--config --with --most --help' ;;
+            report) options='--config --log --help' ;;
             log) options='--start --json --help' ;;
-            help) options='check replay run why compare log state reload suggest' ;;
+            help) options='check replay run why compare log state reload suggest report' ;;
             *) return ;;
         esac
     fi

@@ -1,5 +1,5 @@
 # Completions of bacgw for fish.
-set -l commands check replay run why compare log state reload suggest help
+set -l commands check replay run why compare log state reload suggest report help
 
 complete -c bacgw -f
 complete -c bacgw -n "not __fish_seen_subcommand_from $commands" -a check -d 'Says what a configuration has, or its first fault'
@@ -11,14 +11,16 @@ complete -c bacgw -n "not __fish_seen_subcommand_from $commands" -a log -d 'Tell
 complete -c bacgw -n "not __fish_seen_subcommand_from $commands" -a state -d 'Says what a kept state holds'
 complete -c bacgw -n "not __fish_seen_subcommand_from $commands" -a reload -d 'Asks a running gateway to read its configuration again'
 complete -c bacgw -n "not __fish_seen_subcommand_from $commands" -a suggest -d 'Writes rules that allow the asks of standard input'
+complete -c bacgw -n "not __fish_seen_subcommand_from $commands" -a report -d 'Writes a page of HTML on a configuration and a log'
 complete -c bacgw -n "not __fish_seen_subcommand_from $commands" -a help -d 'Prints help'
 complete -c bacgw -n "not __fish_seen_subcommand_from $commands" -l version -d 'Prints the version'
 complete -c bacgw -l help -d 'Prints help'
-complete -c bacgw -n '__fish_seen_subcommand_from check replay run why compare state reload suggest' -l config -r -F -d 'The configuration, in TOML'
+complete -c bacgw -n '__fish_seen_subcommand_from check replay run why compare state reload suggest report' -l config -r -F -d 'The configuration, in TOML'
 complete -c bacgw -n '__fish_seen_subcommand_from check' -l explain -d 'Also prints where the fault is, or who may do what'
 complete -c bacgw -n '__fish_seen_subcommand_from check' -l lint -d 'Also prints which rules never decide'
 complete -c bacgw -n '__fish_seen_subcommand_from replay' -l explain -d 'Also prints each ask and its rule'
 complete -c bacgw -n '__fish_seen_subcommand_from run' -l log -r -F -d 'What the log is appended to'
+complete -c bacgw -n '__fish_seen_subcommand_from report' -l log -r -F -d 'The log whose denials are shown'
 complete -c bacgw -n '__fish_seen_subcommand_from run' -l turns -x -d 'How many turns are served'
 complete -c bacgw -n '__fish_seen_subcommand_from run' -l stats -x -d 'Tells what was done each so many seconds'
 complete -c bacgw -n '__fish_seen_subcommand_from run' -l verbose -d 'Tells what is served, or where a fault is'
@@ -34,4 +36,4 @@ complete -c bacgw -n '__fish_seen_subcommand_from suggest' -l exact -d 'Keeps th
 complete -c bacgw -n '__fish_seen_subcommand_from compare' -l with -r -F -d 'The other configuration, in TOML'
 complete -c bacgw -n '__fish_seen_subcommand_from compare' -l most -x -d 'How many lines are printed at most, or of each group'
 complete -c bacgw -n '__fish_seen_subcommand_from log' -l start -x -d 'Also tells when each denial was, if the log began then'
-complete -c bacgw -n '__fish_seen_subcommand_from help' -a 'check replay run why compare log state reload suggest'
+complete -c bacgw -n '__fish_seen_subcommand_from help' -a 'check replay run why compare log state reload suggest report'

@@ -24,6 +24,7 @@ calls_are_taken = record {
   suggest = λ program. record { taken = refl; asked = refl; sound = λ void. void };
   suggest_whole = λ program. record { taken = refl; asked = refl; sound = λ void. void };
   reload = λ program. record { taken = refl; asked = refl; sound = λ void. void };
+  report = λ program. record { taken = refl; asked = refl; sound = λ void. void };
   log_json = λ program. record { taken = refl; asked = refl; sound = λ void. void };
   why_json = λ program. record { taken = refl; asked = refl; sound = λ void. void };
   log = λ program. record { taken = refl; asked = refl; sound = λ void. void None refl };

@@ -2,7 +2,7 @@
 use Rattle.std.specs.Prelude.{ℕ, true, false, List, [], ◌∷◌, Some, None, codes}
 use Rattle.clap.specs.Words.{Text}
 use Rattle.gw_command_line.specs.CommandLine.{AskFor}
-use Rattle.gw_command_line.specs.Requests.{Checks, Compares, Explains, Judges, ListsLog, Migrates, Reloads, Replays, Request, Serves, Shows, Suggests, TellsLog, most_count}
+use Rattle.gw_command_line.specs.Requests.{Checks, Compares, Explains, Judges, ListsLog, Migrates, Reloads, Replays, Reports, Request, Serves, Shows, Suggests, TellsLog, most_count}
 
 -- these words, after the program's name, ask for this
 abbrev pub Calls : List Text → Request → Type 0
@@ -58,6 +58,7 @@ pub record CallsAreTaken : Type 0 where
   pub suggest : Calls (codes "suggest" ∷ on_site []) (Suggests site false false)
   pub suggest_whole : Calls (codes "suggest" ∷ on_site (codes "--fill" ∷ codes "--exact" ∷ [])) (Suggests site true true)
   pub reload : Calls (codes "reload" ∷ on_site (codes "--reload" ∷ codes "again" ∷ [])) (Reloads site (codes "again"))
+  pub report : Calls (codes "report" ∷ on_site (codes "--log" ∷ codes "denials.log" ∷ [])) (Reports site (Some (codes "denials.log")))
   pub log : Calls (codes "log" ∷ []) (TellsLog None)
   pub log_json : Calls (codes "log" ∷ codes "--json" ∷ []) ListsLog
   pub why_json : Calls (codes "why" ∷ on_site (codes "--json" ∷ [])) (Judges site)

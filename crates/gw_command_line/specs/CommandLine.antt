@@ -7,7 +7,7 @@ use Rattle.clap.specs.declared.error.kind.ErrorKind.TheVariants as parse
 use Rattle.gw_audit.specs.Moment.{IsTextOf}
 use Rattle.gw_audit.specs.declared.moment.Moment.{Moment}
 use Rattle.gw_command_line.specs.Commands.{commands}
-use Rattle.gw_command_line.specs.Requests.{Checks, Compares, Explains, Judges, ListsLog, Migrates, Reloads, Replays, Request, Serves, Service, Shows, Suggests, TellsLog, asked_in}
+use Rattle.gw_command_line.specs.Requests.{Checks, Compares, Explains, Judges, ListsLog, Migrates, Reloads, Replays, Reports, Request, Serves, Service, Shows, Suggests, TellsLog, asked_in}
 use Rattle.gw_command_line.specs.declared.command_line.Choice.{Choice}
 use Rattle.gw_command_line.specs.declared.command_line.Choice.TheVariants as choice
 use Rattle.gw_command_line.specs.declared.options.RunOptions.{RunOptions}
@@ -53,6 +53,7 @@ IsFor request (choice.Reload config file) = request ≡ Reloads (string_bytes co
 IsFor request (choice.Log start) = (text : Option Text) × (request ≡ TellsLog text) × IsStart text start
 IsFor request choice.Objects = request ≡ ListsLog
 IsFor request (choice.Judge file) = request ≡ Judges (string_bytes file)
+IsFor request (choice.Report file log) = request ≡ Reports (string_bytes file) (option_map string_bytes log)
 IsFor request (choice.Help text) = ⊥
 IsFor request (choice.Usage text) = ⊥
 

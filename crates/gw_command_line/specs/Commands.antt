@@ -50,6 +50,10 @@ run = with_rule run_of_trial (option (codes "audit"))
 abbrev pub why : App
 why = with_rule (with_rule (of_file (codes "why")) (flag (codes "count"))) (flag (codes "json"))
 
+-- `report --config FILE [--log FILE]`
+abbrev pub report : App
+report = with_rule (of_file (codes "report")) (option (codes "log"))
+
 -- `compare --config FILE --with FILE [--most N]`
 abbrev pub compare : App
 compare = with_rule (with_rule (of_file (codes "compare")) (needed (codes "with"))) (option (codes "most"))
@@ -74,17 +78,19 @@ reload = with_rule (of_file (codes "reload")) (needed (codes "reload"))
 abbrev pub program : App
 program = on_top (λ top. record top { subcommand_required = true; has_version = true }) (new_app (codes "bacgw"))
 
--- The commands of the program: the first four, and then the others. Both stay closed in proofs, since what they
+-- The commands of the program: the first five, and then the others. Both stay closed in proofs, since what they
 -- compute to is long.
 unfoldable pub first_commands : App
 first_commands =
     with_subcommand
     (with_subcommand
     (with_subcommand
+    (with_subcommand
     (with_subcommand program check.top)
     replay.top)
     run.top)
-    why.top
+    why.top)
+    report.top
 
 unfoldable pub commands : App
 commands =

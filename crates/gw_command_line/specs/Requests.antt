@@ -34,6 +34,7 @@ pub data Request : Type 0 where
   TellsLog : (start : Option Text) → Request
   ListsLog : Request
   Judges : (file : Text) → Request
+  Reports : (file : Text) (log : Option Text) → Request
 
 -- the value of each option by its name, and `None` if it isn't given
 abbrev pub Values : Type 0
@@ -156,6 +157,7 @@ asked_of_file name value file =
     else if is_named name (codes "suggest")
     then Some (Suggests file (is_true (value (codes "fill"))) (is_true (value (codes "exact"))))
     else if is_named name (codes "state") then state_asked file (value (codes "state"))
+    else if is_named name (codes "report") then Some (Reports file (value (codes "log")))
     else None
 
 -- what a call of the command of this name asks for, whose options have these values; `None` if it asks for nothing

@@ -4,7 +4,7 @@ ghost use Rattle.std.specs.Prelude.{◌≡◌, Some, codes, map, option_map, str
 ghost use Rattle.std.specs.Option.{option_and_then};
 ghost use Rattle.clap.specs.Words.{first_value, found_of, kind_of, subcommand_rows_of};
 ghost use Rattle.gw_command_line.specs.CommandLine.{AskFor, Chooses, IsAnswer, IsChosen, IsRefusal};
-ghost use Rattle.gw_command_line.specs.Requests.{Request, TellsLog, are_paired, asked, asked_by, asked_of_file, check_asked, compare_asked, list_asked, log_asked, reload_asked, run_asked, state_asked, why_asked};
+ghost use Rattle.gw_command_line.specs.Requests.{Reports, Request, TellsLog, are_paired, asked, asked_by, asked_of_file, check_asked, compare_asked, list_asked, log_asked, reload_asked, run_asked, state_asked, why_asked};
 
 use crate::commands::make_commands;
 use crate::fault::WordsFault;
@@ -75,6 +75,11 @@ pub enum Choice {
     /// Answer each ask on standard input by the rules of the configuration in this file, as JSON
     /// objects.
     Judge(String),
+    /// Write a page of HTML that shows the configuration in the first file, and the log in the second one.
+    Report {
+        file: String,
+        log: Option<String>,
+    },
     /// Print this text, which is help or the version.
     Help(String),
     /// Report that the words are no command line, and after it this text, which says how the program is
@@ -204,6 +209,19 @@ fn reload_choice(
     }
 }
 
+/// What `report` asks for of the configuration in this file.
+fn report_choice(
+    alloc: Global,
+    matches: &ArgMatches<'_>,
+    file: String,
+) -> Result<Choice, WordsFault>
+    ensures { let log = first_value (found_of matches.now) (codes "log") in
+        IsChosen (Some (Reports (string_bytes file) log)) result }
+{
+    let log = file_of(alloc, matches, "log")?;
+    Ok(Choice::Report { file, log })
+}
+
 /// What `log` asks for. `CommandLine` if the text of its start says no moment, or if it is to be written
 /// as JSON objects and has a start.
 fn log_choice(matches: &ArgMatches<'_>) -> Result<Choice, WordsFault>
@@ -283,6 +301,9 @@ fn choice_of_file(
     }
     if name == "state" {
         return state_choice(alloc, matches, file);
+    }
+    if name == "report" {
+        return report_choice(alloc, matches, file);
     }
     Err(WordsFault::CommandLine)
 }

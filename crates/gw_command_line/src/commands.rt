@@ -3,7 +3,7 @@
 ghost use Rattle.std.specs.Prelude.{◌≡◌, false, codes, IfOk};
 ghost use Rattle.clap.specs.Words.{app_of, rule_of};
 ghost use Rattle.clap.specs.declared.builder.command.Command.TheViews.{out-Command};
-ghost use Rattle.gw_command_line.specs.Commands.{check, check_of_explanation, commands, compare, first_commands, flag, log, needed, of_file, option, program, reload, replay, run, run_of_reports, run_of_state, run_of_trial, run_of_turns, state, suggest, why};
+ghost use Rattle.gw_command_line.specs.Commands.{check, check_of_explanation, commands, compare, first_commands, flag, log, needed, of_file, option, program, reload, replay, report, run, run_of_reports, run_of_state, run_of_trial, run_of_turns, state, suggest, why};
 
 use clap::{Arg, ArgAction, Command};
 use std::alloc::{AllocError, Global};
@@ -32,6 +32,9 @@ const STATE_EXAMPLE: &str = "Example:
 
 const SUGGEST_EXAMPLE: &str = "Example:
   bacgw suggest --config site.toml < denials.log > suggested.toml";
+
+const REPORT_EXAMPLE: &str = "Example:
+  bacgw report --config site.toml --log denials.log > site.html";
 
 const RELOAD_EXAMPLE: &str = "Example:
   bacgw reload --config site.toml --reload /run/bacgw/reload";
@@ -216,6 +219,18 @@ fn make_log<'a>(alloc: Global) -> Result<Command<'a>, AllocError>
         .arg(json)
 }
 
+fn make_report<'a>(alloc: Global) -> Result<Command<'a>, AllocError>
+    ensures app { IfOk result (λ command. app_of command ≡ report) }
+    ensures local { IfOk result (λ command. (out-Command command).has_globals ≡ false) }
+{
+    let help = "The log whose denials it also shows";
+    let log = make_option(alloc, "log", FILE, help);
+    let about = "Writes a page of HTML: the site, who may do what, the rules, and what was denied";
+    make_of_file(alloc, "report", about)?
+        .after_help(REPORT_EXAMPLE)
+        .arg(log)
+}
+
 fn make_state<'a>(alloc: Global) -> Result<Command<'a>, AllocError>
     ensures app { IfOk result (λ command. app_of command ≡ state) }
     ensures local { IfOk result (λ command. (out-Command command).has_globals ≡ false) }
@@ -267,7 +282,7 @@ fn make_program<'a>(alloc: Global) -> Command<'a>
         .subcommand_required(true)
 }
 
-/// The program with its first four commands.
+/// The program with its first five commands.
 fn make_first_commands<'a>(alloc: Global) -> Result<Command<'a>, AllocError>
     ensures { IfOk result (λ command. app_of command ≡ first_commands) }
 {
@@ -275,11 +290,13 @@ fn make_first_commands<'a>(alloc: Global) -> Result<Command<'a>, AllocError>
     let replay = make_replay(alloc)?;
     let run = make_run(alloc)?;
     let why = make_why(alloc)?;
+    let report = make_report(alloc)?;
     make_program(alloc)
         .subcommand(check)?
         .subcommand(replay)?
         .subcommand(run)?
-        .subcommand(why)
+        .subcommand(why)?
+        .subcommand(report)
 }
 
 /// The commands of the program. An `Err` only if a growth of memory was refused.

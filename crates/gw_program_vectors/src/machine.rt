@@ -42,7 +42,13 @@ struct MemFiles<'a> {
     text: &'a str,
 }
 
-impl ConfigFiles for MemFiles<'_> {
+impl<'a> ConfigFiles for MemFiles<'a> {
+    type Log = MemReader<'a>;
+
+    fn open_log(&self, name: &str) -> Option<MemReader<'a>> {
+        (name != UNREADABLE).then_some(MemReader::new(self.text.as_bytes(), None))
+    }
+
     ghost Reads = { λ _ _ _. ⊤ };
 
     fn read(&self, alloc: Global, name: &str) -> Result<Vec<u8>, Fault> {
@@ -383,7 +389,12 @@ fn state_of(alloc: Global, lines: &str) -> Result<Option<Vec<u8>>, AllocError> {
 }
 
 /// A text with another in the place of this part.
-fn text_with(alloc: Global, text: &str, old: &str, new: &str) -> Result<Option<Vec<u8>>, AllocError> {
+fn text_with(
+    alloc: Global,
+    text: &str,
+    old: &str,
+    new: &str,
+) -> Result<Option<Vec<u8>>, AllocError> {
     let mut made = Vec::new(alloc);
     for (place, part) in text.split(old).enumerate() {
         if place > 0 {

@@ -91,9 +91,18 @@ fn put_choice(
         Ok(Choice::Log(start)) => put_log(alloc, *start, out),
         Ok(Choice::Objects) => put(out, &["log json"]),
         Ok(Choice::Judge(file)) => put(out, &["why ", file.as_str(), " json"]),
+        Ok(Choice::Report { file, log }) => put_report(file.as_str(), log, out),
         Ok(Choice::Help(_)) => put(out, &["help"]),
         Ok(Choice::Usage(_)) | Err(WordsFault::CommandLine) => put(out, &["refused"]),
         Err(WordsFault::Memory) => put(out, &["out of memory"]),
+    }
+}
+
+/// What `report` is asked for.
+fn put_report(file: &str, log: &Option<String>, out: &mut Vec<u8>) -> Result<(), AllocError> {
+    match log {
+        Some(log) => put(out, &["report ", file, " ", log.as_str()]),
+        None => put(out, &["report ", file]),
     }
 }
 

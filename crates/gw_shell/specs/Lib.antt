@@ -8,6 +8,7 @@ pub mod Lines
 pub mod Objects
 pub mod Program
 pub mod Replay
+pub mod Reporting
 pub mod Serving
 pub mod Suggesting
 pub mod Telling

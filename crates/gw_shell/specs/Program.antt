@@ -24,6 +24,7 @@ use Rattle.gw_shell.specs.Checked.{IsChecked}
 use Rattle.gw_shell.specs.Kept.{IsSaidOfText}
 use Rattle.gw_shell.specs.Objects.{LeavesJudgedIn, Lists}
 use Rattle.gw_shell.specs.Replay.{Plays}
+use Rattle.gw_shell.specs.Reporting.{IsReported}
 use Rattle.gw_rules.specs.declared.rule.Rule.{Rule}
 use Rattle.gw_service.specs.Kept.{WholeMachine}
 use Rattle.gw_service.specs.Serving.{IsFlushedFor}
@@ -144,6 +145,17 @@ LeavesStateIn Reads ReadsState config state held holds outcome =
     (c : Result Configuration Fault) × IsConfigured Reads (Some config) c
     × (text : Result (List ℕ) Fault) × ReadsState state text × LeavesState held holds c text outcome
 
+-- What `report` leaves of the configuration that was read: a page, or why there is none.
+abbrev pub LeavesReport : Option (List ℕ) → Option (List ℕ) → Result Configuration Fault → Result (Unit {0}) Fault → Type 0
+LeavesReport held holds c outcome =
+    (made : Result (List ℕ) Fault) × IsReported c made × LeavesPrinted made held holds outcome
+
+-- What it leaves of that of the file of this name.
+abbrev pub LeavesReportIn : (Reads : List ℕ → Result (List ℕ) Fault → Type 0) → List ℕ → Option (List ℕ) → Option (List ℕ)
+    → Result (Unit {0}) Fault → Type 0
+LeavesReportIn Reads file held holds outcome =
+    (c : Result Configuration Fault) × IsConfigured Reads (Some file) c × LeavesReport held holds c outcome
+
 -- What `suggest` leaves under the configuration of a text that was read. If there is none, the outcome is why.
 abbrev pub LeavesSuggested : Manner → Option (List ℕ) → Option (List ℕ) → Option (List ℕ) → Result (List ℕ) Fault
     → Result (Unit {0}) Fault → Type 0
@@ -240,6 +252,8 @@ LeavesOutput Reads ReadsState Answers machine input held holds told (Ok choice.O
     OnKnown input held holds (λ log before. Lists log before outcome)
 LeavesOutput Reads ReadsState Answers machine input held holds told (Ok (choice.Judge file)) outcome =
     LeavesJudgedIn Reads (string_bytes file) input held holds outcome
+LeavesOutput Reads ReadsState Answers machine input held holds told (Ok (choice.Report file log)) outcome =
+    LeavesReportIn Reads (string_bytes file) held holds outcome
 LeavesOutput Reads ReadsState Answers machine input held holds told (Ok (choice.Help text)) (Ok done) =
     Appends held holds (string_bytes text)
 LeavesOutput Reads ReadsState Answers machine input held holds told (Ok (choice.Help text)) (Err f) =

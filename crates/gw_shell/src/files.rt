@@ -6,6 +6,7 @@ ghost use Rattle.gw_shell.specs.declared.fault.Fault.{Fault};
 
 use crate::fault::Fault;
 use gw_policy_text::MAX_OCTETS;
+use gw_script::OctetSource;
 use std::alloc::Global;
 use std::io::{ErrorKind, Read};
 use std::rt::Files;
@@ -31,6 +32,12 @@ pub trait ConfigFiles {
     /// `StateUnreadable`, and `Memory`.
     fn read_state(&self, alloc: Global, name: &str) -> Result<Vec<u8>, Fault>
         ensures { ReadsState self.now name.now (result_map (λ octets. octets.items) result) };
+
+    /// The text of a log.
+    type Log: OctetSource + Drop;
+
+    /// The log of this name, or `None` if it can't be opened.
+    fn open_log(&self, name: &str) -> Option<Self::Log>;
 }
 
 /// The files of the system.
@@ -41,6 +48,12 @@ pub struct SystemFiles<'a, R> {
 }
 
 impl<R: Files> ConfigFiles for SystemFiles<'_, R> {
+    type Log = R::File;
+
+    fn open_log(&self, name: &str) -> Option<R::File> {
+        fs::open(self.rt, name).ok()
+    }
+
     ghost Reads = { λ _ _ octets. IsTold octets };
 
     fn read(&self, alloc: Global, name: &str) -> Result<Vec<u8>, Fault> {

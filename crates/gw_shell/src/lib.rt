@@ -15,6 +15,7 @@ mod lines;
 mod objects;
 mod program;
 mod reloading;
+mod reporting;
 mod script;
 mod suggesting;
 mod telling;

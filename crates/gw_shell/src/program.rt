@@ -27,6 +27,7 @@ use crate::fault::Fault;
 use crate::files::ConfigFiles;
 use crate::kept::words_of_text;
 use crate::reloading::{self, ask};
+use crate::reporting::print_report_in;
 use crate::script::replay;
 use crate::suggesting::suggest;
 use crate::{objects, telling};
@@ -262,7 +263,7 @@ fn compare<W: Write + Drop>(
 }
 
 /// Prints a text that was made.
-fn print_made<W: Write + Drop>(
+pub(crate) fn print_made<W: Write + Drop>(
     made: Result<Vec<u8>, Fault>,
     output: &mut BufWriter<W>,
 ) -> Result<(), Fault>
@@ -576,6 +577,7 @@ fn follow<F: ConfigFiles, H: Host, R: OctetSource, W: Write + Drop, E: OctetSink
         Ok(Choice::Log(start)) => telling::tell(alloc, *start, input, output),
         Ok(Choice::Objects) => objects::list(alloc, input, output),
         Ok(Choice::Judge(file)) => objects::judge_in(alloc, files, file, input, output),
+        Ok(Choice::Report { file, log }) => print_report_in(alloc, files, file, log, output),
         Ok(Choice::Help(text)) => print(text.as_bytes(), output),
         Ok(Choice::Usage(_)) => Err(Fault::CommandLine),
         Err(fault) => Err(*fault),

@@ -11,5 +11,6 @@ returns c =
     let one = c.in_ok-subcommand.ensures.shape c.in_ok-check.ensures.local ∙ ap₂ with_subcommand zero (ap (λ (a : App). a.top) c.in_ok-check.ensures.app) in
     let two = c.in_ok-subcommand-2.ensures.shape c.in_ok-replay.ensures.local ∙ ap₂ with_subcommand one (ap (λ (a : App). a.top) c.in_ok-replay.ensures.app) in
     let three = c.in_ok-subcommand-3.ensures.shape c.in_ok-run.ensures.local ∙ ap₂ with_subcommand two (ap (λ (a : App). a.top) c.in_ok-run.ensures.app) in
-    IfOk-weaker c.subcommand-4.result _ _
-    (λ m h. h.shape c.in_ok-why.ensures.local ∙ ap₂ with_subcommand three (ap (λ (a : App). a.top) c.in_ok-why.ensures.app)) c.subcommand-4.ensures
+    let four = c.in_ok-subcommand-4.ensures.shape c.in_ok-why.ensures.local ∙ ap₂ with_subcommand three (ap (λ (a : App). a.top) c.in_ok-why.ensures.app) in
+    IfOk-weaker c.subcommand-5.result _ _
+    (λ m h. h.shape c.in_ok-report.ensures.local ∙ ap₂ with_subcommand four (ap (λ (a : App). a.top) c.in_ok-report.ensures.app)) c.subcommand-5.ensures

@@ -7,7 +7,7 @@ use Rattle.gw_shell.specs.Ending.{answers_by}
 use Rattle.gw_shell.specs.Files.{result_map}
 use Rattle.gw_command_line.specs.declared.command_line.Choice.TheVariants as choice
 use Rattle.gw_shell.specs.Objects.{LeavesJudgedIn}
-use Rattle.gw_shell.specs.Program.{LeavesReloadIn, LeavesStateIn, LeavesSuggestedIn}
+use Rattle.gw_shell.specs.Program.{LeavesReloadIn, LeavesReportIn, LeavesStateIn, LeavesSuggestedIn}
 use Rattle.gw_suggest.specs.declared.suggestion.Manner.{Manner}
 use Rattle.gw_shell.proofs.ChoiceLemmas.{followed}
 use Rattle.gw_shell.proofs.AppendLemmas.{appends_nothing}
@@ -119,3 +119,13 @@ returns-in-Ok-Judge-clause-followed g c =
     let named = subst (λ (name : List ℕ). LeavesJudgedIn (g.F.ConfigFiles.Reads c.args.files.now) name
     (g.R.OctetSource.left c.args.input.now) held holds c.judge_in.result) c.deref-in-Ok-Judge.ensures c.judge_in.ensures.output in
     followed _ _ c.args.choice.now (Ok chosen) c.judge_in.result is refl named (λ never. appends_nothing (g.E.OctetSink.held c.args.errors.now))
+
+pub returns-in-Ok-Report-clause-followed : goal.returns-in-Ok-Report-clause-followed
+returns-in-Ok-Report-clause-followed g c =
+    let chosen = choice.Report c.in-Ok-Report.file c.in-Ok-Report.log in
+    let is : c.args.choice.now ≡ Ok chosen = search rules in
+    let held = writer_contents g.W.Write.contents c.args.output.now in
+    let holds = writer_contents g.W.Write.contents c.print_report_in.new.output in
+    let named = subst (λ (name : List ℕ). LeavesReportIn (g.F.ConfigFiles.Reads c.args.files.now) name held holds c.print_report_in.result)
+    c.deref-in-Ok-Report.ensures c.print_report_in.ensures.output in
+    followed _ _ c.args.choice.now (Ok chosen) c.print_report_in.result is refl named (λ never. appends_nothing (g.E.OctetSink.held c.args.errors.now))

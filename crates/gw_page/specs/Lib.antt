@@ -1,0 +1,4 @@
+pub mod Escape
+pub mod Laws
+pub mod Mark
+pub mod Page

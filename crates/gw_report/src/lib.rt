@@ -1,0 +1,19 @@
+//! A page that shows a configuration and what its policy denied: `bacgw report`.
+#![tactic(auto)]
+
+mod access;
+mod counts;
+mod document;
+mod fault;
+mod lines;
+mod log;
+mod passing;
+mod plots;
+mod rules;
+mod site;
+mod words;
+
+pub use counts::MAX_LABELS;
+pub use document::{report, report_with_log};
+pub use fault::ReportFault;
+pub use passing::Extent;
