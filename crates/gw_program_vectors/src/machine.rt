@@ -383,7 +383,12 @@ fn state_of(alloc: Global, lines: &str) -> Result<Option<Vec<u8>>, AllocError> {
 }
 
 /// A text with another in the place of this part.
-fn text_with(alloc: Global, text: &str, old: &str, new: &str) -> Result<Option<Vec<u8>>, AllocError> {
+fn text_with(
+    alloc: Global,
+    text: &str,
+    old: &str,
+    new: &str,
+) -> Result<Option<Vec<u8>>, AllocError> {
     let mut made = Vec::new(alloc);
     for (place, part) in text.split(old).enumerate() {
         if place > 0 {

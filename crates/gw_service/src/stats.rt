@@ -50,7 +50,11 @@ fn tell_unkept<E: OctetSink>(is_kept: bool, unkept: u64, errors: &mut E)
 }
 
 /// Writes a text and this count.
-pub(crate) fn write_count<E: OctetSink>(text: &str, count: u64, errors: &mut E) -> Result<(), WriteFailed>
+pub(crate) fn write_count<E: OctetSink>(
+    text: &str,
+    count: u64,
+    errors: &mut E,
+) -> Result<(), WriteFailed>
     ensures ok { OnOk result (Appends (E.held errors.old) (E.held errors.new) (text.now ++ decimal count)) }
     ensures sure { E.NeverFails errors.old → IsOk result }
     ensures lasts { E.NeverFails errors.old → E.NeverFails errors.new }
@@ -80,7 +84,6 @@ fn tell_reloads<E: OctetSink>(is_read: bool, counts: ReloadCounts, errors: &mut 
         let _ = write_reloads(counts, errors);
     }
 }
-
 
 /// Whether a gateway's counts didn't fall since it began with these, and each tick is an event that was taken. It is always so.
 fn has_gone_on(start: Counts, gateway: &Gateway, served: &Served) -> bool

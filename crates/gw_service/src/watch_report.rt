@@ -13,7 +13,12 @@ use gw_tally::Tally;
 use gw_watching::{Beside, Watcher};
 
 /// Writes the line of a log beside the log: how it begins, the number of its last record, and how many were lost.
-fn write_beside<E: OctetSink>(front: &str, number: u64, lost: u64, errors: &mut E) -> Result<(), WriteFailed>
+fn write_beside<E: OctetSink>(
+    front: &str,
+    number: u64,
+    lost: u64,
+    errors: &mut E,
+) -> Result<(), WriteFailed>
     ensures ok { OnOk result (Appends (E.held errors.old) (E.held errors.new) (beside_text front.now number lost)) }
     ensures sure { E.NeverFails errors.old → IsOk result }
     ensures lasts { E.NeverFails errors.old → E.NeverFails errors.new }
@@ -62,7 +67,12 @@ fn tell_unseen<E: OctetSink>(unseen: u64, errors: &mut E)
 }
 
 /// Writes how many asks the rule of this number decided.
-fn write_rule<E: OctetSink>(number: u64, rule: &Rule, count: u64, errors: &mut E) -> Result<(), WriteFailed>
+fn write_rule<E: OctetSink>(
+    number: u64,
+    rule: &Rule,
+    count: u64,
+    errors: &mut E,
+) -> Result<(), WriteFailed>
     ensures ok { OnOk result (Appends (E.held errors.old) (E.held errors.new) (rule_line number rule.now count)) }
     ensures sure { E.NeverFails errors.old → IsOk result }
     ensures lasts { E.NeverFails errors.old → E.NeverFails errors.new }
@@ -90,7 +100,12 @@ fn tell_rules<E: OctetSink>(rules: &[Rule], counts: &Tally, errors: &mut E)
     ensures lasts { E.NeverFails errors.old → E.NeverFails errors.new }
 {
     for place in 0..rules.len() {
-        tell_rule(place as u64 + 1, &rules[place], counts.count(place + 1), errors);
+        tell_rule(
+            place as u64 + 1,
+            &rules[place],
+            counts.count(place + 1),
+            errors,
+        );
     }
 }
 

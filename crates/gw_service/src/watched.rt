@@ -36,8 +36,7 @@ fn begun_anew(so_far: &Option<Tally>, counts: Tally) -> Option<Tally>
 }
 
 impl<S: Store + Drop, T: OctetSink + Drop, A: OctetSink + Drop> StateKeeper
-    for Both<Kept<S>, Watcher<T, A>>
-{
+    for Both<Kept<S>, Watcher<T, A>> {
     ghost Ticks = { IsKeptAtTickBeside S.held };
 
     ghost Adopts = { IsKeptForBeside S.held };

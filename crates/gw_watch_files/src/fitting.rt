@@ -12,9 +12,8 @@ pub(crate) fn is_same_format(a: Format, b: Format) -> bool
     ensures { result ≡ is_same_format a b }
 {
     match (a, b) {
-        (Format::One, Format::One)
-        | (Format::Two, Format::Two)
-        | (Format::Three, Format::Three) => true,
+        (Format::One, Format::One) | (Format::Two, Format::Two) | (Format::Three, Format::Three) =>
+            true,
         _ => false,
     }
 }
