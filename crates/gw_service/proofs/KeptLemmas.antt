@@ -1,12 +1,12 @@
 -- What a run leaves that keeps its state, from what serving leads to.
-use Rattle.std.proofs.Common.{◌≡◌, ◌∙◌, ℕ, List, [], ◌++◌, Option, Some, None, Result, Ok, Err, refl, sym, ap, subst, inl, inr, rules}
+use Rattle.std.proofs.Common.{◌≡◌, ◌∙◌, ℕ, List, [], ◌++◌, Option, Some, None, Result, Err, refl, sym, ap, subst, inl, inr, rules}
 use Rattle.std.specs.Io.KnownBytes.{Appends, append_known}
 use Rattle.gw_configuration.specs.Configuration.{Configuration}
 use Rattle.gw_core.specs.State.{State}
 use Rattle.gw_core.specs.declared.event.Counts.{Counts}
 use Rattle.gw_saved.specs.Saved.{Origin, origin_of}
 use Rattle.gw_serving.specs.Serve.{Scene, scene, zero_counts}
-use Rattle.gw_serving.specs.Stretch.{Moment, moment}
+use Rattle.gw_serving.specs.Stretch.{moment}
 use Rattle.gw_serving.specs.Tally.{no_tally}
 use Rattle.gw_serving.specs.Wire.{Call}
 use Rattle.gw_serving.specs.declared.serving.ServeFault.{ServeFault}

@@ -7,23 +7,20 @@ use Rattle.gw_core.specs.History.{state_from}
 use Rattle.gw_script.specs.Event.{Event}
 use Rattle.gw_serving.specs.Both.{LetsAllGo, PassesBoth, first_moment}
 use Rattle.gw_serving.specs.Serve.{Turn, empty_turn, failed_turn, lost_event, taken_event, turn_events}
-use Rattle.gw_serving.specs.Stretch.{AreGuarded, EndsStretch, GoOn, GuardsTurn, Moment}
+use Rattle.gw_serving.specs.Stretch.{AreGuarded, GoOn, GuardsTurn, Moment}
 use Rattle.gw_serving.specs.declared.guard.Both.{Both}
 use Rattle.gw_serving.specs.declared.serving.ServeFault.{ServeFault}
-use Rattle.gw_serving.specs.declared.serving.Served.{Served}
-use Rattle.gw_serving.specs.declared.tally.Tally.{Tally}
 use Rattle.gw_serving.proofs.BothLemmas.{under_first}
 use Rattle.gw_watching.specs.Watching.{HasWatched, Watching}
-use Rattle.gw_service.specs.Chain.{AreLinks, AtTick, IsLink, IsLooked, Link, Look, Manner, Runs, Stage, Standing, chain_text, look_text, stage, standing}
+use Rattle.gw_service.specs.Chain.{AreLinks, IsLink, IsLooked, Link, Look, Runs, Stage, Standing, chain_text, look_text, stage, standing}
 use Rattle.gw_service.specs.Chain.{refused, served, taken_over, ticked, unrequested, withheld}
-use Rattle.gw_service.specs.Keeping.{IsKeptAtTick, IsKeptFor, IsPassed, troubles_in, unkept_in}
-use Rattle.gw_service.specs.Kept.{Given, RunsFrom, manner_of, no_more, reporting_of, unkept_of, watched_manner_of}
+use Rattle.gw_service.specs.Keeping.{IsKeptFor, IsPassed, troubles_in, unkept_in}
+use Rattle.gw_service.specs.Kept.{Given, manner_of, no_more, reporting_of, watched_manner_of}
 use Rattle.gw_service.specs.Laws.{IsAsUnwatched}
 use Rattle.gw_service.specs.Notices.{no_troubles, notice_of, of_state}
 use Rattle.gw_service.specs.Stats.{Reporting, end_stats}
-use Rattle.gw_service.specs.Watch.{IsKeptAtTickBeside, IsKeptForBeside, more_of, troubles_of}
+use Rattle.gw_service.specs.Watch.{IsKeptForBeside}
 use Rattle.gw_service.specs.declared.keeping.Kept.{Kept}
-use Rattle.gw_service.specs.declared.reload.ReloadCounts.{ReloadCounts}
 use Rattle.gw_service.specs.declared.troubles.Troubles.{Troubles}
 
 -- ---- the first of two guards

@@ -1,6 +1,6 @@
 -- What `run` leaves: what was opened, and what came of serving it from the gateway's first state,
 -- over the definitions of `gw_core`.
-use Rattle.std.specs.Prelude.{◌≡◌, ◌⊎◌, ⊤, ℕ, Bool, List, [], ◌++◌, Option, Some, None, Result, Ok, Err, option_map}
+use Rattle.std.specs.Prelude.{◌≡◌, ◌⊎◌, ⊤, ℕ, Bool, List, [], ◌++◌, Option, Some, None, Result, Ok, Err}
 use Rattle.std.specs.Io.KnownBytes.{Keeps}
 use Rattle.gw_core.specs.History.{state_after}
 use Rattle.gw_core.specs.Replay.{no_counts}
@@ -14,7 +14,7 @@ use Rattle.gw_serving.specs.declared.serving.ServeFault.TheVariants as serving
 use Rattle.gw_serving.specs.declared.serving.ServeStop.{ServeStop}
 use Rattle.gw_configuration.specs.Configuration.{Configuration}
 use Rattle.gw_configuration.specs.declared.port.Port.{Port}
-use Rattle.gw_service.specs.Announcement.{IsWarning, startup_line}
+use Rattle.gw_service.specs.Announcement.{IsWarning}
 use Rattle.gw_system.specs.Host.{LogOpening}
 use Rattle.gw_system.specs.Opening.{IsNote}
 use Rattle.gw_system.specs.declared.opening.LogFailure.{LogFailure}

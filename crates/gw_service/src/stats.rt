@@ -114,8 +114,9 @@ impl Schedule {
         counts: ReloadCounts,
         errors: &mut E,
     )
-        ensures told { E.NeverFails errors.old → Appends (E.held errors.old) (E.held errors.new)
-            (tries_text K.unkept K.more (reporting self.now.seconds self.now.start self.now.keeps self.now.reloads) keeper.now counts gateway.now) }
+        ensures told { let how = reporting self.now.seconds self.now.start self.now.keeps self.now.reloads in
+            E.NeverFails errors.old → Appends (E.held errors.old) (E.held errors.new)
+            (tries_text K.unkept K.more how keeper.now counts gateway.now) }
         ensures lasts { E.NeverFails errors.old → E.NeverFails errors.new }
     {
         tell_unkept(self.keeps, keeper.unkept(), errors);
@@ -132,9 +133,10 @@ impl Schedule {
         counts: ReloadCounts,
         errors: &mut E,
     )
-        ensures told { E.NeverFails errors.old → Appends (E.held errors.old) (E.held errors.new)
-            (stats_text (reporting self.now.seconds self.now.start self.now.keeps self.now.reloads) gateway.now state.now.served state.now.tally
-            (tries_text K.unkept K.more (reporting self.now.seconds self.now.start self.now.keeps self.now.reloads) keeper.now counts gateway.now)) }
+        ensures told { let how = reporting self.now.seconds self.now.start self.now.keeps self.now.reloads in
+            E.NeverFails errors.old → Appends (E.held errors.old) (E.held errors.new)
+            (stats_text how gateway.now state.now.served state.now.tally
+            (tries_text K.unkept K.more how keeper.now counts gateway.now)) }
         ensures lasts { E.NeverFails errors.old → E.NeverFails errors.new }
     {
         if has_gone_on(self.start, gateway, &state.served) {
@@ -153,8 +155,9 @@ impl Schedule {
         counts: ReloadCounts,
         errors: &mut E,
     )
-        ensures told { E.NeverFails errors.old → Appends (E.held errors.old) (E.held errors.new)
-            (due_stats K.unkept K.more (reporting self.now.seconds self.now.start self.now.keeps self.now.reloads) keeper.now counts gateway.now state.now.served state.now.tally) }
+        ensures told { let how = reporting self.now.seconds self.now.start self.now.keeps self.now.reloads in
+            E.NeverFails errors.old → Appends (E.held errors.old) (E.held errors.new)
+            (due_stats K.unkept K.more how keeper.now counts gateway.now state.now.served state.now.tally) }
         ensures lasts { E.NeverFails errors.old → E.NeverFails errors.new }
     {
         if let Some(seconds) = self.seconds {
@@ -173,8 +176,9 @@ impl Schedule {
         counts: ReloadCounts,
         errors: &mut E,
     )
-        ensures told { E.NeverFails errors.old → Appends (E.held errors.old) (E.held errors.new)
-            (end_stats K.unkept K.more (reporting self.now.seconds self.now.start self.now.keeps self.now.reloads) keeper.now counts gateway.now state.now.served state.now.tally) }
+        ensures told { let how = reporting self.now.seconds self.now.start self.now.keeps self.now.reloads in
+            E.NeverFails errors.old → Appends (E.held errors.old) (E.held errors.new)
+            (end_stats K.unkept K.more how keeper.now counts gateway.now state.now.served state.now.tally) }
         ensures lasts { E.NeverFails errors.old → E.NeverFails errors.new }
     {
         if self.seconds.is_some() {

@@ -47,3 +47,10 @@ appends_two None b c x y first second = tt
 appends_two (Some a) None c x y first second = absurd first
 appends_two (Some a) (Some b) None x y first second = absurd second
 appends_two (Some a) (Some b) (Some c) x y first second = second ∙ ap (λ (t : List ℕ). t ++ y) first ∙ append_assoc a x y
+
+-- the last of four writes ends well only if it appends its text
+pub four_writes : {T E : Type 0} (r : Result T E) (a b c d e : Option (List ℕ)) (w x y z : List ℕ) → Appends a b w → Appends b c x → Appends c d y
+    → OnOk r (Appends d e z) → OnOk r (Appends a e ((w ++ (x ++ y)) ++ z))
+four_writes (Ok done) a b c d e w x y z first second third fourth =
+    appends_two a d e (w ++ (x ++ y)) z (appends_three a b c d w x y first second third) fourth
+four_writes (Err failed) a b c d e w x y z first second third fourth = tt

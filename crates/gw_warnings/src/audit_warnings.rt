@@ -2,6 +2,7 @@
 
 ghost use Rattle.std.specs.Prelude.{◌≡◌};
 ghost use Rattle.gw_addr.specs.Appending.{IsAppended};
+ghost use Rattle.gw_configuration.specs.Located.{numbered};
 ghost use Rattle.gw_script.specs.Order.{in_order};
 ghost use Rattle.gw_warnings.specs.Warnings.{audit_front, audit_line, audit_lines, audit_words, is_audited};
 
@@ -52,17 +53,21 @@ fn is_audited(audits: &[bool], index: usize) -> bool
 fn put_audited(out: &mut Vec<u8>, index: usize, rule: &Rule) -> Result<(), AllocError>
     ensures { IsAppended (audit_line index rule.now) out.old out.new result }
 {
-    put_numbered(out, audit_front(rule.allow), index)?;
+    put_front(out, rule.allow, index)?;
     put_name(out, &rule.name)?;
     put_words(out, rule.allow)?;
     put_octet(out, b'\n')
 }
 
-/// How a line on a rule that is audited begins, by whether it allows: it is a warning if the rule denies.
-fn audit_front(allows: bool) -> &'static [u8]
-    ensures { result.now ≡ audit_front allows }
+/// Appends how a line on a rule that is audited begins, by whether it allows: it is a warning if the rule denies.
+fn put_front(out: &mut Vec<u8>, allows: bool, index: usize) -> Result<(), AllocError>
+    ensures { IsAppended (numbered (audit_front allows) index) out.old out.new result }
 {
-    if allows { b"rule " } else { b"warning: rule " }
+    if allows {
+        put_numbered(out, b"rule ", index)
+    } else {
+        put_numbered(out, b"warning: rule ", index)
+    }
 }
 
 /// Appends what is said of a rule that is audited, by whether it allows.

@@ -1,4 +1,4 @@
-use Rattle.std.proofs.Common.{ℕ, List, Option, Result, ◌∙◌, ap, refl, subst, sym}
+use Rattle.std.proofs.Common.{ℕ, List, Result, ◌∙◌, ap, subst, sym}
 use Rattle.gw_core.specs.State.{State}
 use Rattle.gw_serving.specs.declared.serving.ServeState.{ServeState}
 use Rattle.gw_service.specs.Reload.{counts_since}

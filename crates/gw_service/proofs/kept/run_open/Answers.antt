@@ -1,4 +1,4 @@
-use Rattle.std.proofs.Common.{List, Option, ℕ, ap}
+use Rattle.std.proofs.Common.{ap}
 use Rattle.std.specs.Io.Buffered.{writer_buffer, writer_inner}
 use Rattle.gw_service.specs.Kept.{LeavesKept, given}
 use Rattle.gw_service.specs.Serving.{Ends, service}

@@ -1,4 +1,4 @@
-use Rattle.std.proofs.Common.{◌≡◌, ◌∙◌, Bool, List, ℕ, Result, sym, subst, true, false}
+use Rattle.std.proofs.Common.{◌≡◌, ◌∙◌, Bool, sym, subst, true, false}
 use Rattle.std.specs.Io.Buffered.{writer_contents}
 use Rattle.std.specs.Prelude.{option_map, string_bytes}
 use Rattle.gw_system.specs.Host.{OpensAtLine}

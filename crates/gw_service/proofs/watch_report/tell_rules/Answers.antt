@@ -1,6 +1,4 @@
-use Rattle.std.proofs.Common.{◌≡◌, ◌+◌, ◌<◌, ℕ, List, arith, get_or, length, rules, subst, sym}
-use Rattle.std.specs.Io.KnownBytes.{Appends}
-use Rattle.gw_script.specs.Order.{in_order}
+use Rattle.std.proofs.Common.{◌≡◌, ◌+◌, arith, get_or, length, rules}
 use Rattle.gw_tally.specs.Tally.{line_in}
 use Rattle.gw_service.proofs.StatsLemmas.{told_all, told_none, told_one}
 use Rattle.gw_service.proofs.watch_report.tell_rules.Goals as goal

@@ -1,4 +1,4 @@
-use Rattle.std.proofs.Common.{ℕ, ◌<◌, List, Option, ◌++◌, ◌∷◌, [], ap, refl, subst, sym}
+use Rattle.std.proofs.Common.{◌<◌, ◌++◌, ◌∷◌, [], ap, refl, subst, sym}
 use Rattle.std.specs.Io.KnownBytes.{Appends}
 use Rattle.gw_script.specs.Event as event
 use Rattle.gw_serving.specs.Serve.{scene, taken_event}
@@ -6,7 +6,7 @@ use Rattle.gw_serving.specs.Stretch.{moment}
 use Rattle.gw_serving.specs.declared.serving.ServeState.{ServeState}
 use Rattle.gw_service.specs.declared.troubles.Troubles.{Troubles}
 use Rattle.gw_serving.specs.declared.stretch.Pause.TheVariants as pause
-use Rattle.gw_service.specs.Chain.{look_text, manner, served, standing, ticked, withheld}
+use Rattle.gw_service.specs.Chain.{look_text, served, standing, ticked, withheld}
 use Rattle.gw_service.specs.Notices.{notice_of}
 use Rattle.gw_service.specs.Scheduled.{reporting_by}
 use Rattle.gw_service.specs.Stats.{due_stats}

@@ -1,4 +1,4 @@
-use Rattle.std.proofs.Common.{List, ℕ, sym, subst}
+use Rattle.std.proofs.Common.{List, ℕ, subst}
 use Rattle.std.specs.Io.KnownBytes.{Appends}
 use Rattle.gw_service.proofs.ChainLemmas.{same_text}
 use Rattle.gw_service.proofs.running.Running.at_tick.Goals as goal

@@ -1,4 +1,4 @@
-use Rattle.std.proofs.Common.{◌≡◌, ◌+◌, ◌-◌, ◌<◌, ◌≤◌, ℕ, Result, arith, refl}
+use Rattle.std.proofs.Common.{◌≡◌, ◌+◌, ◌-◌, ◌<◌, Result, arith, refl}
 use Rattle.gw_configuration.specs.Configuration.{Configuration}
 use Rattle.gw_script.proofs.Passing.{passes_on}
 use Rattle.gw_serving.specs.Serve.{scene}
