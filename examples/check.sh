@@ -204,6 +204,10 @@ refused_alone log --start 2026-11-25T08:00:60Z
 refused_alone log --start now
 refused_alone run --config a --turns 0
 refused_alone run --config a --turns 9223372036854775808
+refused_alone run --config a --trial b
+refused_alone run --config a --trial-log c
+refused run --config a --audit
+refused report --log a
 refused run --config a --explain
 refused replay --config
 refused replay --config a --config a
@@ -235,6 +239,9 @@ helped help check
 helped run --help
 helped why --help
 helped log --help
+helped compare --help
+helped reload --help
+helped report --help
 
 checked() {
     "$program" check --config "$1" < /dev/null > "$work/out" 2> "$work/err"
@@ -432,6 +439,46 @@ bacgw: configuration: NotToml
 status 2
 reload refused: configuration: NotToml: '"$("$program" check --config "$work/changed.toml" --explain 2> /dev/null)"'
 127.3.0.10 810A001801080064010130200C0C0140000219553E91003F'
+
+# A policy on trial and an audit have logs of their own, which go on from run to run; the log is what it is without them.
+sed 's/^format = 1$/format = 3/; $s/$/\naudit = true/' "$work/served.toml" > "$work/audited.toml"
+sed 's/^name = "hide"$/name = "keep"/; s/^instance = \[2\]$/instance = [1]/' "$work/audited.toml" > "$work/trial.toml"
+rm -f "$work/log"
+python3 "$here/loopback.py" watched "$program" "$work/audited.toml" "$work/trial.toml" "$work/log" > "$work/out" 2>&1
+same 'the answers beside a trial and an audit' "$(cat "$work/out")" \
+    '127.3.0.10 810A001801080064010130280C0C0140000119553E91013F
+127.3.0.10 810A001101080064010150290C9102911B
+status -15
+127.3.0.10 810A0018010800640101302A0C0C0140000119553E91013F
+127.3.0.10 810A0011010800640101502B0C9102911B
+status -15'
+asked='1:7F030005BAC0 read dst=100 svc=12 obj=5'
+sent='sender=7F030005BAC0 station=-'
+same 'the log beside a trial and an audit' "$(sed -E 's/ [0-9]+ 1 1:/ . 1 1:/' "$work/log")" \
+    "1 . 1 $asked,2 prop=85 prio=- rule=hide $sent
+1 . 1 $asked,2 prop=85 prio=- rule=hide $sent"
+same 'the log of a trial' "$(sed -E 's/ [0-9]+ 1 1:/ . 1 1:/' "$work/log.trial")" \
+    "1 . 1 $asked,1 prop=85 prio=- rule=keep $sent
+2 . 1 $asked,1 prop=85 prio=- rule=keep $sent"
+same 'an audit' "$(sed -E 's/ [0-9]+ 1 1:/ . 1 1:/' "$work/log.audit")" \
+    "allow 1 . 1 $asked,1 prop=85 prio=- rule=all $sent
+allow 2 . 1 $asked,1 prop=85 prio=- rule=all $sent"
+same 'the modes of both' "$(stat -c %a "$work/log.trial" "$work/log.audit" | xargs)" '600 600'
+sed 's/127\.4\.0\.255/127.4.0.254/' "$work/audited.toml" > "$work/other_ports.toml"
+# untried STATUS REASON FILE: the rules of this file can't be on trial, and nothing is opened
+untried() {
+    ran "$1" "bacgw: trial: $2" --config "$work/audited.toml" --audit "$work/unmade" \
+        --trial "$3" --trial-log "$work/unmade" --turns 1
+}
+untried 1 'cannot read configuration' "$work/nowhere.toml"
+untried 2 'configuration: NotToml' "$work/faulty.toml"
+untried 2 "it isn't of the configuration's format" "$work/served.toml"
+untried 2 "its ports aren't the configuration's" "$work/other_ports.toml"
+same 'no log of a trial that is none' "$(ls "$work/unmade" 2> /dev/null)" ''
+ran 1 'bacgw: trial: log failed' --config "$work/audited.toml" --audit "$work/unmade" --trial "$work/trial.toml" \
+    --trial-log "$work/folder" --turns 1
+ran 1 'bacgw: audit failed' --config "$work/audited.toml" --audit "$work/folder" --turns 1
+ran 0 'bacgw: audit = true writes nothing without --audit' --config "$work/audited.toml" --turns 1
 
 # taken ADDRESS PORT SOCKET: while another socket has this address, `run` says which port and which socket can't be opened
 taken() {

@@ -13,6 +13,9 @@
                                              reads it after each start
     loopback.py reload PROGRAM FILE NEW REQUEST
                                              has a gateway take over another configuration, and then a faulty one, which it refuses
+    loopback.py watched PROGRAM FILE TRIAL LOG
+                                             reads two points of a gateway beside which TRIAL is on trial, with the log LOG.trial, and
+                                             which audits to LOG.audit; ends it by SIGTERM; and all that again
 
 It prints the answers in hexadecimal and the exit status; what the gateway tells goes to standard error.
 """
@@ -107,6 +110,20 @@ def kept(program, file, log, state):
         finally:
             gateway.kill()
             gateway.wait(timeout=10)
+
+
+def watched(program, file, trial, log):
+    """Reads the fan and the door of a gateway with a policy on trial and an audit, and of the next one."""
+    line = open_line(CLIENT)
+    words = ["--config", file, "--log", log, "--trial", trial, "--trial-log", log + ".trial", "--audit", log + ".audit"]
+    for run in range(2):
+        gateway = start(program, *words)
+        try:
+            read(line, 40 + 2 * run, 1, PORT_1)
+            read(line, 41 + 2 * run, 2, PORT_1)
+        finally:
+            gateway.send_signal(signal.SIGTERM)
+            print("status", gateway.wait(timeout=10))
 
 
 def reload(program, file, new, request):
@@ -272,4 +289,5 @@ def ports(program, file, count):
     "first": first,
     "kept": kept,
     "reload": reload,
+    "watched": watched,
 }[sys.argv[1]](*sys.argv[2:])
