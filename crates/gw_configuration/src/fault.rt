@@ -27,7 +27,7 @@ pub enum ConfigFault {
     #[error("a value is out of range")]
     Range,
     /// 6: two parts have the same name, number or address.
-    #[error("a name, number or address stands twice")]
+    #[error("a name, number or address appears twice")]
     Duplicate,
     /// 7: a list is too long, or the text has more than 1,048,576 octets.
     #[error("too many")]

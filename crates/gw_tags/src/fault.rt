@@ -52,10 +52,10 @@ pub enum ContextFault {
     #[error("the octets end within a parameter")]
     Short,
     /// 2: the tag is whole and no tag.
-    #[error("no tag stands in the place of a parameter")]
+    #[error("no tag is in the place of a parameter")]
     BadTag,
     /// 3: another tag is in its place.
-    #[error("another parameter stands there")]
+    #[error("another parameter is there")]
     OtherTag,
 }
 
