@@ -91,9 +91,9 @@ class Site:
             sent.append(f"{host}:{to} {octets.hex().upper()}")
         raise TimeoutError
 
-    def serve(self, file, log):
-        """A gateway that begins anew, once its sockets are open."""
-        run = subprocess.Popen([self.program, "run", "--config", file, "--log", log], stderr=subprocess.PIPE)
+    def serve(self, file, log, *words):
+        """A gateway that begins anew, once its sockets are open; with these words too."""
+        run = subprocess.Popen([self.program, "run", "--config", file, "--log", log, *words], stderr=subprocess.PIPE)
         end = time.monotonic() + WAIT
         while time.monotonic() < end and run.poll() is None:
             with open("/proc/self/net/udp") as table:
@@ -189,4 +189,5 @@ def main():
     sys.exit(failed > 0)
 
 
-main()
+if __name__ == "__main__":
+    main()
