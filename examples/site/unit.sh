@@ -31,6 +31,8 @@ mkdir "$work/up" "$work/work" "$work/root"
 mount -t overlay overlay -o "lowerdir=/,upperdir=$work/up,workdir=$work/work" "$work/root"
 root=$work/root
 rm -f "$root/etc/machine-id" "$root"/etc/systemd/system/*.wants/*
+# The network is made below, by hand.
+ln -sf /dev/null "$root/etc/systemd/system/systemd-networkd-wait-online.service"
 
 # What is installed is what a release installs.
 mkdir -p "$work/release"
@@ -69,7 +71,7 @@ for _ in $(seq 100); do
     sleep 0.2
 done
 for number in 1 2; do
-    inside ip link add "port$number" type dummy
+    inside ip link add "port$number" type bridge
     inside ip addr add "10.$number.0.2/24" broadcast + dev "port$number"
     inside ip link set "port$number" up
 done
