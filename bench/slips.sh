@@ -2,8 +2,13 @@
 # Tries the wrong bodies that the gate leaves out, crates/*/slips/*.edit: the check must refuse each.
 #
 #     bench/slips.sh [CRATE...]      # every crate that has some by default
+#     bench/slips.sh --anew          # also those that were tried on these sources
+#     bench/slips.sh --count         # tries nothing: says how many were refused by what, and which weren't tried on these sources
 #     JOBS=2 bench/slips.sh          # so many crates side by side; else one for each two processors
 #     LOGS=FOLDER bench/slips.sh     # keeps what each check said
+#
+# bench/slips.tsv has a line for each slip that was tried: its crate and name, what refused it, the goal, and the checksum of the crate's
+# sources and the slip. So the slips of a crate are tried again once its sources change.
 #
 # A slip has the form of the gate's own edits in must-fail/. Where it lies in one function, it is written into a copy of that function
 # under another name, with its contract and its proof, so that one check of the crate tries them all: the function itself stays, and
@@ -25,21 +30,88 @@ set -euo pipefail
 top=$(cd "$(dirname "$0")/.." && pwd)
 cd "$top"
 exec python3 - "$top" "${JOBS:-$((($(nproc) + 1) / 2))}" "${LOGS:-}" "$@" <<'PYTHON'
+import hashlib
 import re
 import shutil
 import subprocess
 import sys
 import tempfile
+import threading
 import time
 from collections import Counter
 from concurrent.futures import ThreadPoolExecutor
 from pathlib import Path
 
 top, jobs, logs = Path(sys.argv[1]), int(sys.argv[2]), sys.argv[3]
-crates = sys.argv[4:] or sorted({it.parent.parent.name for it in top.glob("crates/*/slips/*.edit")})
+options = {it for it in sys.argv[4:] if it.startswith("--")}
+crates = [it for it in sys.argv[4:] if it not in options] or sorted({it.parent.parent.name for it in top.glob("crates/*/slips/*.edit")})
 PARTS = ["src", "specs", "proofs"]
 TURNS = 6
+RECORD = top / "bench" / "slips.tsv"
+REFUSED = ("clause", "goal", "proof")
 FUNCTION = re.compile(r"(\s*)(?:pub(?:\([a-z]+\))? )?(?:const )?fn (\w+)")
+
+
+def sum_of(name):
+    """The checksum of a crate's sources."""
+    found = hashlib.sha256()
+    for path in sorted(it for part in PARTS for it in (top / "crates" / name / part).glob("**/*") if it.is_file()):
+        found.update(repr((str(path.relative_to(top)), path.read_bytes())).encode())
+    return found.hexdigest()
+
+
+class Record:
+    """What was found of each slip that was tried, with the checksum of what it was tried on."""
+
+    def __init__(self):
+        self.lock = threading.Lock()
+        self.sums = {}
+        self.rows = {}
+        if RECORD.exists():
+            for line in RECORD.read_text(encoding="utf-8").splitlines():
+                crate, slip, *rest = line.split("\t")
+                self.rows[crate, slip] = rest
+
+    def sum(self, crate, slip):
+        """The checksum of a slip and of what it is tried on."""
+        if crate not in self.sums:
+            self.sums[crate] = sum_of(crate)
+        text = (top / "crates" / crate / "slips" / f"{slip}.edit").read_text(encoding="utf-8")
+        return hashlib.sha256((self.sums[crate] + text).encode()).hexdigest()[:16]
+
+    def verdict(self, crate, slip):
+        """What was found of a slip on these sources, or None if it wasn't tried on them."""
+        verdict, _, tried = self.rows.get((crate, slip), (None, None, None))
+        return verdict if tried == self.sum(crate, slip) else None
+
+    def note(self, crate, slip, verdict, goal):
+        with self.lock:
+            if verdict in REFUSED:
+                self.rows[crate, slip] = [verdict, goal, self.sum(crate, slip)]
+            else:
+                self.rows.pop((crate, slip), None)
+            there = {key: row for key, row in self.rows.items() if (top / "crates" / key[0] / "slips" / f"{key[1]}.edit").exists()}
+            lines = ["\t".join([*key, *row]) + "\n" for key, row in sorted(there.items())]
+            RECORD.write_text("".join(lines), encoding="utf-8")
+
+
+record = Record()
+
+
+def slips_of(name):
+    return [it.stem for it in sorted((top / "crates" / name / "slips").glob("*.edit"))]
+
+
+if "--count" in options:
+    total = Counter(record.verdict(name, slip) for name in crates for slip in slips_of(name))
+    for name in crates:
+        untried = [slip for slip in slips_of(name) if record.verdict(name, slip) is None]
+        if untried:
+            print(f"not tried on these sources: {len(untried)} of {name}: {', '.join(untried)}")
+    print(", ".join(f"{total[kind]} refused by a {kind}" for kind in REFUSED) + f", {total[None]} not tried on these sources")
+    sys.exit(0 if not total[None] else 1)
+if "--anew" not in options:
+    crates = [name for name in crates if any(record.verdict(name, slip) is None for slip in slips_of(name))]
 
 
 class Function:
@@ -280,7 +352,8 @@ class Trial:
 
     def tell(self, slip, verdict, more):
         self.found[slip] = verdict
-        kind = f"refused ({verdict})" if verdict in ("clause", "goal", "proof") else verdict
+        record.note(self.name, slip, verdict, re.sub(r"\s+", " ", more)[:100])
+        kind = f"refused ({verdict})" if verdict in REFUSED else verdict
         print(f"{kind}: {self.name}/{slip}: {more}", flush=True)
 
     def write(self, copies):
@@ -407,7 +480,7 @@ def try_crate(name):
 begin = time.time()
 with ThreadPoolExecutor(jobs) as room:
     total = sum(room.map(try_crate, crates), Counter())
-refused = {kind: total.pop(kind, 0) for kind in ("clause", "goal", "proof")}
+refused = {kind: total.pop(kind, 0) for kind in REFUSED}
 said = ", ".join(f"{count} by a {kind}" for kind, count in refused.items())
 print(f"{sum(refused.values())} refused ({said}), {sum(total.values())} not; {(time.time() - begin) / 60:.0f} minutes")
 sys.exit(0 if not total else 1)
