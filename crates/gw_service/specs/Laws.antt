@@ -1,5 +1,5 @@
 -- Laws of a run that keeps its state or reads its configuration again.
-use Rattle.std.specs.Prelude.{◌≡◌, ⊤, ℕ, ◌<◌, ◌≤◌, ◌^◌, List, [], Option, Some, None, Result, All}
+use Rattle.std.specs.Prelude.{◌≡◌, ◌⊎◌, ⊤, ℕ, ◌<◌, ◌≤◌, ◌^◌, List, [], Option, Some, None, Result, All}
 use Rattle.gw_audit.specs.Entry.{IsLineOf, IsShowable}
 use Rattle.gw_audit.specs.declared.denial.Denial.{Denial}
 use Rattle.gw_core.specs.Effects.{effects_at}
@@ -13,7 +13,7 @@ use Rattle.gw_service.specs.Chain.{AreLinks, Link, Manner, Runs, Stage}
 use Rattle.gw_service.specs.Chain.{served, ticked, unrequested, withheld}
 use Rattle.gw_configuration.specs.Configuration.{Configuration}
 use Rattle.gw_watching.specs.Watching.{Watching}
-use Rattle.gw_service.specs.Counts.{GoesOnFrom}
+use Rattle.gw_service.specs.Counts.{GoesOnFrom, own_fields}
 use Rattle.gw_service.specs.Kept.{Given, RunsBy, RunsKept, RunsWatched}
 use Rattle.gw_service.specs.Serving.{Ends, Serves, Service, service}
 use Rattle.gw_service.specs.declared.fault.ServiceFault.{ServiceFault}
@@ -31,12 +31,16 @@ RulesAreInForce {K} manner =
 abbrev pub RulesStay : Type 0
 RulesStay = (w : State) (events : List Event) → (state_from w events).rules ≡ w.rules
 
+-- a line is that of a denial, or its own fields are, whatever is in front of them
+abbrev pub Shows : List ℕ → Denial → Type 0
+Shows line shown = IsLineOf line shown ⊎ IsLineOf (own_fields line) shown
+
 -- A gateway that goes on from these counts and the last line of its log gives each denial a greater number than that of the
 -- last denial that was counted, and than that of the denial in the line.
 abbrev pub NumbersGoOn : Type 0
 NumbersGoOn =
     (counts later : Counts) (line : List ℕ) (shown : Denial) (w : State) (e : Event) → GoesOnFrom counts (Some line) later
-    → IsShowable shown → IsLineOf line shown → shown.number ≤ 2 ^ 63 → w.denials ≡ later.denials
+    → IsShowable shown → Shows line shown → shown.number ≤ 2 ^ 63 → w.denials ≡ later.denials
     → All (λ (d : Denial). (counts.denials < d.number) × (shown.number < d.number)) (effects_at w e).denials
 
 -- A run that is watched is one that isn't, but for what is reported: its log, its wire's calls, its state and its outcome are those

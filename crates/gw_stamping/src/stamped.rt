@@ -138,6 +138,16 @@ impl<S: OctetSink, C: Calendar> Stamped<S, C> {
     }
 }
 
+impl<S: Drop, C: Drop> Stamped<S, C> {
+    /// What it went on in.
+    pub fn into_sink(self) -> S
+        ensures { result ≡ self.sink }
+    {
+        let Stamped { sink, .. } = self;
+        sink
+    }
+}
+
 impl<S: OctetSink, C: Calendar> OctetSink for Stamped<S, C> {
     ghost held = { λ log. held_without log.in_stamp (S.held log.sink) };
 
