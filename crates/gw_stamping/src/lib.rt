@@ -7,13 +7,11 @@ mod fields;
 mod form;
 pub mod laws;
 mod noted;
-mod run_log;
 mod stamped;
 mod telling;
 
 pub use calendar::{Calendar, SystemCalendar, moment_after};
 pub use fields::{ask_front, denial_front};
 pub use noted::{Noted, Place};
-pub use run_log::RunLog;
 pub use stamped::Stamped;
 pub use telling::tell_log;

@@ -193,6 +193,16 @@ fn place_of(octet: u8) -> Place
     }
 }
 
+impl<S: Drop> Noted<S> {
+    /// What it went on in.
+    pub fn into_sink(self) -> S
+        ensures { result ≡ self.sink }
+    {
+        let Noted { sink, .. } = self;
+        sink
+    }
+}
+
 impl<S: OctetSink> OctetSink for Noted<S> {
     ghost held = { λ log. held_without_notes log.place (S.held log.sink) };
 
