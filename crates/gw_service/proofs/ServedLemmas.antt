@@ -1,5 +1,5 @@
 -- A run in which nobody asks; and one that keeps no state either, which is one of `serve`.
-use Rattle.std.proofs.Common.{◌≡◌, ◌∙◌, ℕ, ◌+◌, ◌<◌, List, [], ◌∷◌, ◌++◌, Bool, true, false, true≢false, Option, Some, None, refl, sym, ap, subst, arith, length}
+use Rattle.std.proofs.Common.{◌≡◌, ◌∙◌, ℕ, ◌+◌, ◌<◌, List, [], ◌∷◌, ◌++◌, Bool, true, false, true≢false, Option, Some, None, refl, sym, ap, subst, arith, length, inl, inr}
 use Rattle.std.proofs.lemmas.List.{length-append}
 use Rattle.std.proofs.lemmas.List.Elements.{All-from_recursion}
 use Rattle.std.specs.List.{AllByRecursion}
@@ -25,7 +25,7 @@ use Rattle.gw_service.specs.Chain.{AreLinks, IsLink, IsLooked, IsUnrequested, Li
 use Rattle.gw_service.specs.Chain.{refused, served, taken_over, ticked, unrequested, withheld}
 use Rattle.gw_service.specs.Fault.{fault_of_serving}
 use Rattle.gw_service.specs.Keeping.{IsKeptAtTick, IsKeptFor, IsPassed, troubles_in}
-use Rattle.gw_service.specs.Kept.{Given, KeepsFirst, RunsKept, first_stage, manner_of, outcome_by, reporting_of}
+use Rattle.gw_service.specs.Kept.{Given, KeepsFirst, RunsBy, RunsKept, first_stage, manner_of, outcome_by, reporting_of}
 use Rattle.gw_service.specs.Laws.{FindsNone, IsAsServed, NobodyAsks}
 use Rattle.gw_service.specs.Reload.{reload_line}
 use Rattle.gw_service.specs.Serving.{Ends, Serves, Service, first_scene, service}
@@ -258,9 +258,19 @@ kept_serves given no_state no_line no_store no_requests c how before after text 
     (ap (told_by given.told) no_requests) (first_nowhere given.held given.store c runs.gateway runs.keeper no_store runs.keeps)
     (ap (λ (w : State). scene w before.log before.calls) fresh) runs.runs.log runs.runs.calls)
 
-pub as_served : {S Q L : Type 0} (given : Given S Q L) → IsAsServed given
-as_served given no_state no_line no_store no_requests None c how before after text outcome runs =
+runs_serve : {S Q L : Type 0} (given : Given S Q L) → given.saved ≡ None → given.line ≡ None → given.store ≡ None → given.requests ≡ None
+    → (watcher : Option (Watching L L)) (c : Configuration) (how : Service) (before after : Ends) (text : List ℕ)
+    (outcome : Result (Unit {0}) ServiceFault) → RunsBy given watcher c how before after text outcome
+    → Serves c (service how.turns None) before after [] outcome
+runs_serve given no_state no_line no_store no_requests None c how before after text outcome runs =
     kept_serves given no_state no_line no_store no_requests c how before after text outcome runs
-as_served given no_state no_line no_store no_requests (Some watcher) c how before after text outcome runs =
+runs_serve given no_state no_line no_store no_requests (Some watcher) c how before after text outcome runs =
     let other = as_unwatched given watcher c how before after text outcome runs in
     kept_serves given no_state no_line no_store no_requests c how before after other.0 outcome other.1
+
+pub as_served : {S Q L : Type 0} (given : Given S Q L) → IsAsServed given
+as_served given no_state no_line no_store no_requests c how before after text outcome (inl runs) =
+    runs_serve given no_state no_line no_store no_requests given.watcher c how before after text outcome runs
+as_served given no_state no_line no_store no_requests c how before after text outcome (inr unbegun) =
+    subst (λ (x : Result (Unit {0}) ServiceFault). Serves c (service how.turns None) before after [] x) (sym unbegun.2)
+    (inr (unbegun.0, refl))

@@ -1,5 +1,5 @@
 -- Laws of a run that keeps its state or reads its configuration again.
-use Rattle.std.specs.Prelude.{◌≡◌, ◌⊎◌, ⊤, ℕ, ◌<◌, ◌≤◌, ◌^◌, List, [], Option, Some, None, Result, All}
+use Rattle.std.specs.Prelude.{◌≡◌, ◌⊎◌, ⊤, ℕ, ◌<◌, ◌≤◌, ◌^◌, List, [], Some, None, Result, All}
 use Rattle.gw_audit.specs.Entry.{IsLineOf, IsShowable}
 use Rattle.gw_audit.specs.declared.denial.Denial.{Denial}
 use Rattle.gw_core.specs.Effects.{effects_at}
@@ -14,7 +14,7 @@ use Rattle.gw_service.specs.Chain.{served, ticked, unrequested, withheld}
 use Rattle.gw_configuration.specs.Configuration.{Configuration}
 use Rattle.gw_watching.specs.Watching.{Watching}
 use Rattle.gw_service.specs.Counts.{GoesOnFrom, own_fields}
-use Rattle.gw_service.specs.Kept.{Given, RunsBy, RunsKept, RunsWatched}
+use Rattle.gw_service.specs.Kept.{Given, LeavesKept, RunsKept, RunsWatched}
 use Rattle.gw_service.specs.Serving.{Ends, Serves, Service, service}
 use Rattle.gw_service.specs.declared.fault.ServiceFault.{ServiceFault}
 
@@ -70,11 +70,10 @@ NobodyAsks {K} manner =
     (count : ℕ) (s t : Stage K) (answer : Result (Unit {0}) ServeFault) (links : List Link) → Runs manner count s answer links t
     → s.requests ≡ nobody → StaysUnasked s links t
 
--- A run that keeps no state and looks for no request, but may report, is one of `serve` from the gateway's first state: its log, its
--- wire's calls and its outcome are those.
+-- A run that keeps no state and looks for no request, but may report or be watched, is one of `serve` from the gateway's first state:
+-- its log, its wire's calls and its outcome are those.
 abbrev pub IsAsServed : {S Q L : Type 0} → Given S Q L → Type 0
 IsAsServed {S} {Q} {L} given =
     given.saved ≡ None → given.line ≡ None → given.store ≡ None → given.requests ≡ None
-    → (watcher : Option (Watching L L)) (c : Configuration) (how : Service) (before after : Ends) (text : List ℕ)
-    (outcome : Result (Unit {0}) ServiceFault) → RunsBy given watcher c how before after text outcome
-    → Serves c (service how.turns None) before after [] outcome
+    → (c : Configuration) (how : Service) (before after : Ends) (text : List ℕ) (outcome : Result (Unit {0}) ServiceFault)
+    → LeavesKept given c how before after text outcome → Serves c (service how.turns None) before after [] outcome
