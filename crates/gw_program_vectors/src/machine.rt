@@ -5,6 +5,7 @@
 //! standard input. Each file has the text of the last configuration, but for `unreadable`.
 
 ghost use Rattle.std.specs.Prelude.{◌≡◌, ⊤, None, Some};
+ghost use Rattle.gw_system.specs.Requests.{silent};
 
 use crate::words::{call, put, status_text};
 use gw_addr::BipAddr;
@@ -148,7 +149,7 @@ pub struct MemRequests {
 }
 
 impl Requests for MemRequests {
-    ghost told = { λ _. None };
+    ghost told = { λ _. silent };
 
     fn take(
         &mut self,
