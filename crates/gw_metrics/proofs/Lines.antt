@@ -1,5 +1,5 @@
 -- The lines of metrics.
-use Rattle.std.proofs.Common.{◌≡◌, ◌≢◌, ◌∙◌, ◌++◌, ◌==◌, ◌&&◌, ◌<◌, ◌^◌, ℕ, Bool, true, false, not, List, [], ◌∷◌, Option, Some, None, ap, arith, codes, cond, decimal, is_some, map, refl, subst, sym}
+use Rattle.std.proofs.Common.{◌≡◌, ◌∙◌, ◌++◌, ◌==◌, ◌&&◌, ◌<◌, ◌^◌, ℕ, Bool, true, false, not, List, [], ◌∷◌, Option, Some, None, ap, arith, codes, cond, decimal, is_some, map, refl, subst, sym}
 use Rattle.std.specs.List.{filter, flat_map, list_all}
 use Rattle.std.proofs.lemmas.Bool.{false≢true}
 use Rattle.std.proofs.lemmas.Fmt.{decimal_is_IsNumeral_wide}
@@ -10,8 +10,8 @@ use Rattle.gw_addr.proofs.Decimal.{own}
 use Rattle.gw_addr.proofs.Lacking.{lacks_append, lacks_cons}
 use Rattle.gw_metrics.specs.Escape.{escaped, escaped_octet}
 use Rattle.gw_metrics.specs.Family.{families, family_help, family_kind, family_name, kind_name, label_name}
-use Rattle.gw_metrics.specs.Laws.{FamiliesAreOnce, HasPlainNumber, IsUnder, LinesHaveNoFeed, SamplesAreUnderTheirFamily, TextIsLines, helps, is_counted}
-use Rattle.gw_metrics.specs.Text.{Count, Help, KindOf, Labelled, Line, Sample, family_lines, family_text, full_line, label_text, line_text, lines_text, samples_of}
+use Rattle.gw_metrics.specs.Laws.{FamiliesAreOnce, IsUnder, LinesHaveNoFeed, SamplesAreUnderTheirFamily, TextIsLines, helps, is_counted}
+use Rattle.gw_metrics.specs.Text.{Count, Help, KindOf, Labelled, Line, Sample, family_lines, family_text, full_line, label_text, lines_text, samples_of}
 use Rattle.gw_metrics.specs.declared.counts.Counts.{Counts}
 use Rattle.gw_metrics.specs.declared.family.Family.{Family}
 use Rattle.gw_metrics.specs.declared.family.Family.TheVariants as family

@@ -1,5 +1,5 @@
 -- Escaped values are read back, and nothing else is read.
-use Rattle.std.proofs.Common.{◌≡◌, ◌∙◌, ◌++◌, ◌==◌, ℕ, Bool, true, false, List, [], ◌∷◌, Option, Some, None, ap, append_assoc, arith, cond, refl, subst, sym}
+use Rattle.std.proofs.Common.{◌≡◌, ◌∙◌, ◌++◌, ◌==◌, ℕ, Bool, true, false, List, [], ◌∷◌, Option, Some, None, ap, append_assoc, arith, cond, refl, sym}
 use Rattle.std.proofs.lemmas.Bool.{false≢true}
 use Rattle.gw_metrics.specs.Escape.{escape_meaning, escaped, escaped_octet, read_from, with_meaning, with_octet}
 use Rattle.gw_metrics.specs.Laws.{OnlyEscapesAreRead, ValuesAreReadBack}

@@ -51,7 +51,7 @@ family_name family.LostLines = codes "bacgw_lost_lines_total"
 family_name family.LostMetrics = codes "bacgw_lost_metrics_total"
 
 abbrev pub family_help : Family → List ℕ
-family_help family.Ticks = codes "Ticks of a second."
+family_help family.Ticks = codes "Ticks that were taken, one for each second."
 family_help family.Received = codes "Datagrams that came to the ports."
 family_help family.Taken = codes "Datagrams that the gateway took, dropped ones included."
 family_help family.Drops = codes "Datagrams that were not passed on, by the reason."

@@ -1,12 +1,15 @@
 -- What is true of the text of metrics.
-use Rattle.std.specs.Prelude.{◌≡◌, ⊤, ℕ, ◌<◌, ◌^◌, Bool, is_some, List, [], ◌∷◌, ◌++◌, Some}
-use Rattle.std.specs.List.{filter}
+use Rattle.std.specs.Prelude.{◌≡◌, ⊤, ℕ, ◌-◌, ◌<◌, ◌^◌, Bool, true, false, is_some, nat_eq, length, drop, codes, List, [], ◌∷◌, ◌++◌, Some}
+use Rattle.std.specs.Cmp.Lexicographic.{pointwise}
+use Rattle.std.specs.List.{filter, find}
 use Rattle.gw_addr.specs.Text.{Lacks}
 use Rattle.gw_metrics.specs.Escape.{escaped, read_value}
-use Rattle.gw_metrics.specs.Family.{families}
+use Rattle.gw_metrics.specs.Family.{families, family_kind, family_name}
 use Rattle.gw_metrics.specs.Text.{Count, Help, KindOf, Line, line_text, lines_text, metrics_lines, metrics_text, samples_of}
 use Rattle.gw_metrics.specs.declared.counts.Counts.{Counts}
 use Rattle.gw_metrics.specs.declared.family.Family.{Family}
+use Rattle.gw_metrics.specs.declared.family.Kind.{Kind}
+use Rattle.gw_metrics.specs.declared.family.Kind.TheVariants.{Counter, Gauge}
 
 -- ---- values of labels
 
@@ -58,3 +61,20 @@ is_counted c f = is_some (samples_of c f)
 -- the text begins each family once that is counted, in their order
 abbrev pub FamiliesAreOnce : Type 0
 FamiliesAreOnce = (c : Counts) → helps (metrics_lines c) ≡ filter (is_counted c) families
+
+-- ---- names
+
+-- the first family of a family's name is that family
+abbrev pub NamesDiffer : Type 0
+NamesDiffer = (f : Family) → find (λ g. pointwise nat_eq (family_name g) (family_name f)) families ≡ Some f
+
+abbrev pub is_counter : Kind → Bool
+is_counter Counter = true
+is_counter Gauge = false
+
+abbrev pub ends_in_total : List ℕ → Bool
+ends_in_total name = pointwise nat_eq (drop (length name - 6) name) (codes "_total")
+
+-- the names of counters end in `_total`, and no others do
+abbrev pub CountersAreTotals : Type 0
+CountersAreTotals = (f : Family) → ends_in_total (family_name f) ≡ is_counter (family_kind f)

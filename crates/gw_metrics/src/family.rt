@@ -160,7 +160,7 @@ impl Family {
         ensures { result.now ≡ family_help self }
     {
         match self {
-            Family::Ticks => "Ticks of a second.",
+            Family::Ticks => "Ticks that were taken, one for each second.",
             Family::Received => "Datagrams that came to the ports.",
             Family::Taken => "Datagrams that the gateway took, dropped ones included.",
             Family::Drops => "Datagrams that were not passed on, by the reason.",

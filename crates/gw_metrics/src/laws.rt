@@ -1,6 +1,6 @@
 //! What is true of the text of metrics. The functions do nothing: their contracts are the laws.
 
-ghost use Rattle.gw_metrics.specs.Laws.{FamiliesAreOnce, LinesHaveNoFeed, OnlyEscapesAreRead, SamplesAreUnderTheirFamily, TextIsLines, ValuesAreReadBack};
+ghost use Rattle.gw_metrics.specs.Laws.{CountersAreTotals, FamiliesAreOnce, LinesHaveNoFeed, NamesDiffer, OnlyEscapesAreRead, SamplesAreUnderTheirFamily, TextIsLines, ValuesAreReadBack};
 
 /// What a collector reads of an escaped value is the value, and it reads nothing else as one.
 pub fn values()
@@ -14,4 +14,10 @@ pub fn lines()
     ensures feeds { LinesHaveNoFeed }
     ensures under { SamplesAreUnderTheirFamily }
     ensures once { FamiliesAreOnce }
+{}
+
+/// Each family has a name of its own, and the names of counters alone end in `_total`.
+pub fn names()
+    ensures differ { NamesDiffer }
+    ensures totals { CountersAreTotals }
 {}
