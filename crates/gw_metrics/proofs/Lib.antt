@@ -1,0 +1,4 @@
+pub mod Lines
+pub mod Names
+pub mod Reading
+pub mod Samples

@@ -1,0 +1,4 @@
+pub mod Escape
+pub mod Family
+pub mod Laws
+pub mod Text
