@@ -1,0 +1,9 @@
+//! The asks that a text shows, line by line, whatever is in front of them and whatever else the text has.
+#![tactic(auto)]
+
+mod cursor;
+pub mod laws;
+mod nothing;
+mod reader;
+
+pub use reader::AskLines;
