@@ -1,5 +1,6 @@
 -- What is left to read of the asks of a text, and how many of its lines show none.
 use Rattle.std.specs.Prelude.{ℕ, List, Option, option_map}
+use Rattle.gw_asks.specs.declared.lent.Lent.{Lent}
 use Rattle.gw_asks.specs.declared.reader.AskLines.{AskLines}
 use Rattle.gw_asks.specs.Position.{Rest, rest_at}
 
@@ -17,3 +18,7 @@ unread_in_all left asks = option_map (λ rest. rest.unread) (rest_in left asks)
 -- how many of them were passed over
 abbrev pub unread_by : {R : Type 0} → AskLines R → ℕ
 unread_by asks = asks.cursor.unread
+
+-- the octets that a source has left which is lent, if they are known
+abbrev pub lent_left : {R : Type 0} → (R → Option (List ℕ)) → Lent R → Option (List ℕ)
+lent_left left lent = left lent.source.now

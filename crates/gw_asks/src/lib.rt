@@ -3,7 +3,9 @@
 
 mod cursor;
 pub mod laws;
+mod lent;
 mod nothing;
 mod reader;
 
+pub use lent::Lent;
 pub use reader::AskLines;
