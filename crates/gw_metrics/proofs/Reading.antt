@@ -23,7 +23,8 @@ plain_read : (x : ℕ) (t : List ℕ) → (x == 34) ≡ false → (x == 92) ≡ 
     → read_from false (x ∷ t) ≡ with_octet x (read_from false t)
 unfolding read_from choose
 plain_read x t quote slash feed =
-    ap (λ (b : Bool). choose b (Some ([], t)) (choose (x == 92) (read_from true t) (choose (x == 10) None (with_octet x (read_from false t))))) quote
+    ap (λ (b : Bool). choose b (Some ([], t))
+    (choose (x == 92) (read_from true t) (choose (x == 10) None (with_octet x (read_from false t))))) quote
     ∙ ap (λ (b : Bool). choose b (read_from true t) (choose (x == 10) None (with_octet x (read_from false t)))) slash
     ∙ ap (λ (b : Bool). choose b None (with_octet x (read_from false t))) feed
 

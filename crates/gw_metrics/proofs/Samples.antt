@@ -32,7 +32,8 @@ one_more before now new lines line so_far then =
     ∙ ap (λ (t : List ℕ). before ++ t) (sym (flat_map-append full_line lines (line ∷ [])))
 
 -- what is appended of numbered samples after what a family is
-pub ported : (counts before head new : List ℕ) → head ≡ before ++ lines_text (Help family.ForeignDevices ∷ KindOf family.ForeignDevices ∷ [])
+pub ported : (counts before head new : List ℕ)
+    → head ≡ before ++ lines_text (Help family.ForeignDevices ∷ KindOf family.ForeignDevices ∷ [])
     → new ≡ head ++ in_order port_line 1 counts
     → new ≡ before ++ lines_text (family_lines family.ForeignDevices (Some (numbered port_sample 1 counts)))
 ported counts before head new begun last =

@@ -18,7 +18,8 @@ is_due None ticks = true
 is_due (Some last) ticks = nat_le 10 (ticks - last)
 
 -- a try at a tick: the store holds the text then
-pub record IsWritten {S : Type 0} (held : S → Option (List ℕ)) (m : Writing S) (ticks : ℕ) (text : List ℕ) (after : Writing S) : Type 0 where
+pub record IsWritten {S : Type 0} (held : S → Option (List ℕ)) (m : Writing S) (ticks : ℕ)
+    (text : List ℕ) (after : Writing S) : Type 0 where
   pub holds : Holds (held after.store) text
   pub last : after.last ≡ Some ticks
   pub lost : after.lost ≡ m.lost

@@ -26,4 +26,5 @@ loop-place-preserved c =
 pub returns : goal.returns
 returns c =
     let ends : c.loop-place.place ≡ length c.args.rules.now = omega (arith, c.loop-place.auto.place-end, c.loop-place-test.false) in
-    in_order_end (rule_line c.args.counts.now) c.args.out.now.items c.loop-place.out.items c.args.rules.now c.loop-place.place ends c.loop-place.invariant
+    in_order_end (rule_line c.args.counts.now) c.args.out.now.items c.loop-place.out.items c.args.rules.now
+    c.loop-place.place ends c.loop-place.invariant
