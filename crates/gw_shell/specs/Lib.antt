@@ -1,6 +1,7 @@
 pub mod Asking
 pub mod Checked
 pub mod Configured
+pub mod Deciding
 pub mod Ending
 pub mod Files
 pub mod Kept

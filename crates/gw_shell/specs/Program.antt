@@ -17,8 +17,9 @@ use Rattle.gw_command_line.specs.CommandLine.{IsAnswer}
 use Rattle.gw_command_line.specs.declared.fault.WordsFault.{WordsFault}
 use Rattle.gw_shell.specs.declared.fault.Fault.{Fault}
 use Rattle.gw_shell.specs.declared.fault.Fault.TheVariants as fault
-use Rattle.gw_shell.specs.Asking.{Answers, Counts}
+use Rattle.gw_shell.specs.Asking.{Answers, Counts, ReportsUnread, asks_in}
 use Rattle.gw_shell.specs.Configured.{IsConfigurationOf, IsConfigured}
+use Rattle.gw_shell.specs.Deciding.{ReportsAsks}
 use Rattle.gw_shell.specs.Ending.{FaultNote, IsAnswerTo, chosen, error_text, outcome_of_answer, status_by, usage_of}
 use Rattle.gw_shell.specs.Checked.{IsChecked}
 use Rattle.gw_shell.specs.Kept.{IsSaidOfText}
@@ -97,6 +98,13 @@ abbrev pub LeavesPlayed : Bool → Option (List ℕ) → Option (List ℕ) → O
 LeavesPlayed explains input held holds (Ok c) outcome =
     OnKnown input held holds (λ script before. Plays explains c script before outcome)
 LeavesPlayed explains input held holds (Err f) outcome = (outcome ≡ Err f) × (holds ≡ held)
+
+-- What `replay --stats` leaves and reports under the configuration of a text that was read.
+abbrev pub LeavesCounted : Bool → Result (List ℕ) Fault → Option (List ℕ) → Option (List ℕ) → Option (List ℕ)
+    → Result (Unit {0}) Fault → (told : List ℕ) → Type 0
+LeavesCounted explains text input held holds outcome told =
+    (c : Result Configuration Fault) × IsConfigurationOf text c × LeavesPlayed explains input held holds c outcome
+    × ReportsAsks true input c outcome told
 
 -- What `compare` leaves of two configurations: what it says of them, of which a failed write may leave a front. If
 -- they aren't alike, that is the outcome.
@@ -226,16 +234,16 @@ LeavesOutput Reads ReadsState Answers machine input held holds told (Ok (choice.
 LeavesOutput Reads ReadsState Answers machine input held holds told (Ok (choice.Migrate file)) outcome =
     (c : Result Configuration Fault) × IsConfigured Reads (Some (string_bytes file)) c
     × LeavesMigrated held holds c outcome
-LeavesOutput Reads ReadsState Answers machine input held holds told (Ok (choice.Replay file explains)) outcome =
+LeavesOutput Reads ReadsState Answers machine input held holds told (Ok (choice.Replay file explains counts)) outcome =
     (c : Result Configuration Fault) × IsConfigured Reads (option_map string_bytes file) c
-    × LeavesPlayed explains input held holds c outcome
+    × LeavesPlayed explains input held holds c outcome × ReportsAsks counts input c outcome told
 LeavesOutput Reads ReadsState Answers machine input held holds told (Ok (choice.Run options)) outcome =
     (text : Result (List ℕ) Fault) × Reads (string_bytes options.config) text
     × (c : Result Configuration Fault) × IsConfigurationOf text c
     × LeavesRun machine text held holds options c told outcome
-LeavesOutput Reads ReadsState Answers machine input held holds told (Ok (choice.Why file counts)) outcome =
+LeavesOutput Reads ReadsState Answers machine input held holds told (Ok (choice.Why file counts strict)) outcome =
     (c : Result Configuration Fault) × IsConfigured Reads (Some (string_bytes file)) c
-    × LeavesAnswered counts input held holds c outcome
+    × LeavesAnswered counts (asks_in strict input) held holds c outcome × ReportsUnread strict outcome told
 LeavesOutput Reads ReadsState Answers machine input held holds told (Ok (choice.Reload config request)) outcome =
     LeavesReloadIn Reads Answers (string_bytes config) (string_bytes request) held holds outcome
 LeavesOutput Reads ReadsState Answers machine input held holds told (Ok (choice.Compare old new most)) outcome =
@@ -245,13 +253,14 @@ LeavesOutput Reads ReadsState Answers machine input held holds told (Ok (choice.
 LeavesOutput Reads ReadsState Answers machine input held holds told (Ok (choice.State config state)) outcome =
     LeavesStateIn Reads ReadsState (string_bytes config) (string_bytes state) held holds outcome
 LeavesOutput Reads ReadsState Answers machine input held holds told (Ok (choice.Suggest file fills exact)) outcome =
-    LeavesSuggestedIn Reads (string_bytes file) (record { keeps_services = exact; fills = fills }) input held holds outcome
+    LeavesSuggestedIn Reads (string_bytes file) (record { keeps_services = exact; fills = fills }) (asks_in false input) held holds outcome
+    × ReportsUnread false outcome told
 LeavesOutput Reads ReadsState Answers machine input held holds told (Ok (choice.Log start)) outcome =
     OnKnown input held holds (λ log before. Tells start log before outcome)
 LeavesOutput Reads ReadsState Answers machine input held holds told (Ok choice.Objects) outcome =
     OnKnown input held holds (λ log before. Lists log before outcome)
-LeavesOutput Reads ReadsState Answers machine input held holds told (Ok (choice.Judge file)) outcome =
-    LeavesJudgedIn Reads (string_bytes file) input held holds outcome
+LeavesOutput Reads ReadsState Answers machine input held holds told (Ok (choice.Judge file strict)) outcome =
+    LeavesJudgedIn Reads (string_bytes file) (asks_in strict input) held holds outcome × ReportsUnread strict outcome told
 LeavesOutput Reads ReadsState Answers machine input held holds told (Ok (choice.Report file log)) outcome =
     LeavesReportIn Reads (string_bytes file) held holds outcome
 LeavesOutput Reads ReadsState Answers machine input held holds told (Ok (choice.Help text)) (Ok done) =
@@ -262,9 +271,13 @@ LeavesOutput Reads ReadsState Answers machine input held holds told (Ok (choice.
     (outcome ≡ Err fault.CommandLine) × (holds ≡ held)
 LeavesOutput Reads ReadsState Answers machine input held holds told (Err f) outcome = (outcome ≡ Err f) × (holds ≡ held)
 
--- Only `run` reports something before a fault's line.
+-- Only `run`, `replay`, `why` and `suggest` report something before a fault's line.
 abbrev pub IsQuiet : Result Choice Fault → List ℕ → Type 0
 IsQuiet (Ok (choice.Run options)) told = ⊤
+IsQuiet (Ok (choice.Replay file explains counts)) told = ⊤
+IsQuiet (Ok (choice.Why file counts strict)) told = ⊤
+IsQuiet (Ok (choice.Judge file strict)) told = ⊤
+IsQuiet (Ok (choice.Suggest file fills exact)) told = ⊤
 IsQuiet _ told = told ≡ []
 
 -- What of standard output isn't flushed after a choice that was done: nothing, but that `run` leaves what was so

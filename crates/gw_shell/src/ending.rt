@@ -20,7 +20,7 @@ use itoa::Buffer;
 use std::process::ExitCode;
 
 /// Writes a text, this number, and another text.
-fn write_number<E: OctetSink>(
+pub fn write_number<E: OctetSink>(
     text: &str,
     number: u64,
     behind: &str,

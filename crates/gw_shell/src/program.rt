@@ -22,6 +22,7 @@ ghost use Rattle.gw_shell.specs.declared.fault.Fault.TheVariants as fault;
 use crate::asking::{count, why};
 use crate::checked::checked_text;
 use crate::configured::{configuration, configuration_in, configuration_of};
+use crate::deciding::{replay_counting, text_for};
 use crate::ending::{end_by, usage_of};
 use crate::fault::Fault;
 use crate::files::ConfigFiles;
@@ -30,7 +31,9 @@ use crate::reloading::{self, ask};
 use crate::reporting::print_report_in;
 use crate::script::replay;
 use crate::suggesting::suggest;
+use crate::unread::tell_unread;
 use crate::{objects, telling};
+use gw_asks::{AskLines, Lent};
 use gw_command_line::{Choice, RunOptions, choice_of};
 use gw_compare::{Compared, put_comparison};
 use gw_configuration::{Config, ConfigFault};
@@ -546,17 +549,54 @@ fn follow<F: ConfigFiles, H: Host, R: OctetSource, W: Write + Drop, E: OctetSink
             let config = configuration_in(alloc, files, file);
             print_in_format_three(alloc, config, output)
         }
-        Ok(Choice::Replay { file, explains }) => {
+        Ok(
+            Choice::Replay {
+                file,
+                explains,
+                counts: false,
+            },
+        ) => {
             let config = configuration(alloc, files, file);
             play(alloc, *explains, config, input, output)
+        }
+        Ok(
+            Choice::Replay {
+                file,
+                explains,
+                counts: true,
+            },
+        ) => {
+            let text = text_for(alloc, files, file);
+            let counted = replay_counting(alloc, *explains, &text, input, output);
+            tell(counted.decisions.as_bytes(), errors);
+            counted.outcome
         }
         Ok(Choice::Run(options)) => {
             let text = files.read(alloc, &options.config);
             serve(alloc, &text, options, host, output, errors)
         }
-        Ok(Choice::Why { file, counts }) => {
+        Ok(
+            Choice::Why {
+                file,
+                counts,
+                strict: true,
+            },
+        ) => {
             let config = configuration_in(alloc, files, file);
             answer(alloc, *counts, config, input, output)
+        }
+        Ok(
+            Choice::Why {
+                file,
+                counts,
+                strict: false,
+            },
+        ) => {
+            let config = configuration_in(alloc, files, file);
+            let mut asks = AskLines::new(Lent::new(input));
+            let outcome = answer(alloc, *counts, config, &mut asks, output);
+            tell_unread(outcome, asks.unread(), errors);
+            outcome
         }
         Ok(Choice::Reload { config, request }) => {
             reload_in(alloc, files, config, request, host, output)
@@ -572,11 +612,27 @@ fn follow<F: ConfigFiles, H: Host, R: OctetSource, W: Write + Drop, E: OctetSink
                 keeps_services: *exact,
                 fills: *fills,
             };
-            suggest_in(alloc, files, file, manner, input, output)
+            let mut asks = AskLines::new(Lent::new(input));
+            let outcome = suggest_in(alloc, files, file, manner, &mut asks, output);
+            tell_unread(outcome, asks.unread(), errors);
+            outcome
         }
         Ok(Choice::Log(start)) => telling::tell(alloc, *start, input, output),
         Ok(Choice::Objects) => objects::list(alloc, input, output),
-        Ok(Choice::Judge(file)) => objects::judge_in(alloc, files, file, input, output),
+        Ok(Choice::Judge { file, strict: true }) => {
+            objects::judge_in(alloc, files, file, input, output)
+        }
+        Ok(
+            Choice::Judge {
+                file,
+                strict: false,
+            },
+        ) => {
+            let mut asks = AskLines::new(Lent::new(input));
+            let outcome = objects::judge_in(alloc, files, file, &mut asks, output);
+            tell_unread(outcome, asks.unread(), errors);
+            outcome
+        }
         Ok(Choice::Report { file, log }) => print_report_in(alloc, files, file, log, output),
         Ok(Choice::Help(text)) => print(text.as_bytes(), output),
         Ok(Choice::Usage(_)) => Err(Fault::CommandLine),
