@@ -1,0 +1,4 @@
+pub mod Asks
+pub mod Laws
+pub mod Left
+pub mod Position
