@@ -18,14 +18,14 @@ abbrev pub Each : {A : Type 0} → (A → Type 0) → List A → Type 0
 Each P [] = ⊤
 Each P (x ∷ xs) = P x × Each P xs
 
-each_append : {A : Type 0} (P : A → Type 0) (xs ys : List A) → Each P xs → Each P ys → Each P (xs ++ ys)
+pub each_append : {A : Type 0} (P : A → Type 0) (xs ys : List A) → Each P xs → Each P ys → Each P (xs ++ ys)
 each_append P [] ys front rest = rest
 each_append P (x ∷ xs) ys front rest = (front.0, each_append P xs ys front.1 rest)
 
 abbrev pub IsPlain : List ℕ → Type 0
 IsPlain text = Each (λ octet. 32 ≤ octet) text
 
-all_plain : (text : List ℕ) → IsPlain text → (k d : ℕ) → k < length text → 32 ≤ get_or text k d
+pub all_plain : (text : List ℕ) → IsPlain text → (k d : ℕ) → k < length text → 32 ≤ get_or text k d
 all_plain [] plain k d within = absurd (omega arith)
 all_plain (x ∷ text) plain zero d within = plain.0
 all_plain (x ∷ text) plain (suc k) d within = all_plain text plain.1 k d (omega arith)
@@ -76,7 +76,7 @@ digits_plain : (ds : List ℕ) → ((i : ℕ) → i < length ds → 32 ≤ slice
 digits_plain [] each = tt
 digits_plain (d ∷ ds) each = (each 0 (omega arith), digits_plain ds (λ i within. each (suc i) (omega arith)))
 
-decimal_plain : (n : ℕ) → n < 2 ^ 64 → IsPlain (decimal n)
+pub decimal_plain : (n : ℕ) → n < 2 ^ 64 → IsPlain (decimal n)
 decimal_plain n fits = digits_plain (decimal n) (λ i within. omega (arith, digit_at (decimal n) i (decimal_is_IsNumeral n fits).0.1 within))
 
 -- ---- tokens
@@ -110,7 +110,7 @@ token_plain Token.bad is = tt
 separator_plain : (b : Bool) (t : Token) → IsPlain (separator b t)
 separator_plain b t = chosen (b && begins t) _ _ (λ _. (omega arith, tt)) (λ _. tt)
 
-print_plain : (b : Bool) (ts : List Token) → Each IsPlainToken ts → IsPlain (print_from b ts)
+pub print_plain : (b : Bool) (ts : List Token) → Each IsPlainToken ts → IsPlain (print_from b ts)
 unfolding print_from
 print_plain b [] are = tt
 print_plain b (t ∷ ts) are =

@@ -1,22 +1,28 @@
 -- The lines are the texts of their values, so they are read as those.
-use Rattle.std.proofs.Common.{◌≡◌, ℕ, ◌^◌, ◌<◌, Bool, true, false, List, [], ◌∷◌, ◌++◌, Option, Some, None, decimal, refl, sym, ap, subst, ◌∙◌, append_assoc, arith}
-use Rattle.std.specs.Prelude.{IfSome, codes, is_some}
+use Rattle.std.proofs.Common.{◌≡◌, ℕ, ◌^◌, ◌<◌, inl, inr, length, Bool, true, false, List, [], ◌∷◌, ◌++◌, Option, Some, None, decimal, refl, sym, ap, subst, ◌∙◌, append_assoc, arith}
+use Rattle.std.specs.Prelude.{IfSome, codes, is_some, if◌then◌else◌, ◌==◌}
 use Rattle.std.specs.Option.{option_map_or}
 use Rattle.hex.specs.Hex.{encode_upper}
 use Rattle.json.specs.Json.{Json, null, boolean, number, string, array, object, Members, no_members, member}
 use Rattle.json.specs.Print.{escape_byte, print, print_from, quoted, token_text}
 use Rattle.json.specs.Token.{Token}
 use Rattle.json.specs.Tree.{json_tokens, members_tokens}
-use Rattle.gw_audit.specs.Entry.{IsShowable, shown_ask}
+use Rattle.gw_addr.specs.Station.{is_network}
+use Rattle.gw_audit.specs.Entry.{IsShowable, IsShownAsk, TellsAsk, ask_shown, shown_ask}
 use Rattle.gw_audit.specs.Line.{key_octets, operation_named}
 use Rattle.gw_audit.specs.declared.denial.Denial.{Denial}
 use Rattle.gw_audit.specs.declared.entry.ShownAsk.{ShownAsk}
+use Rattle.gw_rules.proofs.First.{first_within}
+use Rattle.gw_rules.specs.Ask.{Ask}
 use Rattle.gw_rules.specs.Operation.{operation_name}
+use Rattle.gw_rules.specs.RuleList.{IsNumberOf, allows, first}
+use Rattle.gw_rules.specs.declared.rule.Rule.{Rule}
 use Rattle.gw_rules.specs.declared.field.FieldName.TheVariants as fields
-use Rattle.gw_json.specs.Laws.{DenialsRead, OthersRead, ReadsAs}
+use Rattle.gw_json.specs.Laws.{AnswersRead, DenialsRead, OthersRead, ReadsAs}
 use Rattle.gw_json.specs.Log.{denial_line, octets_line, text_line}
 use Rattle.gw_json.specs.Text.{ask_text, number_text, object_text, operation_text, named_text, property_text, request_text, sender_of, source_text, station_of, station_text, station_word, stations_text, target_text, way_text}
-use Rattle.gw_json.specs.Value.{ask_members, denial_value, named_value, number_value, octets_value, operation_value, request_members, station_value, stations_members, target_members, text_value}
+use Rattle.gw_json.specs.Value.{answer_value, ask_members, denial_value, grounds_members, name_value, named_value, note_value, noted_value, number_value, octets_value, operation_value, request_members, station_value, stations_members, target_members, text_value, verdict_value}
+use Rattle.gw_json.specs.Why.{name_text, note_at, noted_text, rule_at, shown_note, truth_text, verdict_text}
 use Rattle.gw_json.proofs.Plain.{AreSingle, IsSingle, reads}
 
 -- ---- the text of an object whose values are single tokens
@@ -250,3 +256,158 @@ others_read line = (
   subst (λ (text : List ℕ). ReadsAs text (text_value line)) (line_text_is line) (reads _ (tt, tt)),
   subst (λ (text : List ℕ). ReadsAs text (octets_value line)) (octets_text_is line) (reads _ (tt, tt)),
 )
+
+-- ---- an answer
+
+truth_is : (b : Bool) → value_text (boolean b) ≡ truth_text b
+truth_is true = refl
+truth_is false = refl
+
+name_is : (rule : Option Rule) → value_text (name_value rule) ≡ name_text rule
+name_is rule =
+    value_or (λ (r : Rule). string r.name) (λ r. quoted r.name) (string (codes "default")) (quoted (codes "default")) rule (λ r. refl) refl
+
+note_or_null : (b : Bool) (note : List ℕ) → value_text (if b then null else string note) ≡ (if b then codes "null" else quoted note)
+note_or_null true note = refl
+note_or_null false note = refl
+
+noted_is : (note : List ℕ) → value_text (noted_value note) ≡ noted_text note
+noted_is note = note_or_null (length note == 0) note
+
+note_is : (note : Option (List ℕ)) → value_text (note_value note) ≡ shown_note note
+note_is note = value_or noted_value noted_text null (codes "null") note noted_is refl
+
+single_rule : (rule : Option Rule) → IsSingle (name_value rule)
+single_rule None = tt
+single_rule (Some r) = tt
+
+single_or_null : (b : Bool) (note : List ℕ) → IsSingle (if b then null else string note)
+single_or_null true note = tt
+single_or_null false note = tt
+
+single_noted : (note : List ℕ) → IsSingle (noted_value note)
+single_noted note = single_or_null (length note == 0) note
+
+single_note : (note : Option (List ℕ)) → IsSingle (note_value note)
+single_note None = tt
+single_note (Some note) = single_noted note
+
+-- the numbers of an ask that a line tells
+pub record AreSmall (ask : ShownAsk) : Type 0 where
+  pub port : ask.port < 2 ^ 64
+  pub network : ask.source.net < 2 ^ 64
+  pub operation : IfSome ask.operation (λ n. n < 2 ^ 64)
+  pub destination_network : IfSome ask.destination_network (λ n. n < 2 ^ 64)
+  pub service : IfSome ask.service (λ n. n < 2 ^ 64)
+  pub object_type : IfSome ask.object_type (λ n. n < 2 ^ 64)
+  pub instance : IfSome ask.instance (λ n. n < 2 ^ 64)
+  pub property : IfSome ask.property (λ n. n < 2 ^ 64)
+  pub priority : IfSome ask.priority (λ n. n < 2 ^ 64)
+
+small_denial : (d : Denial) → IsShowable d → AreSmall (shown_ask d)
+small_denial d is =
+    let small = is.numbers in record {
+      port = narrow d.port small.port;
+      network = wide d.source.net small.network;
+      operation = small.fields fields.Operation;
+      destination_network = small.fields fields.DestinationNetwork;
+      service = small.fields fields.Service;
+      object_type = small.fields fields.ObjectType;
+      instance = small.fields fields.Instance;
+      property = small.fields fields.Property;
+      priority = small.fields fields.Priority;
+    }
+
+small_network : (n : ℕ) → is_network n ≡ true → n < 2 ^ 64
+small_network n is = grind (arith, is)
+
+small_words : (ask : ShownAsk) → IsShownAsk ask → AreSmall ask
+small_words ask is = record {
+  port = narrow ask.port is.port;
+  network = small_network ask.source.net is.network;
+  operation = is.operation;
+  destination_network = is.destination_network;
+  service = is.service;
+  object_type = is.object_type;
+  instance = is.instance;
+  property = is.property;
+  priority = is.priority;
+}
+
+small_told : (line : List ℕ) (ask : ShownAsk) → TellsAsk line ask → AreSmall ask
+small_told line ask (inl of) = subst AreSmall of.ask (small_denial of.denial of.showable)
+small_told line ask (inr of) = small_words ask of.numbers
+
+ask_single : (ask : ShownAsk) (rest : Members) → AreSmall ask → AreSingle rest → AreSingle (ask_members ask rest)
+ask_single ask rest small are = (
+  (ask.port, refl, small.port),
+  (
+    (ask.source.net, refl, small.network),
+    (
+      tt,
+      (
+        single_operation (is_some ask.stations) ask.operation small.operation,
+        (
+          single_number ask.destination_network small.destination_network,
+          (
+            single_number ask.service small.service,
+            (
+              single_number ask.object_type small.object_type,
+              (
+                single_number ask.instance small.instance,
+                (
+                  single_number ask.property small.property,
+                  (single_number ask.priority small.priority, (single_station (sender_of ask), (single_station (station_of ask), are))),
+                ),
+              ),
+            ),
+          ),
+        ),
+      ),
+    ),
+  ),
+)
+
+within_small : (o : Option ℕ) (rules : List Rule) → IfSome o (IsNumberOf rules) → length rules < 2 ^ 64 → IfSome o (λ n. n < 2 ^ 64)
+within_small None rules within few = tt
+within_small (Some n) rules within few = omega (arith, within.1, few)
+
+by_small : (rules : List Rule) (ask : Ask) → length rules < 2 ^ 64 → IfSome (first rules ask) (λ n. n < 2 ^ 64)
+by_small rules ask few = within_small (first rules ask) rules (first_within rules ask) few
+
+-- a verdict by a rule of any number, and an ask
+answering : (a t b n c r d o k : List ℕ) → (a ++ (t ++ (b ++ (n ++ (c ++ (r ++ (d ++ (o ++ (k ++ 125 ∷ []))))))))) ++ 10 ∷ [] ≡ ((((a ++ t) ++ b) ++ n) ++ (((c ++ r) ++ d) ++ o)) ++ k ++ 125 ∷ 10 ∷ []
+answering a t b n c r d o k = simp append_assoc
+
+verdict_single : (rules : List Rule) (notes : List (List ℕ)) (truth : Bool) (by : Option ℕ) (ask : ShownAsk) → AreSmall ask → IfSome by (λ n. n < 2 ^ 64)
+    → AreSingle (member (codes "allow") (boolean truth) (member (codes "rule") (name_value (rule_at rules by)) (grounds_members notes by (ask_members ask no_members))))
+verdict_single rules notes truth by ask small few =
+    (tt, (single_rule (rule_at rules by), (single_number by few, (single_note (note_at notes by), ask_single ask no_members small tt))))
+
+texts : (t n r o k t' n' r' o' k' : List ℕ) → t ≡ t' → n ≡ n' → r ≡ r' → o ≡ o' → k ≡ k' ++ 125 ∷ []
+    → (codes "{\"allow\":" ++ (t ++ (codes ",\"rule\":" ++ (n ++ (codes ",\"rule_number\":" ++ (r ++ (codes ",\"note\":" ++ (o ++ k)))))))) ++ 10 ∷ []
+    ≡ ((((codes "{\"allow\":" ++ t') ++ codes ",\"rule\":") ++ n') ++ (((codes ",\"rule_number\":" ++ r') ++ codes ",\"note\":") ++ o')) ++ k' ++ 125 ∷ 10 ∷ []
+texts t n r o k t' n' r' o' k' first second third fourth last =
+    rw (first, second, third, fourth, last)
+    (answering (codes "{\"allow\":") t' (codes ",\"rule\":") n' (codes ",\"rule_number\":") r' (codes ",\"note\":") o' k')
+
+verdict_line : (rules : List Rule) (notes : List (List ℕ)) (truth : Bool) (by : Option ℕ) (ask : ShownAsk) → AreSmall ask → IfSome by (λ n. n < 2 ^ 64)
+    → print (json_tokens (verdict_value rules notes truth by ask)) ++ 10 ∷ [] ≡ verdict_text rules notes truth by ++ ask_text ask ++ codes "}\n"
+unfolding escape_byte
+verdict_line rules notes truth by ask small few =
+    ap (λ (t : List ℕ). t ++ 10 ∷ [])
+    (print_object (codes "allow") (boolean truth) (member (codes "rule") (name_value (rule_at rules by)) (grounds_members notes by (ask_members ask no_members)))
+    (verdict_single rules notes truth by ask small few))
+    ∙ texts (value_text (boolean truth)) (value_text (name_value (rule_at rules by))) (value_text (number_value by)) (value_text (note_value (note_at notes by)))
+    (rest_text (ask_members ask no_members)) (truth_text truth) (name_text (rule_at rules by)) (number_text by) (shown_note (note_at notes by)) (ask_text ask)
+    (truth_is truth) (name_is (rule_at rules by)) (number_is by) (note_is (note_at notes by)) (ask_are ask no_members)
+
+pub answers_read : AnswersRead
+answers_read rules notes few line text answer =
+    let ask = answer.ask in
+    let truth = allows rules (ask_shown ask) in
+    let by = first rules (ask_shown ask) in
+    let small = small_told line ask answer.tells in
+    let numbered = by_small rules (ask_shown ask) few in
+    subst (λ (text : List ℕ). ReadsAs text (answer_value rules notes ask)) (verdict_line rules notes truth by ask small numbered ∙ sym answer.answer)
+    (reads _ (verdict_single rules notes truth by ask small numbered))

@@ -1,10 +1,19 @@
 -- What a reader of JSON (RFC 8259) finds in the lines.
-use Rattle.std.specs.Prelude.{◌≡◌, ℕ, ◌≤◌, List, [], ◌∷◌, ◌++◌, All, Some}
+use Rattle.std.specs.Prelude.{◌≡◌, ℕ, ◌≤◌, ◌<◌, ◌^◌, Bool, List, [], ◌∷◌, ◌++◌, length, All, Option, Some}
+use Rattle.std.specs.List.{AllByRecursion}
 use Rattle.json.specs.Json.{Json, document}
 use Rattle.gw_audit.specs.Entry.{IsShowable}
 use Rattle.gw_audit.specs.declared.denial.Denial.{Denial}
+use Rattle.gw_configuration.specs.Configuration.{Configuration}
+use Rattle.gw_configuration.specs.declared.fault.ConfigFault.{ConfigFault}
+use Rattle.gw_json.specs.Check.{checked_value, fault_value}
+use Rattle.gw_json.specs.Comparison.{found_value, summary_value}
+use Rattle.gw_json.specs.Document.{line_of}
 use Rattle.gw_json.specs.Log.{denial_line, octets_line, text_line}
-use Rattle.gw_json.specs.Value.{denial_value, octets_value, text_value}
+use Rattle.gw_json.specs.Value.{answer_value, denial_value, octets_value, text_value}
+use Rattle.gw_json.specs.Why.{IsAnswerIn}
+use Rattle.gw_regions.specs.declared.comparison.Found.{Found}
+use Rattle.gw_rules.specs.declared.rule.Rule.{Rule}
 
 -- a line that is read as this value: it has no control octet, so no line feed, but the one at its end
 pub record ReadsAs (line : List ℕ) (value : Json) : Type 0 where
@@ -20,3 +29,36 @@ DenialsRead = (d : Denial) → IsShowable d → ReadsAs (denial_line d) (denial_
 -- and so is every other line, whatever its octets are
 abbrev pub OthersRead : Type 0
 OthersRead = (line : List ℕ) → ReadsAs (text_line line) (text_value line) × ReadsAs (octets_line line) (octets_value line)
+
+-- the answer to an ask is read as the object of that answer
+abbrev pub AnswersRead : Type 0
+AnswersRead =
+    (rules : List Rule) (notes : List (List ℕ)) → length rules < 2 ^ 64
+    → (line text : List ℕ) (answer : IsAnswerIn rules notes line text) → ReadsAs text (answer_value rules notes answer.ask)
+
+-- and the lines of a comparison, with numbers that fit 64 bits
+abbrev pub ComparisonsRead : Type 0
+ComparisonsRead = (old new : List Rule) (f : Found) → ReadsAs (line_of (found_value old new f)) (found_value old new f)
+
+abbrev pub SummariesRead : Type 0
+SummariesRead =
+    (kinds steps : ℕ) (finished : Bool) → kinds < 2 ^ 64 → steps < 2 ^ 64
+    → ReadsAs (line_of (summary_value kinds finished steps)) (summary_value kinds finished steps)
+
+-- the numbers of a configuration fit 64 bits, as those of each value of the type do
+pub record NumbersFit (c : Configuration) : Type 0 where
+  pub network : c.device.network < 2 ^ 64
+  pub instance : c.device.instance < 2 ^ 64
+  pub networks : AllByRecursion (λ port. port.network < 2 ^ 64) c.ports
+  pub ports : length c.ports < 2 ^ 64
+  pub objects : length c.objects < 2 ^ 64
+  pub rules : length c.rules < 2 ^ 64
+  pub routes : length c.routes < 2 ^ 64
+
+-- and the lines of a check
+abbrev pub ChecksRead : Type 0
+ChecksRead = (c : Configuration) → NumbersFit c → ReadsAs (line_of (checked_value c)) (checked_value c)
+
+abbrev pub FaultsRead : Type 0
+FaultsRead =
+    (fault : ConfigFault) (explanation : Option (List ℕ)) → ReadsAs (line_of (fault_value fault explanation)) (fault_value fault explanation)

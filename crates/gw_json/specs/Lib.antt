@@ -2,4 +2,8 @@ pub mod Text
 pub mod Log
 pub mod Why
 pub mod Value
+pub mod Document
+pub mod Comparison
+pub mod Check
 pub mod Laws
+pub mod internal

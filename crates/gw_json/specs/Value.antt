@@ -63,3 +63,25 @@ text_value line = object (member (codes "line") (string line) no_members)
 
 abbrev pub octets_value : List ℕ → Json
 octets_value line = object (member (codes "octets") (string (encode_upper line)) no_members)
+
+-- the verdict on an ask, and the ask
+abbrev pub name_value : Option Rule → Json
+name_value rule = option_map_or (λ r. string r.name) rule (string (codes "default"))
+
+abbrev pub noted_value : List ℕ → Json
+noted_value note = if length note == 0 then null else string note
+
+abbrev pub note_value : Option (List ℕ) → Json
+note_value note = option_map_or noted_value note null
+
+abbrev pub grounds_members : List (List ℕ) → Option ℕ → Members → Members
+grounds_members notes by rest = member (codes "rule_number") (number_value by) (member (codes "note") (note_value (note_at notes by)) rest)
+
+abbrev pub verdict_value : List Rule → List (List ℕ) → Bool → Option ℕ → ShownAsk → Json
+verdict_value rules notes is_allowed by ask =
+    object
+    (member (codes "allow") (boolean is_allowed)
+    (member (codes "rule") (name_value (rule_at rules by)) (grounds_members notes by (ask_members ask no_members))))
+
+abbrev pub answer_value : List Rule → List (List ℕ) → ShownAsk → Json
+answer_value rules notes ask = verdict_value rules notes (allows rules (ask_shown ask)) (first rules (ask_shown ask)) ask

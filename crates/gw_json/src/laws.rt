@@ -1,10 +1,16 @@
 //! Laws of the lines. The functions change nothing and answer nothing: their contracts are the laws.
 
-ghost use Rattle.gw_json.specs.Laws.{DenialsRead, OthersRead};
+ghost use Rattle.gw_json.specs.Laws.{AnswersRead, ChecksRead, ComparisonsRead, DenialsRead, FaultsRead, OthersRead, SummariesRead};
 
-/// A reader of JSON reads each line of a log's objects as the object that it is: nothing that a line of the log has can
-/// end a string or a line, or begin another member.
+/// A reader of JSON reads each line as the object that it is: nothing that a line of the log, a note or a rule's name has
+/// can end a string or a line, or begin another member. So it is with the lines of a log, of answers, of a comparison and of a
+/// check.
 pub fn reading()
     ensures denials { DenialsRead }
     ensures others { OthersRead }
+    ensures answers { AnswersRead }
+    ensures comparisons { ComparisonsRead }
+    ensures summaries { SummariesRead }
+    ensures checks { ChecksRead }
+    ensures faults { FaultsRead }
 {}

@@ -1,13 +1,19 @@
-//! A log, and the answers to its asks, as JSON objects: one a line, for other programs to read.
+//! A log, the answers to its asks, what two policies decide otherwise and what `check` says of a configuration, as JSON
+//! objects: one a line, for other programs to read.
 //!
-//! A field of an ask has the key that a rule has for it. `docs/spec/log.md` lists the fields.
+//! A field of an ask has the key that a rule has for it. `docs/spec/log.md` and the README list the keys.
 #![tactic(auto)]
 
 mod ask;
+mod check;
+mod comparison;
+mod document;
 pub mod laws;
 mod log;
 mod value;
 mod why;
 
+pub use check::{put_check, put_fault};
+pub use comparison::{put_found, put_summary};
 pub use log::log_in_json;
 pub use why::why_in_json;

@@ -126,7 +126,7 @@ pub(crate) fn put_station_of(
 }
 
 /// A station: six octets as an address of BACnet/IP, others as hexadecimal digits.
-fn station_word(alloc: Global, mac: &Mac) -> Result<String, AllocError>
+pub(crate) fn station_word(alloc: Global, mac: &Mac) -> Result<String, AllocError>
     ensures { IfOk result (λ word. string_bytes word ≡ station_word mac.now) }
 {
     match bip_from_slice(mac.as_slice()) {
@@ -136,7 +136,7 @@ fn station_word(alloc: Global, mac: &Mac) -> Result<String, AllocError>
 }
 
 /// The station of a number: the six octets of 48 bits, or the eight of a greater number.
-fn station_of(key: u64) -> Mac
+pub(crate) fn station_of(key: u64) -> Mac
     ensures { result ≡ key_octets key }
 {
     let [first, second, a, b, c, d, high, low] = key.to_be_bytes();

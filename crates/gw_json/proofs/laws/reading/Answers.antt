@@ -1,4 +1,6 @@
-use Rattle.gw_json.proofs.Reading.{denials_read, others_read}
+use Rattle.gw_json.proofs.Checks.{checks_read, faults_read}
+use Rattle.gw_json.proofs.Reading.{answers_read, denials_read, others_read}
+use Rattle.gw_json.proofs.Shallow.{comparisons_read, summaries_read}
 use Rattle.gw_json.proofs.laws.reading.Goals as goal
 
 pub returns-clause-denials : goal.returns-clause-denials
@@ -6,3 +8,18 @@ returns-clause-denials c = denials_read
 
 pub returns-clause-others : goal.returns-clause-others
 returns-clause-others c = others_read
+
+pub returns-clause-answers : goal.returns-clause-answers
+returns-clause-answers c = answers_read
+
+pub returns-clause-comparisons : goal.returns-clause-comparisons
+returns-clause-comparisons c = comparisons_read
+
+pub returns-clause-summaries : goal.returns-clause-summaries
+returns-clause-summaries c = summaries_read
+
+pub returns-clause-checks : goal.returns-clause-checks
+returns-clause-checks c = checks_read
+
+pub returns-clause-faults : goal.returns-clause-faults
+returns-clause-faults c = faults_read

@@ -1,0 +1,66 @@
+-- What `check` says of a configuration, as a JSON object.
+use Rattle.std.specs.Prelude.{ℕ, true, false, List, [], ◌∷◌, length, codes, decimal, Option}
+use Rattle.std.specs.List.{flat_map}
+use Rattle.std.specs.Option.{option_map_or}
+use Rattle.json.specs.Json.{Json, null, boolean, number, string, array, object, Members, no_members, member}
+use Rattle.gw_configuration.specs.Configuration.{Configuration}
+use Rattle.gw_configuration.specs.declared.device.Device.{Device}
+use Rattle.gw_configuration.specs.declared.fault.ConfigFault.{ConfigFault}
+use Rattle.gw_configuration.specs.declared.fault.ConfigFault.TheVariants as faults
+use Rattle.gw_configuration.specs.declared.port.Port.{Port}
+use Rattle.gw_json.specs.Document.{items_of}
+use Rattle.gw_rules.specs.declared.format.Format.{Format}
+use Rattle.gw_rules.specs.declared.format.Format.TheVariants as formats
+
+-- ---- a configuration
+
+abbrev pub format_number : Format → ℕ
+format_number formats.One = 1
+format_number formats.Two = 2
+format_number formats.Three = 3
+
+abbrev pub device_value : Device → Json
+device_value device =
+    object (member (codes "network") (number (decimal device.network))
+    (member (codes "instance") (number (decimal device.instance))
+    (member (codes "name") (string device.name) no_members)))
+
+-- the networks of the ports, in order
+abbrev pub networks_value : List Port → Json
+networks_value ports = array (items_of (flat_map (λ port. number (decimal port.network) ∷ []) ports))
+
+-- how many there are
+abbrev pub counts_members : Configuration → Members
+counts_members c =
+    member (codes "objects") (number (decimal (length c.objects)))
+    (member (codes "rules") (number (decimal (length c.rules)))
+    (member (codes "routes") (number (decimal (length c.routes))) no_members))
+
+abbrev pub checked_value : Configuration → Json
+checked_value c =
+    object (member (codes "valid") (boolean true)
+    (member (codes "format") (number (decimal (format_number c.format)))
+    (member (codes "device") (device_value c.device)
+    (member (codes "ports") (number (decimal (length c.ports)))
+    (member (codes "networks") (networks_value c.ports) (counts_members c))))))
+
+-- ---- a fault
+
+-- the number and the name of a fault, as docs/spec/configuration.md lists them
+abbrev pub fault_row : ConfigFault → ℕ × List ℕ
+fault_row faults.NotToml = (1, codes "NotToml")
+fault_row faults.UnknownKey = (2, codes "UnknownKey")
+fault_row faults.Missing = (3, codes "Missing")
+fault_row faults.Kind = (4, codes "Kind")
+fault_row faults.Range = (5, codes "Range")
+fault_row faults.Duplicate = (6, codes "Duplicate")
+fault_row faults.TooMany = (7, codes "TooMany")
+fault_row faults.Memory = (8, codes "Memory")
+
+-- the fault, and the line that says where it is and what is wrong there, or null
+abbrev pub fault_value : ConfigFault → Option (List ℕ) → Json
+fault_value fault explanation =
+    object (member (codes "valid") (boolean false)
+    (member (codes "number") (number (decimal (fault_row fault).0))
+    (member (codes "fault") (string (fault_row fault).1)
+    (member (codes "explanation") (option_map_or (λ line. string line) explanation null) no_members))))

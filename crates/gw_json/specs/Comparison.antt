@@ -1,0 +1,125 @@
+-- What two policies decide otherwise: a JSON object for each region, and a last one that sums up.
+use Rattle.std.specs.Prelude.{ℕ, ◌-◌, Bool, ◌==◌, if◌then◌else◌, List, [], ◌∷◌, slice_get, codes, decimal, Some}
+use Rattle.std.specs.List.{flat_map, list_all}
+use Rattle.std.specs.Option.{option_map_or}
+use Rattle.json.specs.Json.{Json, null, boolean, number, string, array, object, Members, no_items, item, no_members, member}
+use Rattle.gw_audit.specs.Line.{key_octets}
+use Rattle.gw_json.specs.Document.{items_of}
+use Rattle.gw_json.specs.Text.{station_word}
+use Rattle.gw_regions.specs.Ranges.{both}
+use Rattle.gw_regions.specs.Regions.{Region}
+use Rattle.gw_regions.specs.Values.{has, is_any}
+use Rattle.gw_regions.specs.declared.comparison.Found.{Found}
+use Rattle.gw_regions.specs.declared.values.Values.{Values}
+use Rattle.gw_rules.specs.Bounds.{bounds}
+use Rattle.gw_rules.specs.Fields.{value_of}
+use Rattle.gw_rules.specs.Operation.{operation_name, operation_number}
+use Rattle.gw_rules.specs.declared.field.FieldName.{FieldName}
+use Rattle.gw_rules.specs.declared.field.FieldName.TheVariants.{Operation, Port, SourceNetwork, SourceKey}
+use Rattle.gw_rules.specs.declared.field.FieldName.TheVariants.{DestinationNetwork, Service, ObjectType, Instance}
+use Rattle.gw_rules.specs.declared.field.FieldName.TheVariants.{Property, Priority, Sender, Station}
+use Rattle.gw_rules.specs.declared.format.Format.TheVariants.{Three}
+use Rattle.gw_rules.specs.declared.operation.Operation.{Operation as SpecOperation}
+use Rattle.gw_rules.specs.declared.operation.TheConstants.Operation.{ALL}
+use Rattle.gw_rules.specs.declared.range.Range.{Range}
+use Rattle.gw_rules.specs.declared.rule.Rule.{Rule}
+
+-- ---- operations
+
+abbrev pub has_operation : Values → SpecOperation → Bool
+has_operation values operation = has values (Some (operation_number operation))
+
+-- the name of an operation, if it is one of these
+abbrev pub named_operation : Values → SpecOperation → List Json
+named_operation values operation = if has_operation values operation then string (operation_name operation) ∷ [] else []
+
+-- the names of the operations in the order of their numbers, or null if it may be each of the thirteen
+abbrev pub operations_value : Values → Json
+operations_value values =
+    if list_all (has_operation values) ALL then null else array (items_of (flat_map (named_operation values) ALL))
+
+-- ---- other fields
+
+-- the key of a field in a rule
+abbrev pub key_of : FieldName → List ℕ
+key_of Operation = codes "operation"
+key_of Port = codes "port"
+key_of SourceNetwork = codes "source_network"
+key_of SourceKey = codes "source"
+key_of DestinationNetwork = codes "destination"
+key_of Service = codes "service"
+key_of ObjectType = codes "object_type"
+key_of Instance = codes "instance"
+key_of Property = codes "property"
+key_of Priority = codes "priority"
+key_of Sender = codes "sender"
+key_of Station = codes "station"
+
+-- an end of a range: of stations as the log's objects show one, and else a number
+abbrev pub station_end : ℕ → Json
+station_end key = string (station_word (key_octets key))
+
+abbrev pub end_value : FieldName → ℕ → Json
+end_value SourceKey key = station_end key
+end_value Sender key = station_end key
+end_value Station key = station_end key
+end_value _ n = number (decimal n)
+
+-- `[1,7]`, from the least number to the greatest
+abbrev pub range_value : FieldName → Range → Json
+range_value field range = array (item (end_value field range.low) (item (end_value field range.high) no_items))
+
+-- a range without numbers that its field can't have, if others are left
+abbrev pub range_values : FieldName → Range → List Json
+range_values field range = option_map_or (λ shown. range_value field shown ∷ []) (both range (bounds Three field)) []
+
+abbrev pub ranges_value : FieldName → List Range → Json
+ranges_value field ranges = array (items_of (flat_map (range_values field) ranges))
+
+-- `{"absent":true,"ranges":[[1,7],[9,9]]}`, or null if the field may be anything
+abbrev pub values_value : FieldName → Values → Json
+values_value field values =
+    if is_any values then null
+    else object (member (codes "absent") (boolean values.absent)
+    (member (codes "ranges") (ranges_value field values.ranges) no_members))
+
+-- the fields but the operation, in the order of their numbers
+abbrev pub other_fields : List FieldName
+other_fields =
+    Port ∷ SourceNetwork ∷ SourceKey ∷ DestinationNetwork ∷ Service ∷ ObjectType ∷ Instance ∷ Property ∷ Priority
+    ∷ Sender ∷ Station ∷ []
+
+abbrev pub fields_members : Region → List FieldName → Members → Members
+fields_members region [] rest = rest
+fields_members region (field ∷ fields) rest =
+    member (key_of field) (values_value field (value_of field region)) (fields_members region fields rest)
+
+-- ---- regions
+
+abbrev pub verdict_word : Bool → List ℕ
+verdict_word allows = if allows then codes "allowed" else codes "denied"
+
+-- the name of the rule of a number, counted from 1, or `default` for 0, the deny of no rule; null if no rule has it
+abbrev pub rule_value : List Rule → ℕ → Json
+rule_value rules place =
+    if place == 0 then string (codes "default")
+    else option_map_or (λ rule. string rule.name) (slice_get rules (place - 1)) null
+
+abbrev pub rules_value : List Rule → List ℕ → Json
+rules_value rules places = array (items_of (flat_map (λ place. rule_value rules place ∷ []) places))
+
+-- what the new policy says of a region, its asks, and the rules of the new and of the old policy that decide them
+abbrev pub found_value : List Rule → List Rule → Found → Json
+found_value old new f =
+    object (member (codes "verdict") (string (verdict_word f.allows))
+    (member (codes "operation") (operations_value f.region.operation)
+    (fields_members f.region other_fields
+    (member (codes "by") (rules_value new f.new_rules.items)
+    (member (codes "was_by") (rules_value old f.old_rules.items) no_members)))))
+
+-- how many regions there are, whether they are all, and how many steps it took
+abbrev pub summary_value : ℕ → Bool → ℕ → Json
+summary_value kinds finished steps =
+    object (member (codes "kinds") (number (decimal kinds))
+    (member (codes "finished") (boolean finished)
+    (member (codes "steps") (number (decimal steps)) no_members)))
