@@ -107,22 +107,38 @@ chooses words request (Ok (choice.Usage text)) asks is = absurd (no_kind (fault_
 chooses words request (Err fault.CommandLine) asks (inl is) = no_kind (fault_of commands words) is.0 asks.taken is.1
 chooses words request (Err fault.CommandLine) asks (inr is) = asks.sound (chosen words request (Err fault.CommandLine) asks.asked is.1)
 chooses words request (Err fault.Memory) asks is = tt
-chooses words request (Ok (choice.Check file explains lints)) asks is = chosen words request _ asks.asked is.1
-chooses words request (Ok (choice.CheckJson file)) asks is = chosen words request _ asks.asked is.1
-chooses words request (Ok (choice.Migrate file)) asks is = chosen words request _ asks.asked is.1
-chooses words request (Ok (choice.Replay file explains counts)) asks is = chosen words request _ asks.asked is.1
-chooses words request (Ok (choice.Run options)) asks is = chosen words request _ asks.asked is.1
-chooses words request (Ok (choice.Why file counts strict)) asks is = chosen words request _ asks.asked is.1
-chooses words request (Ok (choice.Compare old new most steps)) asks is = chosen words request _ asks.asked is.1
-chooses words request (Ok (choice.CompareJson old new most)) asks is = chosen words request _ asks.asked is.1
-chooses words request (Ok (choice.Log start)) asks is = chosen words request _ asks.asked is.1
-chooses words request (Ok choice.Objects) asks is = chosen words request _ asks.asked is.1
-chooses words request (Ok (choice.Judge file strict)) asks is = chosen words request _ asks.asked is.1
-chooses words request (Ok (choice.Report file log)) asks is = chosen words request _ asks.asked is.1
-chooses words request (Ok (choice.Points file)) asks is = chosen words request _ asks.asked is.1
-chooses words request (Ok (choice.State config state)) asks is = chosen words request _ asks.asked is.1
-chooses words request (Ok (choice.Reload config file was)) asks is = chosen words request _ asks.asked is.1
-chooses words request (Ok (choice.Suggest file fills exact)) asks is = chosen words request _ asks.asked is.1
+chooses words request (Ok (choice.Check file explains lints)) asks is =
+    chosen words request (Ok (choice.Check file explains lints)) asks.asked is.1
+chooses words request (Ok (choice.CheckJson file)) asks is =
+    chosen words request (Ok (choice.CheckJson file)) asks.asked is.1
+chooses words request (Ok (choice.Migrate file)) asks is =
+    chosen words request (Ok (choice.Migrate file)) asks.asked is.1
+chooses words request (Ok (choice.Replay file explains counts)) asks is =
+    chosen words request (Ok (choice.Replay file explains counts)) asks.asked is.1
+chooses words request (Ok (choice.Run options)) asks is =
+    chosen words request (Ok (choice.Run options)) asks.asked is.1
+chooses words request (Ok (choice.Why file counts strict)) asks is =
+    chosen words request (Ok (choice.Why file counts strict)) asks.asked is.1
+chooses words request (Ok (choice.Compare old new most steps)) asks is =
+    chosen words request (Ok (choice.Compare old new most steps)) asks.asked is.1
+chooses words request (Ok (choice.CompareJson old new most)) asks is =
+    chosen words request (Ok (choice.CompareJson old new most)) asks.asked is.1
+chooses words request (Ok (choice.Log start)) asks is =
+    chosen words request (Ok (choice.Log start)) asks.asked is.1
+chooses words request (Ok choice.Objects) asks is =
+    chosen words request (Ok choice.Objects) asks.asked is.1
+chooses words request (Ok (choice.Judge file strict)) asks is =
+    chosen words request (Ok (choice.Judge file strict)) asks.asked is.1
+chooses words request (Ok (choice.Report file log)) asks is =
+    chosen words request (Ok (choice.Report file log)) asks.asked is.1
+chooses words request (Ok (choice.Points file)) asks is =
+    chosen words request (Ok (choice.Points file)) asks.asked is.1
+chooses words request (Ok (choice.State config state)) asks is =
+    chosen words request (Ok (choice.State config state)) asks.asked is.1
+chooses words request (Ok (choice.Reload config file was)) asks is =
+    chosen words request (Ok (choice.Reload config file was)) asks.asked is.1
+chooses words request (Ok (choice.Suggest file fills exact)) asks is =
+    chosen words request (Ok (choice.Suggest file fills exact)) asks.asked is.1
 
 some_same : {A : Type 0} (x y : A) → Some x ≡ Some y → x ≡ y
 some_same x y e = cc
