@@ -4,6 +4,7 @@ pub mod Configured
 pub mod Deciding
 pub mod Ending
 pub mod Files
+pub mod Json
 pub mod Kept
 pub mod Lines
 pub mod Objects

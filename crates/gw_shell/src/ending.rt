@@ -200,7 +200,7 @@ pub fn end_by<E: OctetSink>(
     ensures status { exit_status result ≡ status_by choice.now outcome }
 {
     match (choice, outcome) {
-        (Ok(Choice::Compare { .. }), Err(fault)) => {
+        (Ok(Choice::Compare { .. } | Choice::CompareJson { .. }), Err(fault)) => {
             let _ = write_fault(fault, errors);
             ExitCode::from(fault.status_of_comparison())
         }

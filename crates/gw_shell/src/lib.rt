@@ -11,6 +11,7 @@ mod deciding;
 mod ending;
 mod fault;
 mod files;
+mod json;
 mod kept;
 mod lines;
 mod objects;
