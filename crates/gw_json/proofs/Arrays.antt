@@ -39,18 +39,22 @@ regroup_array : (before items : List Token) (first last : Token)
     → ((before ++ (first ∷ [])) ++ items) ++ (last ∷ []) ≡ before ++ (first ∷ (items ++ (last ∷ [])))
 regroup_array before items first last = simp append_assoc
 
--- an array is written by its beginning, its items and its end
-pub array_put : {E : Type 0} (r : Result (Unit {0}) E) (old begun filled new : Written) (items tokens : List Token)
-    → tokens ≡ begin_array ∷ (items ++ end_array ∷ [])
-    → begun.tokens ≡ old.tokens ++ begin_array ∷ [] → begun.before ≡ old.before
+-- what is between two tokens is written after the first, and before the last
+pub put_between : {E : Type 0} (r : Result (Unit {0}) E) (old begun filled new : Written) (first last : Token) (items tokens : List Token)
+    → tokens ≡ first ∷ (items ++ last ∷ [])
+    → begun.tokens ≡ old.tokens ++ first ∷ [] → begun.before ≡ old.before
     → filled.tokens ≡ begun.tokens ++ items → filled.before ≡ begun.before
-    → PutsToken r filled new end_array → Writes r old new tokens
-array_put (Ok u) old begun filled new items tokens is begins first fills second ends = record {
-  ok = ends.ok ∙ ap (λ (ts : List Token). ts ++ end_array ∷ []) (fills ∙ ap (λ (ts : List Token). ts ++ items) begins)
-      ∙ regroup_array old.tokens items begin_array end_array ∙ ap (λ (ts : List Token). old.tokens ++ ts) (sym is);
-  before = ends.room.0 ∙ second ∙ first;
+    → PutsToken r filled new last → Writes r old new tokens
+put_between (Ok u) old begun filled new first last items tokens is begins same fills also ends = record {
+  ok = ends.ok ∙ ap (λ (ts : List Token). ts ++ last ∷ []) (fills ∙ ap (λ (ts : List Token). ts ++ items) begins)
+      ∙ regroup_array old.tokens items first last ∙ ap (λ (ts : List Token). old.tokens ++ ts) (sym is);
+  before = ends.room.0 ∙ also ∙ same;
 }
-array_put (Err e) old begun filled new items tokens is begins first fills second ends = record { ok = tt; before = tt }
+put_between (Err e) old begun filled new first last items tokens is begins same fills also ends = record { ok = tt; before = tt }
+
+pub regroup_asks : (before operations fields : List Token) (name : Token)
+    → ((before ++ (name ∷ [])) ++ operations) ++ fields ≡ before ++ (name ∷ (operations ++ fields))
+regroup_asks before operations fields name = simp append_assoc
 
 pub rules_written : (rules : List Rule) (places : List ℕ)
     → json_tokens (rules_value rules places) ≡ begin_array ∷ (flat_map (rule_tokens rules) places ++ end_array ∷ [])

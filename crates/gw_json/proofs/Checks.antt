@@ -11,7 +11,7 @@ use Rattle.gw_configuration.specs.declared.port.Port.{Port}
 use Rattle.gw_json.specs.Check.{checked_value, counts_members, device_value, fault_row, fault_value, format_number, networks_value}
 use Rattle.gw_json.specs.Document.{items_of}
 use Rattle.gw_json.specs.Laws.{ChecksRead, FaultsRead, NumbersFit}
-use Rattle.gw_json.proofs.Documents.{AreShallow, IsShallow, array_shallow, boolean_shallow, line_read, member_shallow, none_shallow, null_shallow, number_shallow, object_shallow, or_shallow, string_shallow, wider}
+use Rattle.gw_json.proofs.Documents.{AreShallow, IsShallow, array_shallow, boolean_shallow, items_array, line_read, member_shallow, none_shallow, null_shallow, number_shallow, object_shallow, or_shallow, string_shallow, wider}
 use Rattle.gw_json.proofs.Plain.{Each}
 use Rattle.gw_rules.specs.declared.format.Format.{Format}
 use Rattle.gw_rules.specs.declared.format.Format.TheVariants as formats

@@ -141,7 +141,7 @@ regroup3 : (a b c r : List ℕ) → a ++ (b ++ (c ++ r)) ≡ ((a ++ b) ++ c) ++ 
 regroup3 a b c r = simp append_assoc
 
 one_then : (a b c r u rest : List ℕ) → u ≡ b → rest ≡ c ++ r → a ++ (u ++ rest) ≡ ((a ++ b) ++ c) ++ r
-one_then a b c r u rest first then = rw (first, then) (regroup3 a b c r)
+one_then a b c r u rest first last = rw (first, last) (regroup3 a b c r)
 
 request_are : (ask : ShownAsk) (rest : Members) → rest_text (request_members ask rest) ≡ request_text ask ++ rest_text rest
 unfolding escape_byte

@@ -9,7 +9,7 @@ ghost use Rattle.json.specs.Token.{key, number, string};
 ghost use Rattle.json.specs.Tree.{json_tokens, members_tokens};
 ghost use Rattle.gw_json.specs.Check.{checked_value, counts_members, device_value, fault_row, fault_value, format_number, networks_value};
 ghost use Rattle.gw_json.specs.Document.{IsLinePut, Writes};
-ghost use Rattle.gw_json.specs.internal.Tokens.{device_tokens, explanation_tokens, number_tokens, ports_tokens, row_tokens, start_tokens};
+ghost use Rattle.gw_json.specs.internal.Tokens.{device_tokens, explanation_tokens, number_tokens, place_tokens, ports_tokens, row_tokens, start_tokens};
 
 use crate::document::{put_line, write_count, write_number, write_truth};
 use gw_configuration::{Config, ConfigFault, Device, Format, Port};
@@ -102,10 +102,23 @@ fn write_device_value(writer: &mut Writer, device: &Device) -> Result<(), AllocE
     ensures { Writes result writer.old writer.new (json_tokens (device_value device.now)) }
 {
     writer.begin_object()?;
-    write_device_network(writer, device)?;
-    write_instance(writer, device)?;
-    write_text(writer, "name", device.name.as_str())?;
+    write_place(writer, device)?;
+    write_name(writer, device)?;
     writer.end_object()
+}
+
+/// Writes the device's network and instance.
+fn write_place(writer: &mut Writer, device: &Device) -> Result<(), AllocError>
+    ensures { Writes result writer.old writer.new (place_tokens device.now) }
+{
+    write_device_network(writer, device)?;
+    write_instance(writer, device)
+}
+
+fn write_name(writer: &mut Writer, device: &Device) -> Result<(), AllocError>
+    ensures { Writes result writer.old writer.new (key (codes "name") ∷ string device.now.name ∷ []) }
+{
+    write_text(writer, "name", device.name.as_str())
 }
 
 fn write_device_network(writer: &mut Writer, device: &Device) -> Result<(), AllocError>
@@ -132,9 +145,22 @@ fn write_ports(writer: &mut Writer, config: &Config) -> Result<(), AllocError>
 fn write_ports_of(writer: &mut Writer, ports: &[Port]) -> Result<(), AllocError>
     ensures { Writes result writer.old writer.new (ports_tokens ports.now) }
 {
-    write_count(writer, "ports", ports.len())?;
+    write_port_count(writer, ports)?;
+    write_port_networks(writer, ports)
+}
+
+fn write_port_networks(writer: &mut Writer, ports: &[Port]) -> Result<(), AllocError>
+    ensures { Writes result writer.old writer.new (key (codes "networks") ∷ json_tokens (networks_value ports.now)) }
+{
     writer.key("networks")?;
     write_networks(writer, ports)
+}
+
+fn write_port_count(writer: &mut Writer, ports: &[Port]) -> Result<(), AllocError>
+    ensures { Writes result writer.old writer.new
+        (key (codes "ports") ∷ number (decimal (length ports.now)) ∷ []) }
+{
+    write_count(writer, "ports", ports.len())
 }
 
 fn write_networks(writer: &mut Writer, ports: &[Port]) -> Result<(), AllocError>

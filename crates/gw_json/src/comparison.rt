@@ -4,7 +4,7 @@ ghost use Rattle.std.specs.Prelude.{◌≡◌, ◌++◌, ◌∷◌, [], codes, d
 ghost use Rattle.std.specs.List.{flat_map, list_all};
 ghost use Rattle.json.specs.Json.{array};
 ghost use Rattle.json.specs.Print.{print};
-ghost use Rattle.json.specs.Token.{key, number};
+ghost use Rattle.json.specs.Token.{boolean, key, number};
 ghost use Rattle.json.specs.Tree.{json_tokens};
 ghost use Rattle.gw_regions.specs.Ranges.{both};
 ghost use Rattle.gw_rules.specs.Bounds.{bounds};
@@ -12,7 +12,7 @@ ghost use Rattle.gw_rules.specs.declared.format.Format.TheVariants.{Three};
 ghost use Rattle.gw_rules.specs.declared.operation.TheConstants.Operation.{ALL};
 ghost use Rattle.gw_json.specs.Comparison.{end_value, found_value, has_operation, key_of, named_operation, operations_value, range_value, ranges_value, rule_value, rules_value, station_end, summary_value, values_value, verdict_word};
 ghost use Rattle.gw_json.specs.Document.{IsLinePut, Writes, items_of};
-ghost use Rattle.gw_json.specs.internal.Tokens.{asks_tokens, deciders_tokens, field_tokens, found_tokens, operation_tokens, range_tokens, rule_tokens, verdict_tokens};
+ghost use Rattle.gw_json.specs.internal.Tokens.{asks_tokens, deciders_tokens, extent_tokens, field_tokens, found_tokens, operation_tokens, range_tokens, rule_tokens, verdict_tokens};
 
 use crate::document::{put_line, write_count, write_number, write_truth};
 use crate::value::{station_of, station_word};
@@ -429,10 +429,29 @@ fn write_summary(
     ensures { Writes result writer.old writer.new (json_tokens (summary_value kinds finished steps)) }
 {
     writer.begin_object()?;
-    write_count(writer, "kinds", kinds)?;
-    write_truth(writer, "finished", finished)?;
+    write_extent(writer, kinds, finished)?;
     write_steps(writer, steps)?;
     writer.end_object()
+}
+
+/// Writes how many regions there are, and whether these are all.
+fn write_extent(writer: &mut Writer, kinds: usize, finished: bool) -> Result<(), AllocError>
+    ensures { Writes result writer.old writer.new (extent_tokens kinds finished) }
+{
+    write_kinds(writer, kinds)?;
+    write_finished(writer, finished)
+}
+
+fn write_kinds(writer: &mut Writer, kinds: usize) -> Result<(), AllocError>
+    ensures { Writes result writer.old writer.new (key (codes "kinds") ∷ number (decimal kinds) ∷ []) }
+{
+    write_count(writer, "kinds", kinds)
+}
+
+fn write_finished(writer: &mut Writer, finished: bool) -> Result<(), AllocError>
+    ensures { Writes result writer.old writer.new (key (codes "finished") ∷ boolean finished ∷ []) }
+{
+    write_truth(writer, "finished", finished)
 }
 
 fn write_steps(writer: &mut Writer, steps: u32) -> Result<(), AllocError>

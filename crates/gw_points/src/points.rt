@@ -275,8 +275,8 @@ fn units_cell(alloc: Global, value: &ObjectValue) -> Result<Vec<u8>, AllocError>
     ensures { IfOk result (λ cell. cell.items ≡ units_cell value.now) }
 {
     match value {
-        ObjectValue::IntegerValue { units, .. }
-        | ObjectValue::PositiveIntegerValue { units, .. } => number_cell(alloc, *units),
+        ObjectValue::IntegerValue { units, .. } | ObjectValue::PositiveIntegerValue { units, .. } =>
+            number_cell(alloc, *units),
         _ => Ok(Vec::new(alloc)),
     }
 }

@@ -48,6 +48,11 @@ abbrev pub found_tokens : List Rule → List Rule → Found → List Token
 found_tokens old new f =
     begin_object ∷ (verdict_tokens f.allows ++ (asks_tokens f.region ++ (deciders_tokens old new f ++ end_object ∷ [])))
 
+-- of a summary
+abbrev pub extent_tokens : ℕ → Bool → List Token
+extent_tokens kinds finished =
+    key (codes "kinds") ∷ number (decimal kinds) ∷ key (codes "finished") ∷ boolean finished ∷ []
+
 -- of what `check` says
 abbrev pub number_tokens : ℕ → List Token
 number_tokens n = number (decimal n) ∷ []
@@ -55,6 +60,10 @@ number_tokens n = number (decimal n) ∷ []
 abbrev pub start_tokens : Format → List Token
 start_tokens format =
     begin_object ∷ key (codes "valid") ∷ boolean true ∷ key (codes "format") ∷ number (decimal (format_number format)) ∷ []
+
+abbrev pub place_tokens : Device → List Token
+place_tokens device =
+    key (codes "network") ∷ number (decimal device.network) ∷ key (codes "instance") ∷ number (decimal device.instance) ∷ []
 
 abbrev pub device_tokens : Device → List Token
 device_tokens device = key (codes "device") ∷ json_tokens (device_value device)
