@@ -24,6 +24,7 @@ NOTES = {
     "gw_warnings": "surely mistakes",
     "gw_lint": "rules that never decide",
     "gw_verdicts": "which rules decide",
+    "gw_decisions": "asks of a script, counted",
     "gw_state_text": "a saved state as a text",
     "gw_continuity": "that nothing is lost",
     "gw_takeover": "what of a state is kept",

@@ -275,7 +275,8 @@ status_after (Err of_program) = status_of of_program
 
 -- that after a choice
 abbrev pub status_by : Result Choice Fault → Result (Unit {0}) Fault → ℕ
-status_by (Ok (choice.Compare old new most)) (Err of_program) = status_of_comparison of_program
+status_by (Ok (choice.Compare old new most steps)) (Err of_program) = status_of_comparison of_program
+status_by (Ok (choice.CompareJson old new most)) (Err of_program) = status_of_comparison of_program
 status_by _ outcome = status_after outcome
 
 -- the line that explains this fault of a text, with no control character but its line feed

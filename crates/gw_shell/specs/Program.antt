@@ -9,6 +9,7 @@ use Rattle.gw_compare.specs.declared.comparison.Compared.{Compared}
 use Rattle.gw_compare.specs.declared.comparison.Compared.TheVariants as compared
 use Rattle.gw_configuration.specs.Configuration.{Configuration}
 use Rattle.gw_migration.specs.Migration.{Migrates}
+use Rattle.gw_points.specs.Points.{points_text}
 use Rattle.gw_migration.specs.declared.fault.MigrationFault.TheVariants as migration
 use Rattle.gw_rules.specs.declared.format.Format.TheVariants as formats
 use Rattle.gw_command_line.specs.declared.command_line.Choice.{Choice}
@@ -17,10 +18,12 @@ use Rattle.gw_command_line.specs.CommandLine.{IsAnswer}
 use Rattle.gw_command_line.specs.declared.fault.WordsFault.{WordsFault}
 use Rattle.gw_shell.specs.declared.fault.Fault.{Fault}
 use Rattle.gw_shell.specs.declared.fault.Fault.TheVariants as fault
-use Rattle.gw_shell.specs.Asking.{Answers, Counts}
+use Rattle.gw_shell.specs.Asking.{Answers, Counts, ReportsUnread, asks_in}
 use Rattle.gw_shell.specs.Configured.{IsConfigurationOf, IsConfigured}
+use Rattle.gw_shell.specs.Deciding.{ReportsAsks}
 use Rattle.gw_shell.specs.Ending.{FaultNote, IsAnswerTo, chosen, error_text, outcome_of_answer, status_by, usage_of}
 use Rattle.gw_shell.specs.Checked.{IsChecked}
+use Rattle.gw_shell.specs.Json.{AreComparisonLines, FaultLine, IsMade, checked_line}
 use Rattle.gw_shell.specs.Kept.{IsSaidOfText}
 use Rattle.gw_shell.specs.Objects.{LeavesJudgedIn, Lists}
 use Rattle.gw_shell.specs.Replay.{Plays}
@@ -45,8 +48,8 @@ pub record AppendsFront (held holds : Option (List ℕ)) (text : List ℕ) : Typ
   pub appends : Appends held holds front
 
 -- What is left at a fault: where it is, of which a failed write may leave a front.
-abbrev pub LeavesFault : Bool → Result (List ℕ) Fault → Fault → Option (List ℕ) → Option (List ℕ) → Type 0
-LeavesFault explains text f held holds = (note : List ℕ) × FaultNote explains text f note × AppendsFront held holds note
+abbrev pub LeavesFault : Result (List ℕ) Fault → Fault → Option (List ℕ) → Option (List ℕ) → Type 0
+LeavesFault text f held holds = (note : List ℕ) × FaultNote true text f note × AppendsFront held holds note
 
 -- What `check` leaves of a configuration: what it says of it, of which a failed write may leave a front.
 abbrev pub LeavesConfigured : (explains lints : Bool) → Option (List ℕ) → Option (List ℕ) → Configuration
@@ -64,7 +67,7 @@ abbrev pub LeavesChecked : (explains lints : Bool) → Result (List ℕ) Fault �
     → Result Configuration Fault → Result (Unit {0}) Fault → Type 0
 LeavesChecked explains lints text held holds (Ok c) outcome = LeavesConfigured explains lints held holds c outcome
 LeavesChecked explains lints text held holds (Err f) outcome =
-    (outcome ≡ Err f) × LeavesFault explains text f held holds
+    (outcome ≡ Err f) × LeavesFault text f held holds
 
 -- what `check` leaves of a text that was read, or of why none was
 abbrev pub LeavesOfText : (explains lints : Bool) → Result (List ℕ) Fault → Option (List ℕ) → Option (List ℕ)
@@ -98,6 +101,13 @@ LeavesPlayed explains input held holds (Ok c) outcome =
     OnKnown input held holds (λ script before. Plays explains c script before outcome)
 LeavesPlayed explains input held holds (Err f) outcome = (outcome ≡ Err f) × (holds ≡ held)
 
+-- What `replay --stats` leaves and reports under the configuration of a text that was read.
+abbrev pub LeavesCounted : Bool → Result (List ℕ) Fault → Option (List ℕ) → Option (List ℕ) → Option (List ℕ)
+    → Result (Unit {0}) Fault → (told : List ℕ) → Type 0
+LeavesCounted explains text input held holds outcome told =
+    (c : Result Configuration Fault) × IsConfigurationOf text c × LeavesPlayed explains input held holds c outcome
+    × ReportsAsks true input c outcome told
+
 -- What `compare` leaves of two configurations: what it says of them, of which a failed write may leave a front. If
 -- they aren't alike, that is the outcome.
 abbrev pub LeavesCompared : ℕ → Option (List ℕ) → Option (List ℕ) → Configuration → Configuration
@@ -124,6 +134,46 @@ abbrev pub LeavesPrinted : Result (List ℕ) Fault → Option (List ℕ) → Opt
 LeavesPrinted (Ok text) held holds (Ok done) = Appends held holds text
 LeavesPrinted (Ok text) held holds (Err f) = (f ≡ fault.Write) × AppendsFront held holds text
 LeavesPrinted (Err f) held holds outcome = (outcome ≡ Err f) × (holds ≡ held)
+
+-- What `check --json` leaves of what was read of a text: the line of the configuration, or of its fault.
+abbrev pub LeavesJson : Result (List ℕ) Fault → Option (List ℕ) → Option (List ℕ) → Result Configuration Fault
+    → Result (Unit {0}) Fault → Type 0
+LeavesJson text held holds (Ok c) outcome =
+    (made : Result (List ℕ) Fault) × IsMade (checked_line c) made × LeavesPrinted made held holds outcome
+LeavesJson text held holds (Err f) outcome =
+    (outcome ≡ Err f) × (line : List ℕ) × FaultLine text f line × AppendsFront held holds line
+
+abbrev pub LeavesCheckedJson : Result (List ℕ) Fault → Option (List ℕ) → Option (List ℕ) → Result (Unit {0}) Fault → Type 0
+LeavesCheckedJson text held holds outcome =
+    (c : Result Configuration Fault) × IsConfigurationOf text c × LeavesJson text held holds c outcome
+
+-- What `compare --json` leaves of two configurations: lines for what they decide otherwise, of which a failed write may
+-- leave a front. If they aren't alike, that is the outcome.
+abbrev pub LeavesComparedJson : ℕ → Option (List ℕ) → Option (List ℕ) → Configuration → Configuration
+    → Result (Unit {0}) Fault → Type 0
+LeavesComparedJson most held holds old new (Ok done) =
+    (text : List ℕ) × AreComparisonLines old new most compared.Alike text × Appends held holds text
+LeavesComparedJson most held holds old new (Err fault.Different) =
+    (made : Compared) × (made ≢ compared.Alike)
+    × (text : List ℕ) × AreComparisonLines old new most made text × Appends held holds text
+LeavesComparedJson most held holds old new (Err fault.Write) =
+    (made : Compared) × (text : List ℕ) × AreComparisonLines old new most made text × AppendsFront held holds text
+LeavesComparedJson most held holds old new (Err fault.Memory) = holds ≡ held
+LeavesComparedJson most held holds old new (Err _) = ⊥
+
+-- What it leaves of the two that were read. If there is no first or no second one, the outcome is why.
+abbrev pub LeavesComparisonJson : ℕ → Option (List ℕ) → Option (List ℕ) → (old new : Result Configuration Fault)
+    → Result (Unit {0}) Fault → Type 0
+LeavesComparisonJson most held holds (Ok old) (Ok new) outcome = LeavesComparedJson most held holds old new outcome
+LeavesComparisonJson most held holds (Ok old) (Err f) outcome = (outcome ≡ Err f) × (holds ≡ held)
+LeavesComparisonJson most held holds (Err f) new outcome = (outcome ≡ Err f) × (holds ≡ held)
+
+-- What `objects --csv` leaves of the configuration that was read: the list of its objects. If there is none, the outcome
+-- is why.
+abbrev pub LeavesPoints : Option (List ℕ) → Option (List ℕ) → Result Configuration Fault → Result (Unit {0}) Fault → Type 0
+LeavesPoints held holds (Ok c) outcome =
+    (made : Result (List ℕ) Fault) × IsMade (points_text c) made × LeavesPrinted made held holds outcome
+LeavesPoints held holds (Err f) outcome = (outcome ≡ Err f) × (holds ≡ held)
 
 -- What `state` leaves of a configuration and of the text of a state: what it says of them.
 abbrev pub LeavesSaid : Option (List ℕ) → Option (List ℕ) → Configuration → Result (List ℕ) Fault
@@ -223,35 +273,44 @@ abbrev pub LeavesOutput : {Log Sockets S Q : Type 0} → (Reads ReadsState : Lis
 LeavesOutput Reads ReadsState Answers machine input held holds told (Ok (choice.Check file explains lints)) outcome =
     (text : Result (List ℕ) Fault) × Reads (string_bytes file) text
     × LeavesOfText explains lints text held holds outcome
+LeavesOutput Reads ReadsState Answers machine input held holds told (Ok (choice.CheckJson file)) outcome =
+    (text : Result (List ℕ) Fault) × Reads (string_bytes file) text × LeavesCheckedJson text held holds outcome
 LeavesOutput Reads ReadsState Answers machine input held holds told (Ok (choice.Migrate file)) outcome =
     (c : Result Configuration Fault) × IsConfigured Reads (Some (string_bytes file)) c
     × LeavesMigrated held holds c outcome
-LeavesOutput Reads ReadsState Answers machine input held holds told (Ok (choice.Replay file explains)) outcome =
+LeavesOutput Reads ReadsState Answers machine input held holds told (Ok (choice.Replay file explains counts)) outcome =
     (c : Result Configuration Fault) × IsConfigured Reads (option_map string_bytes file) c
-    × LeavesPlayed explains input held holds c outcome
+    × LeavesPlayed explains input held holds c outcome × ReportsAsks counts input c outcome told
 LeavesOutput Reads ReadsState Answers machine input held holds told (Ok (choice.Run options)) outcome =
     (text : Result (List ℕ) Fault) × Reads (string_bytes options.config) text
     × (c : Result Configuration Fault) × IsConfigurationOf text c
     × LeavesRun machine text held holds options c told outcome
-LeavesOutput Reads ReadsState Answers machine input held holds told (Ok (choice.Why file counts)) outcome =
+LeavesOutput Reads ReadsState Answers machine input held holds told (Ok (choice.Why file counts strict)) outcome =
     (c : Result Configuration Fault) × IsConfigured Reads (Some (string_bytes file)) c
-    × LeavesAnswered counts input held holds c outcome
+    × LeavesAnswered counts (asks_in strict input) held holds c outcome × ReportsUnread strict outcome told
 LeavesOutput Reads ReadsState Answers machine input held holds told (Ok (choice.Reload config request)) outcome =
     LeavesReloadIn Reads Answers (string_bytes config) (string_bytes request) held holds outcome
 LeavesOutput Reads ReadsState Answers machine input held holds told (Ok (choice.Compare old new most)) outcome =
     (a : Result Configuration Fault) × IsConfigured Reads (Some (string_bytes old)) a
     × (b : Result Configuration Fault) × IsConfigured Reads (Some (string_bytes new)) b
     × LeavesComparison most held holds a b outcome
+LeavesOutput Reads ReadsState Answers machine input held holds told (Ok (choice.CompareJson old new most)) outcome =
+    (a : Result Configuration Fault) × IsConfigured Reads (Some (string_bytes old)) a
+    × (b : Result Configuration Fault) × IsConfigured Reads (Some (string_bytes new)) b
+    × LeavesComparisonJson most held holds a b outcome
+LeavesOutput Reads ReadsState Answers machine input held holds told (Ok (choice.Points file)) outcome =
+    (c : Result Configuration Fault) × IsConfigured Reads (Some (string_bytes file)) c × LeavesPoints held holds c outcome
 LeavesOutput Reads ReadsState Answers machine input held holds told (Ok (choice.State config state)) outcome =
     LeavesStateIn Reads ReadsState (string_bytes config) (string_bytes state) held holds outcome
 LeavesOutput Reads ReadsState Answers machine input held holds told (Ok (choice.Suggest file fills exact)) outcome =
-    LeavesSuggestedIn Reads (string_bytes file) (record { keeps_services = exact; fills = fills }) input held holds outcome
+    LeavesSuggestedIn Reads (string_bytes file) (record { keeps_services = exact; fills = fills }) (asks_in false input) held holds outcome
+    × ReportsUnread false outcome told
 LeavesOutput Reads ReadsState Answers machine input held holds told (Ok (choice.Log start)) outcome =
     OnKnown input held holds (λ log before. Tells start log before outcome)
 LeavesOutput Reads ReadsState Answers machine input held holds told (Ok choice.Objects) outcome =
     OnKnown input held holds (λ log before. Lists log before outcome)
-LeavesOutput Reads ReadsState Answers machine input held holds told (Ok (choice.Judge file)) outcome =
-    LeavesJudgedIn Reads (string_bytes file) input held holds outcome
+LeavesOutput Reads ReadsState Answers machine input held holds told (Ok (choice.Judge file strict)) outcome =
+    LeavesJudgedIn Reads (string_bytes file) (asks_in strict input) held holds outcome × ReportsUnread strict outcome told
 LeavesOutput Reads ReadsState Answers machine input held holds told (Ok (choice.Report file log)) outcome =
     LeavesReportIn Reads (string_bytes file) held holds outcome
 LeavesOutput Reads ReadsState Answers machine input held holds told (Ok (choice.Help text)) (Ok done) =
@@ -262,9 +321,13 @@ LeavesOutput Reads ReadsState Answers machine input held holds told (Ok (choice.
     (outcome ≡ Err fault.CommandLine) × (holds ≡ held)
 LeavesOutput Reads ReadsState Answers machine input held holds told (Err f) outcome = (outcome ≡ Err f) × (holds ≡ held)
 
--- Only `run` reports something before a fault's line.
+-- Only `run`, `replay`, `why` and `suggest` report something before a fault's line.
 abbrev pub IsQuiet : Result Choice Fault → List ℕ → Type 0
 IsQuiet (Ok (choice.Run options)) told = ⊤
+IsQuiet (Ok (choice.Replay file explains counts)) told = ⊤
+IsQuiet (Ok (choice.Why file counts strict)) told = ⊤
+IsQuiet (Ok (choice.Judge file strict)) told = ⊤
+IsQuiet (Ok (choice.Suggest file fills exact)) told = ⊤
 IsQuiet _ told = told ≡ []
 
 -- What of standard output isn't flushed after a choice that was done: nothing, but that `run` leaves what was so

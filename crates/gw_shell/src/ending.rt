@@ -20,7 +20,7 @@ use itoa::Buffer;
 use std::process::ExitCode;
 
 /// Writes a text, this number, and another text.
-fn write_number<E: OctetSink>(
+pub fn write_number<E: OctetSink>(
     text: &str,
     number: u64,
     behind: &str,
@@ -200,7 +200,7 @@ pub fn end_by<E: OctetSink>(
     ensures status { exit_status result ≡ status_by choice.now outcome }
 {
     match (choice, outcome) {
-        (Ok(Choice::Compare { .. }), Err(fault)) => {
+        (Ok(Choice::Compare { .. } | Choice::CompareJson { .. }), Err(fault)) => {
             let _ = write_fault(fault, errors);
             ExitCode::from(fault.status_of_comparison())
         }

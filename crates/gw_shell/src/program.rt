@@ -22,15 +22,19 @@ ghost use Rattle.gw_shell.specs.declared.fault.Fault.TheVariants as fault;
 use crate::asking::{count, why};
 use crate::checked::checked_text;
 use crate::configured::{configuration, configuration_in, configuration_of};
+use crate::deciding::{replay_counting, text_for};
 use crate::ending::{end_by, usage_of};
 use crate::fault::Fault;
 use crate::files::ConfigFiles;
+use crate::json::{check_in_json, compare_in_json, print_points};
 use crate::kept::words_of_text;
 use crate::reloading::{self, ask};
 use crate::reporting::print_report_in;
 use crate::script::replay;
 use crate::suggesting::suggest;
+use crate::unread::tell_unread;
 use crate::{objects, telling};
+use gw_asks::{AskLines, Lent};
 use gw_command_line::{Choice, RunOptions, choice_of};
 use gw_compare::{Compared, put_comparison};
 use gw_configuration::{Config, ConfigFault};
@@ -60,7 +64,7 @@ fn write_text<S: OctetSink>(text: &[u8], sink: &mut S) -> Result<(), Fault>
 
 /// Prints octets and flushes them. `Write` where a write or the flush fails; then a front of the text
 /// is written.
-fn print<W: Write + Drop>(text: &[u8], output: &mut BufWriter<W>) -> Result<(), Fault>
+pub(crate) fn print<W: Write + Drop>(text: &[u8], output: &mut BufWriter<W>) -> Result<(), Fault>
     ensures ok { OnOk result
         (Appends (writer_contents W.contents output.old) (writer_contents W.contents output.new)
         text.now) }
@@ -148,7 +152,7 @@ fn line_of(alloc: Global, explanation: &Explanation) -> Result<Vec<u8>, AllocErr
     Ok(line)
 }
 
-/// Prints what the configuration has that was read, or what is wrong with it where that is asked for.
+/// Prints what the configuration has that was read, or what is wrong with it.
 fn check<W: Write + Drop>(
     alloc: Global,
     explains: bool,
@@ -165,7 +169,7 @@ fn check<W: Write + Drop>(
         Ok(config) => print_checked(alloc, explains, lints, &config, output),
         Err(fault) => {
             // Where this can't be printed the fault is reported all the same.
-            let _ = print(&fault_note(alloc, explains, text, fault), output);
+            let _ = print(&fault_note(alloc, true, text, fault), output);
             Err(fault)
         }
     }
@@ -217,7 +221,7 @@ fn play<R: OctetSource, W: Write + Drop>(
 }
 
 /// How a comparison ends: `Different` unless the two are alike.
-fn outcome_of(made: Compared) -> Result<(), Fault>
+pub(crate) fn outcome_of(made: Compared) -> Result<(), Fault>
     ensures { result ≡ outcome_of_comparison made }
 {
     match made {
@@ -542,29 +546,90 @@ fn follow<F: ConfigFiles, H: Host, R: OctetSource, W: Write + Drop, E: OctetSink
             let text = files.read(alloc, file);
             check(alloc, *explains, *lints, &text, output)
         }
+        Ok(Choice::CheckJson(file)) => {
+            let text = files.read(alloc, file);
+            check_in_json(alloc, &text, output)
+        }
         Ok(Choice::Migrate(file)) => {
             let config = configuration_in(alloc, files, file);
             print_in_format_three(alloc, config, output)
         }
-        Ok(Choice::Replay { file, explains }) => {
+        Ok(
+            Choice::Replay {
+                file,
+                explains,
+                counts: false,
+            },
+        ) => {
             let config = configuration(alloc, files, file);
             play(alloc, *explains, config, input, output)
+        }
+        Ok(
+            Choice::Replay {
+                file,
+                explains,
+                counts: true,
+            },
+        ) => {
+            let text = text_for(alloc, files, file);
+            let counted = replay_counting(alloc, *explains, &text, input, output);
+            tell(counted.decisions.as_bytes(), errors);
+            counted.outcome
         }
         Ok(Choice::Run(options)) => {
             let text = files.read(alloc, &options.config);
             serve(alloc, &text, options, host, output, errors)
         }
-        Ok(Choice::Why { file, counts }) => {
+        Ok(
+            Choice::Why {
+                file,
+                counts,
+                strict: true,
+            },
+        ) => {
             let config = configuration_in(alloc, files, file);
             answer(alloc, *counts, config, input, output)
         }
-        Ok(Choice::Reload { config, request }) => {
-            reload_in(alloc, files, config, request, host, output)
+        Ok(
+            Choice::Why {
+                file,
+                counts,
+                strict: false,
+            },
+        ) => {
+            let config = configuration_in(alloc, files, file);
+            let mut asks = AskLines::new(Lent::new(input));
+            let outcome = answer(alloc, *counts, config, &mut asks, output);
+            tell_unread(outcome, asks.unread(), errors);
+            outcome
         }
-        Ok(Choice::Compare { old, new, most }) => {
+        Ok(
+            Choice::Reload {
+                config,
+                request,
+                was: _,
+            },
+        ) => { reload_in(alloc, files, config, request, host, output) }
+        Ok(
+            Choice::Compare {
+                old,
+                new,
+                most,
+                steps: _,
+            },
+        ) => {
             let before = configuration_in(alloc, files, old);
             let after = configuration_in(alloc, files, new);
             compare(alloc, *most, before, after, output)
+        }
+        Ok(Choice::CompareJson { old, new, most }) => {
+            let before = configuration_in(alloc, files, old);
+            let after = configuration_in(alloc, files, new);
+            compare_in_json(alloc, *most, before, after, output)
+        }
+        Ok(Choice::Points(file)) => {
+            let config = configuration_in(alloc, files, file);
+            print_points(alloc, config, output)
         }
         Ok(Choice::State { config, state }) => print_state_in(alloc, files, config, state, output),
         Ok(Choice::Suggest { file, fills, exact }) => {
@@ -572,11 +637,27 @@ fn follow<F: ConfigFiles, H: Host, R: OctetSource, W: Write + Drop, E: OctetSink
                 keeps_services: *exact,
                 fills: *fills,
             };
-            suggest_in(alloc, files, file, manner, input, output)
+            let mut asks = AskLines::new(Lent::new(input));
+            let outcome = suggest_in(alloc, files, file, manner, &mut asks, output);
+            tell_unread(outcome, asks.unread(), errors);
+            outcome
         }
         Ok(Choice::Log(start)) => telling::tell(alloc, *start, input, output),
         Ok(Choice::Objects) => objects::list(alloc, input, output),
-        Ok(Choice::Judge(file)) => objects::judge_in(alloc, files, file, input, output),
+        Ok(Choice::Judge { file, strict: true }) => {
+            objects::judge_in(alloc, files, file, input, output)
+        }
+        Ok(
+            Choice::Judge {
+                file,
+                strict: false,
+            },
+        ) => {
+            let mut asks = AskLines::new(Lent::new(input));
+            let outcome = objects::judge_in(alloc, files, file, &mut asks, output);
+            tell_unread(outcome, asks.unread(), errors);
+            outcome
+        }
         Ok(Choice::Report { file, log }) => print_report_in(alloc, files, file, log, output),
         Ok(Choice::Help(text)) => print(text.as_bytes(), output),
         Ok(Choice::Usage(_)) => Err(Fault::CommandLine),
