@@ -193,16 +193,20 @@ pub ports_fail : (text rest : List ℕ) (c : SavedCounts) (stop : Stop) → Coun
 unfolding lines_of
 ports_fail text rest c stop so e = rw (so.first, so.counts, so.are, e) refl
 
-pub routes_fail : (text rest second : List ℕ) (c : SavedCounts) (ports : List SavedPort) (stop : Stop) → Counted text c rest
-    → ports_at rest ≡ Ok (ports, second) → routes_at (length ports) second ≡ Err stop → lines_of text ≡ Err stop
+pub routes_fail : (text rest second : List ℕ) (c : SavedCounts) (ports : List SavedPort) (count : ℕ) (stop : Stop) → Counted text c rest
+    → ports_at rest ≡ Ok (ports, second) → count ≡ length ports → routes_at count second ≡ Err stop → lines_of text ≡ Err stop
 unfolding lines_of
-routes_fail text rest second c ports stop so e f = rw (so.first, so.counts, so.are, e, f) refl
+routes_fail text rest second c ports count stop so e n f =
+    let f' : routes_at (length ports) second ≡ Err stop = subst (λ (k : ℕ). routes_at k second ≡ Err stop) n f in
+    rw (so.first, so.counts, so.are, e, f') refl
 
-pub objects_fail : (text rest second third : List ℕ) (c : SavedCounts) (ports : List SavedPort) (routes : List (ℕ × Route)) (stop : Stop)
-    → Counted text c rest → ports_at rest ≡ Ok (ports, second) → routes_at (length ports) second ≡ Ok (routes, third)
-    → objects_at third ≡ Err stop → lines_of text ≡ Err stop
+pub objects_fail : (text rest second third : List ℕ) (c : SavedCounts) (ports : List SavedPort) (routes : List (ℕ × Route)) (count : ℕ)
+    (stop : Stop) → Counted text c rest → ports_at rest ≡ Ok (ports, second) → count ≡ length ports
+    → routes_at count second ≡ Ok (routes, third) → objects_at third ≡ Err stop → lines_of text ≡ Err stop
 unfolding lines_of
-objects_fail text rest second third c ports routes stop so e f g = rw (so.first, so.counts, so.are, e, f, g) refl
+objects_fail text rest second third c ports routes count stop so e n f g =
+    let f' : routes_at (length ports) second ≡ Ok (routes, third) = subst (λ (k : ℕ). routes_at k second ≡ Ok (routes, third)) n f in
+    rw (so.first, so.counts, so.are, e, f', g) refl
 
 -- the lines up to the last
 pub record Whole (text : List ℕ) (s : Saved) (last : List ℕ) : Type 0 where
@@ -218,15 +222,15 @@ abbrev state : SavedCounts → List SavedPort → List (ℕ × Route) → List S
 state counts ports routes objects = record { ports = ports; routes = routes; objects = objects; counts = counts }
 
 pub whole_of : (text rest second third last : List ℕ) (c : SavedCounts) (ports : List SavedPort) (routes : List (ℕ × Route))
-    (objects : List SavedObject) → Counted text c rest → ports_at rest ≡ Ok (ports, second) → routes_at (length ports) second ≡ Ok (routes, third)
-    → objects_at third ≡ Ok (objects, last) → Whole text (state c ports routes objects) last
-whole_of text rest second third last c ports routes objects so e f g = record {
+    (objects : List SavedObject) (count : ℕ) → Counted text c rest → ports_at rest ≡ Ok (ports, second) → count ≡ length ports
+    → routes_at count second ≡ Ok (routes, third) → objects_at third ≡ Ok (objects, last) → Whole text (state c ports routes objects) last
+whole_of text rest second third last c ports routes objects count so e n f g = record {
   rest = rest;
   second = second;
   third = third;
   counted = so;
   ports = e;
-  routes = f;
+  routes = subst (λ (k : ℕ). routes_at k second ≡ Ok (routes, third)) n f;
   objects = g;
 }
 

@@ -78,16 +78,29 @@ tag_octets : (octets : List ℕ) (number count : ℕ) → EncodesTag octets (app
 tag_octets octets number count e =
     subst AreOctets (sym e.encoded) (by e.number_place e.length_place e.number_room e.length_room)
   where
+    two : List ℕ
+    two = to_be_bytes w16 count
+
+    four : List ℕ
+    four = to_be_bytes w32 count
+
     by : (n : NumberPlace) (l : LengthPlace) → NumberHasRoom number n → LengthHasRoom (Length count) l
         → AreOctets (tag_encoding n l (application number count))
-    by high_bits low_bits p q = one_more (16 * number + 0 + count) _ (omega (arith, p, q)) none
-    by high_bits one_octet p q = one_more (16 * number + 0 + 5) _ (omega (arith, p)) (one_more count _ (omega (arith, q)) none)
-    by high_bits two_octets p q = one_more (16 * number + 0 + 5) _ (omega (arith, p)) (one_more 254 _ (omega arith) (wide16.octets count))
-    by high_bits four_octets p q = one_more (16 * number + 0 + 5) _ (omega (arith, p)) (one_more 255 _ (omega arith) (wide32.octets count))
-    by own_octet low_bits p q = one_more (240 + count) _ (omega (arith, q)) (one_more number _ p none)
-    by own_octet one_octet p q = one_more 245 _ (omega arith) (one_more number _ p (one_more count _ (omega (arith, q)) none))
-    by own_octet two_octets p q = one_more 245 _ (omega arith) (one_more number _ p (one_more 254 _ (omega arith) (wide16.octets count)))
-    by own_octet four_octets p q = one_more 245 _ (omega arith) (one_more number _ p (one_more 255 _ (omega arith) (wide32.octets count)))
+    by high_bits low_bits p q = one_more (16 * number + 0 + count) [] (omega (arith, p, q)) none
+    by high_bits one_octet p q = one_more (16 * number + 0 + 5) (count ∷ []) (omega (arith, p)) (one_more count [] (omega (arith, q)) none)
+    by high_bits two_octets p q =
+        one_more (16 * number + 0 + 5) (254 ∷ two) (omega (arith, p)) (one_more 254 two (omega arith) (wide16.octets count))
+    by high_bits four_octets p q =
+        one_more (16 * number + 0 + 5) (255 ∷ four) (omega (arith, p)) (one_more 255 four (omega arith) (wide32.octets count))
+    by own_octet low_bits p q = one_more (240 + count) (number ∷ []) (omega (arith, q)) (one_more number [] p none)
+    by own_octet one_octet p q =
+        one_more 245 (number ∷ count ∷ []) (omega arith) (one_more number (count ∷ []) p (one_more count [] (omega (arith, q)) none))
+    by own_octet two_octets p q =
+        one_more 245 (number ∷ 254 ∷ two) (omega arith)
+        (one_more number (254 ∷ two) p (one_more 254 two (omega arith) (wide16.octets count)))
+    by own_octet four_octets p q =
+        one_more 245 (number ∷ 255 ∷ four) (omega arith)
+        (one_more number (255 ∷ four) p (one_more 255 four (omega arith) (wide32.octets count)))
 
 -- the octets of a character
 character_octets : (c : ℕ) → scalar c ≡ true → AreOctets (encode_utf8 c)
@@ -104,14 +117,16 @@ character_octets c is = by (ltb c 128) (ltb c 2048) (ltb c 65536) refl refl refl
     by : (p q r : Bool) → ltb c 128 ≡ p → ltb c 2048 ≡ q → ltb c 65536 ≡ r
         → AreOctets (cond p (c ∷ []) (cond q ((192 + c / 64) ∷ next c ∷ []) (cond r ((224 + c / 4096) ∷ next (c / 64) ∷ next c ∷ [])
         ((240 + c / 262144) ∷ next (c / 4096) ∷ next (c / 64) ∷ next c ∷ []))))
-    by true q r e f g = one_more c _ (omega (arith, ltb-true c 128 e)) none
-    by false true r e f g = one_more (192 + c / 64) _ (omega (arith, ltb-true c 2048 f)) (one_more (next c) _ (last c) none)
+    by true q r e f g = one_more c [] (omega (arith, ltb-true c 128 e)) none
+    by false true r e f g =
+        one_more (192 + c / 64) (next c ∷ []) (omega (arith, ltb-true c 2048 f)) (one_more (next c) [] (last c) none)
     by false false true e f g =
-        one_more (224 + c / 4096) _ (omega (arith, ltb-true c 65536 g))
-        (one_more (next (c / 64)) _ (last (c / 64)) (one_more (next c) _ (last c) none))
+        one_more (224 + c / 4096) (next (c / 64) ∷ next c ∷ []) (omega (arith, ltb-true c 65536 g))
+        (one_more (next (c / 64)) (next c ∷ []) (last (c / 64)) (one_more (next c) [] (last c) none))
     by false false false e f g =
-        one_more (240 + c / 262144) _ (omega (arith, small (scalar_cases c is)))
-        (one_more (next (c / 4096)) _ (last (c / 4096)) (one_more (next (c / 64)) _ (last (c / 64)) (one_more (next c) _ (last c) none)))
+        one_more (240 + c / 262144) (next (c / 4096) ∷ next (c / 64) ∷ next c ∷ []) (omega (arith, small (scalar_cases c is)))
+        (one_more (next (c / 4096)) (next (c / 64) ∷ next c ∷ []) (last (c / 4096))
+        (one_more (next (c / 64)) (next c ∷ []) (last (c / 64)) (one_more (next c) [] (last c) none)))
 
 characters_octets : (cs : List ℕ) → scalars cs ≡ true → AreOctets (encode_utf8_all cs)
 characters_octets [] are = none

@@ -1,13 +1,14 @@
 //! The value objects with their slots: written, and read.
 
-ghost use Rattle.std.specs.Prelude.{◌≡◌, ◌++◌, ◌∷◌, [], None, codes, get_or, length, take, IfOk, IfErr, IfSome};
+ghost use Rattle.std.specs.Prelude.{◌≡◌, ◌++◌, ◌∷◌, [], None, codes, get_or, length, IfOk, IfErr, IfSome};
 ghost use Rattle.std.specs.Fmt.{decimal};
 ghost use Rattle.std.specs.List.{list_any};
 ghost use Rattle.gw_priority.specs.declared.array.TheConstants.{PRIORITIES};
 ghost use Rattle.gw_tags.specs.Object.{IsObject, object_view};
 ghost use Rattle.gw_state_text.specs.Fit.{AreOfKind, FitsKind, FitsObjects, is_object, kind_of};
 ghost use Rattle.gw_state_text.specs.Text.{identifier_text, object_line, object_text, slot_text, slots_text, value_text};
-ghost use Rattle.gw_state_text.specs.Reading.{Reads, ReadsLines, identifier_at, object_after, object_at, slot_at, slot_fault, slots_after, value_to};
+ghost use Rattle.gw_state_text.specs.Reading.{Reads, ReadsLines, identifier_at, object_after, object_at};
+ghost use Rattle.gw_state_text.specs.Reading.{slot_at, slot_fault, slots_after, value_to};
 ghost use Rattle.gw_state_text.specs.Lines.{priority_at};
 ghost use Rattle.gw_state_text.specs.Words.{Finds};
 ghost use Rattle.gw_state_text.specs.internal.Objects.{IsHead, StopsInSlots, head_text, line_view};

@@ -1,6 +1,7 @@
 //! The text of a state, read.
 
-ghost use Rattle.std.specs.Prelude.{◌≡◌, ◌≤◌, ◌-◌, ◌+◌, ◌++◌, IfOk, IfErr, drop, length, take};
+ghost use Rattle.std.specs.Prelude.{◌≡◌, ◌≤◌, ◌-◌, ◌+◌, ◌==◌, ◌++◌, IfOk, IfErr, drop, length, take};
+ghost use Rattle.std.specs.List.{list_any};
 ghost use Rattle.gw_state_text.specs.Fit.{AreFit};
 ghost use Rattle.gw_state_text.specs.Place.{IsPlaceOf, line_count};
 ghost use Rattle.gw_saved.specs.Saved.{Saved as SavedState};
@@ -72,7 +73,14 @@ fn kind_at(text: &[u8], stop: Stop) -> FaultKind
 fn is_whole(front: &[u8], rest: &[u8]) -> bool
     ensures { result ≡ is_whole front.now rest.now }
 {
-    front.ends_with(b"\nend\n") || rest.iter().any(|c| *c == b'\n')
+    front.ends_with(b"\nend\n") || has_feed(rest)
+}
+
+/// Whether a text has a line feed.
+fn has_feed(text: &[u8]) -> bool
+    ensures { result ≡ list_any (λ c. c == 10) text.now }
+{
+    text.iter().any(|c| *c == b'\n')
 }
 
 /// The state that a text is of.

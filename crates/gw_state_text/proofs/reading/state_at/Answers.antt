@@ -1,4 +1,4 @@
-use Rattle.std.proofs.Common.{◌≡◌, ◌∙◌, ◌&&◌, [], Ok, Result, ap, sym, true}
+use Rattle.std.proofs.Common.{◌≡◌, ◌∙◌, ◌&&◌, [], Ok, Result, ap, arith, sym, true}
 use Rattle.std.proofs.lemmas.Bool.{eqb-true}
 use Rattle.std.proofs.lemmas.List.{nil_from_length}
 use Rattle.gw_state_text.proofs.StateLemmas.{after_end, at_counts, at_end, at_first, counted, in_objects, in_ports, in_routes, read_objects, read_ports, read_routes, state_found, stops_so}
@@ -79,37 +79,37 @@ returns-in-Err-clause-exact c = λ other. ports_fail c.args.text.now c.in-Some-c
 
 pub returns-in-Err-read_all-clause-exact : goal.returns-in-Err-read_all-clause-exact
 returns-in-Err-read_all-clause-exact c = λ other.
-    routes_fail c.args.text.now c.in-Some-counts_at.lines_of_ports.now c.in-Ok.read.1.now c.in-Some-counts_at.counts c.in-Ok.read.0.items c.in-Err-read_all.stop (record { lines = c.in-Some.lines.now; first = c.in-Some.ensures.exact; counts = c.in-Some-counts_at.ensures.exact; are = sym c.if-not-are_countable.ensures }) c.in-Ok.ensures.exact (c.in-Err-read_all.ensures.exact other)
+    routes_fail c.args.text.now c.in-Some-counts_at.lines_of_ports.now c.in-Ok.read.1.now c.in-Some-counts_at.counts c.in-Ok.read.0.items c.len.result c.in-Err-read_all.stop (record { lines = c.in-Some.lines.now; first = c.in-Some.ensures.exact; counts = c.in-Some-counts_at.ensures.exact; are = sym c.if-not-are_countable.ensures }) c.in-Ok.ensures.exact (omega (arith, c.len.ensures, c.in-Ok.read.0.ok.0)) (c.in-Err-read_all.ensures.exact other)
 
 pub returns-in-Err-read_all-2-clause-exact : goal.returns-in-Err-read_all-2-clause-exact
 returns-in-Err-read_all-2-clause-exact c = λ other.
-    objects_fail c.args.text.now c.in-Some-counts_at.lines_of_ports.now c.in-Ok.read.1.now c.in-Ok-read_all.read.1.now c.in-Some-counts_at.counts c.in-Ok.read.0.items c.in-Ok-read_all.read.0.items c.in-Err-read_all-2.stop (record { lines = c.in-Some.lines.now; first = c.in-Some.ensures.exact; counts = c.in-Some-counts_at.ensures.exact; are = sym c.if-not-are_countable.ensures }) c.in-Ok.ensures.exact c.in-Ok-read_all.ensures.exact
+    objects_fail c.args.text.now c.in-Some-counts_at.lines_of_ports.now c.in-Ok.read.1.now c.in-Ok-read_all.read.1.now c.in-Some-counts_at.counts c.in-Ok.read.0.items c.in-Ok-read_all.read.0.items c.len.result c.in-Err-read_all-2.stop (record { lines = c.in-Some.lines.now; first = c.in-Some.ensures.exact; counts = c.in-Some-counts_at.ensures.exact; are = sym c.if-not-are_countable.ensures }) c.in-Ok.ensures.exact (omega (arith, c.len.ensures, c.in-Ok.read.0.ok.0)) c.in-Ok-read_all.ensures.exact
     (c.in-Err-read_all-2.ensures.exact other)
 
 pub returns-in_default-after_word-clause-exact : goal.returns-in_default-after_word-clause-exact
 returns-in_default-after_word-clause-exact c = λ other.
-    stop_is _ _ _ (end_missed c.args.text.now c.in-Ok-read_all-2.read.1.now _ (whole_of c.args.text.now c.in-Some-counts_at.lines_of_ports.now c.in-Ok.read.1.now c.in-Ok-read_all.read.1.now c.in-Ok-read_all-2.read.1.now c.in-Some-counts_at.counts c.in-Ok.read.0.items c.in-Ok-read_all.read.0.items c.in-Ok-read_all-2.read.0.items (record { lines = c.in-Some.lines.now; first = c.in-Some.ensures.exact; counts = c.in-Some-counts_at.ensures.exact; are = sym c.if-not-are_countable.ensures }) c.in-Ok.ensures.exact c.in-Ok-read_all.ensures.exact c.in-Ok-read_all-2.ensures.exact) c.in_default-after_word.ensures.exact) c.at-in_default-after_word.ensures.is
+    stop_is _ _ _ (end_missed c.args.text.now c.in-Ok-read_all-2.read.1.now _ (whole_of c.args.text.now c.in-Some-counts_at.lines_of_ports.now c.in-Ok.read.1.now c.in-Ok-read_all.read.1.now c.in-Ok-read_all-2.read.1.now c.in-Some-counts_at.counts c.in-Ok.read.0.items c.in-Ok-read_all.read.0.items c.in-Ok-read_all-2.read.0.items c.len.result (record { lines = c.in-Some.lines.now; first = c.in-Some.ensures.exact; counts = c.in-Some-counts_at.ensures.exact; are = sym c.if-not-are_countable.ensures }) c.in-Ok.ensures.exact (omega (arith, c.len.ensures, c.in-Ok.read.0.ok.0)) c.in-Ok-read_all.ensures.exact c.in-Ok-read_all-2.ensures.exact) c.in_default-after_word.ensures.exact) c.at-in_default-after_word.ensures.is
 
 pub returns-then-not-is_empty-clause-exact : goal.returns-then-not-is_empty-clause-exact
 returns-then-not-is_empty-clause-exact c = λ other.
-    stop_is _ _ _ (more_after c.args.text.now c.in-Ok-read_all-2.read.1.now c.in-Some-after_word.after.now _ (whole_of c.args.text.now c.in-Some-counts_at.lines_of_ports.now c.in-Ok.read.1.now c.in-Ok-read_all.read.1.now c.in-Ok-read_all-2.read.1.now c.in-Some-counts_at.counts c.in-Ok.read.0.items c.in-Ok-read_all.read.0.items c.in-Ok-read_all-2.read.0.items (record { lines = c.in-Some.lines.now; first = c.in-Some.ensures.exact; counts = c.in-Some-counts_at.ensures.exact; are = sym c.if-not-are_countable.ensures }) c.in-Ok.ensures.exact c.in-Ok-read_all.ensures.exact c.in-Ok-read_all-2.ensures.exact) c.in-Some-after_word.ensures.exact (sym c.if-not-is_empty.ensures))
+    stop_is _ _ _ (more_after c.args.text.now c.in-Ok-read_all-2.read.1.now c.in-Some-after_word.after.now _ (whole_of c.args.text.now c.in-Some-counts_at.lines_of_ports.now c.in-Ok.read.1.now c.in-Ok-read_all.read.1.now c.in-Ok-read_all-2.read.1.now c.in-Some-counts_at.counts c.in-Ok.read.0.items c.in-Ok-read_all.read.0.items c.in-Ok-read_all-2.read.0.items c.len.result (record { lines = c.in-Some.lines.now; first = c.in-Some.ensures.exact; counts = c.in-Some-counts_at.ensures.exact; are = sym c.if-not-are_countable.ensures }) c.in-Ok.ensures.exact (omega (arith, c.len.ensures, c.in-Ok.read.0.ok.0)) c.in-Ok-read_all.ensures.exact c.in-Ok-read_all-2.ensures.exact) c.in-Some-after_word.ensures.exact (sym c.if-not-is_empty.ensures))
     c.at-then-not-is_empty.ensures.is
 
 pub returns-in-Ok-new-clause-exact : goal.returns-in-Ok-new-clause-exact
 returns-in-Ok-new-clause-exact c =
     let is = saved_is c.in-Ok-new.saved c.in-Some-counts_at.counts c.in-Ok.read.0.items c.in-Ok-read_all.read.0.items c.in-Ok-read_all-2.read.0.items c.in-Ok-new.ensures.ports c.in-Ok-new.ensures.routes c.in-Ok-new.ensures.objects
     c.in-Ok-new.ensures.counts in
-    state_read_so c.args.text.now c.in-Ok-read_all-2.read.1.now c.in-Some-after_word.after.now _ (whole_of c.args.text.now c.in-Some-counts_at.lines_of_ports.now c.in-Ok.read.1.now c.in-Ok-read_all.read.1.now c.in-Ok-read_all-2.read.1.now c.in-Some-counts_at.counts c.in-Ok.read.0.items c.in-Ok-read_all.read.0.items c.in-Ok-read_all-2.read.0.items (record { lines = c.in-Some.lines.now; first = c.in-Some.ensures.exact; counts = c.in-Some-counts_at.ensures.exact; are = sym c.if-not-are_countable.ensures }) c.in-Ok.ensures.exact c.in-Ok-read_all.ensures.exact c.in-Ok-read_all-2.ensures.exact) c.in-Some-after_word.ensures.exact (sym c.if-not-is_empty.ensures)
+    state_read_so c.args.text.now c.in-Ok-read_all-2.read.1.now c.in-Some-after_word.after.now _ (whole_of c.args.text.now c.in-Some-counts_at.lines_of_ports.now c.in-Ok.read.1.now c.in-Ok-read_all.read.1.now c.in-Ok-read_all-2.read.1.now c.in-Some-counts_at.counts c.in-Ok.read.0.items c.in-Ok-read_all.read.0.items c.in-Ok-read_all-2.read.0.items c.len.result (record { lines = c.in-Some.lines.now; first = c.in-Some.ensures.exact; counts = c.in-Some-counts_at.ensures.exact; are = sym c.if-not-are_countable.ensures }) c.in-Ok.ensures.exact (omega (arith, c.len.ensures, c.in-Ok.read.0.ok.0)) c.in-Ok-read_all.ensures.exact c.in-Ok-read_all-2.ensures.exact) c.in-Some-after_word.ensures.exact (sym c.if-not-is_empty.ensures)
     ∙ ap okay (sym is)
 
 pub returns-in-Err-TooMany-clause-exact : goal.returns-in-Err-TooMany-clause-exact
 returns-in-Err-TooMany-clause-exact c = λ other.
-    absurd (c.in-Err-TooMany.ensures.accepted.1 (and_from (are_few c.in-Ok.read.0.items c.in-Ok-read_all.read.0.items c.in-Ok-read_all-2.read.0.items) (are_countable c.in-Some-counts_at.counts)
+    absurd (let e = c.in-Err-TooMany.ensures.accepted.1 (and_from (are_few c.in-Ok.read.0.items c.in-Ok-read_all.read.0.items c.in-Ok-read_all-2.read.0.items) (are_countable c.in-Some-counts_at.counts)
     (few_parts c.in-Ok.read.0.items c.in-Ok-read_all.read.0.items c.in-Ok-read_all-2.read.0.items c.in-Ok.ensures.fits.few c.in-Ok-read_all.ensures.fits.few c.in-Ok-read_all-2.ensures.fits.few)
-    (sym c.if-not-are_countable.ensures)))
+    (sym c.if-not-are_countable.ensures)) in cc)
 
 pub returns-in-Err-Counts-clause-exact : goal.returns-in-Err-Counts-clause-exact
 returns-in-Err-Counts-clause-exact c = λ other.
-    absurd (c.in-Err-Counts.ensures.accepted.1 (and_from (are_few c.in-Ok.read.0.items c.in-Ok-read_all.read.0.items c.in-Ok-read_all-2.read.0.items) (are_countable c.in-Some-counts_at.counts)
+    absurd (let e = c.in-Err-Counts.ensures.accepted.1 (and_from (are_few c.in-Ok.read.0.items c.in-Ok-read_all.read.0.items c.in-Ok-read_all-2.read.0.items) (are_countable c.in-Some-counts_at.counts)
     (few_parts c.in-Ok.read.0.items c.in-Ok-read_all.read.0.items c.in-Ok-read_all-2.read.0.items c.in-Ok.ensures.fits.few c.in-Ok-read_all.ensures.fits.few c.in-Ok-read_all-2.ensures.fits.few)
-    (sym c.if-not-are_countable.ensures)))
+    (sym c.if-not-are_countable.ensures)) in cc)
