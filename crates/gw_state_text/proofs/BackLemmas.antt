@@ -185,11 +185,19 @@ free_of (a ∷ b ∷ c ∷ d ∷ []) len sixth = absurd (omega (arith, len))
 free_of (a ∷ b ∷ c ∷ d ∷ e ∷ []) len sixth = absurd (omega (arith, len))
 free_of (a ∷ b ∷ c ∷ d ∷ e ∷ f ∷ slots) len sixth = (
   λ h. absurd (omega (arith, h)),
-  (λ h. absurd (omega (arith, h)),
-  (λ h. absurd (omega (arith, h)),
-  (λ h. absurd (omega (arith, h)),
-  (λ h. absurd (omega (arith, h)),
-  (λ h. sixth, free_after 7 slots (omega arith)))))),
+  (
+    λ h. absurd (omega (arith, h)),
+    (
+      λ h. absurd (omega (arith, h)),
+      (
+        λ h. absurd (omega (arith, h)),
+        (
+          λ h. absurd (omega (arith, h)),
+          (λ h. sixth, free_after 7 slots (omega arith)),
+        ),
+      ),
+    ),
+  ),
 )
 
 value_to_again : (kind : ObjectKind) (c : ℕ) (v : PropertyValue) (rest : List ℕ) → c < 48 → FitsKind kind v
@@ -210,7 +218,7 @@ priority_again priority v more small =
     let first = decimal priority ++ 32 ∷ last in
     rw (
       after_again (codes "slot ") (slot_text priority (Some v) ++ more) first
-      (two_words (codes "slot ") (decimal priority) (value_text v) more),
+          (two_words (codes "slot ") (decimal priority) (value_text v) more),
       small_again (2 ^ 8) 32 first priority last space small (omega (arith, small)) refl,
     ) refl
 
@@ -333,7 +341,7 @@ object_at_again before o rest fits =
     let second = decimal o.object.kind ++ 32 ∷ third in
     rw (
       after_again (codes "object ") (object_line o.object o.configured o.slots.default ++ rest) second
-      (object_then o.object o.configured o.slots.default rest),
+          (object_then o.object o.configured o.slots.default rest),
       small_again (2 ^ 16) 32 second o.object.kind third space (omega (arith, fits.is.kind)) (omega (arith, fits.is.kind)) refl,
       small_again (2 ^ 32) 32 third o.object.instance fourth space (omega (arith, fits.is.instance)) (omega (arith, fits.is.instance)) refl,
       lt-ltb o.object.kind (2 ^ 10) fits.is.kind,

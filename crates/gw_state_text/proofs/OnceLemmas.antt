@@ -25,7 +25,7 @@ entries_apart e before after [] fit = refl
 entries_apart e before after (x ∷ items) fit =
     let apart : is_of e.address x ≡ false = flipped e.address x.address ∙ among (is_of x.address) before e after fit.0.once in
     let later = entries_apart e before (after ++ x ∷ []) items
-        (subst (λ (xs : List BdtEntry). AllFit FitsEntries xs items) (append_assoc before (e ∷ after) (x ∷ [])) fit.1) in
+    (subst (λ (xs : List BdtEntry). AllFit FitsEntries xs items) (append_assoc before (e ∷ after) (x ∷ [])) fit.1) in
     rw (apart, later) refl
 
 no_entry_twice : (before items : List BdtEntry) → AllFit FitsEntries before items → has_twice items ≡ false
@@ -46,7 +46,7 @@ devices_apart d before after [] fit = refl
 devices_apart d before after (x ∷ items) fit =
     let apart : is_of_device d.address x ≡ false = flipped d.address x.address ∙ among (is_of_device x.address) before d after fit.0.once in
     let later = devices_apart d before (after ++ x ∷ []) items
-        (subst (λ (xs : List KeptDevice). AllFit FitsDevices xs items) (append_assoc before (d ∷ after) (x ∷ [])) fit.1) in
+    (subst (λ (xs : List KeptDevice). AllFit FitsDevices xs items) (append_assoc before (d ∷ after) (x ∷ [])) fit.1) in
     rw (apart, later) refl
 
 no_device_twice : (before items : List KeptDevice) → AllFit FitsDevices before items → repeat_address items ≡ false

@@ -104,7 +104,7 @@ number_to_takes c text n rest e =
     let n-is : q.0 ≡ n = ap (λ (x : ℕ × List ℕ). x.0) pair in (
       subst (λ (k : ℕ). k < 2 ^ 64) n-is is.small,
       parted_takes c text p.0.0 p.0.1 p.1 ∙ ap (λ (t : List ℕ). t ++ c ∷ p.0.1) is.spelled
-      ∙ ap (λ (x : ℕ × List ℕ). decimal x.0 ++ c ∷ x.1) pair,
+          ∙ ap (λ (x : ℕ × List ℕ). decimal x.0 ++ c ∷ x.1) pair,
     )
 
 pub number_to_again : (c : ℕ) (text : List ℕ) (n : ℕ) (rest : List ℕ) → ¬ (IsAsciiDigit c) → n < 2 ^ 64 → text ≡ decimal n ++ c ∷ rest
@@ -179,10 +179,10 @@ address_takes text a e =
       udp = last.0;
     } in
     let spelled : text ≡ text_of (address_is p.0 q.0 r.0 s.0 t.0) =
-        first.1 ∙ ap (λ (u : List ℕ). decimal p.0.0 ++ 46 ∷ u) (second.1
-        ∙ ap (λ (u : List ℕ). decimal q.0.0 ++ 46 ∷ u) (third.1
-        ∙ ap (λ (u : List ℕ). decimal r.0.0 ++ 46 ∷ u) (fourth.1
-        ∙ ap (λ (u : List ℕ). decimal s.0.0 ++ 58 ∷ u) last.1))) in
+    first.1 ∙ ap (λ (u : List ℕ). decimal p.0.0 ++ 46 ∷ u) (second.1
+    ∙ ap (λ (u : List ℕ). decimal q.0.0 ++ 46 ∷ u) (third.1
+    ∙ ap (λ (u : List ℕ). decimal r.0.0 ++ 46 ∷ u) (fourth.1
+    ∙ ap (λ (u : List ℕ). decimal s.0.0 ++ 58 ∷ u) last.1))) in
     (subst IsAddress is fits, spelled ∙ ap text_of is)
 
 pub address_again : (text : List ℕ) (a : BipAddr) → IsAddress a → text ≡ text_of a → address_in text ≡ Some a
@@ -245,9 +245,9 @@ mask_takes text m e =
       octets = octets_of_four p.0.0 q.0.0 r.0.0 s.0 first.0 second.0 third.0 last.0;
     } in
     let spelled : text ≡ mask_text (mask_is p.0 q.0 r.0 s.0) =
-        first.1 ∙ ap (λ (u : List ℕ). decimal p.0.0 ++ 46 ∷ u) (second.1
-        ∙ ap (λ (u : List ℕ). decimal q.0.0 ++ 46 ∷ u) (third.1
-        ∙ ap (λ (u : List ℕ). decimal r.0.0 ++ 46 ∷ u) last.1)) in
+    first.1 ∙ ap (λ (u : List ℕ). decimal p.0.0 ++ 46 ∷ u) (second.1
+    ∙ ap (λ (u : List ℕ). decimal q.0.0 ++ 46 ∷ u) (third.1
+    ∙ ap (λ (u : List ℕ). decimal r.0.0 ++ 46 ∷ u) last.1)) in
     (subst IsMask is fits, spelled ∙ ap mask_text is)
 
 four_items : (xs : List ℕ) → length xs ≡ 4 → get_or xs 0 0 ∷ get_or xs 1 0 ∷ get_or xs 2 0 ∷ get_or xs 3 0 ∷ [] ≡ xs

@@ -64,7 +64,13 @@ fn kind_at(text: &[u8], stop: Stop) -> FaultKind
     let (front, rest) = text.split_at(text.len() - stop.left);
     match stop.kind {
         FaultKind::Memory => FaultKind::Memory,
-        kind => { if is_whole(front, rest) { kind } else { FaultKind::Cut } }
+        kind => {
+            if is_whole(front, rest) {
+                kind
+            } else {
+                FaultKind::Cut
+            }
+        }
     }
 }
 

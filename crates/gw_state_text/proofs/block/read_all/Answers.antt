@@ -8,9 +8,9 @@ loop-count-init g c = (start _ _ _ _ c.new-items.ensures.items, no_steps _ _ _ _
 pub loop-count-preserved : goal.loop-count-preserved
 loop-count-preserved g c = (
   next _ _ _ _ _ _ _ _ _ _ c.loop-count.invariant.0 c.in-Ok.ensures.found c.as_slice.ensures.value c.in-Ok.ensures.fits
-  c.in-Ok-push.ensures.items,
+      c.in-Ok-push.ensures.items,
   one_step _ _ _ _ _ _ _ _ _ _ _ c.loop-count.invariant.1 (omega (arith, c.loop-count-test.true, c.most-count-end.ensures))
-  (starts_as _ _ _ _ _ c.starts_with.ensures.value c.word.ensures c.if-not-starts_with.false) c.in-Ok.ensures.exact c.as_slice.ensures.value c.in-Ok-push.ensures.items,
+      (starts_as _ _ _ _ _ c.starts_with.ensures.value c.word.ensures c.if-not-starts_with.false) c.in-Ok.ensures.exact c.as_slice.ensures.value c.in-Ok-push.ensures.items,
 )
 
 pub returns-then-not-starts_with-clause-found : goal.returns-then-not-starts_with-clause-found

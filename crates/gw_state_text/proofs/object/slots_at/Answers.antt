@@ -11,10 +11,10 @@ loop-place-init c = (slots_start c.args.kind c.args.text.now c.from_fn-slots.res
 
 pub loop-place-preserved : goal.loop-place-preserved
 loop-place-preserved c = (
-    slots_next c.args.kind c.args.text.now c.loop-place.rest.now c.in-Ok.read.1.now c.loop-place.place c.loop-place.slots c.in-Ok.read.0
-    c.loop-place-test.true c.loop-place.invariant.0 c.in-Ok.ensures.found c.in-Ok.ensures.is c.in-Ok.ensures.sixth,
+  slots_next c.args.kind c.args.text.now c.loop-place.rest.now c.in-Ok.read.1.now c.loop-place.place c.loop-place.slots c.in-Ok.read.0
+      c.loop-place-test.true c.loop-place.invariant.0 c.in-Ok.ensures.found c.in-Ok.ensures.is c.in-Ok.ensures.sixth,
   next_slot c.args.kind c.args.text.now c.loop-place.rest.now c.in-Ok.read.1.now c.loop-place.place c.loop-place.slots c.in-Ok.read.0
-  c.loop-place-test.true c.loop-place.invariant.0.sixteen c.loop-place.invariant.1 c.in-Ok.ensures.exact,
+      c.loop-place-test.true c.loop-place.invariant.0.sixteen c.loop-place.invariant.1 c.in-Ok.ensures.exact,
 )
 
 pub returns-in-Err-clause-exact : goal.returns-in-Err-clause-exact
