@@ -1,10 +1,14 @@
 -- Items that are read one after the other.
-use Rattle.std.proofs.Common.{◌≡◌, ◌∙◌, ℕ, ◌+◌, ◌≤◌, List, [], ◌∷◌, ◌++◌, length, sym, ap, subst, arith, append_assoc, append-nil}
-use Rattle.std.specs.List.{flat_map}
+use Rattle.std.proofs.Common.{◌≡◌, ◌≢◌, ◌∙◌, ℕ, zero, suc, ◌+◌, ◌-◌, ◌<◌, ◌≤◌, Bool, true, false, List, [], ◌∷◌, ◌++◌, length, Result, Ok, Err, refl, sym, ap, subst, arith, append_assoc, append-nil}
+use Rattle.std.specs.Prelude.{nat_eq}
+use Rattle.std.specs.List.{flat_map, starts_with}
 use Rattle.std.proofs.lemmas.Grind.{flat_map-append}
 use Rattle.std.proofs.lemmas.List.{length-append}
 use Rattle.std.proofs.lemmas.List.Concat.{flat_map-cons}
 use Rattle.gw_state_text.specs.Items.{AllFit, AreItems}
+use Rattle.gw_state_text.specs.declared.fault.FaultKind.TheVariants.{TooMany}
+use Rattle.gw_state_text.specs.declared.fault.Stop.{Stop}
+use Rattle.gw_state_text.specs.Reading.{all_at, stop_at}
 use Rattle.gw_state_text.specs.internal.Block.{StopsAfter}
 
 -- one item more
@@ -78,3 +82,85 @@ next line Fits text count read before now item remaining pushed p found same fit
 pub items_read : {A : Type 0} (line : A → List ℕ) (Fits : List A → A → Type 0) (text : List ℕ) (count most : ℕ) (read : List A) (now : List ℕ)
     → Progress line Fits text count read now → count ≤ most → AreItems Fits most read
 items_read line Fits text count most read now p few = record { few = omega (arith, p.few, few); fit = p.fit }
+
+-- ---- the same by the reading function
+
+-- the same stop
+pub stop_is : {A : Type 0} (r : Result A Stop) (s t : Stop) → r ≡ Err s → t ≡ s → r ≡ Err t
+stop_is r s t e f = subst (λ (x : Stop). r ≡ Err x) (sym f) e
+
+-- what reads one item
+abbrev pub Reader : Type 0 → Type 0
+Reader A = List A → List ℕ → Result (A × List ℕ) Stop
+
+pub stopped : {A : Type 0} (read : Reader A) (word : List ℕ) (n : ℕ) (items : List A) (text : List ℕ)
+    → starts_with nat_eq text word ≡ false → all_at read word n items text ≡ Ok (items, text)
+unfolding all_at
+stopped read word zero items text other = rw other refl
+stopped read word (suc n) items text other = rw other refl
+
+pub goes_on : {A : Type 0} (read : Reader A) (word : List ℕ) (n : ℕ) (items : List A) (text : List ℕ) (item : A) (rest : List ℕ)
+    → starts_with nat_eq text word ≡ true → read items text ≡ Ok (item, rest)
+    → all_at read word (suc n) items text ≡ all_at read word n (items ++ item ∷ []) rest
+unfolding all_at
+goes_on read word n items text item rest more is = rw (more, is) refl
+
+-- so many items are read of as many as there can be
+pub record Steps {A : Type 0} (read : Reader A) (word : List ℕ) (most : ℕ) (text : List ℕ) (count : ℕ) (items : List A)
+    (rest : List ℕ) : Type 0 where
+  pub same : all_at read word most [] text ≡ all_at read word (most - count) items rest
+
+pub no_steps : {A : Type 0} (read : Reader A) (word : List ℕ) (most : ℕ) (text : List ℕ) (items : List A) → items ≡ []
+    → Steps read word most text 0 items text
+no_steps {A} read word most text items none =
+    let all : most ≡ most - 0 = omega arith in
+    record {
+      same =
+          ap (λ (k : ℕ). all_at read word k [] text) all ∙ ap (λ (xs : List A). all_at read word (most - 0) xs text) (sym none);
+    }
+
+-- a text begins with the word that an item does
+pub starts_as : (text word opens : List ℕ) (r b : Bool) → r ≡ starts_with nat_eq text word → word ≡ opens → r ≡ b
+    → starts_with nat_eq text opens ≡ b
+starts_as text word opens r b e same is = ap (starts_with nat_eq text) (sym same) ∙ sym e ∙ is
+
+pub one_step : {A : Type 0} (read : Reader A) (word : List ℕ) (most : ℕ) (text : List ℕ) (count : ℕ) (items before : List A) (now : List ℕ)
+    (item : A) (rest : List ℕ) (pushed : List A) → Steps read word most text count items now → count < most
+    → starts_with nat_eq now word ≡ true → read before now ≡ Ok (item, rest) → before ≡ items → pushed ≡ items ++ item ∷ []
+    → Steps read word most text (count + 1) pushed rest
+one_step read word most text count items before now item rest pushed so_far lt more is same grown =
+    let left : most - count ≡ suc (most - (count + 1)) = omega (arith, lt) in
+    let is' : read items now ≡ Ok (item, rest) = subst (λ (xs : List _). read xs now ≡ Ok (item, rest)) same is in
+    record {
+      same =
+          so_far.same ∙ ap (λ (k : ℕ). all_at read word k items now) left
+          ∙ goes_on read word (most - (count + 1)) items now item rest more is'
+          ∙ ap (λ (xs : List _). all_at read word (most - (count + 1)) xs rest) (sym grown);
+    }
+
+-- no further item
+pub steps_end : {A : Type 0} (read : Reader A) (word : List ℕ) (most : ℕ) (text : List ℕ) (count : ℕ) (items : List A) (now : List ℕ)
+    → Steps read word most text count items now → starts_with nat_eq now word ≡ false → all_at read word most [] text ≡ Ok (items, now)
+steps_end read word most text count items now so_far other = so_far.same ∙ stopped read word (most - count) items now other
+
+-- an item that is not read
+pub steps_fail : {A : Type 0} (read : Reader A) (word : List ℕ) (most : ℕ) (text : List ℕ) (count : ℕ) (items before : List A) (now : List ℕ)
+    (stop : Stop) → Steps read word most text count items now → count < most → starts_with nat_eq now word ≡ true
+    → read before now ≡ Err stop → before ≡ items → all_at read word most [] text ≡ Err stop
+unfolding all_at
+steps_fail read word most text count items before now stop so_far lt more is same =
+    let left : most - count ≡ suc (most - (count + 1)) = omega (arith, lt) in
+    let is' : read items now ≡ Err stop = subst (λ (xs : List _). read xs now ≡ Err stop) same is in
+    so_far.same ∙ ap (λ (k : ℕ). all_at read word k items now) left ∙ failed (most - (count + 1)) is'
+  where
+    failed : (n : ℕ) → read items now ≡ Err stop → all_at read word (suc n) items now ≡ Err stop
+    failed n is = rw (more, is) refl
+
+-- one item too many
+pub steps_over : {A : Type 0} (read : Reader A) (word : List ℕ) (most : ℕ) (text : List ℕ) (count : ℕ) (items : List A) (now : List ℕ)
+    → Steps read word most text count items now → most ≤ count → starts_with nat_eq now word ≡ true
+    → all_at read word most [] text ≡ Err (stop_at now TooMany)
+unfolding all_at
+steps_over read word most text count items now so_far all more =
+    let left : most - count ≡ 0 = omega (arith, all) in
+    so_far.same ∙ ap (λ (k : ℕ). all_at read word k items now) left ∙ rw more refl

@@ -1,5 +1,7 @@
 pub mod WordLemmas
+pub mod ReadLemmas
 pub mod BlockLemmas
+pub mod OnceLemmas
 pub mod LineLemmas
 pub mod PutLemmas
 pub mod StateLemmas
@@ -7,4 +9,7 @@ pub mod PortLemmas
 pub mod SlotLemmas
 pub mod ObjectLemmas
 pub mod ValueLemmas
+pub mod ValueReadLemmas
+pub mod BackLemmas
+pub mod StepLemmas
 pub mod LengthLemmas

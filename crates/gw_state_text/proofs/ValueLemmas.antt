@@ -19,16 +19,16 @@ use Rattle.hex.specs.Hex.{upper_digits}
 use Rattle.gw_state_text.specs.Fit.{FitsKind}
 use Rattle.gw_state_text.specs.Text.{value_text}
 
-unsigned_is : (n : ℕ) → n < 2 ^ 32 → IsValue (unsigned n)
+pub unsigned_is : (n : ℕ) → n < 2 ^ 32 → IsValue (unsigned n)
 unsigned_is n small = record { within = small; length_fits = omega (arith, (unsigned_encodes n small).most); text = refl }
 
-enumerated_is : (n : ℕ) → n < 2 ^ 32 → IsValue (enumerated n)
+pub enumerated_is : (n : ℕ) → n < 2 ^ 32 → IsValue (enumerated n)
 enumerated_is n small = record { within = small; length_fits = omega (arith, (unsigned_encodes n small).most); text = refl }
 
-signed_is : (z : ℤ) → IsSigned z → IsValue (signed z)
+pub signed_is : (z : ℤ) → IsSigned z → IsValue (signed z)
 signed_is z small = record { within = small; length_fits = omega (arith, (signed_encodes z small).most); text = refl }
 
-text_is : (octets : List ℕ) → length octets ≤ 255 → is_utf8 octets ≡ true → IsValue (character_string 0 octets)
+pub text_is : (octets : List ℕ) → length octets ≤ 255 → is_utf8 octets ≡ true → IsValue (character_string 0 octets)
 text_is octets few utf8 = record { within = tt; length_fits = omega (arith, few); text = utf8 }
 
 -- the octets of a tag with room for a longer content

@@ -23,7 +23,7 @@ use Rattle.gw_addr.specs.Mask.{IsMask, mask_text}
 use Rattle.gw_addr.specs.Text.{Lacks, four_text}
 use Rattle.gw_addr.proofs.Lacking.{address_lacks, lacks_append, lacks_cons, not_in_decimal}
 use Rattle.gw_addr.proofs.Decimal.{own}
-use Rattle.gw_state_text.specs.internal.Words.{number_in}
+use Rattle.gw_state_text.specs.Words.{number_in}
 
 -- ---- texts
 
@@ -95,7 +95,7 @@ unparsed text digits r same parses other =
 -- ---- a word
 
 -- another character
-other_character : (x c : ℕ) → x ≢ c → (x == c) ≡ false
+pub other_character : (x c : ℕ) → x ≢ c → (x == c) ≡ false
 other_character x c other = by (x == c) refl
   where
     by : (b : Bool) → (x == c) ≡ b → (x == c) ≡ false

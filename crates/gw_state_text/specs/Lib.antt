@@ -2,5 +2,9 @@ pub mod Text
 pub mod Items
 pub mod Fit
 pub mod Place
+pub mod Words
+pub mod Lines
+pub mod Values
+pub mod Reading
 pub mod Laws
 pub mod internal

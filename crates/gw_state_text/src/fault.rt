@@ -48,11 +48,13 @@ pub(crate) struct Stop {
 
 impl Stop {
     ghost use Rattle.std.specs.Prelude.{◌≡◌, length};
+    ghost use Rattle.gw_state_text.specs.Reading.{stop_at};
 
     /// The first line of a text is faulty.
     pub fn at(text: &[u8], kind: FaultKind) -> Stop
         ensures left { result.left ≡ length text.now }
         ensures kind { result.kind ≡ kind }
+        ensures is { result ≡ stop_at text.now kind }
     {
         Stop {
             left: text.len(),

@@ -7,6 +7,8 @@ ghost use Rattle.gw_addr.specs.Entry.{IsBdtEntry};
 ghost use Rattle.gw_saved.specs.Saved.{are_countable};
 ghost use Rattle.gw_state_text.specs.Text.{counts_line, device_line, entry_line, port_line, route_line};
 ghost use Rattle.gw_state_text.specs.internal.Lines.{counts_on, device_on, entry_on, port_on, route_on};
+ghost use Rattle.gw_state_text.specs.Lines.{counts_at, device_at, entry_at, port_at, route_at};
+ghost use Rattle.gw_state_text.specs.Words.{Finds};
 ghost use Rattle.gw_state_text.specs.Fit.{AreCounts, IsDevice, IsPlace, IsRoute};
 
 use crate::words::{address_to, after_word, mask_to, network_to, number_to, octet_to, short_to};
@@ -30,11 +32,13 @@ pub(crate) fn put_counts(out: &mut Vec<u8>, counts: SavedCounts) -> Result<(), A
 }
 
 /// The counts at the front of a text, and what comes after them.
+#[tactic(auto, unfolding(crate::specs::Lines::counts_at))]
 pub(crate) fn counts_at(text: &[u8]) -> Option<(SavedCounts, &[u8])>
     ensures found { IfSome result (λ x. text.now ≡ counts_on x.0 x.1.now) }
     ensures is { IfSome result (λ x. AreCounts x.0) }
     ensures only { (c : SavedCounts) (rest : List ℕ) → AreCounts c → text.now ≡ counts_on c rest
         → IsSomeAnd result (λ x. (x.0 ≡ c) × (x.1.now ≡ rest)) }
+    ensures exact { Finds (λ x. (x.0, x.1.now)) result (counts_at text.now) }
 {
     let words = after_word(b"counts ", text)?;
     let (since, words) = number_to(b' ', words)?;
@@ -71,11 +75,13 @@ pub(crate) fn put_port(
 }
 
 /// A port at the front of a text, and what comes after its line.
+#[tactic(auto, unfolding(crate::specs::Lines::port_at))]
 pub(crate) fn port_at(text: &[u8]) -> Option<(NetNum, BipAddr, &[u8])>
     ensures found { IfSome result (λ x. text.now ≡ port_on x.0 x.1 x.2.now) }
     ensures is { IfSome result (λ x. IsPlace x.0 x.1) }
     ensures only { (n : ℕ) (a : BipAddr) (rest : List ℕ) → IsPlace n a → text.now ≡ port_on n a rest
         → IsSomeAnd result (λ x. (x.0 ≡ n) × (x.1 ≡ a) × (x.2.now ≡ rest)) }
+    ensures exact { Finds (λ x. (x.0, x.1, x.2.now)) result (port_at text.now) }
 {
     let words = after_word(b"port ", text)?;
     let Some((network, words)) = network_to(words) else {
@@ -99,9 +105,11 @@ pub(crate) fn put_entry(out: &mut Vec<u8>, word: &[u8], entry: BdtEntry) -> Resu
 }
 
 /// An entry at the front of a text, whose line begins with this word, and what comes after it.
+#[tactic(auto, unfolding(crate::specs::Lines::entry_at))]
 pub(crate) fn entry_at<'a>(word: &[u8], text: &'a [u8]) -> Option<(BdtEntry, &'a [u8])>
     ensures found { IfSome result (λ x. text.now ≡ entry_on word.now x.0 x.1.now) }
     ensures is { IfSome result (λ x. IsBdtEntry x.0) }
+    ensures exact { Finds (λ x. (x.0, x.1.now)) result (entry_at word.now text.now) }
 {
     let words = after_word(word, text)?;
     let (address, words) = address_to(b' ', words)?;
@@ -124,11 +132,13 @@ pub(crate) fn put_device(out: &mut Vec<u8>, device: KeptDevice) -> Result<(), Al
 }
 
 /// A foreign device at the front of a text, and what comes after its line.
+#[tactic(auto, unfolding(crate::specs::Lines::device_at))]
 pub(crate) fn device_at(text: &[u8]) -> Option<(KeptDevice, &[u8])>
     ensures found { IfSome result (λ x. text.now ≡ device_on x.0 x.1.now) }
     ensures is { IfSome result (λ x. IsDevice x.0) }
     ensures only { (d : KeptDevice) (rest : List ℕ) → IsDevice d → text.now ≡ device_on d rest
         → IsSomeAnd result (λ x. (x.0 ≡ d) × (x.1.now ≡ rest)) }
+    ensures exact { Finds (λ x. (x.0, x.1.now)) result (device_at text.now) }
 {
     let words = after_word(b"device ", text)?;
     let (address, words) = address_to(b' ', words)?;
@@ -156,11 +166,13 @@ pub(crate) fn put_route(out: &mut Vec<u8>, network: NetNum, route: Route) -> Res
 }
 
 /// A learned route at the front of a text, and what comes after its line.
+#[tactic(auto, unfolding(crate::specs::Lines::route_at))]
 pub(crate) fn route_at(text: &[u8]) -> Option<(NetNum, Route, &[u8])>
     ensures found { IfSome result (λ x. text.now ≡ route_on (x.0, x.1) x.2.now) }
     ensures is { IfSome result (λ x. IsRoute (x.0, x.1)) }
     ensures only { (n : ℕ) (r : Route) (rest : List ℕ) → IsRoute (n, r) → text.now ≡ route_on (n, r) rest
         → IsSomeAnd result (λ x. (x.0 ≡ n) × (x.1 ≡ r) × (x.2.now ≡ rest)) }
+    ensures exact { Finds (λ x. (x.0, x.1, x.2.now)) result (route_at text.now) }
 {
     let words = after_word(b"route ", text)?;
     let Some((network, words)) = network_to(words) else {

@@ -7,7 +7,11 @@ ghost use Rattle.gw_priority.specs.declared.array.TheConstants.{PRIORITIES};
 ghost use Rattle.gw_tags.specs.Object.{IsObject, object_view};
 ghost use Rattle.gw_state_text.specs.Fit.{AreOfKind, FitsKind, FitsObjects, is_object, kind_of};
 ghost use Rattle.gw_state_text.specs.Text.{identifier_text, object_line, object_text, slot_text, slots_text, value_text};
-ghost use Rattle.gw_state_text.specs.internal.Objects.{IsHead, StopsInSlots, head_text};
+ghost use Rattle.gw_state_text.specs.Reading.{Reads, ReadsLines, identifier_at, object_after, object_at};
+ghost use Rattle.gw_state_text.specs.Reading.{slot_at, slot_fault, slots_after, value_to};
+ghost use Rattle.gw_state_text.specs.Lines.{priority_at};
+ghost use Rattle.gw_state_text.specs.Words.{Finds};
+ghost use Rattle.gw_state_text.specs.internal.Objects.{IsHead, StopsInSlots, head_text, line_view};
 ghost use Rattle.gw_state_text.specs.internal.Put.{IsPut};
 
 use crate::block::Block;
@@ -114,6 +118,7 @@ fn kind_of(number: u16) -> Option<ObjectKind>
 }
 
 /// A value of an object of this type up to such a character, and what comes after it.
+#[tactic(auto, unfolding(crate::specs::Reading::value_to))]
 fn value_to(
     alloc: Global,
     kind: ObjectKind,
@@ -122,6 +127,7 @@ fn value_to(
 ) -> Result<(PropertyValue, &[u8]), FaultKind>
     ensures found { IfOk result (λ x. text.now ≡ value_text x.0 ++ c ∷ x.1.now) }
     ensures is { IfOk result (λ x. FitsKind kind x.0) }
+    ensures exact { Reads (λ x. (x.0, x.1.now)) result (value_to kind c text.now) }
 {
     let Some((word, rest)) = parted_at(c, text) else {
         return Err(FaultKind::Line);
@@ -131,8 +137,10 @@ fn value_to(
 }
 
 /// The priority that a line of a slot names at the front of a text, and what comes after it.
+#[tactic(auto, unfolding(crate::specs::Lines::priority_at))]
 fn priority_at(text: &[u8]) -> Option<(u8, &[u8])>
-    ensures { IfSome result (λ x. text.now ≡ codes "slot " ++ (decimal x.0 ++ 32 ∷ x.1.now)) }
+    ensures found { IfSome result (λ x. text.now ≡ codes "slot " ++ (decimal x.0 ++ 32 ∷ x.1.now)) }
+    ensures exact { Finds (λ x. (x.0, x.1.now)) result (priority_at text.now) }
 {
     let words = after_word(b"slot ", text)?;
     octet_to(b' ', words)
@@ -140,6 +148,7 @@ fn priority_at(text: &[u8]) -> Option<(u8, &[u8])>
 
 /// The slot of this priority, which is empty if the text doesn't begin with its line, and what comes after
 /// that. No write can command or empty slot 6 (clause 19.2.3): its line is `Range`.
+#[tactic(auto, unfolding(crate::specs::Reading::slot_at))]
 fn slot_at(
     alloc: Global,
     kind: ObjectKind,
@@ -149,6 +158,7 @@ fn slot_at(
     ensures found { IfOk result (λ x. text.now ≡ slot_text priority x.0 ++ x.1.now) }
     ensures is { IfOk result (λ x. AreOfKind kind (x.0 ∷ [])) }
     ensures sixth { IfOk result (λ x. priority ≡ 6 → x.0 ≡ None) }
+    ensures exact { Reads (λ x. (x.0, x.1.now)) result (slot_at kind priority text.now) }
 {
     let Some((named, words)) = priority_at(text) else {
         return Ok((None, text));
@@ -174,6 +184,7 @@ fn slots_at(
     ensures sixteen { IfOk result (λ x. length x.0 ≡ 16) }
     ensures sixth { IfOk result (λ x. get_or x.0 5 None ≡ None) }
     ensures stop { IfErr result (λ stop. StopsInSlots text.now stop.left) }
+    ensures exact { ReadsLines (λ x. (x.0, x.1.now)) result (slots_after kind 16 [] text.now) }
 {
     let mut slots = array::from_fn(|_| None);
     let mut rest = text;
@@ -193,7 +204,10 @@ fn slots_at(
 
 /// What is wrong with a slot of this priority after the last one: there is no such priority, or it came
 /// before, or it is out of order.
-fn slot_fault(slots: &[Option<PropertyValue>; PRIORITIES], priority: u8) -> FaultKind {
+#[tactic(auto, unfolding(crate::specs::Reading::slot_fault))]
+fn slot_fault(slots: &[Option<PropertyValue>; PRIORITIES], priority: u8) -> FaultKind
+    ensures { result ≡ slot_fault slots.now priority }
+{
     if priority == 0 || LOWEST < priority {
         return FaultKind::Range;
     }
@@ -224,9 +238,11 @@ impl Drop for Head {
 }
 
 /// The identifier of an object, and what comes after it in its line. `Range` if there is no such object.
+#[tactic(auto, unfolding(crate::specs::Reading::identifier_at))]
 fn identifier_at(text: &[u8]) -> Result<(ObjectId, &[u8]), FaultKind>
     ensures found { IfOk result (λ x. text.now ≡ identifier_text (object_view x.0) ++ x.1.now) }
     ensures is { IfOk result (λ x. IsObject (object_view x.0)) }
+    ensures exact { Reads (λ x. (object_view x.0, x.1.now)) result (identifier_at text.now) }
 {
     let Some(words) = after_word(b"object ", text) else {
         return Err(FaultKind::Line);
@@ -244,9 +260,11 @@ fn identifier_at(text: &[u8]) -> Result<(ObjectId, &[u8]), FaultKind>
 }
 
 /// The line of an object at the front of a text, and what comes after it.
+#[tactic(auto, unfolding(crate::specs::Reading::object_at))]
 fn head_at(alloc: Global, text: &[u8]) -> Result<(Head, &[u8]), FaultKind>
     ensures found { IfOk result (λ x. text.now ≡ head_text x.0 ++ x.1.now) }
     ensures is { IfOk result (λ x. IsHead x.0) }
+    ensures exact { Reads (λ x. (line_view x.0, x.1.now)) result (object_at text.now) }
 {
     let (object, words) = identifier_at(text)?;
     let Some(kind) = kind_of(object.kind) else {
@@ -279,6 +297,10 @@ impl Block for Objects {
 
     ghost count = { λ objects. 256 };
 
+    ghost opens = { λ objects. codes "object " };
+
+    ghost reads = { λ objects before text. object_after before text };
+
     fn word(&self) -> &'static [u8] {
         b"object "
     }
@@ -287,6 +309,7 @@ impl Block for Objects {
         MAX_OBJECTS
     }
 
+    #[tactic(auto, unfolding(crate::specs::Reading::object_after))]
     fn read<'a>(
         &self,
         alloc: Global,

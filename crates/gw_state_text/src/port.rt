@@ -1,8 +1,11 @@
 //! The ports with their tables.
 
-ghost use Rattle.std.specs.Prelude.{◌≡◌, ◌++◌, IfOk, IfErr, OnErr};
+ghost use Rattle.std.specs.Prelude.{◌≡◌, ◌≤◌, ◌||◌, ◌++◌, codes, length, IfOk, IfErr, IsFalse, IsTrue, OnErr};
 ghost use Rattle.std.specs.List.{list_any};
+ghost use Rattle.gw_bdt_fdt.specs.Kept.{are_restorable};
+ghost use Rattle.gw_bdt_fdt.specs.Peers.{are_too_many, has_twice};
 ghost use Rattle.gw_state_text.specs.Fit.{FitsPorts, is_at};
+ghost use Rattle.gw_state_text.specs.Reading.{port_after};
 ghost use Rattle.gw_state_text.specs.Text.{port_text};
 
 use crate::block::{Block, read_all};
@@ -25,20 +28,16 @@ fn has_port(ports: &[SavedPort], network: NetNum, address: BipAddr) -> bool
         .any(|port| network == port.network && address == port.address)
 }
 
-/// These peers, in their order. `TooMany` if there are more than 64; `Memory` if there is none for them.
-fn peers_of(alloc: Global, entries: &[BdtEntry]) -> Result<Peers, FaultKind>
+/// These peers, in their order.
+fn peers_of(alloc: Global, entries: &[BdtEntry]) -> Result<Peers, AllocError>
+    requires { length entries.now ≤ 64 }
     ensures { IfOk result (λ peers. peers ≡ entries.now) }
 {
     let mut peers = Sequence::new(alloc);
     for entry in entries {
-        if peers.push(*entry).is_err() {
-            return Err(FaultKind::Memory);
-        }
+        peers.push(*entry)?;
     }
-    match Peers::new(peers) {
-        Some(peers) => Ok(peers),
-        None => Err(FaultKind::TooMany),
-    }
+    Ok(Peers::new(peers).unwrap())
 }
 
 /// Ports with their tables.
@@ -69,6 +68,10 @@ impl Block for Ports {
 
     ghost count = { λ ports. 8 };
 
+    ghost opens = { λ ports. codes "port " };
+
+    ghost reads = { λ ports before text. port_after before text };
+
     fn word(&self) -> &'static [u8] {
         b"port "
     }
@@ -77,6 +80,7 @@ impl Block for Ports {
         MAX_PORTS
     }
 
+    #[tactic(auto, unfolding(crate::specs::Reading::port_after))]
     fn read<'a>(
         &self,
         alloc: Global,
@@ -115,26 +119,25 @@ impl Block for Ports {
                 },
                 rest,
             )),
-            Err(kind) => Err(Stop::at(text, kind)),
+            Err(_) => Err(Stop::at(text, FaultKind::Memory)),
         }
     }
 }
 
-/// The tables of these peers, entries and devices.
+/// The tables of these peers, entries and devices. Only the peers want memory.
 fn tables_of(
     alloc: Global,
     peers: Vec<BdtEntry>,
     entries: Vec<BdtEntry>,
     devices: Vec<KeptDevice>,
-) -> Result<(Peers, Bdt, KeptDevices), FaultKind>
+) -> Result<(Peers, Bdt, KeptDevices), AllocError>
+    requires peers { length peers.items ≤ 64 }
+    requires entries { IsFalse (are_too_many entries.items || has_twice entries.items) }
+    requires devices { IsTrue (are_restorable devices.items) }
     ensures { IfOk result (λ x. (x.0 ≡ peers.items) × (x.1 ≡ entries.items) × (x.2 ≡ devices.items)) }
 {
     let peers = peers_of(alloc, peers.as_slice())?;
-    let Ok(entries) = Bdt::from_vec(entries) else {
-        return Err(FaultKind::Twice);
-    };
-    let Ok(devices) = KeptDevices::new(devices) else {
-        return Err(FaultKind::Twice);
-    };
+    let entries = Bdt::from_vec(entries).unwrap();
+    let devices = KeptDevices::new(devices).unwrap();
     Ok((peers, entries, devices))
 }

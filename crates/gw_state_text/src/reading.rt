@@ -1,8 +1,11 @@
 //! The text of a state, read.
 
-ghost use Rattle.std.specs.Prelude.{◌≡◌, ◌≤◌, ◌-◌, ◌+◌, ◌++◌, IfOk, IfErr, length, take};
+ghost use Rattle.std.specs.Prelude.{◌≡◌, ◌≤◌, ◌-◌, ◌+◌, ◌==◌, ◌++◌, IfOk, IfErr, drop, length, take};
+ghost use Rattle.std.specs.List.{list_any};
 ghost use Rattle.gw_state_text.specs.Fit.{AreFit};
 ghost use Rattle.gw_state_text.specs.Place.{IsPlaceOf, line_count};
+ghost use Rattle.gw_saved.specs.Saved.{Saved as SavedState};
+ghost use Rattle.gw_state_text.specs.Reading.{IsReadAs, ReadsLines, ReadsState, is_whole, kind_at, lines_of, state_of};
 ghost use Rattle.gw_state_text.specs.Text.{state_text};
 ghost use Rattle.gw_state_text.specs.internal.Stop.{StopsIn};
 
@@ -27,6 +30,10 @@ pub fn read_state(alloc: Global, text: &[u8]) -> Result<Saved, StateFault>
     ensures found { IfOk result (λ saved. text.now ≡ state_text saved) }
     ensures fit { IfOk result (λ saved. AreFit saved) }
     ensures place { IfErr result (λ fault. IsPlaceOf text.now fault.line) }
+    // Which state, and which fault at which line, unless memory was refused.
+    ensures exact { ReadsState (λ saved. saved) result (state_of text.now) }
+    // The text of each state that fits is read.
+    ensures back { (saved : SavedState) → AreFit saved → text.now ≡ state_text saved → IsReadAs saved result }
 {
     match state_at(alloc, text) {
         Ok(saved) => Ok(saved),
@@ -51,20 +58,44 @@ fn line_of(text: &[u8], left: usize) -> u64
 /// comes after the last, or memory was refused.
 fn kind_at(text: &[u8], stop: Stop) -> FaultKind
     requires { stop.left ≤ length text.now }
+    ensures { result ≡ kind_at (is_whole (take (length text.now - stop.left) text.now)
+        (drop (length text.now - stop.left) text.now)) stop.kind }
 {
     let (front, rest) = text.split_at(text.len() - stop.left);
-    let is_whole = front.ends_with(b"\nend\n") || rest.iter().any(|c| *c == b'\n');
     match stop.kind {
         FaultKind::Memory => FaultKind::Memory,
-        kind => { if is_whole { kind } else { FaultKind::Cut } }
+        kind => {
+            if is_whole(front, rest) {
+                kind
+            } else {
+                FaultKind::Cut
+            }
+        }
     }
 }
 
+/// Whether a text of these two parts has a whole line where the second begins: with its line feed, or after
+/// the last line.
+fn is_whole(front: &[u8], rest: &[u8]) -> bool
+    ensures { result ≡ is_whole front.now rest.now }
+{
+    front.ends_with(b"\nend\n") || has_feed(rest)
+}
+
+/// Whether a text has a line feed.
+fn has_feed(text: &[u8]) -> bool
+    ensures { result ≡ list_any (λ c. c == 10) text.now }
+{
+    text.iter().any(|c| *c == b'\n')
+}
+
 /// The state that a text is of.
+#[tactic(auto, unfolding(crate::specs::Reading::lines_of))]
 fn state_at(alloc: Global, text: &[u8]) -> Result<Saved, Stop>
     ensures found { IfOk result (λ saved. text.now ≡ state_text saved) }
     ensures fit { IfOk result (λ saved. AreFit saved) }
     ensures stop { IfErr result (λ stop. StopsIn text.now stop.left) }
+    ensures exact { ReadsLines (λ saved. saved) result (lines_of text.now) }
 {
     let Some(lines) = after_word(b"bacgw state 1\n", text) else {
         return Err(Stop::at(text, FaultKind::Version));

@@ -1,10 +1,11 @@
 //! The peers, entries and foreign devices of a port, and the learned routes.
 
-ghost use Rattle.std.specs.Prelude.{◌≡◌};
+ghost use Rattle.std.specs.Prelude.{◌≡◌, codes};
 ghost use Rattle.std.specs.List.{list_any};
 ghost use Rattle.gw_bdt_fdt.specs.Kept.{is_of_device};
 ghost use Rattle.gw_bdt_fdt.specs.Peers.{is_of};
 ghost use Rattle.gw_state_text.specs.Fit.{FitsDevices, FitsEntries, FitsRoutes, is_to};
+ghost use Rattle.gw_state_text.specs.Reading.{device_after, entry_after, route_after};
 ghost use Rattle.gw_state_text.specs.Text.{device_line, entry_line, route_line};
 
 use crate::block::Block;
@@ -63,6 +64,10 @@ impl Block for Entries {
 
     ghost count = { λ entries. 64 };
 
+    ghost opens = { λ entries. entries.word.now };
+
+    ghost reads = { λ entries before text. entry_after entries.word.now before text };
+
     fn word(&self) -> &'static [u8] {
         self.word
     }
@@ -71,6 +76,7 @@ impl Block for Entries {
         MAX_ENTRIES
     }
 
+    #[tactic(auto, unfolding(crate::specs::Reading::entry_after))]
     fn read<'a>(
         &self,
         _alloc: Global,
@@ -110,6 +116,10 @@ impl Block for Devices {
 
     ghost count = { λ devices. 128 };
 
+    ghost opens = { λ devices. codes "device " };
+
+    ghost reads = { λ devices before text. device_after before text };
+
     fn word(&self) -> &'static [u8] {
         b"device "
     }
@@ -118,6 +128,7 @@ impl Block for Devices {
         MAX_REGISTRATIONS
     }
 
+    #[tactic(auto, unfolding(crate::specs::Reading::device_after))]
     fn read<'a>(
         &self,
         _alloc: Global,
@@ -164,6 +175,10 @@ impl Block for Routes {
 
     ghost count = { λ routes. 512 };
 
+    ghost opens = { λ routes. codes "route " };
+
+    ghost reads = { λ routes before text. route_after routes.ports before text };
+
     fn word(&self) -> &'static [u8] {
         b"route "
     }
@@ -172,6 +187,7 @@ impl Block for Routes {
         MAX_ROUTES
     }
 
+    #[tactic(auto, unfolding(crate::specs::Reading::route_after))]
     fn read<'a>(
         &self,
         _alloc: Global,

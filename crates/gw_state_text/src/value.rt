@@ -6,7 +6,10 @@ ghost use Rattle.gw_objects.specs.Table as table;
 ghost use Rattle.gw_objects.specs.Table.{value_of};
 ghost use Rattle.gw_tags.specs.Value.{value_encoding};
 ghost use Rattle.gw_state_text.specs.Fit.{FitsKind};
+ghost use Rattle.gw_state_text.specs.Reading.{Reads};
 ghost use Rattle.gw_state_text.specs.Text.{value_text};
+ghost use Rattle.gw_state_text.specs.Values.{octets_in, property_of, text_of, value_in, value_of as whole_value_of};
+ghost use Rattle.gw_tags.specs.Value.{value_view};
 ghost use Rattle.gw_state_text.specs.internal.Put.{IsPut};
 
 use crate::fault::FaultKind;
@@ -67,7 +70,10 @@ fn is_spelled(alloc: Global, value: &PropertyValue, word: &[u8]) -> Result<bool,
 }
 
 /// The octets that a word is in digits, at most 260.
-fn octets_in(alloc: Global, word: &[u8]) -> Result<Vec<u8>, FaultKind> {
+#[tactic(auto, unfolding(crate::specs::Values::octets_in))]
+fn octets_in(alloc: Global, word: &[u8]) -> Result<Vec<u8>, FaultKind>
+    ensures { Reads (λ octets. octets.items) result (octets_in word.now) }
+{
     if word.len() > 2 * MAX_VALUE {
         return Err(FaultKind::Line);
     }
@@ -80,7 +86,8 @@ fn octets_in(alloc: Global, word: &[u8]) -> Result<Vec<u8>, FaultKind> {
 
 /// A text of the value of an object.
 fn text_of(alloc: Global, text: CharacterString<'_>) -> Result<PropertyValue, FaultKind>
-    ensures { IfOk result (λ value. FitsKind ObjectKind.CharacterStringValue value) }
+    ensures is { IfOk result (λ value. FitsKind ObjectKind.CharacterStringValue value) }
+    ensures exact { Reads (λ value. value) result (text_of text.entry.charset text.entry.octets.now) }
 {
     if text.charset != 0 {
         return Err(FaultKind::Range);
@@ -96,12 +103,14 @@ fn text_of(alloc: Global, text: CharacterString<'_>) -> Result<PropertyValue, Fa
 }
 
 /// The value of an object of this type, by its kind.
+#[tactic(auto, unfolding(crate::specs::Values::property_of))]
 fn property_of(
     alloc: Global,
     kind: ObjectKind,
     value: AppValue<'_>,
 ) -> Result<PropertyValue, FaultKind>
-    ensures { IfOk result (λ value. FitsKind kind value) }
+    ensures is { IfOk result (λ value. FitsKind kind value) }
+    ensures exact { Reads (λ value. value) result (property_of kind (value_view value.entry)) }
 {
     match (kind, value) {
         (ObjectKind::BinaryValue, AppValue::Enumerated(0)) => Ok(PropertyValue::Binary(false)),
@@ -119,8 +128,10 @@ fn property_of(
 }
 
 /// The value of an object of this type that octets encode.
+#[tactic(auto, unfolding(crate::specs::Values::value_of))]
 fn value_of(alloc: Global, kind: ObjectKind, octets: &[u8]) -> Result<PropertyValue, FaultKind>
-    ensures { IfOk result (λ value. FitsKind kind value) }
+    ensures is { IfOk result (λ value. FitsKind kind value) }
+    ensures exact { Reads (λ value. value) result (whole_value_of kind octets.now) }
 {
     let Ok((value, rest)) = read_value(octets) else {
         return Err(FaultKind::Line);
@@ -133,6 +144,7 @@ fn value_of(alloc: Global, kind: ObjectKind, octets: &[u8]) -> Result<PropertyVa
 
 /// The value of an object of this type that a word is. `Line` if the word is no value in its only form,
 /// `Range` if it is a value of another type.
+#[tactic(auto, unfolding(crate::specs::Values::value_in))]
 pub(crate) fn value_in(
     alloc: Global,
     kind: ObjectKind,
@@ -140,6 +152,7 @@ pub(crate) fn value_in(
 ) -> Result<PropertyValue, FaultKind>
     ensures found { IfOk result (λ value. word.now ≡ value_text value) }
     ensures is { IfOk result (λ value. FitsKind kind value) }
+    ensures exact { Reads (λ value. value) result (value_in kind word.now) }
 {
     let octets = octets_in(alloc, word)?;
     let value = value_of(alloc, kind, octets.as_slice())?;

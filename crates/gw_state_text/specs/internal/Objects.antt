@@ -3,12 +3,22 @@ use Rattle.std.specs.Prelude.{◌≡◌, ℕ, List, ◌++◌, length, Option, So
 use Rattle.gw_objects.specs.declared.value.PropertyValue.{PropertyValue}
 use Rattle.gw_tags.specs.Object.{IsObject, object_view}
 use Rattle.gw_state_text.specs.Fit.{FitsKind, kind_of}
+use Rattle.gw_state_text.specs.Reading.{ObjectLine}
 use Rattle.gw_state_text.specs.Text.{object_line, slots_text}
 use Rattle.gw_state_text.specs.declared.object.Head.{Head}
 
 -- the line of an object
 abbrev pub head_text : Head → List ℕ
 head_text head = object_line (object_view head.object) head.configured head.default
+
+-- what the line of an object says, without where it is in memory
+abbrev pub line_view : Head → ObjectLine
+line_view head = record {
+  object = object_view head.object;
+  kind = head.kind;
+  configured = head.configured;
+  default = head.default;
+}
 
 -- an object of a known type, with values of that type
 pub record IsHead (head : Head) : Type 0 where

@@ -1,7 +1,7 @@
 use Rattle.std.proofs.Common.{◌≡◌, ◌∙◌, Some}
 use Rattle.std.specs.Fmt.{decimal}
 use Rattle.gw_addr.proofs.Lacking.{not_in_decimal}
-use Rattle.gw_state_text.specs.internal.Words.{number_in}
+use Rattle.gw_state_text.specs.Words.{number_in}
 use Rattle.gw_state_text.proofs.WordLemmas.{number_again, some_is}
 use Rattle.gw_state_text.proofs.words.number_to.Goals as goal
 

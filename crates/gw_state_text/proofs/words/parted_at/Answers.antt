@@ -2,6 +2,7 @@ use Rattle.std.proofs.Common.{◌≡◌, ◌∙◌, ◌+◌, ◌++◌, ◌∷◌
 use Rattle.std.specs.Prelude.{◌==◌, position}
 use Rattle.std.proofs.lemmas.List.{take_at}
 use Rattle.gw_state_text.proofs.WordLemmas.{drop_past, parts_at, place_first, some_is, tail_whole}
+use Rattle.gw_state_text.proofs.ReadLemmas.{not_parted, parted_found}
 use Rattle.gw_state_text.proofs.words.parted_at.Goals as goal
 
 pub returns-in-Some-clause-found : goal.returns-in-Some-clause-found
@@ -27,3 +28,10 @@ returns-in-None-clause-only c = λ word rest lacks e.
     let there : position (λ x. x == c.args.c) c.args.text.now ≡ Some (length word) =
     ap (position (λ x. x == c.args.c)) e ∙ place_first c.args.c word rest lacks in
     absurd (let both = c.in-None.ensures.place ∙ there in cc)
+
+pub returns-in-Some-clause-exact : goal.returns-in-Some-clause-exact
+returns-in-Some-clause-exact c =
+    parted_found c.args.c c.args.text.now c.in-Some.place _ c.in-Some.ensures.place (tail_whole (c.in-Some.place + 1) c.args.text.now)
+
+pub returns-in-None-clause-exact : goal.returns-in-None-clause-exact
+returns-in-None-clause-exact c = not_parted c.args.c c.args.text.now c.in-None.ensures.place
