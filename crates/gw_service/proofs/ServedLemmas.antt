@@ -236,8 +236,8 @@ run_serves held how count c before after s t (Err f) links runs none nowhere at 
     let end = runs.ends.ends in
     let counted = ap (λ (x : Served). x.turns) led.counts in
     stopped c count before after end.then.scene t.now.scene (led.turns ++ end.turns) f end.event
-        (omega (arith, runs.most, end.fewer, counted, turns_counted s.now.served led.turns, length-append led.turns end.turns))
-        (lead_along (first_scene c before) runs.then.now.scene end.then.scene led.turns end.turns from end.went.went) end.last.last log calls
+    (omega (arith, runs.most, end.fewer, counted, turns_counted s.now.served led.turns, length-append led.turns end.turns))
+    (lead_along (first_scene c before) runs.then.now.scene end.then.scene led.turns end.turns from end.went.went) end.last.last log calls
 
 -- without a state and a line of a log a gateway begins as one to which nothing came
 begins_first : (c : Configuration) (saved : Option Saved) (line : Option (List ℕ)) (w : State) → saved ≡ None → line ≡ None
