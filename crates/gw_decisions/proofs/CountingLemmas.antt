@@ -1,17 +1,20 @@
 -- The count goes on line by line.
-use Rattle.std.proofs.Common.{◌≡◌, ◌∙◌, ◌+◌, ◌<◌, ◌≤◌, ℕ, List, [], ◌∷◌, ◌++◌, length, take, drop, Option, Some, Result, Ok, Err, true, false, refl, sym, ap, subst, append_assoc, arith}
-use Rattle.std.specs.Prelude.{slice_index}
+use Rattle.std.proofs.Common.{◌≡◌, ◌∙◌, ◌+◌, ◌<◌, ◌≤◌, ℕ, List, [], ◌∷◌, ◌++◌, length, take, drop, Option, Some, None, Result, Ok, Err, true, false, refl, sym, ap, subst, append_assoc, arith}
+use Rattle.std.specs.Prelude.{IfSome, slice_index}
 use Rattle.std.proofs.lemmas.List.{append-nil, drop_at, take_at}
 use Rattle.gw_core.specs.Asked.{asked_at}
 use Rattle.gw_core.specs.History.{next, state_from}
 use Rattle.gw_core.specs.State.{State}
 use Rattle.gw_core.specs.declared.asked.Asked.{Asked}
-use Rattle.gw_core.proofs.HistoryLemmas.{state_from-append}
+use Rattle.gw_core.specs.Replay.{no_counts}
+use Rattle.gw_core.proofs.HistoryLemmas.{ports_stay, state_from-append}
 use Rattle.gw_core.proofs.ReplayLemmas.{are_length, are_more}
-use Rattle.gw_decisions.specs.Decisions.{AreCountedFrom, BeginsWithNone, IsNext}
+use Rattle.gw_configuration.specs.Configuration.{Configuration}
+use Rattle.gw_decisions.specs.Decisions.{AreCountedFrom, AreFirst, BeginsWithNone, IsNext, IsReport, fresh}
 use Rattle.gw_script.specs.Event.{Event}
 use Rattle.gw_script.specs.Reader.{BeginsLong}
 use Rattle.gw_script.specs.Script.{AreLines, lines_of}
+use Rattle.gw_tally.specs.Tally.{IsTally, tally_text}
 use Rattle.gw_watching.specs.Laws.{run_asked}
 use Rattle.gw_watching.specs.Watching.{AreCounted, counted_on}
 use Rattle.gw_watching.proofs.RecordLemmas.{counted_along, counted_none}
@@ -101,3 +104,30 @@ module _ (ports : ℕ) (start : State) (script first : List ℕ) where
           ends = subst (λ (l : List (List ℕ)). BeginsWithNone ports l) (sym others) said.0;
           counted = subst (λ (l : List ℕ). AreCounted first (run_asked start p.events) l) (sym said.1) p.counted;
         }
+
+-- what follows from what holds of a value, if there is one
+pub if_some : {A : Type 0} {P Q : A → Type 0} (o : Option A) → ((a : A) → P a → Q a) → IfSome o P → IfSome o Q
+if_some None follows is = tt
+if_some (Some a) follows is = follows a is
+
+-- the counts of a script, begun with none, are what is reported
+pub reported : (c : Configuration) (script first counts text : List ℕ) (ports : ℕ) (w : State) → w ≡ fresh c
+    → ports ≡ length w.relay.links → IsTally c.rules [] first → AreCountedFrom ports w script first counts
+    → text ≡ tally_text c.rules counts → IsReport c script text
+reported c script first counts text ports w is many none counted lines =
+    let same : ports ≡ length c.ports = many ∙ ap (λ (v : State). length v.relay.links) is ∙ ports_stay c no_counts [] in
+    record {
+      counts = counts;
+      decided = record {
+        events = counted.events;
+        lines = subst (λ (p : ℕ). AreFirst p script counted.events) same counted.lines;
+        ends = subst (λ (p : ℕ). BeginsWithNone p (drop (length counted.events) (lines_of script))) same counted.ends;
+        places = counted.counted.places ∙ none.places;
+        each = λ k within.
+            let inside : k < length first = omega (arith, within, counted.counted.places) in
+            counted.counted.each k inside
+            ∙ ap (λ (n : ℕ). counted_on k n (run_asked w counted.events)) (none.each k inside)
+            ∙ ap (λ (v : State). counted_on k 0 (run_asked v counted.events)) is;
+      };
+      lines = lines;
+    }

@@ -1,19 +1,20 @@
 //! The asks of a script, counted event by event.
 
-ghost use Rattle.std.specs.Prelude.{◌≡◌, ◌≤◌, ℕ, List, [], Some, length, IfSome, OnOk};
+ghost use Rattle.std.specs.Prelude.{◌≡◌, ◌≤◌, ◌+◌, ℕ, List, [], Some, length, IfOk, IfSome, OnOk};
 ghost use Rattle.std.specs.Io.KnownBytes.{prepend_known};
 ghost use Rattle.gw_addr.specs.declared.TheConstants.{MAX_PORTS};
 ghost use Rattle.gw_core.specs.Asked.{asked_at};
 ghost use Rattle.gw_core.specs.History.{next};
-ghost use Rattle.gw_decisions.specs.Decisions.{AreCountedFrom, IsNext, IsReport};
+ghost use Rattle.gw_decisions.specs.Decisions.{AreCountedFrom, IsNext, IsReport, fresh};
 ghost use Rattle.gw_script.specs.Event.{event_view};
+ghost use Rattle.gw_tally.specs.Tally.{IsTally, tally_text};
 ghost use Rattle.gw_watching.specs.Watching.{AreCounted};
 
 use gw_configuration::Config;
 use gw_core::{Asked, Counts, Event, Gateway, take_event_watched};
 use gw_script::{LineReader, MAX_DATAGRAM, NextLine, OctetSource, parse_line};
 use gw_tally::{Tally, put_tally};
-use std::alloc::Global;
+use std::alloc::{AllocError, Global};
 
 /// The asks aren't counted: memory was refused, a read failed, or a count of the gateway is at its end.
 #[derive(Drop)]
@@ -39,23 +40,14 @@ pub fn count_script<R: OctetSource>(
     ensures { (script : List ℕ) → R.left reader.old ≡ Some script →
         IfSome result (λ text. IsReport config script text.items) }
 {
-    let counts = Counts {
-        ticks: 0,
-        denials: 0,
+    let Ok(mut counting) = Counting::new(alloc, config) else {
+        return None;
     };
-    let gateway = Gateway::new(alloc, config, counts).ok()?;
-    let tally = Tally::new(alloc, gateway.rules()).ok()?;
-    let ports = gateway.ports();
-    let mut counting = Counting {
-        gateway,
-        lines: LineReader::new(),
-        datagram: [0; MAX_DATAGRAM],
-        tally,
+    let ports = counting.gateway.ports();
+    let Ok(()) = counting.count_each(alloc, ports, reader) else {
+        return None;
     };
-    counting.count_each(alloc, ports, reader).ok()?;
-    let mut text = Vec::new(alloc);
-    put_tally(counting.gateway.rules(), &counting.tally, &mut text).ok()?;
-    Some(text)
+    counting.lines(alloc)
 }
 
 /// Counts by which rule each ask was decided.
@@ -89,6 +81,38 @@ fn count_event(
 }
 
 impl Counting {
+    /// Nothing is counted yet, in a fresh gateway. An `Err` only if a growth of memory was refused.
+    fn new(alloc: Global, config: Config) -> Result<Counting, AllocError>
+        ensures state { IfOk result (λ counting. counting.gateway ≡ fresh config) }
+        ensures unread { IfOk result (λ counting. counting.lines.unread ≡ []) }
+        ensures none { IfOk result (λ counting. IsTally config.rules [] counting.tally) }
+    {
+        let counts = Counts {
+            ticks: 0,
+            denials: 0,
+        };
+        let gateway = Gateway::new(alloc, config, counts)?;
+        let tally = Tally::new(alloc, gateway.rules())?;
+        Ok(Counting {
+            gateway,
+            lines: LineReader::new(),
+            datagram: [0; MAX_DATAGRAM],
+            tally,
+        })
+    }
+
+    /// The counts, in lines. `None` if a growth of memory was refused.
+    fn lines(&self, alloc: Global) -> Option<Vec<u8>>
+        requires { length self.now.tally ≡ length self.now.gateway.rules + 1 }
+        ensures { IfSome result (λ text. text.items ≡ tally_text self.now.gateway.rules self.now.tally) }
+    {
+        let mut text = Vec::new(alloc);
+        match put_tally(self.gateway.rules(), &self.tally, &mut text) {
+            Ok(()) => Some(text),
+            Err(_) => None,
+        }
+    }
+
     /// Counts the asks of all lines up to the first that writes no event.
     fn count_each<R: OctetSource>(
         &mut self,

@@ -16,6 +16,8 @@ use Rattle.gw_command_line.specs.declared.command_line.Choice.{Choice}
 use Rattle.gw_command_line.specs.declared.command_line.Choice.TheVariants as choice
 use Rattle.gw_command_line.specs.CommandLine.{IsAnswer}
 use Rattle.gw_command_line.specs.declared.fault.WordsFault.{WordsFault}
+use Rattle.gw_shell.specs.declared.asking.Answering.{Answering}
+use Rattle.gw_shell.specs.declared.deciding.Playing.{Playing}
 use Rattle.gw_shell.specs.declared.fault.Fault.{Fault}
 use Rattle.gw_shell.specs.declared.fault.Fault.TheVariants as fault
 use Rattle.gw_shell.specs.Asking.{Answers, Counts, ReportsUnread, asks_in}
@@ -107,6 +109,13 @@ abbrev pub LeavesCounted : Bool → Result (List ℕ) Fault → Option (List ℕ
 LeavesCounted explains text input held holds outcome told =
     (c : Result Configuration Fault) × IsConfigurationOf text c × LeavesPlayed explains input held holds c outcome
     × ReportsAsks true input c outcome told
+
+-- What `replay` leaves and reports under that of the file of this name, or the built-in one.
+abbrev pub LeavesPlayedIn : (Reads : List ℕ → Result (List ℕ) Fault → Type 0) → Option (List ℕ) → Playing → Option (List ℕ)
+    → Option (List ℕ) → Option (List ℕ) → (told : List ℕ) → Result (Unit {0}) Fault → Type 0
+LeavesPlayedIn Reads file how input held holds told outcome =
+    (c : Result Configuration Fault) × IsConfigured Reads file c × LeavesPlayed how.explains input held holds c outcome
+    × ReportsAsks how.counts input c outcome told
 
 -- What `compare` leaves of two configurations: what it says of them, of which a failed write may leave a front. If
 -- they aren't alike, that is the outcome.
@@ -263,6 +272,13 @@ LeavesAnswered true input held holds (Ok c) outcome =
     (text : List ℕ) → input ≡ Some text → LeavesCounts c.rules text held holds outcome
 LeavesAnswered counts input held holds (Err f) outcome = (outcome ≡ Err f) × (holds ≡ held)
 
+-- What it leaves by those of the file of this name, and reports of the lines that show no ask.
+abbrev pub LeavesAnsweredIn : (Reads : List ℕ → Result (List ℕ) Fault → Type 0) → List ℕ → Answering → Option (List ℕ)
+    → Option (List ℕ) → Option (List ℕ) → (told : List ℕ) → Result (Unit {0}) Fault → Type 0
+LeavesAnsweredIn Reads file how input held holds told outcome =
+    (c : Result Configuration Fault) × IsConfigured Reads (Some file) c
+    × LeavesAnswered how.counts (asks_in how.strict input) held holds c outcome × ReportsUnread how.strict outcome told
+
 -- What is on standard output, which held `held` before, if files give what `Reads` and `ReadsState` say, `run`
 -- opens what the machine says, and `reload` is answered what `Answers` says: at `check`, `replay` and `why` what they leave of some configuration that is the one they name,
 -- at `compare` of the two, at `state` of the one and the state, at `run` also what was reported at the start, at `log` what that leaves of the log, and at help its text, of which a
@@ -279,15 +295,13 @@ LeavesOutput Reads ReadsState Answers machine input held holds told (Ok (choice.
     (c : Result Configuration Fault) × IsConfigured Reads (Some (string_bytes file)) c
     × LeavesMigrated held holds c outcome
 LeavesOutput Reads ReadsState Answers machine input held holds told (Ok (choice.Replay file explains counts)) outcome =
-    (c : Result Configuration Fault) × IsConfigured Reads (option_map string_bytes file) c
-    × LeavesPlayed explains input held holds c outcome × ReportsAsks counts input c outcome told
+    LeavesPlayedIn Reads (option_map string_bytes file) (record { explains = explains; counts = counts }) input held holds told outcome
 LeavesOutput Reads ReadsState Answers machine input held holds told (Ok (choice.Run options)) outcome =
     (text : Result (List ℕ) Fault) × Reads (string_bytes options.config) text
     × (c : Result Configuration Fault) × IsConfigurationOf text c
     × LeavesRun machine text held holds options c told outcome
 LeavesOutput Reads ReadsState Answers machine input held holds told (Ok (choice.Why file counts strict)) outcome =
-    (c : Result Configuration Fault) × IsConfigured Reads (Some (string_bytes file)) c
-    × LeavesAnswered counts (asks_in strict input) held holds c outcome × ReportsUnread strict outcome told
+    LeavesAnsweredIn Reads (string_bytes file) (record { counts = counts; strict = strict }) input held holds told outcome
 LeavesOutput Reads ReadsState Answers machine input held holds told (Ok (choice.Reload config request)) outcome =
     LeavesReloadIn Reads Answers (string_bytes config) (string_bytes request) held holds outcome
 LeavesOutput Reads ReadsState Answers machine input held holds told (Ok (choice.Compare old new most)) outcome =

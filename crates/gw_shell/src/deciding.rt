@@ -2,23 +2,24 @@
 
 ghost use Rattle.std.specs.Prelude.{◌≡◌, ℕ, List, [], Ok, Some, false, option_map, string_bytes, IfErr, IfOk, OnOk};
 ghost use Rattle.std.specs.Io.Buffered.{writer_buffer, writer_contents};
-ghost use Rattle.std.specs.Io.KnownBytes.{IsAtEnd, Keeps, prepend_known};
+ghost use Rattle.std.specs.Io.KnownBytes.{Appends, IsAtEnd, Keeps, prepend_known};
 ghost use Rattle.gw_configuration.specs.Configuration.{Configuration};
 ghost use Rattle.gw_script.specs.Known.{OnKnown};
 ghost use Rattle.gw_shell.specs.Configured.{IsConfigurationOf};
 ghost use Rattle.gw_shell.specs.Deciding.{IsDecided, IsDecidedAt, IsTextFor, IsUnread, decisions_text};
 ghost use Rattle.gw_shell.specs.Files.{result_map};
-ghost use Rattle.gw_shell.specs.Program.{LeavesCounted};
+ghost use Rattle.gw_shell.specs.Program.{LeavesCounted, LeavesPlayed, LeavesPlayedIn};
 ghost use Rattle.gw_shell.specs.Replay.{Plays};
 
-use crate::configured::configuration_of;
+use crate::configured::{configuration, configuration_of};
 use crate::fault::Fault;
 use crate::files::ConfigFiles;
 use crate::script::replay;
 use gw_configuration::Config;
 use gw_decisions::count_script;
 use gw_policy_text::SETTING;
-use gw_script::OctetSource;
+use gw_script::{OctetSink, OctetSource};
+use gw_service::tell;
 use std::alloc::Global;
 use std::io::{BufWriter, Write};
 
@@ -196,4 +197,75 @@ pub fn replay_counting<R: OctetSource, W: Write + Drop>(
     let outcome = play_script(alloc, explains, config, &script, output);
     let decisions = decide_after(alloc, text, &script, outcome);
     Counted { outcome, decisions }
+}
+
+/// Plays the script under a configuration, and reports its asks if `explains`.
+fn play<R: OctetSource, W: Write + Drop>(
+    alloc: Global,
+    explains: bool,
+    config: Result<Config, Fault>,
+    input: &mut R,
+    output: &mut BufWriter<W>,
+) -> Result<(), Fault>
+    ensures output { LeavesPlayed explains (R.left input.old) (writer_contents W.contents output.old)
+        (writer_contents W.contents output.new) config result }
+    ensures flush { OnOk result (writer_buffer output.new ≡ []) }
+{
+    replay(alloc, explains, config?, input, output)
+}
+
+/// Plays the script of standard input under the configuration of this text, and reports which rule decides each of its
+/// asks.
+fn play_counting<R: OctetSource, W: Write + Drop, E: OctetSink>(
+    alloc: Global,
+    explains: bool,
+    text: &Result<Vec<u8>, Fault>,
+    input: &mut R,
+    output: &mut BufWriter<W>,
+    errors: &mut E,
+) -> Result<(), Fault>
+    ensures counted { (told : List ℕ) × LeavesCounted explains (result_map (λ octets. octets.items) text.now)
+        (R.left input.old) (writer_contents W.contents output.old) (writer_contents W.contents output.new) result told
+        × (E.NeverFails errors.old → Appends (E.held errors.old) (E.held errors.new) told) }
+    ensures lasting { E.NeverFails errors.old → E.NeverFails errors.new }
+    ensures flush { OnOk result (writer_buffer output.new ≡ []) }
+{
+    let counted = replay_counting(alloc, explains, text, input, output);
+    tell(counted.decisions.as_bytes(), errors);
+    counted.outcome
+}
+
+/// How a script is played.
+#[derive(Clone, Copy)]
+pub struct Playing {
+    /// Whether it is said of each ask which rule decides it.
+    pub explains: bool,
+    /// Whether it is reported at the end how many asks each rule decided.
+    pub counts: bool,
+}
+
+/// Plays the script of standard input under the configuration in the file of this name, or the built-in one.
+pub fn play_in<F: ConfigFiles, R: OctetSource, W: Write + Drop, E: OctetSink>(
+    alloc: Global,
+    files: &F,
+    file: &Option<String>,
+    how: Playing,
+    input: &mut R,
+    output: &mut BufWriter<W>,
+    errors: &mut E,
+) -> Result<(), Fault>
+    ensures played { (told : List ℕ) × LeavesPlayedIn (F.Reads files.now) (option_map string_bytes file.now) how
+        (R.left input.old) (writer_contents W.contents output.old) (writer_contents W.contents output.new) told result
+        × (E.NeverFails errors.old → Appends (E.held errors.old) (E.held errors.new) told) }
+    ensures lasting { E.NeverFails errors.old → E.NeverFails errors.new }
+    ensures flush { OnOk result (writer_buffer output.new ≡ []) }
+{
+    let Playing { explains, counts } = how;
+    if counts {
+        let text = text_for(alloc, files, file);
+        play_counting(alloc, explains, &text, input, output, errors)
+    } else {
+        let config = configuration(alloc, files, file);
+        play(alloc, explains, config, input, output)
+    }
 }

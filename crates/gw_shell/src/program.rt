@@ -19,10 +19,10 @@ ghost use Rattle.gw_shell.specs.Serving.{LeavesRun};
 ghost use Rattle.gw_shell.specs.declared.fault.Fault.{Fault};
 ghost use Rattle.gw_shell.specs.declared.fault.Fault.TheVariants as fault;
 
-use crate::asking::{count, why};
+use crate::asking::{Answering, answer_in};
 use crate::checked::checked_text;
-use crate::configured::{configuration, configuration_in, configuration_of};
-use crate::deciding::{replay_counting, text_for};
+use crate::configured::{configuration_in, configuration_of};
+use crate::deciding::{Playing, play_in};
 use crate::ending::{end_by, usage_of};
 use crate::fault::Fault;
 use crate::files::ConfigFiles;
@@ -30,17 +30,13 @@ use crate::json::{check_in_json, compare_in_json, print_points};
 use crate::kept::words_of_text;
 use crate::reloading::{self, ask};
 use crate::reporting::print_report_in;
-use crate::script::replay;
-use crate::suggesting::suggest;
-use crate::unread::tell_unread;
+use crate::suggesting::suggest_shown;
 use crate::{objects, telling};
-use gw_asks::{AskLines, Lent};
 use gw_command_line::{Choice, RunOptions, choice_of};
 use gw_compare::{Compared, put_comparison};
 use gw_configuration::{Config, ConfigFault};
 use gw_explanation::{Explanation, explain};
 use gw_migration::migrate;
-use gw_rules::RuleList;
 use gw_script::{OctetSink, OctetSource, write_whole};
 use gw_service::{ServiceFault, serve_ports, tell};
 use gw_suggest::Manner;
@@ -205,21 +201,6 @@ fn print_in_format_three<W: Write + Drop>(
     print_migrated(alloc, &config, output)
 }
 
-/// Plays the script under a configuration, and reports its asks if `explains`.
-fn play<R: OctetSource, W: Write + Drop>(
-    alloc: Global,
-    explains: bool,
-    config: Result<Config, Fault>,
-    input: &mut R,
-    output: &mut BufWriter<W>,
-) -> Result<(), Fault>
-    ensures output { LeavesPlayed explains (R.left input.old) (writer_contents W.contents output.old)
-        (writer_contents W.contents output.new) config result }
-    ensures flush { OnOk result (writer_buffer output.new ≡ []) }
-{
-    replay(alloc, explains, config?, input, output)
-}
-
 /// How a comparison ends: `Different` unless the two are alike.
 pub(crate) fn outcome_of(made: Compared) -> Result<(), Fault>
     ensures { result ≡ outcome_of_comparison made }
@@ -366,58 +347,6 @@ fn print_asked<H: Host, W: Write + Drop>(
     print_answer(ask(alloc, request, host), output)
 }
 
-/// Answers each ask of standard input by the rules of a configuration, or counts them.
-fn answer<R: OctetSource, W: Write + Drop>(
-    alloc: Global,
-    counts: bool,
-    config: Result<Config, Fault>,
-    input: &mut R,
-    output: &mut BufWriter<W>,
-) -> Result<(), Fault>
-    ensures output { LeavesAnswered counts (R.left input.old) (writer_contents W.contents output.old)
-        (writer_contents W.contents output.new) config result }
-    ensures flush { OnOk result (writer_buffer output.new ≡ []) }
-{
-    let config = config?;
-    if counts {
-        print_counts(alloc, config.rules(), input, output)
-    } else {
-        why(alloc, &config, input, output)
-    }
-}
-
-/// Prints how many asks of standard input each rule decides.
-fn print_counts<R: OctetSource, W: Write + Drop>(
-    alloc: Global,
-    rules: &RuleList,
-    input: &mut R,
-    output: &mut BufWriter<W>,
-) -> Result<(), Fault>
-    ensures output { (text : List ℕ) → R.left input.old ≡ Some text → LeavesCounts rules.now text
-        (writer_contents W.contents output.old) (writer_contents W.contents output.new) result }
-    ensures flush { OnOk result (writer_buffer output.new ≡ []) }
-{
-    print_made(count(alloc, rules, input), output)
-}
-
-/// Suggests rules for the asks of standard input under the configuration of a text that was read.
-fn suggest_rules<R: OctetSource, W: Write + Drop>(
-    alloc: Global,
-    text: &Result<Vec<u8>, Fault>,
-    manner: Manner,
-    input: &mut R,
-    output: &mut BufWriter<W>,
-) -> Result<(), Fault>
-    ensures output { LeavesSuggested manner (R.left input.old) (writer_contents W.contents output.old)
-        (writer_contents W.contents output.new) (result_map (λ octets. octets.items) text.now) result }
-    ensures flush { OnOk result (writer_buffer output.new ≡ []) }
-{
-    match text {
-        Ok(text) => suggest(alloc, text, manner, input, output),
-        Err(fault) => Err(*fault),
-    }
-}
-
 /// Says what the state of a file holds under the configuration of another.
 fn print_state_in<F: ConfigFiles, W: Write + Drop>(
     alloc: Global,
@@ -433,23 +362,6 @@ fn print_state_in<F: ConfigFiles, W: Write + Drop>(
     let config = configuration_in(alloc, files, config);
     let text = files.read_state(alloc, state);
     print_state(alloc, config, &text, output)
-}
-
-/// Suggests rules for the asks of standard input under the configuration of a file.
-fn suggest_in<F: ConfigFiles, R: OctetSource, W: Write + Drop>(
-    alloc: Global,
-    files: &F,
-    file: &str,
-    manner: Manner,
-    input: &mut R,
-    output: &mut BufWriter<W>,
-) -> Result<(), Fault>
-    ensures output { LeavesSuggestedIn (F.Reads files.now) file.now manner (R.left input.old)
-        (writer_contents W.contents output.old) (writer_contents W.contents output.new) result }
-    ensures flush { OnOk result (writer_buffer output.new ≡ []) }
-{
-    let text = files.read(alloc, file);
-    suggest_rules(alloc, &text, manner, input, output)
 }
 
 /// Asks the gateway that runs under the configuration of a file to read it again.
@@ -558,23 +470,14 @@ fn follow<F: ConfigFiles, H: Host, R: OctetSource, W: Write + Drop, E: OctetSink
             Choice::Replay {
                 file,
                 explains,
-                counts: false,
+                counts,
             },
         ) => {
-            let config = configuration(alloc, files, file);
-            play(alloc, *explains, config, input, output)
-        }
-        Ok(
-            Choice::Replay {
-                file,
-                explains,
-                counts: true,
-            },
-        ) => {
-            let text = text_for(alloc, files, file);
-            let counted = replay_counting(alloc, *explains, &text, input, output);
-            tell(counted.decisions.as_bytes(), errors);
-            counted.outcome
+            let how = Playing {
+                explains: *explains,
+                counts: *counts,
+            };
+            play_in(alloc, files, file, how, input, output, errors)
         }
         Ok(Choice::Run(options)) => {
             let text = files.read(alloc, &options.config);
@@ -584,24 +487,14 @@ fn follow<F: ConfigFiles, H: Host, R: OctetSource, W: Write + Drop, E: OctetSink
             Choice::Why {
                 file,
                 counts,
-                strict: true,
+                strict,
             },
         ) => {
-            let config = configuration_in(alloc, files, file);
-            answer(alloc, *counts, config, input, output)
-        }
-        Ok(
-            Choice::Why {
-                file,
-                counts,
-                strict: false,
-            },
-        ) => {
-            let config = configuration_in(alloc, files, file);
-            let mut asks = AskLines::new(Lent::new(input));
-            let outcome = answer(alloc, *counts, config, &mut asks, output);
-            tell_unread(outcome, asks.unread(), errors);
-            outcome
+            let how = Answering {
+                counts: *counts,
+                strict: *strict,
+            };
+            answer_in(alloc, files, file, how, input, output, errors)
         }
         Ok(
             Choice::Reload {
@@ -637,26 +530,12 @@ fn follow<F: ConfigFiles, H: Host, R: OctetSource, W: Write + Drop, E: OctetSink
                 keeps_services: *exact,
                 fills: *fills,
             };
-            let mut asks = AskLines::new(Lent::new(input));
-            let outcome = suggest_in(alloc, files, file, manner, &mut asks, output);
-            tell_unread(outcome, asks.unread(), errors);
-            outcome
+            suggest_shown(alloc, files, file, manner, input, output, errors)
         }
         Ok(Choice::Log(start)) => telling::tell(alloc, *start, input, output),
         Ok(Choice::Objects) => objects::list(alloc, input, output),
-        Ok(Choice::Judge { file, strict: true }) => {
-            objects::judge_in(alloc, files, file, input, output)
-        }
-        Ok(
-            Choice::Judge {
-                file,
-                strict: false,
-            },
-        ) => {
-            let mut asks = AskLines::new(Lent::new(input));
-            let outcome = objects::judge_in(alloc, files, file, &mut asks, output);
-            tell_unread(outcome, asks.unread(), errors);
-            outcome
+        Ok(Choice::Judge { file, strict }) => {
+            objects::judge_in(alloc, files, file, *strict, input, output, errors)
         }
         Ok(Choice::Report { file, log }) => print_report_in(alloc, files, file, log, output),
         Ok(Choice::Help(text)) => print(text.as_bytes(), output),

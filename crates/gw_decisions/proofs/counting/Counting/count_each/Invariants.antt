@@ -3,8 +3,8 @@ use Rattle.std.specs.Io.KnownBytes.{prepend_known}
 use Rattle.gw_decisions.proofs.CountingLemmas.{Progress}
 use Rattle.gw_decisions.proofs.counting.Counting.count_each.Given as goal
 
-abbrev pub invariant-loop-_number : goal.invariant-loop-_number
-invariant-loop-_number g l =
+abbrev pub invariant-loop-number : goal.invariant-loop-number
+invariant-loop-number g l =
     let left = g.R.OctetSource.left in record {
       progress : (text : List ℕ) → left l.fn.reader ≡ Some text
           → Progress l.fn.ports l.fn.self.gateway text l.fn.self.tally (prepend_known l.self.lines.unread (left l.reader)) l.self.gateway

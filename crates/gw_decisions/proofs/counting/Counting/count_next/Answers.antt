@@ -57,6 +57,6 @@ returns-clause-outcome g c = λ text known.
       remains = ap (λ (t : List ℕ). prepend_known t (g.R.OctetSource.left c.find_line.new.source)) c.consume.ensures.unread
           ∙ ap (prepend_known (drop span front)) found.is;
       lines = found.lines;
-      moves = c.in_ok-count_event.ensures.moved;
-      counted = c.in_ok-count_event.ensures.counted;
+      moves = c.in-Ok.ensures.moved;
+      counted = c.in-Ok.ensures.counted;
     }
