@@ -1,11 +1,10 @@
 //! The gateway: its state, and what it answers to one event.
 
-ghost use Rattle.std.specs.Prelude.{◌≡◌, ◌+◌, ◌≤◌, ◌<◌, ◌^◌, ◌↔◌, ◌++◌, ◌||◌, [], true, length, map, None, is_some, vec_capacity};
+ghost use Rattle.std.specs.Prelude.{◌≡◌, ◌+◌, ◌≤◌, ◌<◌, ◌^◌, ◌↔◌, ◌++◌, ◌||◌, [], true, length, None, is_some, vec_capacity};
 ghost use Rattle.std.specs.Prelude.{IsOk, IfOk, OnOk, OnErr, IsErrOf};
 ghost use Rattle.std.specs.Option.{option_map};
 ghost use Rattle.gw_addr.specs.declared.TheConstants.{MAX_PORTS};
 ghost use Rattle.gw_device.specs.Response.{HasPlace};
-ghost use Rattle.gw_relay.specs.History.{initial_acts};
 ghost use Rattle.gw_relay.specs.State.{Commit, moved};
 ghost use Rattle.gw_core.specs.Asked.{asked_at, asked_of};
 ghost use Rattle.gw_core.specs.Effects.{changed};
@@ -150,7 +149,7 @@ impl Gateway {
     ghost use Rattle.gw_core.specs.Denials.{denials_for};
     ghost use Rattle.gw_core.specs.Drops.{drop_at};
     ghost use Rattle.gw_core.specs.Effects.{NeedsNoMemory, change_for, nothing, passes_end, relay_change_for, sends_for};
-    ghost use Rattle.gw_core.specs.History.{IsStateAfter, IsStep, RoutesStand, TablesStand, WritesStand};
+    ghost use Rattle.gw_core.specs.History.{IsStateAfter, IsStep};
     ghost use Rattle.gw_core.specs.Receive.{origin};
     ghost use Rattle.gw_core.specs.View.{admitted_view};
     ghost use Rattle.gw_rules.specs.Asker.{verdicts_of};
@@ -161,9 +160,6 @@ impl Gateway {
         requires ticks { counts.ticks ≤ 2 ^ 63 }
         requires denials { counts.denials ≤ 2 ^ 63 }
         ensures state { IfOk result (λ gateway. IsStateAfter gateway config counts []) }
-        ensures writes { IfOk result (WritesStand config []) }
-        ensures tables { IfOk result (TablesStand config (map initial_acts config.ports)) }
-        ensures routes { IfOk result (RoutesStand config []) }
     {
         let ports = config.ports().len() as u8;
         let relay = Relay::new(alloc, &config)?;
