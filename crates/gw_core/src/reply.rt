@@ -215,7 +215,7 @@ fn routed_octets(
 
 /// Writes the headers of an answer to a node of the port's own network into the room before its APDU: those of an
 /// Original-Unicast-NPDU (Annex J.2.11) and of an NPDU that names its source alone (clause 6.2.2).
-fn put_local_headers(octets: &mut [u8], network: NetNum, priority: Priority)
+fn set_local_headers(octets: &mut [u8], network: NetNum, priority: Priority)
     requires least { 10 ≤ length octets.old }
     requires most { length octets.old < 2 ^ 16 }
     ensures { let npdu = local_reply network (priority_of priority) (drop 10 octets.old) in
@@ -249,7 +249,7 @@ fn local_octets(network: NetNum, priority: Priority, answer: Answer) -> Option<V
     if octets.len() > FRAME_HEADER + gw_npdu::MAX_LEN {
         return None;
     }
-    put_local_headers(octets.as_mut_slice(), network, priority);
+    set_local_headers(octets.as_mut_slice(), network, priority);
     Some(octets)
 }
 
