@@ -1,5 +1,5 @@
 -- A portion keeps a comparison right of the asks and rules that it is of.
-use Rattle.std.proofs.Common.{◌≡◌, List, subst, sym}
+use Rattle.std.proofs.Common.{◌≡◌, List, subst}
 use Rattle.gw_regions.specs.Comparing.{IsComparison}
 use Rattle.gw_regions.specs.Regions.{Region}
 use Rattle.gw_regions.specs.declared.comparison.Found.{Found}
