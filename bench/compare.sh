@@ -5,7 +5,8 @@
 #
 #     - it lies in a line exactly if the two policies decide it otherwise;
 #     - the line says what becomes of it, and names the two rules that decide it;
-#     - each line has such an ask, and the last line and the exit status are right;
+#     - each line has such an ask, and one without each field of which it says that it may be absent;
+#     - the last line and the exit status are right;
 #     - more than 40 lines are in groups by the rules that decide, and the line of each group counts them.
 #
 # And each example, written in format 3 by `check --migrate`, is compared with itself: no ask is decided otherwise.
@@ -354,7 +355,7 @@ def judge(room, dice, number):
     lines = [line_of(it) for it in without_heads(said[:-1])]
     assert said[-1] == ending(len(lines)) and status == (1 if lines else 0), f"{where}: {said[-1]}"
     assert [it[0] for it in lines] == sorted((it[0] for it in lines), reverse=True), f"{where}: the order"
-    has, count = [False] * len(lines), 0
+    has, lacked, count = [False] * len(lines), set(), 0
     for ask in asks_of(form, [it[1] for it in lines], old, new):
         count += 1
         (was, by_old), (now, by_new) = decide(old, ask), decide(new, ask)
@@ -362,9 +363,12 @@ def judge(room, dice, number):
         assert bool(found) == (was != now), f"{where}: {ask} was {was} by {by_old}, now {now} by {by_new}, lies in {found}\n" + "\n".join(said)
         for it in found:
             has[it] = True
-            allowed, _, news, olds = lines[it]
+            allowed, region, news, olds = lines[it]
+            lacked |= {(it, field) for field in region if ask[field] is None}
             assert allowed == now and by_new in news and by_old in olds, f"{where}: {ask}: {said[it]}"
     assert all(has), f"{where}: a line without an ask\n" + "\n".join(said)
+    absent = {(it, field) for it, line in enumerate(lines) for field, values in line[1].items() if values[0]}
+    assert absent <= lacked, f"{where}: no ask lacks {absent - lacked}\n" + "\n".join(said)
     return count, len(lines)
 
 

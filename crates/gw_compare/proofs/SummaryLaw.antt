@@ -8,6 +8,7 @@ use Rattle.std.proofs.lemmas.List.Sorted.{All-permutation, list_any-IsPermutatio
 use Rattle.gw_rules.specs.Ask.{Ask}
 use Rattle.gw_rules.specs.declared.rule.Rule.{Rule}
 use Rattle.gw_regions.specs.Comparing.{IsDecided, IsFoundFor, IsSummary, differs, is_found, unlike}
+use Rattle.gw_regions.specs.Presence.{NoneIsMeant, OrNoneIsMeant}
 use Rattle.gw_regions.specs.Regions.{Region, lies, lies_in_one}
 use Rattle.gw_regions.specs.declared.comparison.Found.{Found}
 
@@ -22,3 +23,6 @@ in_other_order shapes old new xs ys left moved is = record {
   verdicts = each_permuted (λ f. (ask : Ask) → lies_in_one shapes ask ≡ true → lies f.region ask ≡ true → IsDecided old new f ask) xs ys moved is.verdicts;
   asks = each_permuted (λ f. (lies f.region f.ask && lies_in_one shapes f.ask) ≡ true) xs ys moved is.asks;
 }
+
+pub meant_in_other_order : (shapes : List Region) (xs ys : List Found) → IsPermutation xs ys → OrNoneIsMeant shapes xs → OrNoneIsMeant shapes ys
+meant_in_other_order shapes xs ys moved is = each_permuted (λ f. NoneIsMeant shapes f.region) xs ys moved is

@@ -1,19 +1,23 @@
 -- What the text of a comparison says is true of each ask.
-use Rattle.std.proofs.Common.{◌≡◌, ◌≢◌, ◌∙◌, inl, inr, sym, ap, refl, subst, ℕ, Bool, true, false, ◌&&◌, ◌||◌, ◌==◌, List, [], ◌∷◌, length}
+use Rattle.std.proofs.Common.{◌≡◌, ◌≢◌, ◌∙◌, inl, inr, sym, ap, refl, subst, ℕ, Bool, true, false, ◌&&◌, ◌||◌, ◌==◌, List, [], ◌∷◌, length, None}
 use Rattle.std.specs.Prelude.{◌⊎◌, not, if◌then◌else◌}
 use Rattle.std.specs.List.{AllByRecursion, list_any}
 use Rattle.std.proofs.lemmas.Bool.{and_parts, both_ways, eqb-true}
 use Rattle.gw_configuration.specs.Configuration.{Configuration}
 use Rattle.gw_regions.specs.Comparing.{IsDecided, IsSummary, differs, is_found, unlike}
+use Rattle.gw_regions.specs.Presence.{NoneIsMeant}
 use Rattle.gw_regions.specs.Regions.{Region, lies, lies_in_one}
+use Rattle.gw_regions.specs.Values.{has, is_any}
 use Rattle.gw_regions.specs.declared.comparison.Found.{Found}
 use Rattle.gw_rules.specs.Ask.{Ask}
+use Rattle.gw_rules.specs.Fields.{value_of}
+use Rattle.gw_rules.specs.declared.field.FieldName.{FieldName}
 use Rattle.gw_rules.specs.RuleList.{allows}
 use Rattle.gw_rules.specs.declared.rule.Rule.{Rule}
 use Rattle.gw_rules.proofs.EachAsk.{each_weaker}
 use Rattle.gw_compare.specs.Asks.{asks_of}
 use Rattle.gw_compare.specs.Comparison.{IsComparisonText, compared_by}
-use Rattle.gw_compare.specs.Laws.{AlikeIsAlike, FoundIsAll, IsAskOf, LinesAreTrue, LinesHaveAsks}
+use Rattle.gw_compare.specs.Laws.{AlikeIsAlike, FoundIsAll, IsAskOf, LinesAreTrue, LinesHaveAsks, NoneHasAsk}
 use Rattle.gw_compare.specs.declared.comparison.Compared.{Compared}
 use Rattle.gw_compare.specs.declared.comparison.Compared.TheVariants as compared
 use Rattle.gw_compare.proofs.AskLaw.{all_asks}
@@ -88,3 +92,11 @@ lines_have_asks old new most made text told =
     (λ f. (lies f.region f.ask ≡ true) × IsAskOf old new f.ask)
     (λ f both. let parts = and_parts (lies f.region f.ask) (lies_in_one (asks_of old new) f.ask) both in
     (parts.0, (all_asks old new).inner f.ask parts.1)) told.found told.summary.asks
+
+pub none_has_ask : NoneHasAsk
+none_has_ask old new most made text told =
+    each_weaker (λ f. NoneIsMeant (asks_of old new) f.region)
+    (λ f. (field : FieldName) → has (value_of field f.region) None ≡ true → is_any (value_of field f.region) ≡ false
+    → (ask : Ask) × (lies f.region ask ≡ true) × IsAskOf old new ask × (value_of field ask ≡ None))
+    (λ f meant field may some. let is = meant field may some in
+    (is.ask, is.there, (all_asks old new).inner is.ask is.in_shape, is.lacks)) told.found told.or_none

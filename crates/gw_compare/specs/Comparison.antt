@@ -3,6 +3,7 @@ use Rattle.std.specs.Prelude.{◌≡◌, ℕ, ◌==◌, if◌then◌else◌, Lis
 use Rattle.std.specs.List.Sorted.{IsNonDecreasingBy}
 use Rattle.gw_configuration.specs.Configuration.{Configuration}
 use Rattle.gw_regions.specs.Comparing.{IsSummary}
+use Rattle.gw_regions.specs.Presence.{OrNoneIsMeant}
 use Rattle.gw_regions.specs.Regions.{Region}
 use Rattle.gw_regions.specs.declared.comparison.Found.{Found}
 use Rattle.gw_compare.specs.Asks.{asks_of}
@@ -46,6 +47,7 @@ pub record IsComparisonText (old new : Configuration) (most : ℕ) (made : Compa
   pub found : List Found
   pub left : List Region
   pub summary : IsSummary (asks_of old new) old.rules new.rules found left
+  pub or_none : OrNoneIsMeant (asks_of old new) found
   pub in_order : IsNonDecreasingBy rank found
   pub verdict : made ≡ compared_by (length found) (length left)
   pub told : text ≡ notes ++ (regions_text old.rules new.rules most found ++ ending_text made (length found))

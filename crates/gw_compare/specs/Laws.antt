@@ -1,12 +1,15 @@
 -- What the text of a comparison says of the asks of two configurations.
-use Rattle.std.specs.Prelude.{◌≡◌, ◌≢◌, ◌⊎◌, ℕ, true, count_by, List}
+use Rattle.std.specs.Prelude.{◌≡◌, ◌≢◌, ◌⊎◌, ℕ, true, false, count_by, List, None}
 use Rattle.std.specs.List.{AllByRecursion}
 use Rattle.gw_configuration.specs.Configuration.{Configuration}
 use Rattle.gw_regions.specs.Comparing.{IsDecided, differs, is_found}
 use Rattle.gw_regions.specs.Regions.{lies}
+use Rattle.gw_regions.specs.Values.{has, is_any}
 use Rattle.gw_regions.specs.declared.comparison.Found.{Found}
 use Rattle.gw_rules.specs.Ask.{Ask}
+use Rattle.gw_rules.specs.Fields.{value_of}
 use Rattle.gw_rules.specs.RuleList.{allows}
+use Rattle.gw_rules.specs.declared.field.FieldName.{FieldName}
 use Rattle.gw_shapes.specs.Shape.{LiesInOne}
 use Rattle.gw_shapes.specs.Shapes.{shapes}
 use Rattle.gw_compare.specs.Comparison.{IsComparisonText}
@@ -42,6 +45,14 @@ abbrev pub LinesHaveAsks : Type 0
 LinesHaveAsks = (old new : Configuration) (most : ℕ) (made : Compared) (text : List ℕ)
     (told : IsComparisonText old new most made text)
     → AllByRecursion (λ f. (lies f.region f.ask ≡ true) × IsAskOf old new f.ask) told.found
+
+-- A field of a region that may be absent, but isn't just anything, is absent in such an ask that lies there: a line that
+-- says `or none` of a field, or `without` it, has an ask without it.
+abbrev pub NoneHasAsk : Type 0
+NoneHasAsk = (old new : Configuration) (most : ℕ) (made : Compared) (text : List ℕ)
+    (told : IsComparisonText old new most made text)
+    → AllByRecursion (λ f. (field : FieldName) → has (value_of field f.region) None ≡ true → is_any (value_of field f.region) ≡ false
+    → (ask : Ask) × (lies f.region ask ≡ true) × IsAskOf old new ask × (value_of field ask ≡ None)) told.found
 
 -- Each region is in the group of exactly one of the first regions: the groups have each region once.
 abbrev pub EachHasOneGroup : Type 0

@@ -1,4 +1,5 @@
 pub mod Asks
+pub mod Comparing
 pub mod Comparison
 pub mod Groups
 pub mod Laws

@@ -1,16 +1,18 @@
 //! What `bacgw compare` says of two configurations.
-ghost use Rattle.std.specs.Prelude.{◌≡◌, ◌++◌, ◌∷◌, ◌==◌, [], codes, decimal, if◌then◌else◌, length, IfOk, OnErr, OnOk};
+ghost use Rattle.std.specs.Prelude.{◌≡◌, ◌++◌, ◌∷◌, ◌==◌, [], codes, decimal, if◌then◌else◌, length, IfOk, List, OnErr, OnOk};
 ghost use Rattle.std.specs.List.Sorted.{IsNonDecreasingBy, IsPermutation};
+ghost use Rattle.gw_compare.specs.Asks.{asks_of};
 ghost use Rattle.gw_compare.specs.Comparison.{AppendsComparison, IsComparisonText, compared_by, ending_text, kinds_text, rank};
-ghost use Rattle.gw_regions.specs.Comparing.{IsSummary};
+ghost use Rattle.gw_regions.specs.Comparing.{IsComparison, IsSummary};
+ghost use Rattle.gw_regions.specs.Presence.{OrNoneIsMeant};
+ghost use Rattle.gw_rules.specs.declared.rule.Rule.{Rule as SpecRule};
 
-use crate::asks::asks_of;
+use crate::Comparing;
 use crate::groups::{Listing, put_regions};
 use crate::notes::notes;
 use gw_addr::{keep_whole, put_decimal, put_slice};
 use gw_configuration::Config;
-use gw_regions::{Found, MAX_STEPS, Region, Summary, summarize};
-use gw_rules::Rule;
+use gw_regions::{Comparison, Found, MAX_STEPS, Region, Summary};
 use std::alloc::{AllocError, Global};
 
 /// How the policies of two configurations compare.
@@ -25,9 +27,9 @@ pub enum Compared {
 }
 
 /// A text, and how the policies compare that it is about.
-struct Told {
-    text: Vec<u8>,
-    made: Compared,
+pub(crate) struct Told {
+    pub text: Vec<u8>,
+    pub made: Compared,
 }
 
 impl Drop for Told {
@@ -59,13 +61,13 @@ pub fn put_comparison(
         AppendsComparison old.now new.now most made out.old.items out.new.items) }
     ensures err { OnErr result (out.new.items ≡ out.old.items) }
 {
-    let told = comparison(alloc, old, new, most)?;
-    put_whole(out, &told.text)?;
-    Ok(told.made)
+    let mut comparing = Comparing::new(alloc, old, new)?;
+    comparing.go_on(alloc, MAX_STEPS)?;
+    comparing.put(alloc, most, out)
 }
 
 /// Appends a text, or nothing.
-fn put_whole(out: &mut Vec<u8>, text: &[u8]) -> Result<(), AllocError>
+pub(crate) fn put_whole(out: &mut Vec<u8>, text: &[u8]) -> Result<(), AllocError>
     ensures ok { OnOk result (out.new.items ≡ out.old.items ++ text.now) }
     ensures err { OnErr result (out.new.items ≡ out.old.items) }
 {
@@ -74,19 +76,26 @@ fn put_whole(out: &mut Vec<u8>, text: &[u8]) -> Result<(), AllocError>
     keep_whole(out, len, put)
 }
 
-/// What there is to say.
-fn comparison(alloc: Global, old: &Config, new: &Config, most: usize) -> Result<Told, AllocError>
-    ensures { IfOk result (λ told. IsComparisonText old.now new.now most told.made told.text.items) }
+/// What there is to say of what two configurations decide otherwise.
+pub(crate) fn told_of(
+    alloc: Global,
+    old: &Config,
+    new: &Config,
+    summary: &Summary,
+    most: usize,
+) -> Result<Told, AllocError>
+    ensures { IfOk result (λ told.
+        IsSummary (asks_of old.now new.now) old.now.rules new.now.rules summary.now.found.items summary.now.left.items →
+        OrNoneIsMeant (asks_of old.now new.now) summary.now.found.items →
+        IsNonDecreasingBy rank summary.now.found.items →
+        IsComparisonText old.now new.now most told.made told.text.items) }
 {
-    let asks = asks_of(alloc, old, new)?;
-    let (before, after) = (old.rules().rules(), new.rules().rules());
-    let summary = summary_of(alloc, before, after, &asks)?;
     let mut text = notes(alloc, old, new)?;
     let made = compared_by(summary.found.len(), summary.left.len());
     let listing = Listing {
         found: &summary.found,
-        old: before,
-        new: after,
+        old: old.rules().rules(),
+        new: new.rules().rules(),
         most,
     };
     put_regions(alloc, &mut text, &listing)?;
@@ -94,18 +103,19 @@ fn comparison(alloc: Global, old: &Config, new: &Config, most: usize) -> Result<
     Ok(Told { text, made })
 }
 
-/// What two policies decide otherwise of these asks, what is newly allowed first.
-#[tactic(auto, using(crate::proofs::SummaryLaw::in_other_order))]
-fn summary_of(
+/// What a comparison over these asks has found so far, what is newly allowed first.
+pub(crate) fn summary_of(
     alloc: Global,
-    old: &[Rule],
-    new: &[Rule],
     asks: &[Region],
+    comparison: Comparison,
 ) -> Result<Summary, AllocError>
-    ensures summary { IfOk result (λ s. IsSummary asks.now old.now new.now s.found.items s.left.items) }
+    ensures summary { IfOk result (λ s. (old new : List SpecRule) →
+        IsComparison asks.now old new comparison.found.items comparison.left.items →
+        IsSummary asks.now old new s.found.items s.left.items) }
+    ensures or_none { IfOk result (λ s. OrNoneIsMeant asks.now s.found.items) }
     ensures in_order { IfOk result (λ s. IsNonDecreasingBy rank s.found.items) }
 {
-    let mut summary = summarize(alloc, old, new, asks, MAX_STEPS)?;
+    let mut summary = gw_regions::summary_of(alloc, asks, comparison)?;
     put_in_order(&mut summary.found)?;
     Ok(summary)
 }

@@ -2,6 +2,7 @@
 #![tactic(auto)]
 
 mod asks;
+mod comparing;
 mod comparison;
 mod groups;
 pub mod laws;
@@ -10,5 +11,6 @@ mod notes;
 mod words;
 
 pub use asks::asks_of;
+pub use comparing::{Comparing, put_steps};
 pub use comparison::{Compared, put_comparison};
 pub use groups::MOST_UNGROUPED;

@@ -95,7 +95,7 @@ decided_in old new region says f is said by_old by_new unlike ask there =
       new_rule = by_new ask here;
     }
 
-all_push : {A : Type 0} (P : A → Type 0) (xs : List A) (x : A) → AllByRecursion P xs → P x → AllByRecursion P (xs ++ x ∷ [])
+pub all_push : {A : Type 0} (P : A → Type 0) (xs : List A) (x : A) → AllByRecursion P xs → P x → AllByRecursion P (xs ++ x ∷ [])
 all_push P [] x all last = (last, tt)
 all_push P (y ∷ ys) x all last = (all.0, all_push P ys x all.1 last)
 

@@ -6,14 +6,13 @@ use Rattle.std.specs.Option.{option_to_list}
 use Rattle.std.proofs.lemmas.Bool.{and_from, and_parts, both_ways, false_from_ne_true, leb-true, or_cases, or_left, or_right}
 use Rattle.std.proofs.lemmas.List.Folds.{list_all-append}
 use Rattle.gw_rules.specs.Ask.{Ask}
-use Rattle.gw_rules.specs.Fields.{in_each, value_of}
+use Rattle.gw_rules.specs.Fields.{value_of}
 use Rattle.gw_rules.specs.Range.{holds}
 use Rattle.gw_rules.specs.declared.field.FieldName.{FieldName}
-use Rattle.gw_rules.specs.declared.field.FieldName.TheVariants.{Operation, Port, SourceNetwork, SourceKey, DestinationNetwork, Service, ObjectType, Instance, Property, Priority, Sender, Station}
 use Rattle.gw_rules.specs.declared.field.TheConstants.FieldName.{ALL}
 use Rattle.gw_rules.specs.declared.range.Range.{Range}
 use Rattle.gw_rules.proofs.EachField.{each_field_at, each_field_from}
-use Rattle.gw_regions.specs.Meeting.{any_to, common_ask, have_common}
+use Rattle.gw_regions.specs.Meeting.{AreCommon, any_to, have_common}
 use Rattle.gw_regions.specs.Ranges.{between, both, first_number, greater, lesser, shared, shared_with}
 use Rattle.gw_regions.specs.Regions.{Region, lies, lies_in_one}
 use Rattle.gw_regions.specs.Values.{common, has, shares}
@@ -75,15 +74,12 @@ common_law a b (Some n) s t =
 
 -- ---- regions
 
-common_at : (field : FieldName) (a b : Region) → value_of field (common_ask a b) ≡ common (value_of field a) (value_of field b)
-common_at field a b = elim field as (λ f. value_of f (common_ask a b) ≡ common (value_of f a) (value_of f b)) [ Operation ↦ refl | Port ↦ refl | SourceNetwork ↦ refl | SourceKey ↦ refl | DestinationNetwork ↦ refl | Service ↦ refl | ObjectType ↦ refl | Instance ↦ refl | Property ↦ refl | Priority ↦ refl | Sender ↦ refl | Station ↦ refl ]
-
 -- the ask that is made lies in both
-pub common_lies : (a b : Region) → have_common a b ≡ true → (lies a (common_ask a b) && lies b (common_ask a b)) ≡ true
-common_lies a b all =
-    and_from (lies a (common_ask a b)) (lies b (common_ask a b))
-    (each_field_from (λ f. has (value_of f a) (value_of f (common_ask a b))) (λ f. ap (has (value_of f a)) (common_at f a b) ∙ (at f).0))
-    (each_field_from (λ f. has (value_of f b) (value_of f (common_ask a b))) (λ f. ap (has (value_of f b)) (common_at f a b) ∙ (at f).1))
+pub common_lies : (a b : Region) (ask : Ask) → AreCommon a b ask → have_common a b ≡ true → (lies a ask && lies b ask) ≡ true
+common_lies a b ask is all =
+    and_from (lies a ask) (lies b ask)
+    (each_field_from (λ f. has (value_of f a) (value_of f ask)) (λ f. ap (has (value_of f a)) (is f) ∙ (at f).0))
+    (each_field_from (λ f. has (value_of f b) (value_of f ask)) (λ f. ap (has (value_of f b)) (is f) ∙ (at f).1))
   where
     at : (field : FieldName) → (has (value_of field a) (common (value_of field a) (value_of field b)) ≡ true)
         × (has (value_of field b) (common (value_of field a) (value_of field b)) ≡ true)
@@ -112,9 +108,6 @@ twice false = refl
 
 -- ---- the start
 
-any_at : (field : FieldName) (v : Values) → value_of field (in_each v) ≡ v
-any_at field v = elim field as (λ f. value_of f (in_each v) ≡ v) [ Operation ↦ refl | Port ↦ refl | SourceNetwork ↦ refl | SourceKey ↦ refl | DestinationNetwork ↦ refl | Service ↦ refl | ObjectType ↦ refl | Instance ↦ refl | Property ↦ refl | Priority ↦ refl | Sender ↦ refl | Station ↦ refl ]
-
 -- an ask of a shape has in each field a value that a shape has there
 in_field : (field : FieldName) (shapes : List Region) (ask : Ask) → lies_in_one shapes ask ≡ true
     → list_any (λ shape. has (value_of field shape) (value_of field ask)) shapes ≡ true
@@ -129,12 +122,13 @@ in_field field (s ∷ ss) ask t = elim (or_cases (lies s ask) (lies_in_one ss as
 ]
 
 -- a region to the last number of all shapes has every ask of theirs
-pub reaches : (shapes : List Region) (last : ℕ) (ask : Ask)
+pub reaches : (shapes : List Region) (region : Region) (last : ℕ) (ask : Ask)
+    → ((field : FieldName) → value_of field region ≡ any_to last)
     → ((field : FieldName) (number : ℕ) → list_any (λ shape. has (value_of field shape) (Some number)) shapes ≡ true → number ≤ last)
-    → lies_in_one shapes ask ≡ true → lies (in_each (any_to last)) ask ≡ true
-reaches shapes last ask below there =
-    each_field_from (λ f. has (value_of f (in_each (any_to last))) (value_of f ask)) (
-    λ f. ap (λ v. has v (value_of f ask)) (any_at f (any_to last)) ∙ by f (value_of f ask) (in_field f shapes ask there)
+    → lies_in_one shapes ask ≡ true → lies region ask ≡ true
+reaches shapes region last ask is below there =
+    each_field_from (λ f. has (value_of f region) (value_of f ask)) (
+    λ f. ap (λ v. has v (value_of f ask)) (is f) ∙ by f (value_of f ask) (in_field f shapes ask there)
     )
   where
     by : (field : FieldName) (x : Option ℕ) → list_any (λ shape. has (value_of field shape) x) shapes ≡ true → has (any_to last) x ≡ true

@@ -31,7 +31,7 @@ kept_trans one two three a b = record {
   found = λ test shapes old new left was. b.found test shapes old new left (a.found test shapes old new left was);
 }
 
-all_moved : (P : Found → Type 0) (xs ys : List Found) → IsPermutation xs ys → AllByRecursion P xs → AllByRecursion P ys
+pub all_moved : (P : Found → Type 0) (xs ys : List Found) → IsPermutation xs ys → AllByRecursion P xs → AllByRecursion P ys
 all_moved P xs ys moved all = recursion_from_All P ys (All-permutation P xs ys moved (All-from_recursion P xs all))
 
 pub found_moved : (test : Ask → Bool) (shapes : List Region) (old new : List Rule) (left : List Region) (xs ys : List Found)

@@ -1,5 +1,5 @@
 //! What two policies decide otherwise.
-ghost use Rattle.std.specs.Prelude.{◌≡◌, ◌≤◌, ◌<◌, ◌++◌, ◌∷◌, ◌&&◌, [], ℕ, Bool, true, Ok, IfOk, OnOk, List, length};
+ghost use Rattle.std.specs.Prelude.{◌≡◌, ◌≤◌, ◌<◌, ◌+◌, ◌++◌, ◌∷◌, ◌&&◌, [], ℕ, Bool, true, Ok, IfOk, OnOk, List, length};
 ghost use Rattle.gw_rules.specs.Ask.{Ask};
 ghost use Rattle.gw_rules.specs.Rule.{matches};
 ghost use Rattle.gw_regions.specs.Comparing.{AreAlike, AreDeciders, AreSame, AreUnlike, IsComparison};
@@ -19,6 +19,17 @@ use std::alloc::{AllocError, Global};
 
 /// How many steps a comparison is given: enough for two policies of 512 rules that people write.
 pub const MAX_STEPS: u32 = 65_536;
+
+/// Two policies, and the shapes of the asks over which they are compared.
+#[derive(Clone, Copy)]
+pub struct Policies<'a> {
+    /// The rules of the old policy.
+    pub old: &'a [Rule],
+    /// Those of the new one.
+    pub new: &'a [Rule],
+    /// The asks of these shapes count.
+    pub shapes: &'a [Region],
+}
 
 /// Whether two rules say the same, and are seen to match the same asks.
 fn same(a: &Rule, b: &Rule) -> bool
@@ -240,24 +251,77 @@ fn settle(
 /// Takes the last of the regions that are left, and looks at it if a shape meets it.
 fn step(
     alloc: Global,
-    old: &[Rule],
-    new: &[Rule],
-    shapes: &[Region],
+    policies: &Policies<'_>,
     comparison: &mut Comparison,
 ) -> Result<(), AllocError>
     ensures { OnOk result (
-        IsComparison shapes.now old.now new.now comparison.old.found.items comparison.old.left.items →
-        IsComparison shapes.now old.now new.now comparison.new.found.items comparison.new.left.items) }
+        IsComparison policies.now.shapes.now policies.now.old.now policies.now.new.now
+        comparison.old.found.items comparison.old.left.items →
+        IsComparison policies.now.shapes.now policies.now.old.now policies.now.new.now
+        comparison.new.found.items comparison.new.left.items) }
 {
     let Some(region) = comparison.take_last() else {
         return Ok(());
     };
-    match ask_within(&region, shapes) {
+    match ask_within(&region, policies.shapes) {
         None => Ok(()),
         Some(ask) => {
-            settle(alloc, old, new, Taken { region, ask }, comparison)?;
+            settle(
+                alloc,
+                policies.old,
+                policies.new,
+                Taken { region, ask },
+                comparison,
+            )?;
             Ok(())
         }
+    }
+}
+
+impl Comparison {
+    /// The beginning of a comparison over the asks of these shapes, whatever the policies: no step is used,
+    /// nothing is found, and one region is left, which has every ask of the shapes. An `Err` if there is no memory.
+    pub fn begin(alloc: Global, shapes: &[Region]) -> Result<Self, AllocError>
+        ensures comparison { IfOk result (λ c. (old new : List SpecRule) →
+            IsComparison shapes.now old new c.found.items c.left.items) }
+        ensures found { IfOk result (λ c. c.found.items ≡ []) }
+        ensures steps { IfOk result (λ c. c.steps ≡ 0) }
+    {
+        let start = region_over(alloc, shapes)?;
+        Comparison::new(alloc, start)
+    }
+
+    /// Goes on with the comparison, which is to be one of these policies and shapes, by at most so many steps.
+    /// It is a comparison of them after that, and it is finished if fewer steps were used. It takes no step after
+    /// 2^32 - 1 in all. An `Err` if there is no memory: what was found may be lost then.
+    pub fn go_on(
+        &mut self,
+        alloc: Global,
+        policies: &Policies<'_>,
+        steps: u32,
+    ) -> Result<(), AllocError>
+        ensures comparison { OnOk result (
+            IsComparison policies.now.shapes.now policies.now.old.now policies.now.new.now
+            self.old.found.items self.old.left.items →
+            IsComparison policies.now.shapes.now policies.now.old.now policies.now.new.now
+            self.new.found.items self.new.left.items) }
+        ensures least { OnOk result (self.old.steps ≤ self.new.steps) }
+        ensures most { OnOk result (self.new.steps ≤ self.old.steps + steps) }
+        ensures finished { OnOk result (self.new.steps < self.old.steps + steps → self.new.steps < 4294967295 →
+            self.new.left.items ≡ []) }
+    {
+        let before = self.steps;
+        let rest = u32::MAX - before;
+        let most = if steps < rest { steps } else { rest };
+        for used in 0..most {
+            if self.left.is_empty() {
+                self.steps = before + used;
+                return Ok(());
+            }
+            step(alloc, policies, self)?;
+        }
+        self.steps = before + most;
+        Ok(())
     }
 }
 
@@ -277,15 +341,7 @@ pub fn compare(
     ensures steps { IfOk result (λ c. c.steps ≤ steps) }
     ensures finished { IfOk result (λ c. c.steps < steps → c.left.items ≡ []) }
 {
-    let start = region_over(alloc, shapes)?;
-    let mut comparison = Comparison::new(alloc, start)?;
-    for used in 0..steps {
-        if comparison.left.is_empty() {
-            comparison.steps = used;
-            return Ok(comparison);
-        }
-        step(alloc, old, new, shapes, &mut comparison)?;
-    }
-    comparison.steps = steps;
+    let mut comparison = Comparison::begin(alloc, shapes)?;
+    comparison.go_on(alloc, &Policies { old, new, shapes }, steps)?;
     Ok(comparison)
 }

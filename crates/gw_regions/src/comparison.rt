@@ -106,6 +106,7 @@ impl Comparison {
     pub(crate) fn new(alloc: Global, start: Region) -> Result<Self, AllocError>
         ensures found { IfOk result (λ c. c.found.items ≡ []) }
         ensures left { IfOk result (λ c. c.left.items ≡ start ∷ []) }
+        ensures steps { IfOk result (λ c. c.steps ≡ 0) }
     {
         let mut left = Vec::new(alloc);
         left.push(start)?;

@@ -2,19 +2,20 @@
 ghost use Rattle.std.specs.Prelude.{◌≡◌, ◌≤◌, ◌&&◌, ℕ, true, false, None, Some, IfSome, IfOk};
 ghost use Rattle.std.specs.List.{list_any};
 ghost use Rattle.gw_rules.specs.Ask.{Ask as SpecAsk};
-ghost use Rattle.gw_rules.specs.Fields.{in_each, value_of};
+ghost use Rattle.gw_rules.specs.Fields.{value_of};
 ghost use Rattle.gw_rules.specs.Range.{holds};
 ghost use Rattle.gw_rules.specs.Rule.{each_field};
 ghost use Rattle.gw_rules.specs.declared.field.FieldName.{FieldName as SpecField};
 ghost use Rattle.gw_regions.specs.Regions.{lies, lies_in_one};
-ghost use Rattle.gw_regions.specs.Values.{has};
-ghost use Rattle.gw_regions.specs.Meeting.{any_to, common_ask, have_common};
+ghost use Rattle.gw_regions.specs.Values.{common, has};
+ghost use Rattle.gw_regions.specs.Meeting.{AreCommon, any_to, have_common};
 
 use crate::ranges::greater;
 use crate::{Region, Values};
 use gw_addr::Sequence;
 use gw_rules::{Ask, FieldName, Fields, Range};
 use std::alloc::{AllocError, Global};
+use std::convert::Infallible;
 
 /// Whether two regions have a value in common in each field.
 fn have_common(a: &Region, b: &Region) -> bool
@@ -27,22 +28,18 @@ fn have_common(a: &Region, b: &Region) -> bool
 
 /// In each field a value that both regions have, if there is one.
 fn common_ask(a: &Region, b: &Region) -> Ask
-    ensures { result ≡ common_ask a.now b.now }
+    ensures { AreCommon a.now b.now result }
 {
-    Ask {
-        operation: a.operation.common(&b.operation),
-        port: a.port.common(&b.port),
-        source_network: a.source_network.common(&b.source_network),
-        source_key: a.source_key.common(&b.source_key),
-        destination_network: a.destination_network.common(&b.destination_network),
-        service: a.service.common(&b.service),
-        object_type: a.object_type.common(&b.object_type),
-        instance: a.instance.common(&b.instance),
-        property: a.property.common(&b.property),
-        priority: a.priority.common(&b.priority),
-        sender: a.sender.common(&b.sender),
-        station: a.station.common(&b.station),
+    match Fields::try_from_each(|field| common_value(a, b, field)) {
+        Ok(ask) => ask,
+        Err(never) => match never {},
     }
+}
+
+fn common_value(a: &Region, b: &Region, field: FieldName) -> Result<Option<u64>, Infallible>
+    ensures { IfOk result (λ value. value ≡ common (value_of field a.now) (value_of field b.now)) }
+{
+    Ok(a.get(field).common(b.get(field)))
 }
 
 /// An ask that lies in both regions, or none if there is none.
@@ -135,39 +132,13 @@ fn any_value(alloc: Global, last: u64) -> Result<Values, AllocError>
 
 /// The region whose every field has any value to the last one.
 fn region_to(alloc: Global, last: u64) -> Result<Region, AllocError>
-    ensures { IfOk result (λ region. region ≡ in_each (any_to last)) }
+    ensures { IfOk result (λ region. (field : SpecField) → value_of field region ≡ any_to last) }
 {
-    let operation = any_value(alloc, last)?;
-    let port = any_value(alloc, last)?;
-    let source_network = any_value(alloc, last)?;
-    let source_key = any_value(alloc, last)?;
-    let destination_network = any_value(alloc, last)?;
-    let service = any_value(alloc, last)?;
-    let object_type = any_value(alloc, last)?;
-    let instance = any_value(alloc, last)?;
-    let property = any_value(alloc, last)?;
-    let priority = any_value(alloc, last)?;
-    let sender = any_value(alloc, last)?;
-    let station = any_value(alloc, last)?;
-    Ok(Fields {
-        operation,
-        port,
-        source_network,
-        source_key,
-        destination_network,
-        service,
-        object_type,
-        instance,
-        property,
-        priority,
-        sender,
-        station,
-    })
+    Fields::try_from_each(|_field| any_value(alloc, last))
 }
 
 /// A region that has every ask of the shapes: each field is absent, or has a number to the greatest one of
 /// the shapes.
-#[tactic(auto, using(crate::proofs::MeetingLaw::reaches))]
 pub(crate) fn region_over(alloc: Global, shapes: &[Region]) -> Result<Region, AllocError>
     ensures { IfOk result (λ region. (ask : SpecAsk) →
         lies_in_one shapes.now ask ≡ true → lies region ask ≡ true) }

@@ -2,6 +2,7 @@
 ghost use Rattle.std.specs.Prelude.{◌≡◌, ◌&&◌, ◌||◌, ℕ, Option, Some, None, true, not, IfOk};
 ghost use Rattle.std.specs.List.{list_any};
 ghost use Rattle.gw_rules.specs.Range.{admits, holds};
+ghost use Rattle.gw_regions.specs.Presence.{absence, present};
 ghost use Rattle.gw_regions.specs.Ranges.{first_number, shared};
 ghost use Rattle.gw_regions.specs.Values.{admitted, common, has, is_any, is_empty, others, refused, shares};
 
@@ -37,6 +38,26 @@ impl Drop for Values {
 }
 
 impl Values {
+    /// Absent, and no number.
+    pub(crate) fn absence(alloc: Global) -> Self
+        ensures { result ≡ absence }
+    {
+        Values {
+            absent: true,
+            ranges: Sequence::new(alloc),
+        }
+    }
+
+    /// The numbers alone.
+    pub(crate) fn present(&self, alloc: Global) -> Result<Self, AllocError>
+        ensures { IfOk result (λ made. made ≡ present self.now) }
+    {
+        Ok(Values {
+            absent: false,
+            ranges: copy(alloc, self.ranges.as_slice())?,
+        })
+    }
+
     /// Whether the field may be so.
     pub fn has(&self, value: Option<u64>) -> bool
         ensures { result ≡ has self.now value }

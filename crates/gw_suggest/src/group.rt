@@ -1,7 +1,7 @@
 //! The ranges of a rule for each field: those of one ask, and one in the place of two.
 ghost use Rattle.std.specs.Prelude.{◌≡◌, ◌||◌, Bool, ℕ, Option, true, IfOk, IfSome};
 ghost use Rattle.gw_rules.specs.Ask.{Ask as SpecAsk};
-ghost use Rattle.gw_rules.specs.Fields.{with_value};
+ghost use Rattle.gw_rules.specs.Fields.{value_of, with_value};
 ghost use Rattle.gw_rules.specs.Range.{admits};
 ghost use Rattle.gw_suggest.specs.Own.{admits_but, covers, covers_but, is_reading, own_ranges, own_service, own_values};
 
@@ -48,37 +48,27 @@ fn own_service(alloc: Global, keeps: bool, ask: &Ask) -> Result<Ranges, AllocErr
     }
 }
 
-/// The ranges that name each field that an ask has; the service of a read and of a list only if it is kept.
+/// The ranges that name a field of an ask, if it is named.
 #[tactic(auto, unfolding(crate::specs::Own::own_ranges))]
+fn own_ranges_at(
+    alloc: Global,
+    keeps: bool,
+    ask: &Ask,
+    field: FieldName,
+) -> Result<Ranges, AllocError>
+    ensures { IfOk result (λ made. made ≡ value_of field (own_ranges keeps ask.now)) }
+{
+    match field {
+        FieldName::Service => own_service(alloc, keeps, ask),
+        _ => own_values(alloc, *ask.get(field)),
+    }
+}
+
+/// The ranges that name each field that an ask has; the service of a read and of a list only if it is kept.
 pub(crate) fn own_ranges(alloc: Global, keeps: bool, ask: &Ask) -> Result<Group, AllocError>
     ensures { IfOk result (λ made. made ≡ own_ranges keeps ask.now) }
 {
-    let operation = own_values(alloc, ask.operation)?;
-    let port = own_values(alloc, ask.port)?;
-    let source_network = own_values(alloc, ask.source_network)?;
-    let source_key = own_values(alloc, ask.source_key)?;
-    let destination_network = own_values(alloc, ask.destination_network)?;
-    let service = own_service(alloc, keeps, ask)?;
-    let object_type = own_values(alloc, ask.object_type)?;
-    let instance = own_values(alloc, ask.instance)?;
-    let property = own_values(alloc, ask.property)?;
-    let priority = own_values(alloc, ask.priority)?;
-    let sender = own_values(alloc, ask.sender)?;
-    let station = own_values(alloc, ask.station)?;
-    Ok(Fields {
-        operation,
-        port,
-        source_network,
-        source_key,
-        destination_network,
-        service,
-        object_type,
-        instance,
-        property,
-        priority,
-        sender,
-        station,
-    })
+    Fields::try_from_each(|field| own_ranges_at(alloc, keeps, ask, field))
 }
 
 /// A list of these ranges.
@@ -102,52 +92,7 @@ fn copy_ranges(alloc: Global, ranges: &Ranges) -> Result<Ranges, AllocError>
 pub(crate) fn copy(alloc: Global, group: &Group) -> Result<Group, AllocError>
     ensures { IfOk result (λ copied. copied ≡ group.now) }
 {
-    let operation = copy_ranges(alloc, &group.operation)?;
-    let port = copy_ranges(alloc, &group.port)?;
-    let source_network = copy_ranges(alloc, &group.source_network)?;
-    let source_key = copy_ranges(alloc, &group.source_key)?;
-    let destination_network = copy_ranges(alloc, &group.destination_network)?;
-    let service = copy_ranges(alloc, &group.service)?;
-    let object_type = copy_ranges(alloc, &group.object_type)?;
-    let instance = copy_ranges(alloc, &group.instance)?;
-    let property = copy_ranges(alloc, &group.property)?;
-    let priority = copy_ranges(alloc, &group.priority)?;
-    let sender = copy_ranges(alloc, &group.sender)?;
-    let station = copy_ranges(alloc, &group.station)?;
-    Ok(Fields {
-        operation,
-        port,
-        source_network,
-        source_key,
-        destination_network,
-        service,
-        object_type,
-        instance,
-        property,
-        priority,
-        sender,
-        station,
-    })
-}
-
-/// Gives a field other ranges.
-fn set(group: &mut Group, field: FieldName, ranges: Ranges)
-    ensures { group.new ≡ with_value field ranges group.old }
-{
-    match field {
-        FieldName::Operation => group.operation = ranges,
-        FieldName::Port => group.port = ranges,
-        FieldName::SourceNetwork => group.source_network = ranges,
-        FieldName::SourceKey => group.source_key = ranges,
-        FieldName::DestinationNetwork => group.destination_network = ranges,
-        FieldName::Service => group.service = ranges,
-        FieldName::ObjectType => group.object_type = ranges,
-        FieldName::Instance => group.instance = ranges,
-        FieldName::Property => group.property = ranges,
-        FieldName::Priority => group.priority = ranges,
-        FieldName::Sender => group.sender = ranges,
-        FieldName::Station => group.station = ranges,
-    }
+    Fields::try_from_each(|field| copy_ranges(alloc, group.get(field)))
 }
 
 /// The same with other ranges for a field.
@@ -160,7 +105,7 @@ pub(crate) fn with_ranges(
     ensures { IfOk result (λ made. made ≡ with_value field ranges group.now) }
 {
     let mut made = copy(alloc, group)?;
-    set(&mut made, field, ranges);
+    made.set(field, ranges);
     Ok(made)
 }
 

@@ -1,21 +1,6 @@
-use Rattle.std.proofs.Common.{List, subst, sym}
-use Rattle.gw_regions.specs.Comparing.{IsSummary}
-use Rattle.gw_regions.specs.Regions.{Region, lies_in_one}
-use Rattle.gw_regions.specs.declared.comparison.Found.{Found}
-use Rattle.gw_regions.proofs.MergingLaw.{summary_of}
+use Rattle.std.proofs.lemmas.Result.{IfOk-weaker}
 use Rattle.gw_regions.proofs.summary.summarize.Goals as goal
 
 pub returns-clause-summary : goal.returns-clause-summary
 returns-clause-summary c =
-    let shapes = c.args.shapes.now in
-    let old = c.args.old.now in
-    let new = c.args.new.now in
-    let found = c.in_ok-comparison.comparison.found.items in
-    let left = c.in_ok-comparison.comparison.left.items in
-    let rest = c.into_parts-found.result.1.items in
-    let compared = summary_of shapes old new found left c.in_ok-comparison.ensures.comparison in
-    let start = subst (λ (fs : List Found). IsSummary shapes old new fs rest) (sym c.into_parts-found.ensures.found)
-    (subst (λ (xs : List Region). IsSummary shapes old new found xs) (sym c.into_parts-found.ensures.left) compared) in
-    let merged = c.in_ok-merged.ensures.found (lies_in_one shapes) shapes old new rest start in
-    let wide = c.in_ok-wide.ensures old new rest merged in
-    c.in_ok-found.ensures.found (lies_in_one shapes) shapes old new rest wide
+    IfOk-weaker c.summary_of.result _ _ (λ s summed. summed c.args.old.now c.args.new.now c.in_ok-comparison.ensures.comparison) c.summary_of.ensures.summary
