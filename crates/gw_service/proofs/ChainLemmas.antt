@@ -16,7 +16,8 @@ use Rattle.gw_serving.specs.declared.serving.ServeFault.{ServeFault}
 use Rattle.gw_core.specs.State.{State}
 use Rattle.gw_serving.specs.Serve.{Turn, count_turn, counts_after, empty_turn, failed_turn, lost_event, taken_event}
 use Rattle.gw_serving.specs.declared.serving.Served.{Served}
-use Rattle.gw_system.specs.Requests.{Exchange, GoesOn, answered, asked}
+use Rattle.gw_system.proofs.RequestLemmas.{goes_two}
+use Rattle.gw_system.specs.Requests.{Asking, GoesOn, answered, asked}
 use Rattle.gw_system.specs.declared.reading.ReadFailure.{ReadFailure}
 use Rattle.gw_service.specs.Chain.{Advances, AreLinks, IsLink, IsLooked, Link, Look, Looks, Manner, Runs, Stage, chain_text, link_text, look_text}
 use Rattle.gw_service.specs.Chain.{refused, standing, taken_over, unrequested}
@@ -45,15 +46,6 @@ links_none manner s = refl
 pub text_more : (links : List Link) (link : Link) → chain_text links ++ link_text link ≡ chain_text (links ++ link ∷ [])
 text_more links link = flat_map_more link_text [] links link
 
--- what was asked and then answered
-pub goes_two : (a b c : Option (List Exchange)) (x y : Exchange) → GoesOn a b (x ∷ []) → GoesOn b c (y ∷ []) → GoesOn a c (x ∷ y ∷ [])
-goes_two None b c x y first second = subst (λ (o : Option (List Exchange)). GoesOn o c (y ∷ [])) first second
-goes_two (Some a) None None x y first second = tt
-goes_two (Some a) None (Some c) x y first second = absurd (search rules)
-goes_two (Some a) (Some b) None x y first second = tt
-goes_two (Some a) (Some b) (Some c) x y first second =
-    second ∙ ap (λ (l : List Exchange). l ++ y ∷ []) first ∙ append_assoc a (x ∷ []) (y ∷ [])
-
 -- as many turns more are counted as were done
 pub turns_counted : (s : Served) (turns : List Turn) → (counts_after s turns).turns ≡ s.turns + length turns
 unfolding counts_after
@@ -68,7 +60,7 @@ turns_counted s (taken_event e tries ∷ turns) =
 
 -- a configuration that is taken over, and what is answered and reported of it
 pub taken_so : {K : Type 0} (Adopts : K → Configuration → State → K → Type 0) (o : Origin) (w : State) (k l : K)
-    (read : Result (Option (List ℕ)) ReadFailure) (made : Adopted) (first middle last : Option (List Exchange)) (line : List ℕ)
+    (read : Result (Option (List ℕ)) ReadFailure) (made : Adopted) (first middle last : Asking) (line : List ℕ)
     (counts then : ReloadCounts) (Never : Type 0) (held holds : Option (List ℕ)) → IsReloaded w o read made
     → ((c : Configuration) → IsSuccessor c made.successor → Adopts k c made.gateway l) → GoesOn first middle (asked read ∷ []) → GoesOn middle last (answered line ∷ [])
     → line ≡ made.line.items → then ≡ with_taken_over counts w.ticks → (Never → Appends held holds line)
@@ -100,7 +92,7 @@ taken_so Adopts o w k l (Err failure) made first middle last line counts then Ne
 
 -- one that isn't
 pub refused_so : {K : Type 0} (Adopts : K → Configuration → State → K → Type 0) (o : Origin) (w : State) (k : K)
-    (read : Result (Option (List ℕ)) ReadFailure) (fault : ReloadFault) (first middle last : Option (List Exchange)) (line : List ℕ)
+    (read : Result (Option (List ℕ)) ReadFailure) (fault : ReloadFault) (first middle last : Asking) (line : List ℕ)
     (counts then : ReloadCounts) (Never : Type 0) (held holds : Option (List ℕ)) → IsRefused w read fault → IsRefusalLine read fault line
     → GoesOn first middle (asked read ∷ []) → GoesOn middle last (answered line ∷ []) → then ≡ with_refused counts
     → (Never → Appends held holds line)
@@ -137,7 +129,7 @@ says_why read fault None is = short_line read fault
 says_why read fault (Some line) is = is
 
 -- what is reported of a request is the same with any keeper
-pub same_text : {K : Type 0} (c : Configuration) (w : State) (k l : K) (q : Option (List Exchange)) (counts : ReloadCounts) (look : Look)
+pub same_text : {K : Type 0} (c : Configuration) (w : State) (k l : K) (q : Asking) (counts : ReloadCounts) (look : Look)
     → look_text c (standing w k q counts) look ≡ look_text c (standing w l q counts) look
 same_text c w k l q counts unrequested = refl
 same_text c w k l q counts (refused read f line) = refl

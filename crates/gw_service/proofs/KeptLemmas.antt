@@ -12,7 +12,7 @@ use Rattle.gw_serving.specs.Wire.{Call}
 use Rattle.gw_serving.specs.declared.serving.ServeFault.{ServeFault}
 use Rattle.gw_serving.specs.declared.serving.Served.{Served}
 use Rattle.gw_serving.specs.declared.tally.Tally.{Tally}
-use Rattle.gw_system.specs.Requests.{Exchange, told_by}
+use Rattle.gw_system.specs.Requests.{Asking, told_by}
 use Rattle.gw_service.specs.Chain.{Link, Manner, Runs, Stage, chain_text, stage}
 use Rattle.gw_service.specs.Keeping.{troubles_in, unkept_in}
 use Rattle.gw_service.specs.Watch.{more_of, troubles_of}
@@ -67,14 +67,14 @@ ran_from manner report count at p was is troubles last answer after Never Then h
 
 -- a run from a stage whose parts are these
 from_start : {K : Type 0} (how : Manner K) (report : K → ReloadCounts → State → Served → Tally → List ℕ) (count : ℕ) (c : Configuration) (now : Scene)
-    (k : K) (s z : Served) (t n : Tally) (q r : Option (List Exchange)) (u v : ReloadCounts) (f : Troubles) (answer : Result (Unit {0}) ServeFault)
+    (k : K) (s z : Served) (t n : Tally) (q r : Asking) (u v : ReloadCounts) (f : Troubles) (answer : Result (Unit {0}) ServeFault)
     (after : Ends) (text : List ℕ) → s ≡ z → t ≡ n → q ≡ r → u ≡ v
     → RunsFrom how report count (stage c (moment now k s t) q u f) answer after text
     → RunsFrom how report count (stage c (moment now k z n) r v f) answer after text
 from_start how report count c now k s z t n q r u v f answer after text served tally requests counts runs =
     subst (λ (x : Served). RunsFrom how report count (stage c (moment now k x n) r v f) answer after text) served
     (subst (λ (x : Tally). RunsFrom how report count (stage c (moment now k s x) r v f) answer after text) tally
-    (subst (λ (x : Option (List Exchange)). RunsFrom how report count (stage c (moment now k s t) x v f) answer after text) requests
+    (subst (λ (x : Asking). RunsFrom how report count (stage c (moment now k s t) x v f) answer after text) requests
     (subst (λ (x : ReloadCounts). RunsFrom how report count (stage c (moment now k s t) q x f) answer after text) counts runs)))
 
 -- the counts of a gateway, one by one
@@ -91,7 +91,7 @@ is_reporting stats start other keeps kept reloads read starts is_kept is_read =
 
 -- A gateway that began so ran so.
 pub ran_kept : {S Q L : Type 0} (given : Given S Q L) (c : Configuration) (how : Service) (start : Counts) (keeps reloads : Bool) (w : State) (k : Kept S)
-    (s : Served) (t : Tally) (q : Option (List Exchange)) (u : ReloadCounts) (before after : Ends) (answer : Result (Unit {0}) ServeFault)
+    (s : Served) (t : Tally) (q : Asking) (u : ReloadCounts) (before after : Ends) (answer : Result (Unit {0}) ServeFault)
     (outcome : Result (Unit {0}) ServiceFault) (Never : Type 0) (held holds : Option (List ℕ)) → given.watcher ≡ None → start ≡ counts_of w
     → BeginsAs c given.saved given.line w → KeepsFirst given.held given.store c w k → s ≡ zero_counts → t ≡ no_tally
     → q ≡ told_by given.told given.requests → u ≡ counts_since w.ticks → keeps ≡ (is_some given.requests || is_some given.store)
@@ -123,7 +123,7 @@ ran_kept {S} given c how start keeps reloads w k s t q u before after answer out
 
 -- So did one that is watched.
 pub ran_watched : {S Q L : Type 0} (given : Given S Q L) (watcher : Watching L L) (c : Configuration) (how : Service) (start : Counts)
-    (keeps reloads : Bool) (w : State) (k : Both (Kept S) (Watching L L)) (s : Served) (t : Tally) (q : Option (List Exchange)) (u : ReloadCounts)
+    (keeps reloads : Bool) (w : State) (k : Both (Kept S) (Watching L L)) (s : Served) (t : Tally) (q : Asking) (u : ReloadCounts)
     (before after : Ends) (answer : Result (Unit {0}) ServeFault) (outcome : Result (Unit {0}) ServiceFault) (Never : Type 0)
     (held holds : Option (List ℕ)) → given.watcher ≡ Some watcher → start ≡ counts_of w
     → BeginsAs c given.saved given.line w → KeepsFirst given.held given.store c w k.first → k.second ≡ watcher → s ≡ zero_counts → t ≡ no_tally

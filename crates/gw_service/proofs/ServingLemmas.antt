@@ -29,7 +29,7 @@ served_whole c how first last log log_then calls calls_then text served is_first
     record { gateway = last; served = served; serves = from_first.0; reports = from_first.1 }
 
 -- a stop is one by its fault
-by_fault : (c : Configuration) (how : Service) (last : State) (log log_then : Option (List ℕ)) (calls calls_then : Option (List Call))
+pub by_fault : (c : Configuration) (how : Service) (last : State) (log log_then : Option (List ℕ)) (calls calls_then : Option (List Call))
     (text : List ℕ) (by : ServeFault) (served : Served)
     → ((run : Stops how.turns (scene (state_after c no_counts []) log calls) (record { fault = by; served = served }) (scene last log_then calls_then))
     × (text ≡ reports_of how.stats (state_after c no_counts []) run.turns last served))

@@ -15,7 +15,7 @@ use Rattle.gw_serving.specs.Stretch.{EndsFaulty, GoOn, IsWithheld, Moment}
 use Rattle.gw_serving.specs.declared.serving.ServeFault.{ServeFault}
 use Rattle.gw_serving.specs.declared.serving.Served.{Served}
 use Rattle.gw_serving.specs.declared.tally.Tally.{Tally}
-use Rattle.gw_system.specs.Requests.{Exchange, GoesOn, answered, asked, unasked}
+use Rattle.gw_system.specs.Requests.{Asking, GoesOn, answered, asked, unasked}
 use Rattle.gw_system.specs.declared.reading.ReadFailure.{ReadFailure}
 use Rattle.gw_service.specs.Reload.{IsRefusalLine, IsRefused, have_same_ports, reload_line, with_refused, with_taken_over}
 use Rattle.gw_service.specs.Notices.{notice_of}
@@ -46,14 +46,14 @@ manner Passes Ticks Adopts troubles report = record {
 
 -- ---- a request
 
--- the gateway, its keeper, what was asked and answered so far, and how often it was
+-- the gateway, its keeper, what is known of requests, and how often there was one
 pub record Standing (K : Type 0) : Type 0 where
   pub gateway : State
   pub keeper : K
-  pub requests : Option (List Exchange)
+  pub requests : Asking
   pub counts : ReloadCounts
 
-abbrev pub standing : {K : Type 0} → State → K → Option (List Exchange) → ReloadCounts → Standing K
+abbrev pub standing : {K : Type 0} → State → K → Asking → ReloadCounts → Standing K
 standing w keeper requests counts = record { gateway = w; keeper = keeper; requests = requests; counts = counts }
 
 -- What comes of looking for a request: there is none; there is one, and the configuration isn't taken over, which this line
@@ -130,15 +130,15 @@ Looks Done o s p t Never held holds =
 pub record Stage (K : Type 0) : Type 0 where
   pub config : Configuration
   pub now : Moment K
-  pub requests : Option (List Exchange)
+  pub requests : Asking
   pub counts : ReloadCounts
   pub told : Troubles
 
-abbrev pub stage : {K : Type 0} → Configuration → Moment K → Option (List Exchange) → ReloadCounts → Troubles → Stage K
+abbrev pub stage : {K : Type 0} → Configuration → Moment K → Asking → ReloadCounts → Troubles → Stage K
 stage config now requests counts told =
     record { config = config; now = now; requests = requests; counts = counts; told = told }
 
-abbrev pub standing_at : {K : Type 0} → Moment K → Option (List Exchange) → ReloadCounts → Standing K
+abbrev pub standing_at : {K : Type 0} → Moment K → Asking → ReloadCounts → Standing K
 standing_at now requests counts = standing now.scene.gateway now.guard requests counts
 
 -- The log, the wire and the counts are as they were.

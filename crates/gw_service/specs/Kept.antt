@@ -17,7 +17,7 @@ use Rattle.gw_serving.specs.declared.tally.Tally.{Tally}
 use Rattle.gw_system.specs.Host.{LogOpening}
 use Rattle.gw_watching.specs.Watching.{HasWatched, Watching}
 use Rattle.gw_system.specs.Opening.{IsNote}
-use Rattle.gw_system.specs.Requests.{Exchange, told_by}
+use Rattle.gw_system.specs.Requests.{Asking, told_by}
 use Rattle.gw_system.specs.declared.opening.OpenFailure.{OpenFailure}
 use Rattle.gw_system.specs.declared.reading.ReadFailure.{ReadFailure}
 use Rattle.gw_system.specs.declared.reading.ReadFailure.TheVariants as reading
@@ -105,7 +105,7 @@ KeepsFirst held _ c w _ = ⊥
 -- store, the requests and what watches, if there are some
 pub record Given (S Q L : Type 0) : Type 0 where
   pub held : S → Option (List ℕ)
-  pub told : Q → Option (List Exchange)
+  pub told : Q → Asking
   pub log_held : L → Option (List ℕ)
   pub saved : Option Saved
   pub line : Option (List ℕ)
@@ -113,7 +113,7 @@ pub record Given (S Q L : Type 0) : Type 0 where
   pub requests : Option Q
   pub watcher : Option (Watching L L)
 
-abbrev pub given : {S Q L : Type 0} → (S → Option (List ℕ)) → (Q → Option (List Exchange)) → (L → Option (List ℕ)) → Before S Q L → Given S Q L
+abbrev pub given : {S Q L : Type 0} → (S → Option (List ℕ)) → (Q → Asking) → (L → Option (List ℕ)) → Before S Q L → Given S Q L
 given held told log_held before = record {
   held = held;
   told = told;
@@ -223,11 +223,11 @@ pub record StateMachine (S Q : Type 0) : Type 1 where
   pub StoreOpens : List ℕ → Result S StoreFault → Type 0
   pub ReloadsOpen : List ℕ → List ℕ → Q → Type 0
   pub held : S → Option (List ℕ)
-  pub told : Q → Option (List Exchange)
+  pub told : Q → Asking
 
 abbrev pub state_machine : {S Q : Type 0} → (List ℕ → Result (Option (List ℕ)) ReadFailure → Type 0)
     → (List ℕ → Result (Option (List ℕ)) ReadFailure → Type 0) → (List ℕ → Result S StoreFault → Type 0) → (List ℕ → List ℕ → Q → Type 0)
-    → (S → Option (List ℕ)) → (Q → Option (List Exchange)) → StateMachine S Q
+    → (S → Option (List ℕ)) → (Q → Asking) → StateMachine S Q
 state_machine FileReads LastLines StoreOpens ReloadsOpen held told = record {
   FileReads = FileReads;
   LastLines = LastLines;

@@ -1,5 +1,5 @@
 -- Laws of a run that keeps its state or reads its configuration again.
-use Rattle.std.specs.Prelude.{◌≡◌, ℕ, ◌<◌, ◌≤◌, ◌^◌, List, Some, Result, All}
+use Rattle.std.specs.Prelude.{◌≡◌, ◌⊎◌, ⊤, ℕ, ◌<◌, ◌≤◌, ◌^◌, List, [], Some, None, Result, All}
 use Rattle.gw_audit.specs.Entry.{IsLineOf, IsShowable}
 use Rattle.gw_audit.specs.declared.denial.Denial.{Denial}
 use Rattle.gw_core.specs.Effects.{effects_at}
@@ -7,12 +7,15 @@ use Rattle.gw_core.specs.History.{state_from}
 use Rattle.gw_core.specs.State.{State}
 use Rattle.gw_core.specs.declared.event.Counts.{Counts}
 use Rattle.gw_script.specs.Event.{Event}
-use Rattle.gw_service.specs.Chain.{AreLinks, Link, Manner, Stage}
+use Rattle.gw_serving.specs.declared.serving.ServeFault.{ServeFault}
+use Rattle.gw_system.specs.Requests.{nobody}
+use Rattle.gw_service.specs.Chain.{AreLinks, Link, Manner, Runs, Stage}
+use Rattle.gw_service.specs.Chain.{served, ticked, unrequested, withheld}
 use Rattle.gw_configuration.specs.Configuration.{Configuration}
 use Rattle.gw_watching.specs.Watching.{Watching}
-use Rattle.gw_service.specs.Counts.{GoesOnFrom}
-use Rattle.gw_service.specs.Kept.{Given, RunsKept, RunsWatched}
-use Rattle.gw_service.specs.Serving.{Ends, Service}
+use Rattle.gw_service.specs.Counts.{GoesOnFrom, own_fields}
+use Rattle.gw_service.specs.Kept.{Given, LeavesKept, RunsKept, RunsWatched}
+use Rattle.gw_service.specs.Serving.{Ends, Serves, Service, service}
 use Rattle.gw_service.specs.declared.fault.ServiceFault.{ServiceFault}
 
 -- a gateway judges by the rules of the configuration in force
@@ -28,12 +31,16 @@ RulesAreInForce {K} manner =
 abbrev pub RulesStay : Type 0
 RulesStay = (w : State) (events : List Event) → (state_from w events).rules ≡ w.rules
 
+-- a line is that of a denial, or its own fields are, whatever is in front of them
+abbrev pub Shows : List ℕ → Denial → Type 0
+Shows line shown = IsLineOf line shown ⊎ IsLineOf (own_fields line) shown
+
 -- A gateway that goes on from these counts and the last line of its log gives each denial a greater number than that of the
 -- last denial that was counted, and than that of the denial in the line.
 abbrev pub NumbersGoOn : Type 0
 NumbersGoOn =
     (counts later : Counts) (line : List ℕ) (shown : Denial) (w : State) (e : Event) → GoesOnFrom counts (Some line) later
-    → IsShowable shown → IsLineOf line shown → shown.number ≤ 2 ^ 63 → w.denials ≡ later.denials
+    → IsShowable shown → Shows line shown → shown.number ≤ 2 ^ 63 → w.denials ≡ later.denials
     → All (λ (d : Denial). (counts.denials < d.number) × (shown.number < d.number)) (effects_at w e).denials
 
 -- A run that is watched is one that isn't, but for what is reported: its log, its wire's calls, its state and its outcome are those
@@ -43,3 +50,30 @@ IsAsUnwatched {S} {Q} {L} given =
     (watcher : Watching L L) (c : Configuration) (how : Service) (before after : Ends) (text : List ℕ) (outcome : Result (Unit {0}) ServiceFault)
     → RunsWatched given watcher c how before after text outcome
     → (other : List ℕ) × RunsKept given c how before after other outcome
+
+-- a link found no request
+abbrev pub FindsNone : Link → Type 0
+FindsNone (served turns) = ⊤
+FindsNone (ticked turns look text) = look ≡ unrequested
+FindsNone (withheld turns event text) = ⊤
+
+-- Nobody asks: no look finds a request, the configuration in force stays, and none is counted as taken over or refused.
+pub record StaysUnasked {K : Type 0} (s : Stage K) (links : List Link) (t : Stage K) : Type 0 where
+  pub looks : All FindsNone links
+  pub config : t.config ≡ s.config
+  pub requests : t.requests ≡ nobody
+  pub counts : t.counts ≡ s.counts
+
+-- So is a run, however it ends, if nobody asks at its begin.
+abbrev pub NobodyAsks : {K : Type 0} → Manner K → Type 0
+NobodyAsks {K} manner =
+    (count : ℕ) (s t : Stage K) (answer : Result (Unit {0}) ServeFault) (links : List Link) → Runs manner count s answer links t
+    → s.requests ≡ nobody → StaysUnasked s links t
+
+-- A run that keeps no state and looks for no request, but may report or be watched, is one of `serve` from the gateway's first state:
+-- its log, its wire's calls and its outcome are those.
+abbrev pub IsAsServed : {S Q L : Type 0} → Given S Q L → Type 0
+IsAsServed {S} {Q} {L} given =
+    given.saved ≡ None → given.line ≡ None → given.store ≡ None → given.requests ≡ None
+    → (c : Configuration) (how : Service) (before after : Ends) (text : List ℕ) (outcome : Result (Unit {0}) ServiceFault)
+    → LeavesKept given c how before after text outcome → Serves c (service how.turns None) before after [] outcome

@@ -1,10 +1,11 @@
 //! The counts from which a gateway goes on.
 
 ghost use Rattle.std.specs.Prelude.{◌≡◌, ◌≤◌, ◌^◌, option_map};
-ghost use Rattle.gw_service.specs.Counts.{GoesOnAfter, GoesOnFrom, counts_with};
+ghost use Rattle.gw_service.specs.Counts.{GoesOnAfter, GoesOnFrom, counts_with, own_fields};
 
 use gw_audit::read_line;
 use gw_core::Counts;
+use gw_stamping::denial_front;
 
 /// Where each count of a gateway ends.
 const LAST_COUNT: u64 = 1 << 63;
@@ -29,6 +30,16 @@ fn after_line(counts: Counts, line: &[u8]) -> Counts
     }
 }
 
+/// A line's own fields if they are the line of a denial, whatever is in front of them; nothing if it has no such fields.
+fn own_fields(line: &[u8]) -> &[u8]
+    ensures { result.now ≡ own_fields line.now }
+{
+    match denial_front(line) {
+        Some(at) => &line[at..],
+        None => &[],
+    }
+}
+
 /// The counts from which a gateway goes on after the last line of its log, if there is one: no number of a denial that is
 /// shown there or was counted is used again.
 pub(crate) fn go_on_from(counts: Counts, line: &Option<Vec<u8>>) -> Counts
@@ -41,7 +52,7 @@ pub(crate) fn go_on_from(counts: Counts, line: &Option<Vec<u8>>) -> Counts
     ensures denials { result.denials ≤ 2 ^ 63 }
 {
     match line {
-        Some(line) => after_line(counts, line),
+        Some(line) => after_line(counts, own_fields(line)),
         None => counts,
     }
 }

@@ -7,7 +7,7 @@ ghost use Rattle.gw_serving.specs.declared.tally.Tally.{Tally};
 ghost use Rattle.gw_service.specs.Chain.{manner};
 ghost use Rattle.gw_service.specs.declared.reload.ReloadCounts.{ReloadCounts};
 ghost use Rattle.gw_service.specs.Kept.{Given};
-ghost use Rattle.gw_service.specs.Laws.{IsAsUnwatched, NumbersGoOn, RulesAreInForce, RulesStay};
+ghost use Rattle.gw_service.specs.Laws.{IsAsServed, IsAsUnwatched, NobodyAsks, NumbersGoOn, RulesAreInForce, RulesStay};
 
 use crate::keeping::StateKeeper;
 use gw_script::OctetSink;
@@ -32,4 +32,16 @@ pub fn numbers_go_on()
 /// without it.
 pub fn as_unwatched<S: Store + Drop, Q: Requests + Drop, L: OctetSink + Drop>()
     ensures { (given : Given S Q L) → IsAsUnwatched given }
+{}
+
+/// If no request file is named, nobody asks: no look finds a request, and the configuration in force stays to the end.
+pub fn nobody_asks<K: StateKeeper>()
+    ensures { (report : K → ReloadCounts → State → Served → Tally → List ℕ) →
+        NobodyAsks (manner K.Passes K.Ticks K.Adopts K.troubles report) }
+{}
+
+/// A run that neither keeps a state nor looks for requests, but reports or is watched, is one of [`serve`](gw_serving::serve) but for
+/// what it reports: the log, the calls of the wire and the outcome are those of serving from the gateway's first state.
+pub fn as_served<S: Store + Drop, Q: Requests + Drop, L: OctetSink + Drop>()
+    ensures { (given : Given S Q L) → IsAsServed given }
 {}

@@ -1,14 +1,14 @@
 //! A gateway that runs by stretches: each is served to a tick, and then its state is kept, and its configuration read again
 //! if that was asked for.
 
-ghost use Rattle.std.specs.Prelude.{◌≡◌, ◌+◌, ◌≤◌, ◌<◌, ◌^◌, ◌∷◌, [], ℕ, List, Option, IfOk, IsErrOf, Ok, OnOk};
+ghost use Rattle.std.specs.Prelude.{◌≡◌, ◌+◌, ◌≤◌, ◌<◌, ◌^◌, ◌∷◌, [], ℕ, List, IfOk, IsErrOf, Ok, OnOk};
 ghost use Rattle.std.specs.Option.{option_map_or};
 ghost use Rattle.std.specs.Io.KnownBytes.{Appends};
 ghost use Rattle.gw_configuration.specs.Configuration.{Configuration};
 ghost use Rattle.gw_saved.specs.Saved.{origin_of};
 ghost use Rattle.gw_serving.specs.Serve.{scene};
 ghost use Rattle.gw_serving.specs.Stretch.{CanCount, moment};
-ghost use Rattle.gw_system.specs.Requests.{Exchange, GoesOn, asked, text_found};
+ghost use Rattle.gw_system.specs.Requests.{Asking, GoesOn, IsAsking, asked, text_found};
 ghost use Rattle.gw_service.specs.Chain.{Advances, AtTick, IsLooked, Link, Looks, Runs, chain_text, manner, stage, standing};
 ghost use Rattle.gw_service.specs.Notices.{no_troubles, notice_of};
 ghost use Rattle.gw_service.specs.Reload.{refusal_line};
@@ -84,7 +84,8 @@ impl<K: StateKeeper, Q: Requests> Running<K, Q> {
         read: &Result<Option<Vec<u8>>, ReadFailure>,
         errors: &mut E,
     )
-        ensures looked { (first : Option (List Exchange)) →
+        requires { IsAsking (Q.told self.old.requests) }
+        ensures looked { (first : Asking) →
             GoesOn first (Q.told self.old.requests) (asked (text_found read.now) ∷ []) →
             Looks (IsLooked K.Adopts) self.old.origin (standing self.old.gateway self.old.keeper first self.old.counts)
             self.new.origin (standing self.new.gateway self.new.keeper (Q.told self.new.requests) self.new.counts)

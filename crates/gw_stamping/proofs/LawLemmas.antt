@@ -2,7 +2,9 @@
 use Rattle.std.proofs.Common.{◌≡◌, ◌∙◌, ◌-◌, ◌++◌, ◌≤◌, rules, ℕ, Bool, true, List, [], ◌∷◌, length, take, drop, Option, Some, None, Result, Ok, Err, refl, sym, ap, subst, arith}
 use Rattle.std.specs.Prelude.{is_some, IsTrue, OnOk}
 use Rattle.std.proofs.lemmas.List.{length-drop}
+use Rattle.gw_audit.specs.Entry.{IsLineOf, IsShowable}
 use Rattle.gw_audit.specs.Told.{IsToldAs}
+use Rattle.gw_audit.specs.declared.denial.Denial.{Denial}
 use Rattle.gw_audit.specs.declared.moment.Moment.{Moment}
 use Rattle.gw_audit.specs.internal.Reading.{line_in, told_by}
 use Rattle.gw_audit.proofs.TellingLemmas.{line_again, line_takes, told_again, told_takes}
@@ -37,9 +39,13 @@ are_fields text = record {
 itself : (n : ℕ) (line told : List ℕ) → n ≡ 0 → take n line ++ told ≡ told
 itself n line told none = ap (λ (k : ℕ). take k line ++ told) none
 
+-- the line of a denial is its own fields
+pub own_line : (line : List ℕ) (d : Denial) → IsShowable d → IsLineOf line d → fields_of is_denial line ≡ Some line
+own_line line d is spelled = end_found is_denial true line refl (ap is_some (line_again line d is spelled))
+
 pub stays_as_before : StaysAsBefore
 stays_as_before start d line text is spelled told =
-    let own : fields_of is_denial line ≡ Some line = end_found is_denial true line refl (ap is_some (line_again line d is spelled)) in
+    let own = own_line line d is spelled in
     let found = subst (λ (f : Option (List ℕ)). IsToldOf start line f text) own told in
     subst (IsToldAs start line) (sym (found.2 ∙ itself (length line - length line) line found.0 (omega arith))) found.1
 

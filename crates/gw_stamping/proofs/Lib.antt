@@ -1,3 +1,4 @@
 pub mod FieldsLemmas
 pub mod LawLemmas
+pub mod NotedLemmas
 pub mod StampLemmas

@@ -55,7 +55,7 @@ stamp_ends word lacks =
     ends_both true word (32 ∷ []) ∙ ap (λ (b : Bool). ends_in_stamp b (32 ∷ [])) (word_stays word lacks) ∙ space_ends
 
 -- octets of a line that has begun
-none_left : (n : ℕ) → take {A = ℕ} n [] ≡ []
+pub none_left : (n : ℕ) → take {A = ℕ} n [] ≡ []
 none_left zero = refl
 none_left (suc n) = refl
 

@@ -1,4 +1,5 @@
 pub mod Fields
 pub mod Laws
+pub mod Noted
 pub mod Stamped
 pub mod Telling

@@ -1,9 +1,9 @@
 //! The place at which a line's own fields begin.
 
 ghost use Rattle.std.specs.Prelude.{◌≡◌, ◌≤◌, true, length, drop, option_map, IfSome};
-ghost use Rattle.gw_stamping.specs.Fields.{fields_of, shows_ask};
+ghost use Rattle.gw_stamping.specs.Fields.{fields_of, is_denial, shows_ask};
 
-use crate::form::{AskForm, Form};
+use crate::form::{AskForm, DenialForm, Form};
 
 /// How many octets are in front of a line's own fields. `None` if it has no such fields.
 pub(crate) fn front_of<F: Form>(form: &F, line: &[u8]) -> Option<usize>
@@ -31,4 +31,12 @@ pub fn ask_front(line: &[u8]) -> Option<usize>
     ensures within { IfSome result (λ at. at ≤ length line.now) }
 {
     front_of(&AskForm, line)
+}
+
+/// How many octets are in front of a line's own fields, which are the line of a denial. `None` if it has no such fields.
+pub fn denial_front(line: &[u8]) -> Option<usize>
+    ensures fields { option_map (λ at. drop at line.now) result ≡ fields_of is_denial line.now }
+    ensures within { IfSome result (λ at. at ≤ length line.now) }
+{
+    front_of(&DenialForm, line)
 }

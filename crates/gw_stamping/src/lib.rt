@@ -6,10 +6,12 @@ mod calendar;
 mod fields;
 mod form;
 pub mod laws;
+mod noted;
 mod stamped;
 mod telling;
 
 pub use calendar::{Calendar, SystemCalendar, moment_after};
-pub use fields::ask_front;
+pub use fields::{ask_front, denial_front};
+pub use noted::{Noted, Place};
 pub use stamped::Stamped;
 pub use telling::tell_log;

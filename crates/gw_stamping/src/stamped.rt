@@ -58,7 +58,7 @@ fn spaceless_word(alloc: Global, at: Option<Moment>) -> Result<Vec<u8>, WriteFai
 }
 
 /// The front of a text up to its first line feed, with it; the whole text if it has none.
-fn first_line(text: &[u8]) -> &[u8]
+pub(crate) fn first_line(text: &[u8]) -> &[u8]
     ensures front { result.now ≡ take (length result.now) text.now }
     ensures ends { EndsAtMost result.now }
     ensures some { 0 < length text.now → 0 < length result.now }
@@ -135,6 +135,16 @@ impl<S: OctetSink, C: Calendar> Stamped<S, C> {
             self.write_stamp()?;
         }
         self.write_piece(piece)
+    }
+}
+
+impl<S: Drop, C: Drop> Stamped<S, C> {
+    /// What it went on in.
+    pub fn into_sink(self) -> S
+        ensures { result ≡ self.sink }
+    {
+        let Stamped { sink, .. } = self;
+        sink
     }
 }
 

@@ -5,8 +5,7 @@ ghost use Rattle.gw_audit.specs.Told.{IsToldAs};
 ghost use Rattle.gw_script.specs.Known.{OnKnown};
 ghost use Rattle.gw_stamping.specs.Telling.{IsToldBehind, LeavesTold};
 
-use crate::fields::front_of;
-use crate::form::DenialForm;
+use crate::fields::denial_front;
 use gw_addr::{put_octet, put_slice};
 use gw_audit::{Moment, tell_line};
 use gw_script::{LineTeller, LinesFault, OctetSink, OctetSource, tell_lines};
@@ -72,7 +71,7 @@ fn tell_any(
 ) -> Result<(), AllocError>
     ensures { OnOk result (IsToldBehind start line.now text.new.items) }
 {
-    match front_of(&DenialForm, line) {
+    match denial_front(line) {
         Some(at) => tell_behind(alloc, start, line, at, text),
         None => pass_on(line, text),
     }

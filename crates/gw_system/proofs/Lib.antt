@@ -1,1 +1,2 @@
 pub mod NamedLemmas
+pub mod RequestLemmas

@@ -4,3 +4,4 @@ pub mod NamedLog
 pub mod Opening
 pub mod Waiting
 pub mod Requests
+pub mod StampedHost

@@ -1,5 +1,6 @@
 -- What asks a running gateway to read its configuration again, and what it is answered.
 use Rattle.std.specs.Prelude.{◌≡◌, ⊤, ℕ, List, ◌++◌, Option, Some, None, Result, Ok, Err}
+use Rattle.std.specs.List.{AllByRecursion}
 use Rattle.std.specs.Global.{Vec}
 use Rattle.gw_system.specs.declared.reading.ReadFailure.{ReadFailure}
 
@@ -9,11 +10,36 @@ pub data Exchange : Type 0 where
   asked : (text : Result (Option (List ℕ)) ReadFailure) → Exchange
   answered : (text : List ℕ) → Exchange
 
--- What is reported goes on by these. What reports nothing never reports again; and it may stop reporting.
-abbrev pub GoesOn : Option (List Exchange) → Option (List Exchange) → List Exchange → Type 0
-GoesOn None now exchanges = now ≡ None
-GoesOn (Some told) None exchanges = ⊤
-GoesOn (Some told) (Some now) exchanges = now ≡ told ++ exchanges
+-- What is known of what asks: that nobody does; nothing; or what was asked and answered so far, in order.
+pub data Asking : Type 0 where
+  nobody : Asking
+  silent : Asking
+  known : (exchanges : List Exchange) → Asking
+
+-- no request was there
+abbrev pub IsUnasked : Exchange → Type 0
+IsUnasked unasked = ⊤
+IsUnasked (asked text) = ⊥
+IsUnasked (answered text) = ⊥
+
+-- What was known goes on by these, or is no more known.
+abbrev pub GoesOnKnown : List Exchange → Asking → List Exchange → Type 0
+GoesOnKnown told nobody exchanges = ⊥
+GoesOnKnown told silent exchanges = ⊤
+GoesOnKnown told (known now) exchanges = now ≡ told ++ exchanges
+
+-- What is known goes on by these. If nobody asks, no request is ever there, and nothing is answered; and what says nothing never
+-- says anything.
+abbrev pub GoesOn : Asking → Asking → List Exchange → Type 0
+GoesOn nobody now exchanges = (now ≡ nobody) × AllByRecursion IsUnasked exchanges
+GoesOn silent now exchanges = now ≡ silent
+GoesOn (known told) now exchanges = GoesOnKnown told now exchanges
+
+-- somebody may ask
+abbrev pub IsAsking : Asking → Type 0
+IsAsking nobody = ⊥
+IsAsking silent = ⊤
+IsAsking (known exchanges) = ⊤
 
 -- the text of a file, or none
 abbrev pub text_found : Result (Option (Vec ℕ)) ReadFailure → Result (Option (List ℕ)) ReadFailure
@@ -26,7 +52,7 @@ abbrev pub asked_by : Option (Result (Option (Vec ℕ)) ReadFailure) → Exchang
 asked_by None = unasked
 asked_by (Some text) = asked (text_found text)
 
--- what is said of requests, if there is something that asks
-abbrev pub told_by : {Q : Type 0} → (Q → Option (List Exchange)) → Option Q → Option (List Exchange)
-told_by told None = None
+-- what is known of what asks, if something does
+abbrev pub told_by : {Q : Type 0} → (Q → Asking) → Option Q → Asking
+told_by told None = nobody
 told_by told (Some requests) = told requests

@@ -23,6 +23,7 @@ use gw_configuration::Port;
 use gw_ports::{Ports, SockPair, TimedPorts, Watch};
 use gw_script::{OctetSink, write_whole};
 use gw_serving::{Store, StoreFault, Wire};
+use gw_stamping::{Calendar, SystemCalendar};
 use std::alloc::{AllocError, Global};
 use std::io::{ErrorKind, Read, Seek, SeekFrom};
 use std::net::Net;
@@ -46,6 +47,9 @@ pub trait Host {
 
     /// A request to read the configuration again, which was made.
     type Asked: Drop;
+
+    /// What gives the time of day.
+    type Calendar: Calendar + Drop;
 
     /// What asking by the file of a name may give.
     ghost Asks: { Self → List ℕ → Self.Asked → Type 0 };
@@ -149,6 +153,9 @@ pub trait Host {
     ) -> Result<Option<Vec<u8>>, ReadFailure>
         ensures { IfOk result (λ found. IfSome found (λ answer. Answers asked.now answer.items)) };
 
+    /// What gives the time of day for the stamps of a log.
+    fn calendar(&self) -> Self::Calendar;
+
     /// Closes the sockets and the log.
     fn close(&mut self, sockets: Self::Sockets, log: Option<Self::Log>)
         ensures { Closes self.new sockets log };
@@ -240,6 +247,8 @@ impl<'a, R: Files + Net + Clock> Host for SystemHost<'a, R> {
     type Reloads = FileRequests<SystemFolder<'a, R>>;
 
     type Asked = AskedFile;
+
+    type Calendar = SystemCalendar<'a, R>;
 
     ghost Asks = { λ _ name asked. string_bytes asked.request ≡ name };
 
@@ -337,6 +346,10 @@ impl<'a, R: Files + Net + Clock> Host for SystemHost<'a, R> {
         };
         let _ = folder.take_away(done);
         found
+    }
+
+    fn calendar(&self) -> SystemCalendar<'a, R> {
+        SystemCalendar { rt: self.rt }
     }
 
     fn close(

@@ -13,6 +13,7 @@ mod opening;
 mod poll_waiter;
 mod reading;
 mod requests;
+mod stamped_host;
 mod store;
 mod system_clock;
 mod udp;
@@ -25,6 +26,7 @@ pub use opening::{FailedStep, LogFailure, OpenFailure, Reason, SocketFailure, St
 pub use poll_waiter::PollWaiter;
 pub use reading::{MAX_LOG_END, ReadFailure};
 pub use requests::{AskedFile, FileRequests, Requests};
+pub use stamped_host::{StampedHost, into_log};
 pub use store::FileStore;
 pub use system_clock::SystemClock;
 pub use udp::UdpSock;

@@ -1,0 +1,35 @@
+-- What opening a log with stamps and notes gives.
+use Rattle.std.specs.Prelude.{◌≡◌, ℕ, true, false, Bool, List, Option, Some, None, Result, Ok, Err}
+use Rattle.std.specs.Io.KnownBytes.{Keeps}
+use Rattle.gw_stamping.specs.Noted.{held_without_notes}
+use Rattle.gw_stamping.specs.Stamped.{held_without}
+use Rattle.gw_stamping.specs.declared.noted.Noted.{Noted}
+use Rattle.gw_stamping.specs.declared.noted.Place.TheVariants.{Begin}
+use Rattle.gw_stamping.specs.declared.stamped.Stamped.{Stamped}
+use Rattle.gw_system.specs.Host.{LogOpening}
+
+-- the log in which such a log goes on
+abbrev pub log_in : {Log C : Type 0} → Noted (Stamped Log C) → Log
+log_in noted = noted.sink.sink
+
+abbrev pub log_if : {Log C : Type 0} → Option (Noted (Stamped Log C)) → Option Log
+log_if None = None
+log_if (Some noted) = Some (log_in noted)
+
+-- what it holds: what that log holds, without the stamps and the notes
+abbrev pub held_in : {Log C : Type 0} → (Log → Option (List ℕ)) → Noted (Stamped Log C) → Option (List ℕ)
+held_in held noted = held_without_notes noted.place (held_without noted.sink.in_stamp (held (log_in noted)))
+
+-- a log, if its lines are seen without stamps and notes from now on
+abbrev pub held_first : Option (List ℕ) → Option (List ℕ)
+held_first held = held_without_notes Begin (held_without true held)
+
+-- A log of this name is opened so that a line begins, and given a note, which is not seen. It can't be if that log can't.
+abbrev pub OpensStamped : {Log C : Type 0} → LogOpening Log → (Log → Option (List ℕ)) → LogOpening (Noted (Stamped Log C))
+OpensStamped LogOpens held name (Ok noted) =
+    (opened : _) × LogOpens name (Ok opened) × Keeps (held_first (held opened)) (held_in held noted)
+OpensStamped LogOpens held name (Err f) = LogOpens name (Err f)
+
+-- it begins at a line already
+abbrev pub IsWhole : List ℕ → Bool → Type 0
+IsWhole name cut = cut ≡ false

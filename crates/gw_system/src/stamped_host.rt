@@ -1,0 +1,145 @@
+//! A machine whose logs have stamps and notes.
+
+ghost use Rattle.std.specs.Prelude.{◌≡◌, Some, IfOk};
+ghost use Rattle.gw_system.specs.Host.{OpensAtLine};
+ghost use Rattle.gw_system.specs.StampedHost.{IsWhole, OpensStamped, held_in, log_if};
+
+use crate::host::{Host, open_at_line};
+use crate::opening::{LogFailure, SocketFailure};
+use crate::reading::ReadFailure;
+use gw_configuration::Port;
+use gw_serving::StoreFault;
+use gw_stamping::{Noted, Stamped};
+use std::alloc::{AllocError, Global};
+
+/// The note of a log that was opened.
+const BEGAN: &[u8] = b"bacgw began";
+
+/// A machine that opens what another one does. Each line of its logs begins with the time, and each log that is opened gets a note.
+/// What is closed it keeps.
+#[derive(Drop)]
+pub struct StampedHost<'a, H: Host> {
+    /// The other machine.
+    pub host: &'a H,
+    /// The sockets and the log that were closed, if some were.
+    pub closed: Option<(H::Sockets, Option<Noted<Stamped<H::Log, H::Calendar>>>)>,
+}
+
+impl<H: Host> Host for StampedHost<'_, H> {
+    type Log = Noted<Stamped<H::Log, H::Calendar>>;
+
+    type Sockets = H::Sockets;
+
+    type StateStore = H::StateStore;
+
+    type Reloads = H::Reloads;
+
+    type Asked = H::Asked;
+
+    type Calendar = H::Calendar;
+
+    ghost Asks = { λ machine. H.Asks machine.host.now };
+
+    ghost Answers = { H.Answers };
+
+    ghost FileReads = { λ machine. H.FileReads machine.host.now };
+
+    ghost LastLines = { λ machine. H.LastLines machine.host.now };
+
+    ghost StoreOpens = { λ machine. H.StoreOpens machine.host.now };
+
+    ghost ReloadsOpen = { λ machine. H.ReloadsOpen machine.host.now };
+
+    ghost LogOpens = { λ machine. OpensStamped (OpensAtLine (H.LogOpens machine.host.now) (H.LogIsCut machine.host.now) H.Log.held)
+        H.Log.held };
+
+    ghost LogIsCut = { λ _. IsWhole };
+
+    ghost SocketsOpen = { λ machine. H.SocketsOpen machine.host.now };
+
+    ghost RoutesIp = { λ machine. H.RoutesIp machine.host.now };
+
+    ghost Closes = { λ machine sockets log. machine.closed ≡ Some (sockets, log) };
+
+    fn open_log(
+        &self,
+        alloc: Global,
+        name: &str,
+    ) -> Result<Noted<Stamped<H::Log, H::Calendar>>, LogFailure> {
+        let log = open_at_line(alloc, name, self.host)?;
+        let mut noted = Noted::new(Stamped::new(alloc, log, self.host.calendar()));
+        let _ = noted.note(BEGAN);
+        Ok(noted)
+    }
+
+    fn is_cut(&self, _name: &str) -> bool {
+        false
+    }
+
+    fn routes_ip(&self) -> bool {
+        self.host.routes_ip()
+    }
+
+    fn open_sockets(&self, alloc: Global, ports: &[Port]) -> Result<H::Sockets, SocketFailure> {
+        self.host.open_sockets(alloc, ports)
+    }
+
+    fn read_file(
+        &self,
+        alloc: Global,
+        name: &str,
+        most: usize,
+    ) -> Result<Option<Vec<u8>>, ReadFailure> {
+        self.host.read_file(alloc, name, most)
+    }
+
+    fn last_line(&self, alloc: Global, name: &str) -> Result<Option<Vec<u8>>, ReadFailure> {
+        self.host.last_line(alloc, name)
+    }
+
+    fn open_store(&self, alloc: Global, name: &str) -> Result<H::StateStore, StoreFault> {
+        self.host.open_store(alloc, name)
+    }
+
+    fn open_reloads(
+        &self,
+        alloc: Global,
+        request: &str,
+        config: &str,
+    ) -> Result<H::Reloads, AllocError> {
+        self.host.open_reloads(alloc, request, config)
+    }
+
+    fn request_reload(&self, alloc: Global, request: &str) -> Result<H::Asked, StoreFault> {
+        self.host.request_reload(alloc, request)
+    }
+
+    fn await_answer(
+        &self,
+        alloc: Global,
+        asked: &H::Asked,
+        seconds: u8,
+    ) -> Result<Option<Vec<u8>>, ReadFailure> {
+        self.host.await_answer(alloc, asked, seconds)
+    }
+
+    fn calendar(&self) -> H::Calendar {
+        self.host.calendar()
+    }
+
+    fn close(&mut self, sockets: H::Sockets, log: Option<Noted<Stamped<H::Log, H::Calendar>>>)
+        ensures { self.new.closed ≡ Some (sockets, log) }
+    {
+        self.closed = Some((sockets, log));
+    }
+}
+
+/// The log in which one with stamps and notes went on.
+pub fn into_log<L: Drop, C: Drop>(log: Option<Noted<Stamped<L, C>>>) -> Option<L>
+    ensures { result ≡ log_if log }
+{
+    match log {
+        Some(noted) => Some(noted.into_sink().into_sink()),
+        None => None,
+    }
+}
