@@ -1,5 +1,6 @@
 -- The parts of the list's text.
 use Rattle.std.proofs.Common.{◌≡◌, ℕ, List, [], ◌∷◌, ◌++◌, map, refl, ap, sym, ◌∙◌, append_assoc}
+use Rattle.std.proofs.lemmas.List.{append-nil}
 use Rattle.std.specs.List.{flat_map}
 use Rattle.gw_configuration.specs.Configuration.{Configuration}
 use Rattle.gw_configuration.specs.declared.object.Object.{Object}
@@ -26,3 +27,27 @@ points_parts c =
     ∙ ap (λ (t : List ℕ). flat_map row_text (header_rows c.device) ++ (row_text (point_row (device_point c.device)) ++ t))
     (texts_of row_text point_row (map (object_point c.device.instance) c.objects)
     ∙ texts_of (λ p. row_text (point_row p)) (object_point c.device.instance) c.objects)
+
+regroup_five : (o a b c d e : List ℕ) → ((((o ++ a) ++ b) ++ c) ++ d) ++ e ≡ o ++ (a ++ (b ++ (c ++ (d ++ e))))
+regroup_five o a b c d e = simp append_assoc
+
+-- five cells, one after the other
+pub five_put : (old a b c d e v w x y z : List ℕ) → a ≡ old ++ next_text v → b ≡ a ++ next_text w → c ≡ b ++ next_text x → d ≡ c ++ next_text y
+    → e ≡ d ++ next_text z → e ≡ old ++ flat_map next_text (v ∷ w ∷ x ∷ y ∷ z ∷ [])
+five_put old a b c d e v w x y z p q r s t =
+    t ∙ ap (λ (k : List ℕ). k ++ next_text z) (s ∙ ap (λ (k : List ℕ). k ++ next_text y) (r ∙ ap (λ (k : List ℕ). k ++ next_text x) (q ∙ ap (λ (k : List ℕ). k ++ next_text w) p)))
+    ∙ regroup_five old (next_text v) (next_text w) (next_text x) (next_text y) (next_text z)
+    ∙ ap (λ (k : List ℕ). old ++ (next_text v ++ (next_text w ++ (next_text x ++ (next_text y ++ k))))) (sym (append-nil (next_text z)))
+
+regroup_row : (o k a b c e : List ℕ) → ((((o ++ k) ++ a) ++ b) ++ c) ++ e ≡ o ++ (k ++ ((a ++ (b ++ c)) ++ e))
+regroup_row o k a b c e = simp append_assoc
+
+-- a cell, others in three parts, and the end
+pub row_put : (old one two three four five key : List ℕ) (a b c : Row) → one ≡ old ++ cell_text key → two ≡ one ++ flat_map next_text a
+    → three ≡ two ++ flat_map next_text b → four ≡ three ++ flat_map next_text c → five ≡ four ++ 13 ∷ 10 ∷ []
+    → five ≡ old ++ row_text (key ∷ (a ++ (b ++ c)))
+row_put old one two three four five key a b c p q r s t =
+    t ∙ ap (λ (k : List ℕ). k ++ 13 ∷ 10 ∷ []) (s ∙ ap (λ (k : List ℕ). k ++ flat_map next_text c) (r ∙ ap (λ (k : List ℕ). k ++ flat_map next_text b) (q ∙ ap (λ (k : List ℕ). k ++ flat_map next_text a) p)))
+    ∙ regroup_row old (cell_text key) (flat_map next_text a) (flat_map next_text b) (flat_map next_text c) (13 ∷ 10 ∷ [])
+    ∙ ap (λ (k : List ℕ). old ++ (cell_text key ++ (k ++ 13 ∷ 10 ∷ [])))
+    (sym (texts_front next_text a (b ++ c) ∙ ap (λ (k : List ℕ). flat_map next_text a ++ k) (texts_front next_text b c)))
