@@ -141,6 +141,7 @@ fn reload_shown<H: Host, W: Write + Drop, E: OctetSink>(
 }
 
 /// What `reload` is asked for: the files of the configuration and of the request, and what is compared first.
+#[derive(Drop)]
 pub struct Asking<'a> {
     pub config: &'a str,
     pub request: &'a str,
