@@ -2,5 +2,6 @@ pub mod Appending
 pub mod AskLaw
 pub mod GroupLaw
 pub mod OneGroup
+pub mod PortionLaw
 pub mod SummaryLaw
 pub mod TextLaw

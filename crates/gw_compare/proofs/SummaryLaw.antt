@@ -1,13 +1,12 @@
 -- What is summed up may be put into another order; and what it says if nothing is left.
-use Rattle.std.proofs.Common.{◌≡◌, ◌∙◌, sym, ap, refl, subst, ℕ, Bool, true, false, ◌&&◌, ◌||◌, ◌==◌, inl, inr, List, [], ◌∷◌, length}
-use Rattle.std.specs.Prelude.{◌⊎◌, if◌then◌else◌, not}
-use Rattle.std.specs.List.{AllByRecursion, list_any}
+use Rattle.std.proofs.Common.{◌≡◌, ◌∙◌, ap, Bool, true, ◌&&◌, ◌||◌, List}
+use Rattle.std.specs.List.{AllByRecursion}
 use Rattle.std.specs.List.Sorted.{IsPermutation}
 use Rattle.std.proofs.lemmas.List.Elements.{All-from_recursion, recursion_from_All}
 use Rattle.std.proofs.lemmas.List.Sorted.{All-permutation, list_any-IsPermutation}
 use Rattle.gw_rules.specs.Ask.{Ask}
 use Rattle.gw_rules.specs.declared.rule.Rule.{Rule}
-use Rattle.gw_regions.specs.Comparing.{IsDecided, IsFoundFor, IsSummary, differs, is_found, unlike}
+use Rattle.gw_regions.specs.Comparing.{IsDecided, IsSummary, differs}
 use Rattle.gw_regions.specs.Presence.{NoneIsMeant, OrNoneIsMeant}
 use Rattle.gw_regions.specs.Regions.{Region, lies, lies_in_one}
 use Rattle.gw_regions.specs.declared.comparison.Found.{Found}

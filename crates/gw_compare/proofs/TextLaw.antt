@@ -1,10 +1,9 @@
 -- What the text of a comparison says is true of each ask.
-use Rattle.std.proofs.Common.{◌≡◌, ◌≢◌, ◌∙◌, inl, inr, sym, ap, refl, subst, ℕ, Bool, true, false, ◌&&◌, ◌||◌, ◌==◌, List, [], ◌∷◌, length, None}
-use Rattle.std.specs.Prelude.{◌⊎◌, not, if◌then◌else◌}
-use Rattle.std.specs.List.{AllByRecursion, list_any}
+use Rattle.std.proofs.Common.{◌≡◌, ◌≢◌, ◌∙◌, inl, inr, ap, refl, ℕ, Bool, true, false, ◌&&◌, ◌||◌, ◌==◌, List, [], ◌∷◌, length, None}
+use Rattle.std.specs.Prelude.{if◌then◌else◌}
 use Rattle.std.proofs.lemmas.Bool.{and_parts, both_ways, eqb-true}
 use Rattle.gw_configuration.specs.Configuration.{Configuration}
-use Rattle.gw_regions.specs.Comparing.{IsDecided, IsSummary, differs, is_found, unlike}
+use Rattle.gw_regions.specs.Comparing.{IsDecided, differs, is_found, unlike}
 use Rattle.gw_regions.specs.Presence.{NoneIsMeant}
 use Rattle.gw_regions.specs.Regions.{Region, lies, lies_in_one}
 use Rattle.gw_regions.specs.Values.{has, is_any}
@@ -13,10 +12,9 @@ use Rattle.gw_rules.specs.Ask.{Ask}
 use Rattle.gw_rules.specs.Fields.{value_of}
 use Rattle.gw_rules.specs.declared.field.FieldName.{FieldName}
 use Rattle.gw_rules.specs.RuleList.{allows}
-use Rattle.gw_rules.specs.declared.rule.Rule.{Rule}
 use Rattle.gw_rules.proofs.EachAsk.{each_weaker}
 use Rattle.gw_compare.specs.Asks.{asks_of}
-use Rattle.gw_compare.specs.Comparison.{IsComparisonText, compared_by}
+use Rattle.gw_compare.specs.Comparison.{compared_by}
 use Rattle.gw_compare.specs.Laws.{AlikeIsAlike, FoundIsAll, IsAskOf, LinesAreTrue, LinesHaveAsks, NoneHasAsk}
 use Rattle.gw_compare.specs.declared.comparison.Compared.{Compared}
 use Rattle.gw_compare.specs.declared.comparison.Compared.TheVariants as compared

@@ -1,5 +1,5 @@
-use Rattle.std.proofs.Common.{◌++◌, ◌∷◌, []}
-use Rattle.std.specs.Prelude.{codes, if◌then◌else◌}
+use Rattle.std.proofs.Common.{◌++◌}
+use Rattle.std.specs.Prelude.{codes}
 use Rattle.gw_compare.specs.Lines.{rule_name}
 use Rattle.gw_shapes.proofs.Listing.{flat_end, flat_step}
 use Rattle.gw_compare.proofs.lines.put_more_names.Goals as goal

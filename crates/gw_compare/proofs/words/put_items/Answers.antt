@@ -1,5 +1,3 @@
-use Rattle.std.proofs.Common.{◌++◌, ◌∷◌, []}
-use Rattle.std.specs.Prelude.{codes, if◌then◌else◌}
 use Rattle.gw_compare.specs.Words.{item_text}
 use Rattle.gw_shapes.proofs.Listing.{flat_end, flat_step}
 use Rattle.gw_compare.proofs.words.put_items.Goals as goal

@@ -1,0 +1,30 @@
+use Rattle.std.proofs.Common.{◌∙◌, ◌++◌, ℕ, List, ap, subst}
+use Rattle.gw_regions.specs.Comparing.{IsComparison, IsSummary}
+use Rattle.gw_regions.specs.Presence.{OrNoneIsMeant}
+use Rattle.gw_regions.specs.Regions.{Region}
+use Rattle.gw_compare.specs.Comparing.{IsUnderWay, Progress}
+use Rattle.gw_compare.specs.Comparison.{AppendsComparison}
+use Rattle.gw_compare.proofs.comparing.Comparing.put.Goals as goal
+
+pub returns-clause-ok : goal.returns-clause-ok
+returns-clause-ok c =
+    let it = c.self.inside in
+    let old = it.before.now.rules in
+    let new = it.after.now.rules in
+    let summary = c.in_ok-summary.summary in
+    let told = c.in_ok-told.told in
+    let same = c.deref.ensures.value ∙ c.self.invariant in
+    subst
+    (λ (p : Progress). IsUnderWay p → AppendsComparison p.old_one p.new_one c.args.most told.made c.args.out.now.items c.put_whole.new.out.items)
+    c.self.view_is
+    (λ was. (
+      told.text.items,
+      c.in_ok-told.ensures
+          (subst
+          (λ (asks : List Region).
+          IsComparison asks old new it.comparison.found.items it.comparison.left.items → IsSummary asks old new summary.found.items summary.left.items)
+          same (c.in_ok-summary.ensures.summary old new) was)
+          (subst (λ (asks : List Region). OrNoneIsMeant asks summary.found.items) same c.in_ok-summary.ensures.or_none)
+          c.in_ok-summary.ensures.in_order,
+      c.in_ok-put_whole.ensures.ok ∙ ap (λ (text : List ℕ). c.args.out.now.items ++ text) c.deref-2.ensures.value,
+    ))
