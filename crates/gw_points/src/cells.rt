@@ -81,14 +81,14 @@ fn put_others(out: &mut Vec<u8>, cells: &[&[u8]]) -> Result<(), AllocError>
 }
 
 /// Appends a line of these cells: the first, the others, and the two octets at its end.
-#[tactic(auto, using(crate::proofs::Rows::others_text))]
 pub(crate) fn put_row(out: &mut Vec<u8>, first: &[u8], others: &[&[u8]]) -> Result<(), AllocError>
     ensures { OnOk result (out.new.items ≡ out.old.items
         ++ row_text (first.now ∷ map (λ cell. cell.now) others.now)) }
 {
     put_cell(out, first)?;
     put_others(out, others)?;
-    put_end(out)
+    put_end(out)?;
+    Ok(())
 }
 
 /// Appends the two octets at the end of a line.

@@ -35,7 +35,6 @@ pub fn put_points(alloc: Global, config: &Config, out: &mut Vec<u8>) -> Result<(
     keep_whole(out, len, put)
 }
 
-#[tactic(auto, using(crate::proofs::Rows::points_parts))]
 fn points_text(alloc: Global, config: &Config) -> Result<Vec<u8>, AllocError>
     ensures { IfOk result (λ text. text.items ≡ points_text config.now) }
 {
@@ -54,7 +53,8 @@ fn put_header(alloc: Global, out: &mut Vec<u8>, device: &Device) -> Result<(), A
     let project = guarded(alloc, device.name.as_str())?;
     put_row(out, b"PROJECT_NAME", &[project.as_slice()])?;
     put_settings(out)?;
-    put_columns(out)
+    put_columns(out)?;
+    Ok(())
 }
 
 /// Appends what is the same of every list.
@@ -64,7 +64,8 @@ fn put_settings(out: &mut Vec<u8>) -> Result<(), AllocError>
     put_row(out, b"VERSION_OF_REFERENCEFILE", &[b"1"])?;
     put_row(out, b"TIMESTAMP_OF_LAST_CHANGE", &[b""])?;
     put_row(out, b"AUTHOR_OF_LAST_CHANGE", &[b"bacgw"])?;
-    put_row(out, b"VERSION_OF_LAYOUT", &[b"2.3"])
+    put_row(out, b"VERSION_OF_LAYOUT", &[b"2.3"])?;
+    Ok(())
 }
 
 /// Appends the names of the columns.
