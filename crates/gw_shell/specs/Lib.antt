@@ -1,5 +1,6 @@
 pub mod Asking
 pub mod Checked
+pub mod Comparing
 pub mod Configured
 pub mod Deciding
 pub mod Ending

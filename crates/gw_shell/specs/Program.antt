@@ -4,7 +4,7 @@ use Rattle.std.specs.Prelude.{◌≡◌, ◌≢◌, ◌⊎◌, ⊤, Bool, true, 
 use Rattle.std.specs.Prelude.{string_bytes}
 use Rattle.std.specs.Io.KnownBytes.{Appends}
 use Rattle.gw_script.specs.Known.{OnKnown}
-use Rattle.gw_compare.specs.Comparison.{IsComparisonText}
+use Rattle.std.specs.declared.alloc.AllocError.{AllocError}
 use Rattle.gw_compare.specs.declared.comparison.Compared.{Compared}
 use Rattle.gw_compare.specs.declared.comparison.Compared.TheVariants as compared
 use Rattle.gw_configuration.specs.Configuration.{Configuration}
@@ -15,12 +15,16 @@ use Rattle.gw_rules.specs.declared.format.Format.TheVariants as formats
 use Rattle.gw_command_line.specs.declared.command_line.Choice.{Choice}
 use Rattle.gw_command_line.specs.declared.command_line.Choice.TheVariants as choice
 use Rattle.gw_command_line.specs.CommandLine.{IsAnswer}
+use Rattle.gw_command_line.specs.declared.options.Shown.{Shown}
 use Rattle.gw_command_line.specs.declared.fault.WordsFault.{WordsFault}
 use Rattle.gw_shell.specs.declared.asking.Answering.{Answering}
+use Rattle.gw_shell.specs.declared.comparing.Limits.{Limits}
+use Rattle.gw_shell.specs.declared.comparing.Lines.{Lines}
 use Rattle.gw_shell.specs.declared.deciding.Playing.{Playing}
 use Rattle.gw_shell.specs.declared.fault.Fault.{Fault}
 use Rattle.gw_shell.specs.declared.fault.Fault.TheVariants as fault
 use Rattle.gw_shell.specs.Asking.{Answers, Counts, ReportsUnread, asks_in}
+use Rattle.gw_shell.specs.Comparing.{AreProgress, IsCompared}
 use Rattle.gw_shell.specs.Configured.{IsConfigurationOf, IsConfigured}
 use Rattle.gw_shell.specs.Deciding.{ReportsAsks}
 use Rattle.gw_shell.specs.Ending.{FaultNote, IsAnswerTo, chosen, error_text, outcome_of_answer, status_by, usage_of}
@@ -117,26 +121,35 @@ LeavesPlayedIn Reads file how input held holds told outcome =
     (c : Result Configuration Fault) × IsConfigured Reads file c × LeavesPlayed how.explains input held holds c outcome
     × ReportsAsks how.counts input c outcome told
 
--- What `compare` leaves of two configurations: what it says of them, of which a failed write may leave a front. If
--- they aren't alike, that is the outcome.
-abbrev pub LeavesCompared : ℕ → Option (List ℕ) → Option (List ℕ) → Configuration → Configuration
+-- What printing leaves of a comparison that was made, of which a failed write may leave a front: if the two aren't alike,
+-- that is the outcome. Nothing if memory was refused for it.
+abbrev pub LeavesLines : Result Lines AllocError → Option (List ℕ) → Option (List ℕ) → Result (Unit {0}) Fault → Type 0
+LeavesLines (Ok lines) held holds (Ok done) = (lines.made ≡ compared.Alike) × Appends held holds lines.text.items
+LeavesLines (Ok lines) held holds (Err fault.Different) = (lines.made ≢ compared.Alike) × Appends held holds lines.text.items
+LeavesLines (Ok lines) held holds (Err fault.Write) = AppendsFront held holds lines.text.items
+LeavesLines (Ok lines) held holds (Err _) = ⊥
+LeavesLines (Err refused) held holds outcome = (outcome ≡ Err fault.Memory) × (holds ≡ held)
+
+-- The same of a comparison of which only this is known.
+abbrev pub LeavesSome : (Compared → List ℕ → Type 0) → Option (List ℕ) → Option (List ℕ) → Result (Unit {0}) Fault → Type 0
+LeavesSome Is held holds (Ok done) = (text : List ℕ) × Is compared.Alike text × Appends held holds text
+LeavesSome Is held holds (Err fault.Different) =
+    (made : Compared) × (made ≢ compared.Alike) × (text : List ℕ) × Is made text × Appends held holds text
+LeavesSome Is held holds (Err fault.Write) = (made : Compared) × (text : List ℕ) × Is made text × AppendsFront held holds text
+LeavesSome Is held holds (Err fault.Memory) = holds ≡ held
+LeavesSome Is held holds (Err _) = ⊥
+
+-- What `compare` leaves of two configurations: what it says of them within these limits.
+abbrev pub LeavesCompared : Limits → Option (List ℕ) → Option (List ℕ) → Configuration → Configuration
     → Result (Unit {0}) Fault → Type 0
-LeavesCompared most held holds old new (Ok done) =
-    (text : List ℕ) × IsComparisonText old new most compared.Alike text × Appends held holds text
-LeavesCompared most held holds old new (Err fault.Different) =
-    (made : Compared) × (made ≢ compared.Alike)
-    × (text : List ℕ) × IsComparisonText old new most made text × Appends held holds text
-LeavesCompared most held holds old new (Err fault.Write) =
-    (made : Compared) × (text : List ℕ) × IsComparisonText old new most made text × AppendsFront held holds text
-LeavesCompared most held holds old new (Err fault.Memory) = holds ≡ held
-LeavesCompared most held holds old new (Err _) = ⊥
+LeavesCompared limits held holds old new outcome = LeavesSome (IsCompared limits old new) held holds outcome
 
 -- What it leaves of the two that were read. If there is no first or no second one, the outcome is why.
-abbrev pub LeavesComparison : ℕ → Option (List ℕ) → Option (List ℕ) → (old new : Result Configuration Fault)
+abbrev pub LeavesComparison : Limits → Option (List ℕ) → Option (List ℕ) → (old new : Result Configuration Fault)
     → Result (Unit {0}) Fault → Type 0
-LeavesComparison most held holds (Ok old) (Ok new) outcome = LeavesCompared most held holds old new outcome
-LeavesComparison most held holds (Ok old) (Err f) outcome = (outcome ≡ Err f) × (holds ≡ held)
-LeavesComparison most held holds (Err f) new outcome = (outcome ≡ Err f) × (holds ≡ held)
+LeavesComparison limits held holds (Ok old) (Ok new) outcome = LeavesCompared limits held holds old new outcome
+LeavesComparison limits held holds (Ok old) (Err f) outcome = (outcome ≡ Err f) × (holds ≡ held)
+LeavesComparison limits held holds (Err f) new outcome = (outcome ≡ Err f) × (holds ≡ held)
 
 -- What printing leaves of a text that was made, of which a failed write may leave a front; or of why none was.
 abbrev pub LeavesPrinted : Result (List ℕ) Fault → Option (List ℕ) → Option (List ℕ) → Result (Unit {0}) Fault → Type 0
@@ -156,19 +169,10 @@ abbrev pub LeavesCheckedJson : Result (List ℕ) Fault → Option (List ℕ) →
 LeavesCheckedJson text held holds outcome =
     (c : Result Configuration Fault) × IsConfigurationOf text c × LeavesJson text held holds c outcome
 
--- What `compare --json` leaves of two configurations: lines for what they decide otherwise, of which a failed write may
--- leave a front. If they aren't alike, that is the outcome.
+-- What `compare --json` leaves of two configurations: lines for what they decide otherwise.
 abbrev pub LeavesComparedJson : ℕ → Option (List ℕ) → Option (List ℕ) → Configuration → Configuration
     → Result (Unit {0}) Fault → Type 0
-LeavesComparedJson most held holds old new (Ok done) =
-    (text : List ℕ) × AreComparisonLines old new most compared.Alike text × Appends held holds text
-LeavesComparedJson most held holds old new (Err fault.Different) =
-    (made : Compared) × (made ≢ compared.Alike)
-    × (text : List ℕ) × AreComparisonLines old new most made text × Appends held holds text
-LeavesComparedJson most held holds old new (Err fault.Write) =
-    (made : Compared) × (text : List ℕ) × AreComparisonLines old new most made text × AppendsFront held holds text
-LeavesComparedJson most held holds old new (Err fault.Memory) = holds ≡ held
-LeavesComparedJson most held holds old new (Err _) = ⊥
+LeavesComparedJson most held holds old new outcome = LeavesSome (AreComparisonLines old new most) held holds outcome
 
 -- What it leaves of the two that were read. If there is no first or no second one, the outcome is why.
 abbrev pub LeavesComparisonJson : ℕ → Option (List ℕ) → Option (List ℕ) → (old new : Result Configuration Fault)
@@ -251,11 +255,34 @@ abbrev pub LeavesReload : (Answers : List ℕ → List ℕ → Type 0) → List 
 LeavesReload Answers request held holds (Ok c) outcome = LeavesAsked Answers request held holds outcome
 LeavesReload Answers request held holds (Err f) outcome = (outcome ≡ Err f) × (holds ≡ held)
 
--- What it leaves if that is the file of this name.
+-- What it leaves after a comparison with this outcome, if that is one: a comparison that finds something is no fault.
+abbrev pub LeavesAfter : (Answers : List ℕ → List ℕ → Type 0) → List ℕ → (compared : Result (Unit {0}) Fault)
+    → Option (List ℕ) → Option (List ℕ) → Result (Unit {0}) Fault → Type 0
+LeavesAfter Answers request (Ok done) mid holds outcome = LeavesAsked Answers request mid holds outcome
+LeavesAfter Answers request (Err fault.Different) mid holds outcome = LeavesAsked Answers request mid holds outcome
+LeavesAfter Answers request (Err f) mid holds outcome = (outcome ≡ Err f) × (holds ≡ mid)
+
+-- What `reload --was` leaves of the configurations that were read: what the new one changes of the old one, and then that.
+abbrev pub LeavesReloadShown : (Answers : List ℕ → List ℕ → Type 0) → List ℕ → ℕ → Option (List ℕ) → Option (List ℕ)
+    → (old new : Result Configuration Fault) → Result (Unit {0}) Fault → Type 0
+LeavesReloadShown Answers request most held holds (Ok old) (Ok new) outcome =
+    (mid : Option (List ℕ)) × (shown : Result (Unit {0}) Fault)
+    × LeavesCompared (record { most = most; steps = false }) held mid old new shown
+    × LeavesAfter Answers request shown mid holds outcome
+LeavesReloadShown Answers request most held holds (Err f) (Ok new) outcome = (outcome ≡ Err f) × (holds ≡ held)
+LeavesReloadShown Answers request most held holds old (Err f) outcome = (outcome ≡ Err f) × (holds ≡ held)
+
+-- What it leaves if that is the file of this name, and the old configuration that of another, if one is named.
 abbrev pub LeavesReloadIn : (Reads : List ℕ → Result (List ℕ) Fault → Type 0) → (Answers : List ℕ → List ℕ → Type 0)
-    → (file request : List ℕ) → Option (List ℕ) → Option (List ℕ) → Result (Unit {0}) Fault → Type 0
-LeavesReloadIn Reads Answers file request held holds outcome =
+    → (file request : List ℕ) → Option Shown → Option (List ℕ) → Option (List ℕ) → (told : List ℕ)
+    → Result (Unit {0}) Fault → Type 0
+LeavesReloadIn Reads Answers file request None held holds told outcome =
     (c : Result Configuration Fault) × IsConfigured Reads (Some file) c × LeavesReload Answers request held holds c outcome
+    × (told ≡ [])
+LeavesReloadIn Reads Answers file request (Some shown) held holds told outcome =
+    (c : Result Configuration Fault) × IsConfigured Reads (Some file) c
+    × (old : Result Configuration Fault) × IsConfigured Reads (Some (string_bytes shown.old)) old
+    × LeavesReloadShown Answers request shown.most held holds old c outcome × AreProgress told
 
 -- What `why --count` leaves of a text: how many of its asks each of these rules decides, or the first line that says none.
 abbrev pub LeavesCounts : List Rule → List ℕ → Option (List ℕ) → Option (List ℕ) → Result (Unit {0}) Fault → Type 0
@@ -302,12 +329,12 @@ LeavesOutput Reads ReadsState Answers machine input held holds told (Ok (choice.
     × LeavesRun machine text held holds options c told outcome
 LeavesOutput Reads ReadsState Answers machine input held holds told (Ok (choice.Why file counts strict)) outcome =
     LeavesAnsweredIn Reads (string_bytes file) (record { counts = counts; strict = strict }) input held holds told outcome
-LeavesOutput Reads ReadsState Answers machine input held holds told (Ok (choice.Reload config request)) outcome =
-    LeavesReloadIn Reads Answers (string_bytes config) (string_bytes request) held holds outcome
-LeavesOutput Reads ReadsState Answers machine input held holds told (Ok (choice.Compare old new most)) outcome =
+LeavesOutput Reads ReadsState Answers machine input held holds told (Ok (choice.Reload config request was)) outcome =
+    LeavesReloadIn Reads Answers (string_bytes config) (string_bytes request) was held holds told outcome
+LeavesOutput Reads ReadsState Answers machine input held holds told (Ok (choice.Compare old new most steps)) outcome =
     (a : Result Configuration Fault) × IsConfigured Reads (Some (string_bytes old)) a
     × (b : Result Configuration Fault) × IsConfigured Reads (Some (string_bytes new)) b
-    × LeavesComparison most held holds a b outcome
+    × LeavesComparison (record { most = most; steps = steps }) held holds a b outcome × AreProgress told
 LeavesOutput Reads ReadsState Answers machine input held holds told (Ok (choice.CompareJson old new most)) outcome =
     (a : Result Configuration Fault) × IsConfigured Reads (Some (string_bytes old)) a
     × (b : Result Configuration Fault) × IsConfigured Reads (Some (string_bytes new)) b
@@ -335,13 +362,15 @@ LeavesOutput Reads ReadsState Answers machine input held holds told (Ok (choice.
     (outcome ≡ Err fault.CommandLine) × (holds ≡ held)
 LeavesOutput Reads ReadsState Answers machine input held holds told (Err f) outcome = (outcome ≡ Err f) × (holds ≡ held)
 
--- Only `run`, `replay`, `why` and `suggest` report something before a fault's line.
+-- Only `run`, `replay`, `why`, `suggest`, `compare` and `reload` report something before a fault's line.
 abbrev pub IsQuiet : Result Choice Fault → List ℕ → Type 0
 IsQuiet (Ok (choice.Run options)) told = ⊤
 IsQuiet (Ok (choice.Replay file explains counts)) told = ⊤
 IsQuiet (Ok (choice.Why file counts strict)) told = ⊤
 IsQuiet (Ok (choice.Judge file strict)) told = ⊤
 IsQuiet (Ok (choice.Suggest file fills exact)) told = ⊤
+IsQuiet (Ok (choice.Compare old new most steps)) told = ⊤
+IsQuiet (Ok (choice.Reload config request was)) told = ⊤
 IsQuiet _ told = told ≡ []
 
 -- What of standard output isn't flushed after a choice that was done: nothing, but that `run` leaves what was so

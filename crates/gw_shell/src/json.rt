@@ -12,9 +12,10 @@ ghost use Rattle.gw_shell.specs.Files.{result_map};
 ghost use Rattle.gw_shell.specs.Json.{AreComparisonLines, FaultLine, IsFaultLine, IsMade, checked_line};
 ghost use Rattle.gw_shell.specs.Program.{LeavesCheckedJson, LeavesComparedJson, LeavesComparisonJson, LeavesPoints};
 
+use crate::comparing::{Lines, print_lines};
 use crate::configured::configuration_of;
 use crate::fault::Fault;
-use crate::program::{outcome_of, print, print_made};
+use crate::program::{print, print_made};
 use gw_compare::{Compared, asks_of};
 use gw_configuration::{Config, ConfigFault};
 use gw_explanation::explain;
@@ -106,13 +107,6 @@ fn put_all(
     Ok(())
 }
 
-/// The lines of a comparison, and how the two compare.
-#[derive(Drop)]
-struct Lines {
-    text: Vec<u8>,
-    made: Compared,
-}
-
 /// What the rules of two configurations decide otherwise, in at most so many lines and a last one.
 fn comparison_lines(
     alloc: Global,
@@ -147,7 +141,7 @@ fn compared_by(found: usize, left: usize) -> Compared
 }
 
 /// Prints what the rules of two configurations decide otherwise, as JSON objects.
-fn print_lines<W: Write + Drop>(
+fn print_compared<W: Write + Drop>(
     alloc: Global,
     most: u64,
     old: &Config,
@@ -159,9 +153,7 @@ fn print_lines<W: Write + Drop>(
         LeavesComparedJson most held holds old.now new.now result }
     ensures flush { OnOk result (writer_buffer output.new ≡ []) }
 {
-    let lines = comparison_lines(alloc, most as usize, old, new)?;
-    print(&lines.text, output)?;
-    outcome_of(lines.made)
+    print_lines(comparison_lines(alloc, most as usize, old, new), output)
 }
 
 /// Compares the two configurations that were read, in JSON objects.
@@ -178,7 +170,7 @@ pub fn compare_in_json<W: Write + Drop>(
 {
     let old = old?;
     let new = new?;
-    print_lines(alloc, most, &old, &new, output)
+    print_compared(alloc, most, &old, &new, output)
 }
 
 /// The list of the objects of a configuration. `Memory` is its only fault.

@@ -6,6 +6,7 @@
 
 mod asking;
 mod checked;
+mod comparing;
 mod configured;
 mod deciding;
 mod ending;

@@ -21,6 +21,7 @@ ghost use Rattle.gw_shell.specs.declared.fault.Fault.TheVariants as fault;
 
 use crate::asking::{Answering, answer_in};
 use crate::checked::checked_text;
+use crate::comparing::{Both, Limits, Seconds, compare};
 use crate::configured::{configuration_in, configuration_of};
 use crate::deciding::{Playing, play_in};
 use crate::ending::{end_by, usage_of};
@@ -28,12 +29,11 @@ use crate::fault::Fault;
 use crate::files::ConfigFiles;
 use crate::json::{check_in_json, compare_in_json, print_points};
 use crate::kept::words_of_text;
-use crate::reloading::{self, ask};
+use crate::reloading::{Asking, reload_in};
 use crate::reporting::print_report_in;
 use crate::suggesting::suggest_shown;
 use crate::{objects, telling};
 use gw_command_line::{Choice, RunOptions, choice_of};
-use gw_compare::{Compared, put_comparison};
 use gw_configuration::{Config, ConfigFault};
 use gw_explanation::{Explanation, explain};
 use gw_migration::migrate;
@@ -201,52 +201,6 @@ fn print_in_format_three<W: Write + Drop>(
     print_migrated(alloc, &config, output)
 }
 
-/// How a comparison ends: `Different` unless the two are alike.
-pub(crate) fn outcome_of(made: Compared) -> Result<(), Fault>
-    ensures { result ≡ outcome_of_comparison made }
-{
-    match made {
-        Compared::Alike => Ok(()),
-        Compared::Different | Compared::Unfinished => Err(Fault::Different),
-    }
-}
-
-/// Prints what the rules of two configurations decide otherwise, in at most so many lines.
-fn print_compared<W: Write + Drop>(
-    alloc: Global,
-    most: u64,
-    old: &Config,
-    new: &Config,
-    output: &mut BufWriter<W>,
-) -> Result<(), Fault>
-    ensures output { let held = writer_contents W.contents output.old in
-        let holds = writer_contents W.contents output.new in
-        LeavesCompared most held holds old.now new.now result }
-    ensures flush { OnOk result (writer_buffer output.new ≡ []) }
-{
-    let mut text = Vec::new(alloc);
-    let made = put_comparison(alloc, old, new, most as usize, &mut text)?;
-    print(&text, output)?;
-    outcome_of(made)
-}
-
-/// Compares the two configurations that were read.
-fn compare<W: Write + Drop>(
-    alloc: Global,
-    most: u64,
-    old: Result<Config, Fault>,
-    new: Result<Config, Fault>,
-    output: &mut BufWriter<W>,
-) -> Result<(), Fault>
-    ensures output { LeavesComparison most (writer_contents W.contents output.old)
-        (writer_contents W.contents output.new) old new result }
-    ensures flush { OnOk result (writer_buffer output.new ≡ []) }
-{
-    let old = old?;
-    let new = new?;
-    print_compared(alloc, most, &old, &new, output)
-}
-
 /// Prints a text that was made.
 pub(crate) fn print_made<W: Write + Drop>(
     made: Result<Vec<u8>, Fault>,
@@ -291,62 +245,6 @@ fn print_said<W: Write + Drop>(
     print_made(words_of_text(alloc, config, text), output)
 }
 
-/// Prints the answer to a request, which says how it ends.
-fn print_answer<W: Write + Drop>(
-    answer: Result<Vec<u8>, Fault>,
-    output: &mut BufWriter<W>,
-) -> Result<(), Fault>
-    ensures output { LeavesAnswer (result_map (λ octets. octets.items) answer)
-        (writer_contents W.contents output.old) (writer_contents W.contents output.new) result }
-    ensures flush { OnOk result (writer_buffer output.new ≡ []) }
-{
-    match answer {
-        Ok(answer) => print_answer_text(&answer, output),
-        Err(fault) => Err(fault),
-    }
-}
-
-fn print_answer_text<W: Write + Drop>(answer: &[u8], output: &mut BufWriter<W>) -> Result<(), Fault>
-    ensures output { LeavesText answer.now (writer_contents W.contents output.old)
-        (writer_contents W.contents output.new) result }
-    ensures flush { OnOk result (writer_buffer output.new ≡ []) }
-{
-    match print(answer, output) {
-        Ok(()) => reloading::outcome_of(answer),
-        Err(fault) => Err(fault),
-    }
-}
-
-/// Asks the gateway that runs under the configuration that was read to read it again, and prints what it answers.
-fn reload<H: Host, W: Write + Drop>(
-    alloc: Global,
-    config: Result<Config, Fault>,
-    request: &str,
-    host: &H,
-    output: &mut BufWriter<W>,
-) -> Result<(), Fault>
-    ensures output { LeavesReload (answers_by (H.Asks host.now) H.Answers) request.now
-        (writer_contents W.contents output.old) (writer_contents W.contents output.new) config result }
-    ensures flush { OnOk result (writer_buffer output.new ≡ []) }
-{
-    let _config = config?;
-    print_asked(alloc, request, host, output)
-}
-
-/// Asks by the file of this name to read the configuration again, and prints the answer.
-fn print_asked<H: Host, W: Write + Drop>(
-    alloc: Global,
-    request: &str,
-    host: &H,
-    output: &mut BufWriter<W>,
-) -> Result<(), Fault>
-    ensures output { LeavesAsked (answers_by (H.Asks host.now) H.Answers) request.now
-        (writer_contents W.contents output.old) (writer_contents W.contents output.new) result }
-    ensures flush { OnOk result (writer_buffer output.new ≡ []) }
-{
-    print_answer(ask(alloc, request, host), output)
-}
-
 /// Says what the state of a file holds under the configuration of another.
 fn print_state_in<F: ConfigFiles, W: Write + Drop>(
     alloc: Global,
@@ -362,23 +260,6 @@ fn print_state_in<F: ConfigFiles, W: Write + Drop>(
     let config = configuration_in(alloc, files, config);
     let text = files.read_state(alloc, state);
     print_state(alloc, config, &text, output)
-}
-
-/// Asks the gateway that runs under the configuration of a file to read it again.
-fn reload_in<F: ConfigFiles, H: Host, W: Write + Drop>(
-    alloc: Global,
-    files: &F,
-    config: &str,
-    request: &str,
-    host: &H,
-    output: &mut BufWriter<W>,
-) -> Result<(), Fault>
-    ensures output { LeavesReloadIn (F.Reads files.now) (answers_by (H.Asks host.now) H.Answers) config.now request.now
-        (writer_contents W.contents output.old) (writer_contents W.contents output.new) result }
-    ensures flush { OnOk result (writer_buffer output.new ≡ []) }
-{
-    let config = configuration_in(alloc, files, config);
-    reload(alloc, config, request, host, output)
 }
 
 /// How serving ended.
@@ -500,20 +381,34 @@ fn follow<F: ConfigFiles, H: Host, R: OctetSource, W: Write + Drop, E: OctetSink
             Choice::Reload {
                 config,
                 request,
-                was: _,
+                was,
             },
-        ) => { reload_in(alloc, files, config, request, host, output) }
+        ) => {
+            let asking = Asking {
+                config,
+                request,
+                was,
+            };
+            reload_in(alloc, files, &asking, host, output, errors)
+        }
         Ok(
             Choice::Compare {
                 old,
                 new,
                 most,
-                steps: _,
+                steps,
             },
         ) => {
-            let before = configuration_in(alloc, files, old);
-            let after = configuration_in(alloc, files, new);
-            compare(alloc, *most, before, after, output)
+            let both = Both {
+                old: configuration_in(alloc, files, old),
+                new: configuration_in(alloc, files, new),
+            };
+            let limits = Limits {
+                most: *most,
+                steps: *steps,
+            };
+            let mut seconds = Seconds::new(host.calendar());
+            compare(alloc, limits, both, &mut seconds, output, errors)
         }
         Ok(Choice::CompareJson { old, new, most }) => {
             let before = configuration_in(alloc, files, old);

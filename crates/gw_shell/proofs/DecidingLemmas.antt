@@ -1,0 +1,46 @@
+-- Scripts that are read whole before they are played, and configurations of one text.
+use Rattle.std.proofs.Common.{◌≡◌, ◌∙◌, ◌⊎◌, ◌++◌, inl, inr, refl, sym, subst, rules, ℕ, List, [], ◌∷◌, length, take, Result, Ok, Err, Bool}
+use Rattle.std.proofs.lemmas.List.{append-nil}
+use Rattle.gw_configuration.specs.Configuration.{Configuration}
+use Rattle.gw_core.specs.Replay.{RunsPart, RunsToMemory, Telling, text_after}
+use Rattle.gw_script.specs.Script.{AreLines, lines_of}
+use Rattle.gw_shell.specs.Configured.{IsConfigurationOf}
+use Rattle.gw_shell.specs.Deciding.{IsUnread}
+use Rattle.gw_shell.specs.Replay.{Plays, telling}
+use Rattle.gw_shell.specs.declared.fault.Fault.{Fault}
+use Rattle.gw_shell.specs.declared.fault.Fault.TheVariants as fault
+
+-- a text is one configuration
+pub same_configuration : (text : Result (List ℕ) Fault) (a b : Configuration) → IsConfigurationOf text (Ok a) → IsConfigurationOf text (Ok b)
+    → a ≡ b
+same_configuration (Ok text) a b first second = cc
+same_configuration (Err f) a b first second = search rules
+
+no_lines_yet : (ports : ℕ) (lines : List (List ℕ)) → AreLines ports (take 0 lines) []
+no_lines_yet ports [] = tt
+no_lines_yet ports (line ∷ lines) = tt
+
+none_read : (told : Telling) (c : Configuration) (script before : List ℕ) → RunsPart told c script before before
+unfolding text_after
+none_read told c script before = record {
+  events = [];
+  lines = no_lines_yet (length c.ports) (lines_of script);
+  text = sym (append-nil before);
+}
+
+none_held : (told : Telling) (c : Configuration) (script before : List ℕ) → RunsToMemory told c script before before
+unfolding text_after
+none_held told c script before = record {
+  events = [];
+  lines = no_lines_yet (length c.ports) (lines_of script);
+  cause = inl refl;
+  text = sym (append-nil before);
+}
+
+-- nothing is played of a script that isn't read
+pub unread_plays : (explains : Bool) (c : Configuration) (script before : List ℕ) (f : Fault) → IsUnread f
+    → Plays explains c script before (Err f) before
+unread_plays explains c script before f (inl is) =
+    subst (λ (x : Fault). Plays explains c script before (Err x) before) (sym is) (none_read (telling explains) c script before)
+unread_plays explains c script before f (inr is) =
+    subst (λ (x : Fault). Plays explains c script before (Err x) before) (sym is) (none_held (telling explains) c script before)
