@@ -9,12 +9,14 @@ ghost use Rattle.gw_system.specs.Requests.{silent};
 
 use crate::words::{call, put, status_text};
 use gw_addr::BipAddr;
+use gw_audit::Moment;
 use gw_cases::{MemReader, MemWriter, number_behind};
 use gw_configuration::Port;
 use gw_serving::{Got, RECEIVE_ROOM, Store, StoreFault, Wire, WireFault};
 use gw_shell::{
     ConfigFiles, FailedStep, Fault, Host, LogFailure, Reason, SocketFailure, Step, run,
 };
+use gw_stamping::{Calendar, moment_after};
 use gw_system::{ReadFailure, Requests};
 use itoa::Buffer;
 use std::alloc::{AllocError, Global};
@@ -162,6 +164,18 @@ impl Requests for MemRequests {
     fn answer(&mut self, _text: &[u8]) {}
 }
 
+/// A clock that always shows the first second of 1970.
+#[derive(Drop)]
+pub struct MemCalendar;
+
+impl Calendar for MemCalendar {
+    ghost Shows = { λ _ _. ⊤ };
+
+    fn moment(&mut self) -> Option<Moment> {
+        moment_after(1)
+    }
+}
+
 /// A request that was made.
 #[derive(Drop)]
 pub struct MemAsked;
@@ -200,6 +214,8 @@ impl Host for MemHost {
     type Reloads = MemRequests;
 
     type Asked = MemAsked;
+
+    type Calendar = MemCalendar;
 
     ghost Asks = { λ _ _ _. ⊤ };
 
@@ -329,6 +345,10 @@ impl Host for MemHost {
             Some(text) => Ok(Some(Vec::from_slice(alloc, text)?)),
             None => Ok(None),
         }
+    }
+
+    fn calendar(&self) -> MemCalendar {
+        MemCalendar
     }
 
     fn close(&mut self, sockets: MemSockets, log: Option<MemWriter>)

@@ -236,16 +236,16 @@ run_serves held how count c before after s t (Err f) links runs none nowhere at 
     let end = runs.ends.ends in
     let counted = ap (λ (x : Served). x.turns) led.counts in
     stopped c count before after end.then.scene t.now.scene (led.turns ++ end.turns) f end.event
-        (omega (arith, runs.most, end.fewer, counted, turns_counted s.now.served led.turns, length-append led.turns end.turns))
-        (lead_along (first_scene c before) runs.then.now.scene end.then.scene led.turns end.turns from end.went.went) end.last.last log calls
+    (omega (arith, runs.most, end.fewer, counted, turns_counted s.now.served led.turns, length-append led.turns end.turns))
+    (lead_along (first_scene c before) runs.then.now.scene end.then.scene led.turns end.turns from end.went.went) end.last.last log calls
 
 -- without a state and a line of a log a gateway begins as one to which nothing came
-begins_first : (c : Configuration) (saved : Option Saved) (line : Option (List ℕ)) (w : State) → saved ≡ None → line ≡ None
-    → BeginsAs c saved line w → w ≡ state_after c no_counts []
-begins_first c None None w is_saved is_line begins =
+begins_first : (c : Configuration) (state : Option Saved) (line : Option (List ℕ)) (w : State) → state ≡ None → line ≡ None
+    → BeginsAs c state line w → w ≡ state_after c no_counts []
+begins_first c None None w no_state no_line begins =
     begins.state ∙ ap (λ (k : Counts). record (begun c None) { ticks = k.ticks; denials = k.denials }) begins.from
-begins_first c None (Some line) w is_saved is_line begins = absurd cc
-begins_first c (Some saved) line w is_saved is_line begins = absurd cc
+begins_first c None (Some line) w no_state no_line begins = absurd cc
+begins_first c (Some state) line w no_state no_line begins = absurd cc
 
 kept_serves : {S Q L : Type 0} (given : Given S Q L) → given.saved ≡ None → given.line ≡ None → given.store ≡ None → given.requests ≡ None
     → (c : Configuration) (how : Service) (before after : Ends) (text : List ℕ) (outcome : Result (Unit {0}) ServiceFault)
