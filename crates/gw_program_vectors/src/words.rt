@@ -228,6 +228,7 @@ pub fn faults(alloc: Global, out: &mut Vec<u8>) -> io::Result<()> {
         Fault::Trial(TrialFault::Ports),
         Fault::Trial(TrialFault::Log),
         Fault::Audit,
+        Fault::Metrics(StoreFault::ReadOnly),
         Fault::State(StateFault {
             line: 7,
             kind: FaultKind::Range,

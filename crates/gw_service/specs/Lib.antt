@@ -12,3 +12,4 @@ pub mod Stats
 pub mod Laws
 pub mod Watch
 pub mod Scheduled
+pub mod Metrics

@@ -150,6 +150,7 @@ fn write_fault<E: OctetSink>(fault: Fault, errors: &mut E) -> Result<(), WriteFa
         Fault::Store(why) => write_store_fault("bacgw: state isn't kept: ", why, errors),
         Fault::Trial(why) => write_trial_fault(why, errors),
         Fault::Audit => write_whole(errors, b"bacgw: audit failed\n"),
+        Fault::Metrics(why) => write_store_fault("bacgw: metrics failed: ", why, errors),
         Fault::Request(why) => write_store_fault("bacgw: request failed: ", why, errors),
         Fault::NoAnswer => write_whole(errors, b"bacgw: no answer\n"),
         Fault::TooManyAsks => write_whole(errors, b"bacgw: suggestion: too many asks\n"),
