@@ -1,0 +1,47 @@
+-- What a run leaves, if what was closed is seen otherwise.
+use Rattle.std.proofs.Common.{◌≡◌, ℕ, Bool, true, false, List, Option, Result}
+use Rattle.gw_command_line.specs.declared.options.RunOptions.{RunOptions}
+use Rattle.gw_configuration.specs.Configuration.{Configuration}
+use Rattle.gw_service.specs.Kept.{LeavesBy, LeavesService, LeavesWithState, Names, StateMachine, is_plain, ran, unopened, unprepared, whole_machine}
+use Rattle.gw_service.specs.Serving.{LeavesServed, Machine, Service, served, shut}
+use Rattle.gw_service.specs.declared.fault.ServiceFault.{ServiceFault}
+
+served_closes : {Log Sockets : Type 0} (m : Machine Log Sockets) (Closes : Sockets → Option Log → Type 0)
+    → ((sockets : Sockets) (log : Option Log) → m.Closes sockets log → Closes sockets log) → (name held holds : Option (List ℕ)) (c : Configuration)
+    (how : Service) (is_verbose : Bool) (line told : List ℕ) (outcome : Result (Unit {0}) ServiceFault)
+    → LeavesServed m name held holds c how is_verbose line told outcome
+    → LeavesServed (record m { Closes = Closes }) name held holds c how is_verbose line told outcome
+served_closes m Closes so name held holds c how is_verbose line told outcome (shut failure opens is note) = shut failure opens is note
+served_closes m Closes so name held holds c how is_verbose line told outcome
+    (served log log_then sockets sockets_then output warning reports opens closes stays serves warns is) =
+    served log log_then sockets sockets_then output warning reports opens (so sockets_then log_then closes) stays serves warns is
+
+kept_closes : {Log Sockets S Q : Type 0} (m : Machine Log Sockets) (states : StateMachine S Q) (Closes : Sockets → Option Log → Type 0)
+    → ((sockets : Sockets) (log : Option Log) → m.Closes sockets log → Closes sockets log) → (names : Names) (held holds : Option (List ℕ))
+    (c : Configuration) (how : Service) (is_verbose : Bool) (line told : List ℕ) (outcome : Result (Unit {0}) ServiceFault)
+    → LeavesWithState m states names held holds c how is_verbose line told outcome
+    → LeavesWithState (record m { Closes = Closes }) states names held holds c how is_verbose line told outcome
+kept_closes m states Closes so names held holds c how is_verbose line told outcome (unprepared f why is stays none) =
+    unprepared f why is stays none
+kept_closes m states Closes so names held holds c how is_verbose line told outcome (unopened failure opens is note) =
+    unopened failure opens is note
+kept_closes m states Closes so names held holds c how is_verbose line told outcome
+    (ran before log log_then sockets sockets_then output warning text prepared opens closes stays leaves warns is) =
+    ran before log log_then sockets sockets_then output warning text prepared opens (so sockets_then log_then closes) stays leaves warns is
+
+by_either : (b : Bool) (Plain Stated Other Another : Type 0) → (Plain → Other) → (Stated → Another) → LeavesBy b Plain Stated
+    → LeavesBy b Other Another
+by_either true Plain Stated Other Another first second leaves = first leaves
+by_either false Plain Stated Other Another first second leaves = second leaves
+
+pub service_closes : {Log Sockets S Q : Type 0} (m : Machine Log Sockets) (states : StateMachine S Q) (Closes : Sockets → Option Log → Type 0)
+    → ((sockets : Sockets) (log : Option Log) → m.Closes sockets log → Closes sockets log) → (options : RunOptions)
+    (held holds : Option (List ℕ)) (c : Configuration) (told : List ℕ) (outcome : Result (Unit {0}) ServiceFault)
+    → LeavesService (whole_machine m states) options held holds c told outcome
+    → LeavesService (whole_machine (record m { Closes = Closes }) states) options held holds c told outcome
+service_closes m states Closes so options held holds c told outcome leaves = (
+  leaves.0,
+  leaves.1,
+  by_either (is_plain options) _ _ _ _ (λ left. served_closes m Closes so _ held holds c _ _ _ leaves.0 outcome left)
+      (λ left. kept_closes m states Closes so _ held holds c _ _ _ leaves.0 outcome left) leaves.2,
+)
