@@ -30,7 +30,7 @@ pub use line::name_of;
 pub use reload::{Adopted, ReloadCounts, ReloadFault, reloaded};
 pub use running::Running;
 pub use serving::{serve_fresh, serve_ports};
-pub use stamped_run::serve_stamped;
+pub use stamped_run::serve_run;
 pub use stats::Schedule;
 pub use successor::Successor;
 pub use telling::tell;
