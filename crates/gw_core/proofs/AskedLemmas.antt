@@ -1,33 +1,24 @@
 -- What is asked, with its verdicts.
-use Rattle.std.proofs.Common.{◌≡◌, ◌∙◌, sym, ap, refl, Bool, true, false, List, [], ◌∷◌, ◌++◌, filter, map, not, Option, Some, None}
-use Rattle.std.specs.Option.{option_or}
+use Rattle.std.proofs.Common.{◌≡◌, ◌∙◌, sym, ap, refl, Bool, true, false, List, [], ◌∷◌, Option, Some, None}
 use Rattle.gw_rules.specs.Ask.{Ask}
-use Rattle.gw_rules.specs.Asker.{RecorderState, verdicts_of}
+use Rattle.gw_rules.specs.Asker.{verdicts_of}
 use Rattle.gw_rules.specs.Authorizer.{denied_of, refusal}
 use Rattle.gw_rules.specs.RuleList.{allows}
 use Rattle.gw_rules.specs.declared.refusal.Refusal.{Refusal}
 use Rattle.gw_rules.specs.declared.rule.Rule.{Rule}
-use Rattle.gw_rules.specs.declared.verdict.Verdict.{Verdict}
 use Rattle.gw_objects.specs.Objects.{Database}
-use Rattle.gw_objects.specs.Write.{Write}
 use Rattle.gw_relay.specs.Cast.{accepts, is_unregistered}
 use Rattle.gw_relay.specs.Message.{Message, message_view}
-use Rattle.gw_relay.specs.Sends.{Sending}
 use Rattle.gw_relay.specs.State.{Relay}
-use Rattle.gw_relay.specs.declared.change.Change.{Change}
-use Rattle.gw_relay.specs.declared.turn.Turn.{Turn}
 use Rattle.gw_script.specs.Event.{Event, Tick}
-use Rattle.gw_core.specs.Asked.{asked_at, asked_from, asked_of, refused_of}
+use Rattle.gw_core.specs.Asked.{asked_at, asked_of, refused_of}
 use Rattle.gw_core.specs.Asks.{asks, asks_for}
-use Rattle.gw_core.specs.Effects.{relay_change_for, sends_for}
 use Rattle.gw_core.specs.Receive.{Origin, Received, admit, dropped, unregistered, message, message_origin, origin, receive}
-use Rattle.gw_core.specs.Respond.{IsResponse}
 use Rattle.gw_core.specs.State.{State}
 use Rattle.gw_core.specs.View.{admitted_view, judged, origin_of, received_view}
-use Rattle.gw_core.specs.declared.asked.Asked.{Asked}
 use Rattle.gw_core.specs.declared.receive.Received.{Received as LentReceived}
 use Rattle.gw_core.specs.declared.receive.Received.TheVariants as lent
-use Rattle.gw_core.proofs.DenialLemmas.{origin_admitted}
+use Rattle.gw_core.proofs.DenialLemmas.{asks_received, origin_admitted}
 
 -- ---- the refusals
 
@@ -41,80 +32,55 @@ refused_are rules (ask ∷ asked) = by (allows rules ask) refl (refused_are rule
     by true is later = rw is later
     by false is later = rw is (ap (λ (l : List Refusal). refusal rules ask ∷ l) later)
 
--- ---- what a turn has that had nothing before, and whose asker keeps all verdicts
-
-pub record StandsWatched {J : Type 0} (rules : List Rule) (relay : Relay) (d : Database) (received : Received)
-    (new : Turn (RecorderState J)) : Type 0 where
-  pub sends : new.sends ≡ sends_for rules relay d received
-  pub verdicts : new.asker.verdicts ≡ verdicts_of rules (asks_for rules relay d received)
-  pub refusals : refused_of new.asker.verdicts ≡ denied_of rules (asks_for rules relay d received)
-  pub change : new.change ≡ relay_change_for rules relay received
-
-pub stands_watched : {J : Type 0} (rules : List Rule) (relay : Relay) (d : Database) (received : Received) (old new : Turn (RecorderState J))
-    (granted : Option Write) → old.sends ≡ [] → old.asker.verdicts ≡ [] → old.change ≡ None
-    → IsResponse (λ (r : RecorderState J). r.verdicts) (λ rules asks. verdicts_of rules asks) rules relay d received old new granted
-    → StandsWatched rules relay d received new
-stands_watched rules relay d received old new granted sends verdicts change is =
-    let asked = asks_for rules relay d received in
-    let kept : new.asker.verdicts ≡ verdicts_of rules asked =
-    is.walked.verdicts ∙ ap (λ (l : List Verdict). l ++ verdicts_of rules asked) verdicts in
-    record {
-      sends = is.walked.sends ∙ ap (λ (l : List Sending). l ++ sends_for rules relay d received) sends;
-      verdicts = kept;
-      refusals = ap refused_of kept ∙ refused_are rules asked;
-      change = is.walked.change ∙ ap (λ (x : Option Change). option_or x (relay_change_for rules relay received)) change;
-    }
-
 -- ---- whence it comes
 
--- no verdict is of nobody
-none_asked : (from : Option Origin) (verdicts : List Verdict) → verdicts ≡ [] → asked_of from verdicts ≡ []
-none_asked None verdicts none = refl
-none_asked (Some from) verdicts none = ap (map (asked_from from)) none
-
--- what the code takes unjudged asks as what it is received as
-judged_asked : (rules : List Rule) (relay : Relay) (d : Database) (m : Message) (verdicts : List Verdict) (heard strange : Bool)
+-- What is said of asks, where nothing that is asked is said to be the same of everyone: what the code takes unjudged is
+-- what it is received as.
+judged_reports : {X : Type 0} (said : Option Origin → List Ask → X) → ((from : Option Origin) → said from [] ≡ said None [])
+    → (rules : List Rule) (relay : Relay) (d : Database) (m : Message) (heard strange : Bool)
     → heard ≡ accepts m.here m.from m.frame → strange ≡ is_unregistered m.here m.from m.frame
-    → verdicts ≡ verdicts_of rules (asks_for rules relay d (admit rules relay (judged m)))
-    → asked_of (Some (message_origin m)) verdicts ≡ asked_of (origin (admit rules relay (judged m))) verdicts
-judged_asked rules relay d m verdicts false strange h s are =
+    → said (Some (message_origin m)) (asks_for rules relay d (admit rules relay (judged m)))
+    ≡ said (origin (admit rules relay (judged m))) (asks_for rules relay d (admit rules relay (judged m)))
+judged_reports said unasked rules relay d m false strange h s =
     let out : judged m ≡ dropped = rw (← h) refl in
-    let none : verdicts ≡ [] = are ∙ ap (λ (r : Received). verdicts_of rules (asks_for rules relay d (admit rules relay r))) out in
-    none_asked (Some (message_origin m)) verdicts none ∙ sym (none_asked (origin (admit rules relay (judged m))) verdicts none)
-judged_asked rules relay d m verdicts true true h s are =
+    let none : asks_for rules relay d (admit rules relay (judged m)) ≡ [] =
+    ap (λ (r : Received). asks_for rules relay d (admit rules relay r)) out in
+    ap (said (Some (message_origin m))) none ∙ unasked (Some (message_origin m))
+    ∙ sym (unasked (origin (admit rules relay (judged m)))) ∙ ap (said (origin (admit rules relay (judged m)))) (sym none)
+judged_reports said unasked rules relay d m true true h s =
     let out : judged m ≡ unregistered m = rw (← h, ← s) refl in
-    let none : verdicts ≡ [] = are ∙ ap (λ (r : Received). verdicts_of rules (asks_for rules relay d (admit rules relay r))) out in
-    none_asked (Some (message_origin m)) verdicts none ∙ sym (none_asked (origin (admit rules relay (judged m))) verdicts none)
-judged_asked rules relay d m verdicts true false h s are =
+    let none : asks_for rules relay d (admit rules relay (judged m)) ≡ [] =
+    ap (λ (r : Received). asks_for rules relay d (admit rules relay r)) out in
+    ap (said (Some (message_origin m))) none ∙ unasked (Some (message_origin m))
+    ∙ sym (unasked (origin (admit rules relay (judged m)))) ∙ ap (said (origin (admit rules relay (judged m)))) (sym none)
+judged_reports said unasked rules relay d m true false h s =
     let out : judged m ≡ message m = rw (← h, ← s) refl in
-    ap (λ (from : Option Origin). asked_of from verdicts)
+    ap (λ (from : Option Origin). said from (asks_for rules relay d (admit rules relay (judged m))))
     (sym (ap (λ (r : Received). origin (admit rules relay r)) out ∙ origin_admitted rules relay m))
 
-lent_asked : (rules : List Rule) (relay : Relay) (d : Database) (received : LentReceived) (verdicts : List Verdict)
-    → verdicts ≡ verdicts_of rules (asks_for rules relay d (admit rules relay (received_view received)))
-    → asked_of (origin_of received) verdicts ≡ asked_of (origin (admit rules relay (received_view received))) verdicts
-lent_asked rules relay d (lent.Dropped why) verdicts are = refl
-lent_asked rules relay d (lent.Managed m) verdicts are = refl
-lent_asked rules relay d (lent.Message m) verdicts are =
+lent_reports : {X : Type 0} (said : Option Origin → List Ask → X) → ((from : Option Origin) → said from [] ≡ said None [])
+    → (rules : List Rule) (relay : Relay) (d : Database) (received : LentReceived)
+    → said (origin_of received) (asks_for rules relay d (admit rules relay (received_view received)))
+    ≡ said (origin (admit rules relay (received_view received))) (asks_for rules relay d (admit rules relay (received_view received)))
+lent_reports said unasked rules relay d (lent.Dropped why) = refl
+lent_reports said unasked rules relay d (lent.Managed m) = refl
+lent_reports said unasked rules relay d (lent.Message m) =
     let view = message_view m in
-    judged_asked rules relay d view verdicts (accepts view.here view.from view.frame) (is_unregistered view.here view.from view.frame) refl refl are
+    judged_reports said unasked rules relay d view (accepts view.here view.from view.frame) (is_unregistered view.here view.from view.frame) refl refl
 
--- what the code finds asked, with its verdicts, is what is asked of what it is received as
-pub asked_as : (w : State) (received : LentReceived) (slice verdicts : List Verdict) (asked : List Asked) → slice ≡ verdicts
-    → verdicts ≡ verdicts_of w.rules (asks_for w.rules w.relay w.device (admitted_view w received))
-    → asked ≡ asked_of (origin_of received) slice
-    → asked ≡ asked_of (origin (admitted_view w received))
-    (verdicts_of w.rules (asks_for w.rules w.relay w.device (admitted_view w received)))
-asked_as w received slice verdicts asked lent are is =
-    is ∙ ap (asked_of (origin_of received)) lent ∙ lent_asked w.rules w.relay w.device received verdicts are
-    ∙ ap (asked_of (origin (admitted_view w received))) are
+-- what is said of what the code takes is what is said of the event's asks
+pub reported_as : {X : Type 0} (said : Option Origin → List Ask → X) → ((from : Option Origin) → said from [] ≡ said None [])
+    → (w : State) (e : Event) (received : LentReceived) → admitted_view w received ≡ receive w e
+    → said (origin_of received) (asks_for w.rules w.relay w.device (admitted_view w received)) ≡ said (origin (receive w e)) (asks w e)
+reported_as said unasked w e received is =
+    lent_reports said unasked w.rules w.relay w.device received
+    ∙ ap (λ (r : Received). said (origin r) (asks_for w.rules w.relay w.device r)) is
+    ∙ ap (said (origin (receive w e))) (sym (asks_received w e (receive w e) refl))
 
--- what is asked of what is received is what the event asks
-pub asked_received : (w : State) (e : Event) (received : Received) → received ≡ receive w e
-    → asked_of (origin received) (verdicts_of w.rules (asks_for w.rules w.relay w.device received)) ≡ asked_at w e
-unfolding asked_at asks
-asked_received w e received is =
-    ap (λ (r : Received). asked_of (origin r) (verdicts_of w.rules (asks_for w.rules w.relay w.device r))) is
+-- what an event asks, with its verdicts
+pub asked_is : (w : State) (e : Event) → asked_of (origin (receive w e)) (verdicts_of w.rules (asks w e)) ≡ asked_at w e
+unfolding asked_at
+asked_is w e = refl
 
 -- a tick asks nothing
 pub asked_at-tick : (w : State) → asked_at w Tick ≡ []

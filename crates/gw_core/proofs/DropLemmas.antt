@@ -15,7 +15,6 @@ use Rattle.gw_relay.specs.Message.{Message, message_of}
 use Rattle.gw_relay.specs.State.{Relay, link_at}
 use Rattle.gw_relay.specs.declared.port.PortState.{PortState}
 use Rattle.gw_rules.specs.declared.rule.Rule.{Rule}
-use Rattle.gw_script.specs.Event.{Datagram}
 use Rattle.gw_core.specs.declared.drops.DropReason.{DropReason}
 use Rattle.gw_core.specs.declared.drops.DropReason.TheVariants.{Ignored, Malformed, OwnNetwork, NoPeer}
 use Rattle.gw_core.specs.Drops.{DropsHaveReasons, datagram_drop, drop_at, drop_on, either_drop, frame_drop, has_reason, is_dropped, length_drop, npdu_drop, payload_drop}

@@ -1,5 +1,5 @@
 -- What is asked before a message is taken, and what an event does that is kept out.
-use Rattle.std.proofs.Common.{◌≡◌, ◌∙◌, sym, ap, ap₂, refl, Bool, true, false, ◌&&◌, ◌||◌, ◌==◌, List, [], ◌∷◌, ◌++◌, length, not, Option, None}
+use Rattle.std.proofs.Common.{◌≡◌, ◌∙◌, sym, ap, ap₂, refl, Bool, true, false, ◌&&◌, ◌||◌, ◌==◌, List, [], ◌∷◌, ◌++◌, length, not}
 use Rattle.std.specs.Prelude.{if◌then◌else◌}
 use Rattle.std.specs.List.{list_all}
 use Rattle.std.specs.Option.{option_map_or, option_or}
@@ -12,12 +12,11 @@ use Rattle.gw_relay.specs.Stations.{belongs, is_station}
 use Rattle.gw_relay.specs.declared.port.PortState.{PortState}
 use Rattle.gw_objects.specs.Objects.{Database}
 use Rattle.gw_relay.specs.Cast.{goes_on}
-use Rattle.gw_relay.specs.Entry.{admits, claim_ask, comes_by_route, enter_ask, enters, entry_asks, entry_response, is_stranger, speaks_for_others}
+use Rattle.gw_relay.specs.Entry.{admits, claim_ask, comes_by_route, enter_ask, enters, entry_asks, is_stranger, speaks_for_others}
 use Rattle.gw_relay.specs.Message.{Message}
 use Rattle.gw_relay.specs.Response.{Response}
 use Rattle.gw_relay.specs.State.{Relay}
 use Rattle.gw_relay.specs.Turn.{IsWalked}
-use Rattle.gw_relay.specs.declared.change.Change.{Change}
 use Rattle.gw_relay.specs.declared.turn.Turn.{Turn}
 use Rattle.gw_rules.specs.Ask.{Ask}
 use Rattle.gw_rules.specs.declared.rule.Rule.{Rule}

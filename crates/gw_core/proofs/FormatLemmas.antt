@@ -16,30 +16,27 @@ use Rattle.gw_rules.specs.declared.format.Format.TheVariants.{One, Two, Three}
 use Rattle.gw_rules.specs.declared.operation.Operation.TheVariants.{Route}
 use Rattle.gw_rules.specs.declared.rule.Rule.{Rule}
 use Rattle.gw_device.specs.declared.context.Context.{Context}
-use Rattle.gw_objects.specs.Objects.{Database}
 use Rattle.gw_objects.specs.Write.{Write}
 use Rattle.gw_relay.specs.Asks.{bound_for, sender_of}
 use Rattle.gw_relay.specs.Cast.{cast_response}
 use Rattle.gw_relay.specs.Entry.{admits, entry_asks}
-use Rattle.gw_relay.specs.FormatTwo.{cast_response_before, copy_before, forward_before, link_response_before, manage_response_before, message_ask_before, on_way_before, route_response_before, route_steps_before, steps_before}
+use Rattle.gw_relay.specs.FormatTwo.{cast_response_before, copy_before, forward_before, manage_response_before, message_ask_before, on_way_before, route_steps_before, steps_before}
 use Rattle.gw_relay.specs.Initial.{initial}
 use Rattle.gw_relay.specs.Link.{answer_to, link_response, refused}
-use Rattle.gw_relay.specs.Manage.{manage_response}
 use Rattle.gw_relay.specs.Message.{Message}
 use Rattle.gw_relay.specs.Named.{named_asks}
 use Rattle.gw_relay.specs.Response.{Response}
-use Rattle.gw_relay.specs.Route.{copy_to_port, is_local, leaves, others, route_response}
+use Rattle.gw_relay.specs.Route.{copy_to_port, is_local, leaves, others}
 use Rattle.gw_relay.specs.Sends.{Sending}
 use Rattle.gw_relay.specs.State.{Move, Relay, moved, moved_by}
 use Rattle.gw_relay.specs.State as move
 use Rattle.gw_relay.specs.Steps.{Step, asks_of, sends_of}
-use Rattle.gw_relay.specs.declared.change.Change.{Change}
 use Rattle.gw_relay.specs.declared.port.PortState.{PortState}
 use Rattle.gw_relay.proofs.FormatLemmas.{broadcasts_are_as_before, network_messages_are_as_before, routing_is_as_before, tables_are_as_before}
 use Rattle.gw_core.specs.declared.effects.Effects.{Effects}
-use Rattle.gw_core.specs.Asks.{apdu_asks, asks, asks_for, message_asks}
+use Rattle.gw_core.specs.Asks.{apdu_asks, asks, asks_for}
 use Rattle.gw_core.specs.Denials.{denials_at, denials_of}
-use Rattle.gw_core.specs.Effects.{answer_sends, apdu_answer, apdu_change, change_at, change_for, changed, effects_at, message_sends, move_at, relay_change_for, sends_for, ticks_of}
+use Rattle.gw_core.specs.Effects.{answer_sends, apdu_answer, apdu_change, change_at, change_for, changed, effects_at, move_at, relay_change_for, sends_for, ticks_of}
 use Rattle.gw_core.specs.FormatOne.{before_two, copy_step, routing_of_one, steps_of_one, way_step}
 use Rattle.gw_core.specs.FormatTwo.{Routing, asked_by, asked_from, asks_by, asks_with, before_three, context_before, effects_by, left_by, move_before, next_by, received_before, relay_change_before, run_by, sends_with, write_before}
 use Rattle.gw_core.specs.History.{acts_of, next, run_from, state_after, state_from}

@@ -19,12 +19,9 @@ use Rattle.gw_relay.specs.declared.change.Change.{Change}
 use Rattle.gw_relay.specs.declared.turn.Turn.{Turn}
 use Rattle.gw_relay.proofs.Asking.{strange_asks, strange_sends, unheard_asks, unheard_sends}
 use Rattle.gw_rules.specs.Ask.{Ask}
-use Rattle.gw_rules.specs.Authorizer.{denied_of}
-use Rattle.gw_rules.specs.declared.refusal.Refusal.{Refusal}
 use Rattle.gw_rules.specs.declared.format.Format.{Format}
 use Rattle.gw_rules.specs.declared.rule.Rule.{Rule}
-use Rattle.gw_rules.specs.Authorizer.{AuthorizerState}
-use Rattle.gw_rules.specs.Keeping.{kept_refusals}
+use Rattle.gw_rules.specs.declared.verdict.Verdict.{Verdict}
 use Rattle.gw_core.specs.Asks.{apdu_asks, asks_for, message_asks}
 use Rattle.gw_core.specs.Effects.{answer_sends, apdu_answer, change_for, message_change, message_sends, relay_change_for, sends_for}
 use Rattle.gw_core.specs.Reply.{apdu_for, context_of}
@@ -33,7 +30,6 @@ use Rattle.gw_device.specs.declared.context.Context.{Context}
 use Rattle.gw_device.specs.Device.{device_answer}
 use Rattle.gw_device.specs.Response.{Answer}
 use Rattle.gw_core.proofs.DenialLemmas.{answer_put}
-use Rattle.gw_core.proofs.TurnLemmas.{same_refusals}
 use Rattle.gw_relay.specs.Message.{Message}
 use Rattle.gw_core.specs.Receive.{Received, admit, barred, dropped, unregistered, message}
 use Rattle.gw_core.specs.Respond.{IsResponse, entered_response, is_taken, passed_asks, passed_change, passed_sends}
@@ -74,23 +70,21 @@ pub sends_off : (rules : List Rule) (relay : Relay) (m : Message) → on m ≡ f
     → passed_sends rules relay m ≡ cast_sends rules relay.format m
 sends_off rules relay m h = rw h (append-nil (cast_sends rules relay.format m))
 
--- what is denied then, part by part
--- what a turn has that had nothing before, and whose asker keeps the denied asks
-pub record Stands {J : Type 0} (rules : List Rule) (relay : Relay) (d : Database) (received : Received)
-    (new : Turn (AuthorizerState J)) : Type 0 where
+-- ---- what a turn has that had nothing before
+
+pub record Turned {A : Type 0} (kept : A → List Verdict) (kept_of : List Rule → List Ask → List Verdict) (rules : List Rule) (relay : Relay)
+    (d : Database) (received : Received) (new : Turn A) : Type 0 where
   pub sends : new.sends ≡ sends_for rules relay d received
-  pub refusals : new.asker.denied ≡ denied_of rules (asks_for rules relay d received)
+  pub verdicts : kept new.asker ≡ kept_of rules (asks_for rules relay d received)
   pub change : new.change ≡ relay_change_for rules relay received
 
-pub stands_alone : {J : Type 0} (rules : List Rule) (relay : Relay) (d : Database) (received : Received) (old new : Turn (AuthorizerState J))
-    (granted : Option Write) → old.sends ≡ [] → old.asker.denied ≡ [] → old.change ≡ None
-    → IsResponse (λ (a : AuthorizerState J). kept_refusals a.denied) (λ rules asks. kept_refusals (denied_of rules asks)) rules relay d received
-    old new granted
-    → Stands rules relay d received new
-stands_alone rules relay d received old new granted sends refusals change is = record {
+pub turned : {A : Type 0} (kept : A → List Verdict) (kept_of : List Rule → List Ask → List Verdict) (rules : List Rule) (relay : Relay)
+    (d : Database) (received : Received) (old new : Turn A) (granted : Option Write) → old.sends ≡ [] → kept old.asker ≡ [] → old.change ≡ None
+    → IsResponse kept kept_of rules relay d received old new granted
+    → Turned kept kept_of rules relay d received new
+turned kept kept_of rules relay d received old new granted sends begun change is = record {
   sends = is.walked.sends ∙ ap (λ (l : List Sending). l ++ sends_for rules relay d received) sends;
-  refusals = same_refusals new.asker.denied (denied_of rules (asks_for rules relay d received))
-      (is.walked.verdicts ∙ ap (λ (l : List Refusal). kept_refusals l ++ kept_refusals (denied_of rules (asks_for rules relay d received))) refusals);
+  verdicts = is.walked.verdicts ∙ ap (λ (l : List Verdict). l ++ kept_of rules (asks_for rules relay d received)) begun;
   change = is.walked.change ∙ ap (λ (x : Option Change). option_or x (relay_change_for rules relay received)) change;
 }
 

@@ -1,5 +1,5 @@
 -- What an event does that is kept out, and where a message is delivered.
-use Rattle.std.proofs.Common.{◌≡◌, ◌∙◌, sym, ap, ap₂, refl, subst, Bool, true, false, List, [], ◌∷◌, ◌++◌, length, map, Option, None}
+use Rattle.std.proofs.Common.{◌≡◌, ◌∙◌, sym, ap, refl, subst, Bool, true, false, List, [], ◌∷◌, ◌++◌, length, map}
 use Rattle.std.specs.Prelude.{if◌then◌else◌}
 use Rattle.std.specs.List.{AllByRecursion, list_all}
 use Rattle.std.specs.Option.{option_map}
@@ -20,11 +20,11 @@ use Rattle.gw_rules.proofs.EachAsk.{none_front}
 use Rattle.gw_script.specs.Event.{Event, Datagram, Tick}
 use Rattle.gw_core.specs.Asks.{asks, asks_for, cast_asks_for, manage_asks_for, message_asks, route_asks_for}
 use Rattle.gw_core.specs.Denials.{denials_for}
-use Rattle.gw_core.specs.Effects.{change_at, change_for, changed, effects_at, effects_for, move_at, relay_change_for, route_sends_for, sends_for}
+use Rattle.gw_core.specs.Effects.{change_at, change_for, changed, effects_at, move_at, relay_change_for, route_sends_for, sends_for}
 use Rattle.gw_core.specs.FormatTwo.{received_before}
 use Rattle.gw_core.specs.History.{next}
 use Rattle.gw_core.specs.Laws.{IsKeptOut, NoDeliveryOutside, NoForgedClaim, NoStranger}
-use Rattle.gw_core.specs.Receive.{Received, admit, barred, dropped, message, receive}
+use Rattle.gw_core.specs.Receive.{Received, admit, barred, message, receive}
 use Rattle.gw_core.specs.State.{State}
 use Rattle.gw_core.proofs.DenialLemmas.{counted_for}
 use Rattle.gw_core.proofs.RespondLemmas.{four_none}

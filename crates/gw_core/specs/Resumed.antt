@@ -1,5 +1,5 @@
 -- What is saved of a gateway, and the state in which a gateway goes on from what was saved.
-use Rattle.std.specs.Prelude.{ℕ, List, [], ◌∷◌}
+use Rattle.std.specs.Prelude.{List, [], ◌∷◌}
 use Rattle.gw_configuration.specs.Configuration.{Configuration}
 use Rattle.gw_objects.specs.Objects.{database_of}
 use Rattle.gw_relay.specs.Initial.{resumed}

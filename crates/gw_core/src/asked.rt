@@ -1,13 +1,18 @@
 //! What a datagram asks, with what the policy says of it.
 
-ghost use Rattle.std.specs.Prelude.{◌≡◌, [], IfOk, IsOk};
+ghost use Rattle.std.specs.Prelude.{◌≡◌, [], IfOk, IsOk, List, None, Option, refl};
+ghost use Rattle.gw_rules.specs.Ask.{Ask};
+ghost use Rattle.gw_rules.specs.Authorizer.{denied_of};
+ghost use Rattle.gw_rules.specs.declared.rule.Rule.{Rule};
 ghost use Rattle.gw_core.specs.Asked.{asked_of, refused_of};
+ghost use Rattle.gw_core.specs.Receive.{Origin};
 ghost use Rattle.gw_core.specs.View.{origin_of};
 
 use crate::denial::origin_of;
 use crate::receive::Received;
 use gw_addr::{Sequence, Source};
-use gw_rules::{Refusal, Refusals, Verdict};
+use gw_rule_index::Policy;
+use gw_rules::{Asker, Authorizer, Recorder, Refusal, Refusals, Verdict};
 use std::alloc::{AllocError, Global};
 
 /// An ask that a datagram raised, and what the policy says of it.
@@ -24,6 +29,83 @@ pub struct Asked {
 
 /// Asks with their verdicts, in order. Contracts see the list of them.
 pub type AllAsked = Sequence<Asked>;
+
+/// What an asker reports once its turn is over.
+#[derive(Drop)]
+pub(crate) struct Report<T> {
+    /// The refusals, in order.
+    pub refusals: Refusals,
+    /// What is to be said of all that was asked.
+    pub asked: T,
+}
+
+/// An asker that reports what it kept once its turn is over. What is done about a datagram is generic in it, so that
+/// one walk serves a guard that watches and one that doesn't.
+pub(crate) trait Reporter: Asker + Drop {
+    /// What it says of all that was asked.
+    type Asked: Drop;
+
+    /// What it says of asks that come from there.
+    ghost asked: { Option Origin → List Rule → List Ask → Self.Asked };
+
+    /// Reports what it kept of what is received. If it kept nothing it takes no memory.
+    fn into_report(
+        self,
+        alloc: Global,
+        received: &Received<'_>,
+    ) -> Result<Report<Self::Asked>, AllocError>
+        ensures refusals { (rules : List Rule) (asks : List Ask) → Self.kept self ≡ Self.kept_of rules asks →
+            IfOk result (λ report. report.refusals ≡ denied_of rules asks) }
+        ensures asked { (rules : List Rule) (asks : List Ask) → Self.kept self ≡ Self.kept_of rules asks →
+            IfOk result (λ report. report.asked ≡ asked (origin_of received.now) rules asks) }
+        ensures silent { Self.kept self ≡ [] → IsOk result };
+
+    /// If nothing is asked, it says the same whoever it comes from.
+    ghost unasked: { (from : Option Origin) (rules : List Rule) → asked from rules [] ≡ asked None rules [] };
+}
+
+/// It says nothing but what was refused.
+impl Reporter for Authorizer<'_, Policy> {
+    type Asked = ();
+
+    ghost asked = { λ from rules asks. tt };
+
+    fn into_report(
+        self,
+        _alloc: Global,
+        _received: &Received<'_>,
+    ) -> Result<Report<()>, AllocError> {
+        Ok(Report {
+            refusals: self.into_refusals(),
+            asked: (),
+        })
+    }
+
+    ghost unasked = { λ from rules. refl };
+}
+
+/// It says all that was asked, with the verdicts.
+impl Reporter for Recorder<'_, Policy> {
+    ghost use Rattle.gw_rules.specs.Asker.{verdicts_of};
+    ghost use Rattle.gw_core.specs.internal.Reports.{none_from};
+
+    type Asked = AllAsked;
+
+    ghost asked = { λ from rules asks. asked_of from (verdicts_of rules asks) };
+
+    fn into_report(
+        self,
+        alloc: Global,
+        received: &Received<'_>,
+    ) -> Result<Report<AllAsked>, AllocError> {
+        let verdicts = self.verdicts();
+        let refusals = refused_of(alloc, verdicts)?;
+        let asked = asked_of(alloc, received, verdicts)?;
+        Ok(Report { refusals, asked })
+    }
+
+    ghost unasked = { λ from rules. none_from from };
+}
 
 /// The asks of what is received, with their verdicts. If there is none it takes no memory.
 pub(crate) fn asked_of(

@@ -1,27 +1,26 @@
 //! The gateway: its state, and what it answers to one event.
 
-ghost use Rattle.std.specs.Prelude.{◌≡◌, ◌+◌, ◌≤◌, ◌<◌, ◌^◌, ◌↔◌, ◌++◌, ◌||◌, [], true, length, map, None, is_some, vec_capacity};
+ghost use Rattle.std.specs.Prelude.{◌≡◌, ◌+◌, ◌≤◌, ◌<◌, ◌^◌, ◌↔◌, ◌++◌, ◌||◌, [], true, length, None, is_some, vec_capacity};
 ghost use Rattle.std.specs.Prelude.{IsOk, IfOk, OnOk, OnErr, IsErrOf};
 ghost use Rattle.std.specs.Option.{option_map};
 ghost use Rattle.gw_addr.specs.declared.TheConstants.{MAX_PORTS};
 ghost use Rattle.gw_device.specs.Response.{HasPlace};
-ghost use Rattle.gw_relay.specs.History.{initial_acts};
 ghost use Rattle.gw_relay.specs.State.{Commit, moved};
-ghost use Rattle.gw_core.specs.Asked.{asked_at, asked_of};
+ghost use Rattle.gw_core.specs.Asked.{asked_at};
 ghost use Rattle.gw_core.specs.Effects.{changed};
 ghost use Rattle.gw_core.specs.Explained.{asks_text};
 ghost use Rattle.gw_core.specs.Lasting.{lasting_move, lasts};
 ghost use Rattle.gw_core.specs.Resumed.{carried, saved_of};
 ghost use Rattle.gw_script.specs.Event.{Datagram, Tick};
 
-use crate::asked::{AllAsked, asked_of, refused_of};
+use crate::asked::{AllAsked, Report, Reporter};
 use crate::denial::denials_of;
 use crate::drops::DropReason;
 use crate::effects::Effects;
 use crate::event::Counts;
 use crate::explaining::put_verdicts;
 use crate::fault::StepFault;
-use crate::receive::{Arrival, Received, read_npdu, receive};
+use crate::receive::{Arrival, read_npdu, receive};
 use crate::respond::{network_of, respond};
 use crate::saving::saved_ports;
 use gw_addr::BipAddr;
@@ -39,15 +38,6 @@ use std::marker::Model;
 /// Where each count of a gateway ends.
 const LAST_COUNT: u64 = 1 << 63;
 
-/// What is done about a datagram: what is sent, the policy's denials, and the changes that are granted.
-#[derive(Drop)]
-struct Outcome {
-    sends: Sends,
-    denials: Denials,
-    change: Option<RelayChange>,
-    write: Option<Change>,
-}
-
 /// What an event that was taken does, why it was dropped, if it was, and whether it lasts.
 #[derive(Drop)]
 pub struct Taken {
@@ -59,11 +49,13 @@ pub struct Taken {
     pub lasts: bool,
 }
 
-/// What is done about a datagram, and what it asked.
+/// What is done about a datagram, the changes that are granted, and what is reported of all that was asked.
 #[derive(Drop)]
-struct WatchedOutcome {
-    outcome: Outcome,
-    asked: AllAsked,
+struct Outcome<T> {
+    taken: Taken,
+    change: Option<RelayChange>,
+    write: Option<Change>,
+    asked: T,
 }
 
 /// What an event that was taken does, and what it asked.
@@ -146,14 +138,13 @@ impl Model for Gateway {
 }
 
 impl Gateway {
-    ghost use Rattle.gw_core.specs.Asks.{asks_for};
-    ghost use Rattle.gw_core.specs.Denials.{denials_for};
+    ghost use Rattle.gw_core.specs.Asks.{asks};
+    ghost use Rattle.gw_core.specs.Denials.{denials_at};
     ghost use Rattle.gw_core.specs.Drops.{drop_at};
-    ghost use Rattle.gw_core.specs.Effects.{NeedsNoMemory, change_for, nothing, passes_end, relay_change_for, sends_for};
-    ghost use Rattle.gw_core.specs.History.{IsStateAfter, IsStep, RoutesStand, TablesStand, WritesStand};
-    ghost use Rattle.gw_core.specs.Receive.{origin};
-    ghost use Rattle.gw_core.specs.View.{admitted_view};
-    ghost use Rattle.gw_rules.specs.Asker.{verdicts_of};
+    ghost use Rattle.gw_core.specs.Effects.{NeedsNoMemory, change_at, effects_at, move_at, nothing, passes_end};
+    ghost use Rattle.gw_core.specs.History.{IsStateAfter, IsStep};
+    ghost use Rattle.gw_core.specs.Receive.{origin, receive};
+    ghost use Rattle.gw_core.specs.internal.Arrivals.{event_of};
 
     /// A gateway of this configuration that goes on from these counts. The only fault is want of
     /// memory.
@@ -161,9 +152,6 @@ impl Gateway {
         requires ticks { counts.ticks ≤ 2 ^ 63 }
         requires denials { counts.denials ≤ 2 ^ 63 }
         ensures state { IfOk result (λ gateway. IsStateAfter gateway config counts []) }
-        ensures writes { IfOk result (WritesStand config []) }
-        ensures tables { IfOk result (TablesStand config (map initial_acts config.ports)) }
-        ensures routes { IfOk result (RoutesStand config []) }
     {
         let ports = config.ports().len() as u8;
         let relay = Relay::new(alloc, &config)?;
@@ -274,98 +262,72 @@ impl Gateway {
         LAST_COUNT - self.counts.denials
     }
 
-    /// What is done about what is received, while the gateway stays as it is. The faults are those of
-    /// [`Gateway::step`].
+    /// What is done about a datagram, and what the asker reports of its asks, while the gateway stays as it is. The
+    /// asker has asked nothing yet. The faults are those of [`Gateway::step`].
     #[inline(always)]
-    fn outcome(&self, alloc: Global, received: &Received<'_>) -> Result<Outcome, StepFault>
-        requires { self.now.denials ≤ 2 ^ 63 }
-        ensures sends { let received = admitted_view self.now received.now in
-            let due = sends_for self.now.rules self.now.relay self.now.device received in
-            IfOk result (λ outcome. outcome.sends ≡ due) }
-        ensures denials { let due = denials_for self.now (admitted_view self.now received.now) in
-            IfOk result (λ outcome. outcome.denials ≡ due) }
-        ensures change { let received = admitted_view self.now received.now in
-            let due = relay_change_for self.now.rules self.now.relay received in
-            IfOk result (λ outcome. outcome.change ≡ due) }
-        ensures write { let received = admitted_view self.now received.now in
-            let due = change_for self.now.rules self.now.relay.format self.now.device received in
-            IfOk result (λ outcome. outcome.write ≡ due) }
-        ensures place { IfOk result (λ outcome. HasPlace self.now.device outcome.write) }
-        ensures room { let received = admitted_view self.now received.now in IsOk result →
-            self.now.denials + length (denials_for self.now received) ≤ 2 ^ 63 }
-        ensures count_end { IsErrOf result StepFault.CountEnd → 2 ^ 63
-            < self.now.denials + length (denials_for self.now (admitted_view self.now received.now)) }
-        ensures silent { let received = admitted_view self.now received.now in
-            asks_for self.now.rules self.now.relay self.now.device received ≡ [] →
-            sends_for self.now.rules self.now.relay self.now.device received ≡ [] → IsOk result }
-    {
-        let mut turn = Turn::new(Authorizer::new(alloc, &self.policy));
-        let write = respond(&self.relay, &self.device, received, &mut turn)?;
-        let refusals = turn.asker.refusals();
-        if refusals.len() as u64 > self.left() {
-            return Err(StepFault::CountEnd);
-        }
-        let rules = self.policy.rules();
-        let denials = denials_of(alloc, rules, self.counts, received, refusals)?;
-        let (sends, change) = turn.into_effects();
-        Ok(Outcome {
-            sends,
-            denials,
-            change,
-            write,
-        })
-    }
-
-    /// What is done about what is received, and what it asks, while the gateway stays as it is. The faults are
-    /// those of [`Gateway::step`].
-    fn outcome_watched(
+    fn outcome<A: Reporter>(
         &self,
         alloc: Global,
-        received: &Received<'_>,
-    ) -> Result<WatchedOutcome, StepFault>
-        requires { self.now.denials ≤ 2 ^ 63 }
-        ensures sends { let received = admitted_view self.now received.now in
-            let due = sends_for self.now.rules self.now.relay self.now.device received in
-            IfOk result (λ watched. watched.outcome.sends ≡ due) }
-        ensures denials { let due = denials_for self.now (admitted_view self.now received.now) in
-            IfOk result (λ watched. watched.outcome.denials ≡ due) }
-        ensures change { let received = admitted_view self.now received.now in
-            let due = relay_change_for self.now.rules self.now.relay received in
-            IfOk result (λ watched. watched.outcome.change ≡ due) }
-        ensures write { let received = admitted_view self.now received.now in
-            let due = change_for self.now.rules self.now.relay.format self.now.device received in
-            IfOk result (λ watched. watched.outcome.write ≡ due) }
-        ensures place { IfOk result (λ watched. HasPlace self.now.device watched.outcome.write) }
-        ensures room { let received = admitted_view self.now received.now in IsOk result →
-            self.now.denials + length (denials_for self.now received) ≤ 2 ^ 63 }
-        ensures count_end { IsErrOf result StepFault.CountEnd → 2 ^ 63
-            < self.now.denials + length (denials_for self.now (admitted_view self.now received.now)) }
-        ensures silent { let received = admitted_view self.now received.now in
-            asks_for self.now.rules self.now.relay self.now.device received ≡ [] →
-            sends_for self.now.rules self.now.relay self.now.device received ≡ [] → IsOk result }
-        ensures asked { let received = admitted_view self.now received.now in
-            let asks = asks_for self.now.rules self.now.relay self.now.device received in
-            let due = asked_of (origin received) (verdicts_of self.now.rules asks) in
-            IfOk result (λ watched. watched.asked ≡ due) }
+        arrival: &Arrival<'_>,
+        asker: A,
+    ) -> Result<Outcome<A::Asked>, StepFault>
+        requires stands { A.StandsFor asker self.now.rules }
+        requires begun { A.kept asker ≡ [] }
+        requires count { self.now.denials ≤ 2 ^ 63 }
+        ensures effects { let event = event_of arrival.now in
+            IfOk result (λ outcome. outcome.taken.effects ≡ effects_at self.now event) }
+        ensures drop { let event = event_of arrival.now in
+            IfOk result (λ outcome. outcome.taken.drop ≡ drop_at self.now event) }
+        ensures lasts { let event = event_of arrival.now in
+            IfOk result (λ outcome. outcome.taken.lasts ≡ lasts self.now event) }
+        ensures denied { let due = denials_at self.now (event_of arrival.now) in
+            IfOk result (λ outcome. length outcome.taken.effects.denials ≡ length due) }
+        ensures moves { let event = event_of arrival.now in
+            IfOk result (λ outcome. option_map Commit outcome.change ≡ move_at self.now event) }
+        ensures stays { asks self.now (event_of arrival.now) ≡ [] →
+            IfOk result (λ outcome. outcome.change ≡ None) }
+        ensures write { let event = event_of arrival.now in
+            IfOk result (λ outcome. outcome.write ≡ change_at self.now event) }
+        ensures place { IfOk result (λ outcome. HasPlace self.now.device outcome.write) }
+        ensures asked { let event = event_of arrival.now in
+            let due = A.asked (origin (receive self.now event)) self.now.rules (asks self.now event) in
+            IfOk result (λ outcome. outcome.asked ≡ due) }
+        ensures room { let due = denials_at self.now (event_of arrival.now) in
+            IsOk result → self.now.denials + length due ≤ 2 ^ 63 }
+        ensures count_end { IsErrOf result StepFault.CountEnd
+            → passes_end self.now (event_of arrival.now) ≡ true }
+        ensures silent { NeedsNoMemory self.now (event_of arrival.now) → IsOk result }
     {
-        let mut turn = Turn::new(Recorder::new(alloc, &self.policy));
-        let write = respond(&self.relay, &self.device, received, &mut turn)?;
-        let verdicts = turn.asker.verdicts();
-        let refusals = refused_of(alloc, verdicts)?;
+        let frame = gw_bvll::decode(arrival.octets);
+        let mut npdu = Err(NpduFault::Short);
+        read_npdu(&frame, &mut npdu);
+        let network = network_of(&self.device);
+        let received = receive(self.relay.ports(), network, arrival, &frame, &npdu);
+        let drop = received.drop_reason();
+        let mut turn = Turn::new(asker);
+        let write = respond(&self.relay, &self.device, &received, &mut turn)?;
+        let Turn {
+            asker,
+            sends,
+            change,
+        } = turn;
+        let Report { refusals, asked } = asker.into_report(alloc, &received)?;
+        let refusals = refusals.as_slice();
         if refusals.len() as u64 > self.left() {
             return Err(StepFault::CountEnd);
         }
         let rules = self.policy.rules();
-        let denials = denials_of(alloc, rules, self.counts, received, refusals.as_slice())?;
-        let asked = asked_of(alloc, received, verdicts)?;
-        let (sends, change) = turn.into_effects();
-        Ok(WatchedOutcome {
-            outcome: Outcome {
-                sends,
-                denials,
-                change,
-                write,
+        let denials = denials_of(alloc, rules, self.counts, &received, refusals)?;
+        let lasts = is_lasting(&change, &write);
+        let effects = Effects { sends, denials };
+        Ok(Outcome {
+            taken: Taken {
+                effects,
+                drop,
+                lasts,
             },
+            change,
+            write,
             asked,
         })
     }
@@ -453,25 +415,15 @@ impl Gateway {
     {
         let now = &*self;
         let arrival = Arrival { port, from, octets };
-        let frame = gw_bvll::decode(octets);
-        let mut npdu = Err(NpduFault::Short);
-        read_npdu(&frame, &mut npdu);
-        let device = network_of(&now.device);
-        let received = receive(now.relay.ports(), device, &arrival, &frame, &npdu);
-        let drop = received.drop_reason();
+        let asker = Authorizer::new(alloc, &now.policy);
         let Outcome {
-            sends,
-            denials,
+            taken,
             change,
             write,
-        } = now.outcome(alloc, &received)?;
-        let lasts = is_lasting(&change, &write);
-        self.move_on(change, write, denials.len() as u64)?;
-        Ok(Taken {
-            effects: Effects { sends, denials },
-            drop,
-            lasts,
-        })
+            asked: _,
+        } = now.outcome(alloc, &arrival, asker)?;
+        self.move_on(change, write, taken.effects.denials.len() as u64)?;
+        Ok(taken)
     }
 
     /// Does what [`Gateway::take`] does, and says what the datagram asked, allowed or denied. All that is
@@ -505,26 +457,14 @@ impl Gateway {
     {
         let now = &*self;
         let arrival = Arrival { port, from, octets };
-        let frame = gw_bvll::decode(octets);
-        let mut npdu = Err(NpduFault::Short);
-        read_npdu(&frame, &mut npdu);
-        let device = network_of(&now.device);
-        let received = receive(now.relay.ports(), device, &arrival, &frame, &npdu);
-        let drop = received.drop_reason();
-        let WatchedOutcome { outcome, asked } = now.outcome_watched(alloc, &received)?;
+        let asker = Recorder::new(alloc, &now.policy);
         let Outcome {
-            sends,
-            denials,
+            taken,
             change,
             write,
-        } = outcome;
-        let lasts = is_lasting(&change, &write);
-        self.move_on(change, write, denials.len() as u64)?;
-        let taken = Taken {
-            effects: Effects { sends, denials },
-            drop,
-            lasts,
-        };
+            asked,
+        } = now.outcome(alloc, &arrival, asker)?;
+        self.move_on(change, write, taken.effects.denials.len() as u64)?;
         Ok(Watched { taken, asked })
     }
 
@@ -546,8 +486,8 @@ impl Gateway {
         let frame = gw_bvll::decode(arrival.octets);
         let mut npdu = Err(NpduFault::Short);
         read_npdu(&frame, &mut npdu);
-        let device = network_of(&self.device);
-        let received = receive(self.relay.ports(), device, arrival, &frame, &npdu);
+        let network = network_of(&self.device);
+        let received = receive(self.relay.ports(), network, arrival, &frame, &npdu);
         let mut turn = Turn::new(Recorder::new(alloc, &self.policy));
         respond(&self.relay, &self.device, &received, &mut turn)?;
         put_verdicts(out, self.policy.rules(), &received, turn.asker.verdicts())

@@ -1,12 +1,12 @@
 //! The message that an APDU for the device comes in, and those that carry its answer (clause
 //! 6.2.2).
 
-ghost use Rattle.std.specs.Prelude.{◌≡◌, ◌+◌, ◌<◌, ◌≤◌, ◌^◌, ◌++◌, [], ◌∷◌, length, take, drop};
+ghost use Rattle.std.specs.Prelude.{◌≡◌, ℕ, ◌+◌, ◌<◌, ◌≤◌, ◌^◌, ◌++◌, [], ◌∷◌, length, take, drop};
 ghost use Rattle.std.specs.Prelude.{IfOk, IsOk, OnOk, None, Ok, true, false, vec_len};
 ghost use Rattle.std.specs.Int.{w16, to_be_bytes};
 ghost use Rattle.std.specs.Option.{option_map};
 ghost use Rattle.gw_device.specs.Response.{answer_view};
-ghost use Rattle.gw_npdu.specs.Npdu.{destination_view, payload_view, address_view, encoding, max_header_len, priority_of, view as npdu_view};
+ghost use Rattle.gw_npdu.specs.Npdu.{destination_part, destination_view, hops_part, payload_view, address_view, encoding, max_header_len, priority_of, view as npdu_view};
 ghost use Rattle.gw_npdu.specs.Numbers.{max_len};
 ghost use Rattle.gw_core.specs.Effects.{answer_sends};
 ghost use Rattle.gw_bvll.specs.Bvll.{original_unicast};
@@ -36,6 +36,12 @@ const ORIGINAL_UNICAST: u8 = 0x0A;
 const EMPTY_UNICAST: [u8; FRAME_HEADER] = [BVLL_TYPE, ORIGINAL_UNICAST, 0x00, 0x04];
 /// The version of the network layer (clause 6.2.1).
 const NPDU_VERSION: u8 = 1;
+/// How many octets the header of a reply has that names its source alone: the version, the control octet, and the
+/// device's network and station (clause 6.2.2).
+const LOCAL_HEADER: usize = 6;
+/// How many octets name the way back beside the station's address: its network, its address's length and the hop count
+/// (clause 6.2.2).
+const WAY_BACK: usize = 4;
 /// How many octets most replies have before the APDU, so that a buffer seldom grows.
 const REPLY_HEADERS: usize = 32;
 
@@ -120,12 +126,25 @@ fn reply_npdu<'a>(network: NetNum, request: &Npdu<'a>, apdu: &'a [u8], broadcast
     }
 }
 
+/// How many octets of a reply's header name its way back: the destination and the hop count, or none if the station
+/// that asked is a node of the port's own network.
+fn way_back_len(source: &Option<AddressRef<'_>>) -> usize
+    ensures len { let back = option_map (reply_destination false) (option_map address_view source.now) in
+        result ≡ length (destination_part back) + length (hops_part back) }
+    ensures most { result ≤ 259 }
+{
+    match source {
+        None => 0,
+        Some(address) => WAY_BACK + address.mac.len(),
+    }
+}
+
 /// How many octets the APDU may have that goes back to the station that asked.
-fn max_reply_apdu(network: NetNum, request: &Npdu<'_>) -> usize
-    ensures room { result ≡ max_reply_apdu network (npdu_view request.now) }
+fn max_reply_apdu(request: &Npdu<'_>) -> usize
+    ensures room { (network : ℕ) → result ≡ max_reply_apdu network (npdu_view request.now) }
     ensures least { max_len ≤ result + max_header_len }
 {
-    gw_npdu::MAX_LEN - reply_npdu(network, request, &[], false).header_len()
+    gw_npdu::MAX_LEN - LOCAL_HEADER - way_back_len(&request.source)
 }
 
 /// What the device knows of a message.
@@ -139,7 +158,7 @@ pub fn context_of(format: Format, network: NetNum, message: &Message<'_>) -> Con
         source_key: message.source_key(),
         sender: sender_of(format, message.from),
         broadcast: goes_to_all(network, &message.npdu.destination),
-        room: max_reply_apdu(network, message.npdu),
+        room: max_reply_apdu(message.npdu),
     }
 }
 
@@ -215,7 +234,7 @@ fn routed_octets(
 
 /// Writes the headers of an answer to a node of the port's own network into the room before its APDU: those of an
 /// Original-Unicast-NPDU (Annex J.2.11) and of an NPDU that names its source alone (clause 6.2.2).
-fn put_local_headers(octets: &mut [u8], network: NetNum, priority: Priority)
+fn set_local_headers(octets: &mut [u8], network: NetNum, priority: Priority)
     requires least { 10 ≤ length octets.old }
     requires most { length octets.old < 2 ^ 16 }
     ensures { let npdu = local_reply network (priority_of priority) (drop 10 octets.old) in
@@ -249,7 +268,7 @@ fn local_octets(network: NetNum, priority: Priority, answer: Answer) -> Option<V
     if octets.len() > FRAME_HEADER + gw_npdu::MAX_LEN {
         return None;
     }
-    put_local_headers(octets.as_mut_slice(), network, priority);
+    set_local_headers(octets.as_mut_slice(), network, priority);
     Some(octets)
 }
 

@@ -1,10 +1,10 @@
 -- What is found in the list.
-use Rattle.std.proofs.Common.{◌≡◌, ◌==◌, ℕ, List, [], ◌∷◌, ◌++◌, map, Bool, true, false, refl, ap, inl, inr, Some}
+use Rattle.std.proofs.Common.{◌≡◌, ◌==◌, ℕ, List, [], ◌∷◌, map, Bool, true, false, refl, ap, inl, inr, Some}
 use Rattle.std.specs.Prelude.{◌||◌}
-use Rattle.std.proofs.lemmas.Bool.{cases_Bool, eqb-true}
+use Rattle.std.proofs.lemmas.Bool.{cases_Bool}
 use Rattle.gw_configuration.specs.Configuration.{Configuration}
 use Rattle.gw_points.proofs.Records.{AreWide, rows_found}
-use Rattle.gw_points.specs.Cells.{Row, guarded, is_one_of, risks, unguarded}
+use Rattle.gw_points.specs.Cells.{guarded, is_one_of, risks, unguarded}
 use Rattle.gw_points.specs.Laws.{ColumnsAreSixteen, NamesAreFound, RowsAreFound}
 use Rattle.gw_points.specs.Points.{Point, column_row, point_row, points, points_rows}
 

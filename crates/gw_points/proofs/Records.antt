@@ -3,13 +3,13 @@
 use Rattle.std.specs.Prelude.{length, ⊤}
 use Rattle.std.proofs.Common.{◌≡◌, ◌==◌, ◌++◌, ◌∷◌, ◌∙◌, ◌+◌, ◌≤◌, ◌<◌, [], ℕ, zero, suc, List, Bool, Some, refl, sym, ap, subst, true, false, append_assoc, inl, inr, arith}
 use Rattle.std.specs.Prelude.{◌||◌}
-use Rattle.std.specs.List.{flat_map, list_any}
+use Rattle.std.specs.List.{flat_map}
 use Rattle.std.proofs.lemmas.List.{append-nil, length-append}
-use Rattle.std.proofs.lemmas.Bool.{cases_Bool, eqb-true, ne_eqb}
+use Rattle.std.proofs.lemmas.Bool.{cases_Bool, eqb-true}
 use Rattle.csv.specs.Machine.{next_record}
-use Rattle.csv.specs.Reading.{records, records_from, records_next}
+use Rattle.csv.specs.Reading.{records_from, records_next}
 use Rattle.csv.specs.declared.parser.State.TheVariants as st
-use Rattle.gw_points.specs.Cells.{Row, cell_text, doubled, is_marked, is_one_of, marks, next_text, quoted, row_text}
+use Rattle.gw_points.specs.Cells.{Row, cell_text, doubled, is_marked, is_one_of, marks, next_text, row_text}
 use Rattle.gw_points.specs.Reading.{rows_in, semicolons}
 
 or-left : (a b : Bool) → (a || b) ≡ false → a ≡ false

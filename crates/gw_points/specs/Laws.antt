@@ -1,8 +1,8 @@
 -- What a reader finds in the list.
-use Rattle.std.specs.Prelude.{◌≡◌, ℕ, List, length, Some, slice_get}
+use Rattle.std.specs.Prelude.{◌≡◌, length, Some, slice_get}
 use Rattle.std.specs.Option.{option_map}
 use Rattle.gw_configuration.specs.Configuration.{Configuration}
-use Rattle.gw_points.specs.Cells.{guarded, unguarded}
+use Rattle.gw_points.specs.Cells.{unguarded}
 use Rattle.gw_points.specs.Points.{Point, column_row, point_row, points_rows, points_text}
 use Rattle.gw_points.specs.Reading.{rows_in}
 

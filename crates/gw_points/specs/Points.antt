@@ -51,10 +51,17 @@ pub record Point : Type 0 where
 abbrev pub settable_cell : Bool → List ℕ
 settable_cell settable = if settable then codes "Y" else codes "N"
 
+abbrev pub identity_cells : Point → (name description : List ℕ) → Row
+identity_cells p name description = decimal p.device ∷ name ∷ decimal p.kind ∷ decimal p.instance ∷ description ∷ []
+
+abbrev pub value_cells : Point → Row
+value_cells p = p.default ∷ [] ∷ [] ∷ settable_cell p.settable ∷ codes "N" ∷ []
+
+abbrev pub limits_cells : Point → Row
+limits_cells p = [] ∷ [] ∷ [] ∷ p.units ∷ [] ∷ []
+
 abbrev pub cells : Point → (key name description : List ℕ) → Row
-cells p key name description =
-    key ∷ decimal p.device ∷ name ∷ decimal p.kind ∷ decimal p.instance ∷ description ∷ p.default ∷ [] ∷ []
-    ∷ settable_cell p.settable ∷ codes "N" ∷ [] ∷ [] ∷ [] ∷ p.units ∷ [] ∷ []
+cells p key name description = key ∷ (identity_cells p name description ++ (value_cells p ++ limits_cells p))
 
 abbrev pub point_row : Point → Row
 point_row p = cells p (key_of p.device p.kind p.instance) (guarded p.name) (guarded p.description)

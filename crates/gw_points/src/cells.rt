@@ -54,7 +54,7 @@ fn put_quoted(out: &mut Vec<u8>, cell: &[u8]) -> Result<(), AllocError>
 
 /// Appends a cell, between quotes if it has to be.
 #[tactic(auto, unfolding(crate::specs::Cells::cell_text))]
-fn put_cell(out: &mut Vec<u8>, cell: &[u8]) -> Result<(), AllocError>
+pub(crate) fn put_cell(out: &mut Vec<u8>, cell: &[u8]) -> Result<(), AllocError>
     ensures { OnOk result (out.new.items ≡ out.old.items ++ cell_text cell.now) }
 {
     if is_marked(cell) {
@@ -64,7 +64,7 @@ fn put_cell(out: &mut Vec<u8>, cell: &[u8]) -> Result<(), AllocError>
     }
 }
 
-fn put_next(out: &mut Vec<u8>, cell: &[u8]) -> Result<(), AllocError>
+pub(crate) fn put_next(out: &mut Vec<u8>, cell: &[u8]) -> Result<(), AllocError>
     ensures { OnOk result (out.new.items ≡ out.old.items ++ next_text cell.now) }
 {
     put_octet(out, b';')?;
@@ -81,13 +81,20 @@ fn put_others(out: &mut Vec<u8>, cells: &[&[u8]]) -> Result<(), AllocError>
 }
 
 /// Appends a line of these cells: the first, the others, and the two octets at its end.
-#[tactic(auto, using(crate::proofs::Rows::others_text))]
 pub(crate) fn put_row(out: &mut Vec<u8>, first: &[u8], others: &[&[u8]]) -> Result<(), AllocError>
     ensures { OnOk result (out.new.items ≡ out.old.items
         ++ row_text (first.now ∷ map (λ cell. cell.now) others.now)) }
 {
     put_cell(out, first)?;
     put_others(out, others)?;
+    put_end(out)?;
+    Ok(())
+}
+
+/// Appends the two octets at the end of a line.
+pub(crate) fn put_end(out: &mut Vec<u8>) -> Result<(), AllocError>
+    ensures { OnOk result (out.new.items ≡ out.old.items ++ 13 ∷ 10 ∷ []) }
+{
     put_slice(out, b"\r\n")
 }
 

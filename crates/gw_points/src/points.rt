@@ -3,12 +3,12 @@
 ghost use Rattle.std.specs.Prelude.{◌≡◌, ◌++◌, ◌∷◌, [], codes, if◌then◌else◌, unwrap_or, IfOk, OnErr, OnOk};
 ghost use Rattle.std.specs.List.{flat_map};
 ghost use Rattle.gw_configuration.specs.Duplicates.{type_number};
-ghost use Rattle.gw_points.specs.Cells.{row_text};
+ghost use Rattle.gw_points.specs.Cells.{next_text, row_text};
 ghost use Rattle.gw_points.specs.internal.View.{point_view};
 ghost use Rattle.gw_names.specs.Names.{object_type_name};
-ghost use Rattle.gw_points.specs.Points.{cells, column_row, default_cell, device_point, header_rows, key_of, object_point, point_row, points_text, setting_rows, settable_cell, units_cell};
+ghost use Rattle.gw_points.specs.Points.{cells, column_row, default_cell, device_point, header_rows, identity_cells, key_of, limits_cells, object_point, point_row, points_text, setting_rows, settable_cell, units_cell, value_cells};
 
-use crate::cells::{guarded, put_row};
+use crate::cells::{guarded, put_cell, put_end, put_next, put_row};
 use gw_addr::{keep_whole, put_decimal, put_octet, put_slice};
 use gw_configuration::{Config, Device, Object, ObjectKind, ObjectValue};
 use gw_names::object_type_name;
@@ -35,7 +35,6 @@ pub fn put_points(alloc: Global, config: &Config, out: &mut Vec<u8>) -> Result<(
     keep_whole(out, len, put)
 }
 
-#[tactic(auto, using(crate::proofs::Rows::points_parts))]
 fn points_text(alloc: Global, config: &Config) -> Result<Vec<u8>, AllocError>
     ensures { IfOk result (λ text. text.items ≡ points_text config.now) }
 {
@@ -54,7 +53,8 @@ fn put_header(alloc: Global, out: &mut Vec<u8>, device: &Device) -> Result<(), A
     let project = guarded(alloc, device.name.as_str())?;
     put_row(out, b"PROJECT_NAME", &[project.as_slice()])?;
     put_settings(out)?;
-    put_columns(out)
+    put_columns(out)?;
+    Ok(())
 }
 
 /// Appends what is the same of every list.
@@ -64,7 +64,8 @@ fn put_settings(out: &mut Vec<u8>) -> Result<(), AllocError>
     put_row(out, b"VERSION_OF_REFERENCEFILE", &[b"1"])?;
     put_row(out, b"TIMESTAMP_OF_LAST_CHANGE", &[b""])?;
     put_row(out, b"AUTHOR_OF_LAST_CHANGE", &[b"bacgw"])?;
-    put_row(out, b"VERSION_OF_LAYOUT", &[b"2.3"])
+    put_row(out, b"VERSION_OF_LAYOUT", &[b"2.3"])?;
+    Ok(())
 }
 
 /// Appends the names of the columns.
@@ -96,6 +97,7 @@ fn put_columns(out: &mut Vec<u8>) -> Result<(), AllocError>
 }
 
 /// What differs in a line from one object to another.
+#[derive(Clone, Copy)]
 struct Point<'a> {
     device: u32,
     kind: u64,
@@ -184,30 +186,68 @@ fn put_cells(
     ensures { OnOk result (out.new.items ≡ out.old.items
         ++ row_text (cells (point_view point.now) key.now name.now description.now)) }
 {
-    let mut device = Buffer::new();
-    let mut kind = Buffer::new();
-    let mut instance = Buffer::new();
-    put_row(
-        out,
-        key,
-        &[
-            device.format(point.device).as_bytes(),
-            name,
-            kind.format(point.kind).as_bytes(),
-            instance.format(point.instance).as_bytes(),
-            description,
-            point.default,
-            b"",
-            b"",
-            settable(point.settable),
-            b"N",
-            b"",
-            b"",
-            b"",
-            point.units,
-            b"",
-        ],
-    )
+    put_cell(out, key)?;
+    put_identity(out, point, name, description)?;
+    put_value(out, point)?;
+    put_limits(out, point)?;
+    put_end(out)?;
+    Ok(())
+}
+
+/// Appends which object it is.
+fn put_identity(
+    out: &mut Vec<u8>,
+    point: &Point<'_>,
+    name: &[u8],
+    description: &[u8],
+) -> Result<(), AllocError>
+    ensures { OnOk result (out.new.items ≡ out.old.items
+        ++ flat_map next_text (identity_cells (point_view point.now) name.now description.now)) }
+{
+    put_next_number(out, point.device)?;
+    put_next(out, name)?;
+    put_next_number(out, point.kind)?;
+    put_next_number(out, point.instance)?;
+    put_next(out, description)?;
+    Ok(())
+}
+
+/// Appends its default, no least and no greatest value, and whether it can be written and reports changes.
+fn put_value(out: &mut Vec<u8>, point: &Point<'_>) -> Result<(), AllocError>
+    ensures { OnOk result (out.new.items ≡ out.old.items
+        ++ flat_map next_text (value_cells (point_view point.now))) }
+{
+    put_next(out, point.default)?;
+    put_next(out, b"")?;
+    put_next(out, b"")?;
+    put_settable(out, point.settable)?;
+    put_next(out, b"N")?;
+    Ok(())
+}
+
+/// Appends no limits and no texts of states, the units, and no address of a vendor.
+fn put_limits(out: &mut Vec<u8>, point: &Point<'_>) -> Result<(), AllocError>
+    ensures { OnOk result (out.new.items ≡ out.old.items
+        ++ flat_map next_text (limits_cells (point_view point.now))) }
+{
+    put_next(out, b"")?;
+    put_next(out, b"")?;
+    put_next(out, b"")?;
+    put_next(out, point.units)?;
+    put_next(out, b"")?;
+    Ok(())
+}
+
+fn put_next_number<N: Integer>(out: &mut Vec<u8>, number: N) -> Result<(), AllocError>
+    ensures { OnOk result (out.new.items ≡ out.old.items ++ next_text (N.text number)) }
+{
+    put_next(out, Buffer::new().format(number).as_bytes())
+}
+
+fn put_settable(out: &mut Vec<u8>, is_settable: bool) -> Result<(), AllocError>
+    ensures { OnOk result (out.new.items ≡ out.old.items ++ next_text (settable_cell is_settable)) }
+{
+    put_next(out, settable(is_settable))
 }
 
 fn settable(settable: bool) -> &'static [u8]

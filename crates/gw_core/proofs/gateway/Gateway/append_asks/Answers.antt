@@ -25,8 +25,8 @@ returns-in_err-respond-clause-silent c =
     } in
     let event = Datagram c.args.arrival.now.port c.args.arrival.now.from c.args.arrival.now.octets.now in
     let received : admitted_view w c.receive-received.result ≡ receive w event =
-    received_as w c.ports.result.now c.network_of-device.result c.args.arrival.now.port c.args.arrival.now.from c.args.arrival.now.octets.now _
-    c.receive-received.ensures.received c.ports.ensures c.network_of-device.ensures in
+    received_as w c.ports.result.now c.network_of-network.result c.args.arrival.now.port c.args.arrival.now.from c.args.arrival.now.octets.now _
+    c.receive-received.ensures.received c.ports.ensures c.network_of-network.ensures in
     let judge = ap (λ a. a.judge) c.new-turn.ensures.asker ∙ c.new.ensures.judge in
     rw (← c.self.view_is) (λ none. let ok = c.in_err-respond.ensures.silent c.self.inside.policy judge (sym (asks_received w event _ received) ∙ none.0)
     (sym (sends_received w event _ received) ∙ none.1) in absurd cc)
@@ -42,8 +42,8 @@ returns-clause-ok c =
     } in
     let event = Datagram c.args.arrival.now.port c.args.arrival.now.from c.args.arrival.now.octets.now in
     let received : admitted_view w c.receive-received.result ≡ receive w event =
-    received_as w c.ports.result.now c.network_of-device.result c.args.arrival.now.port c.args.arrival.now.from c.args.arrival.now.octets.now _
-    c.receive-received.ensures.received c.ports.ensures c.network_of-device.ensures in
+    received_as w c.ports.result.now c.network_of-network.result c.args.arrival.now.port c.args.arrival.now.from c.args.arrival.now.octets.now _
+    c.receive-received.ensures.received c.ports.ensures c.network_of-network.ensures in
     let judge = ap (λ a. a.judge) c.new-turn.ensures.asker ∙ c.new.ensures.judge in
     let begun = ap (λ a. a.verdicts) c.new-turn.ensures.asker ∙ c.new.ensures.verdicts in
     let response = c.in_ok-respond.ensures.response w.rules judge in
@@ -65,8 +65,8 @@ returns-clause-silent c =
     } in
     let event = Datagram c.args.arrival.now.port c.args.arrival.now.from c.args.arrival.now.octets.now in
     let received : admitted_view w c.receive-received.result ≡ receive w event =
-    received_as w c.ports.result.now c.network_of-device.result c.args.arrival.now.port c.args.arrival.now.from c.args.arrival.now.octets.now _
-    c.receive-received.ensures.received c.ports.ensures c.network_of-device.ensures in
+    received_as w c.ports.result.now c.network_of-network.result c.args.arrival.now.port c.args.arrival.now.from c.args.arrival.now.octets.now _
+    c.receive-received.ensures.received c.ports.ensures c.network_of-network.ensures in
     let judge = ap (λ a. a.judge) c.new-turn.ensures.asker ∙ c.new.ensures.judge in
     let begun = ap (λ a. a.verdicts) c.new-turn.ensures.asker ∙ c.new.ensures.verdicts in
     let response = c.in_ok-respond.ensures.response w.rules judge in

@@ -13,14 +13,5 @@ invariant_of-result c = record {
   denials = c.requires.denials;
 }
 
-pub returns-clause-state : goal.returns-clause-state
-returns-clause-state c = grind (arith, after_none)
-
-pub returns-clause-writes : goal.returns-clause-writes
-returns-clause-writes c = grind (arith, after_none)
-
-pub returns-clause-tables : goal.returns-clause-tables
-returns-clause-tables c = grind (arith, after_none)
-
-pub returns-clause-routes : goal.returns-clause-routes
-returns-clause-routes c = grind (arith, after_none)
+pub returns : goal.returns
+returns c = record { state = grind (arith, after_none) }
