@@ -32,7 +32,7 @@ complete -c bacgw -n '__fish_seen_subcommand_from run reload' -l reload -r -F -d
 complete -c bacgw -n '__fish_seen_subcommand_from run' -l trial -r -F -d 'A configuration whose rules are only tried'
 complete -c bacgw -n '__fish_seen_subcommand_from run' -l trial-log -r -F -d 'What the asks are appended to that the rules of --trial deny'
 complete -c bacgw -n '__fish_seen_subcommand_from run' -l audit -r -F -d 'What audited asks are appended to'
-complete -c bacgw -n '__fish_seen_subcommand_from run' -l stamp -d 'Begins each line of the log with the time'
+complete -c bacgw -n '__fish_seen_subcommand_from run' -l stamp -d 'Begins each line of the log with the time; with --log'
 complete -c bacgw -n '__fish_seen_subcommand_from run' -l metrics -r -F -d 'Keeps the counts in this file, for a collector of metrics'
 complete -c bacgw -n '__fish_seen_subcommand_from why' -l count -d 'Counts the asks that each rule decides'
 complete -c bacgw -n '__fish_seen_subcommand_from why' -l strict -d 'Ends at a line that isn\'t an ask alone'

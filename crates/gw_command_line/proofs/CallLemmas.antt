@@ -50,5 +50,6 @@ calls_are_refused = record {
   compare_json_steps = λ program. (refl, refl);
   reload_most = λ program. (refl, refl);
   trial = λ program. (refl, refl);
+  stamp = λ program. (refl, refl);
   points = λ program. refl;
 }

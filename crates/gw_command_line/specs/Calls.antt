@@ -105,5 +105,6 @@ pub record CallsAreRefused : Type 0 where
       (codes "compare" ∷ on_site (codes "--with" ∷ codes "new.toml" ∷ codes "--json" ∷ codes "--steps" ∷ []))
   pub reload_most : Mistakes (codes "reload" ∷ on_site (codes "--reload" ∷ codes "again" ∷ codes "--most" ∷ codes "20" ∷ []))
   pub trial : Mistakes (codes "run" ∷ on_site (codes "--trial" ∷ codes "new.toml" ∷ []))
+  pub stamp : Mistakes (codes "run" ∷ on_site (codes "--stamp" ∷ []))
   pub points : (program : Text)
       → fault_of commands (program ∷ codes "objects" ∷ on_site []) ≡ parse.MissingRequiredArgument ∷ []

@@ -1,5 +1,5 @@
 -- What a call of the program asks for, by the name of its command and the values of its options.
-use Rattle.std.specs.Prelude.{◌≡◌, ◌&&◌, ◌||◌, ℕ, Bool, true, false, List, ◌∷◌, nat_eq, if◌then◌else◌, Option, Some, None, codes}
+use Rattle.std.specs.Prelude.{◌≡◌, ◌&&◌, ◌||◌, not, ℕ, Bool, true, false, List, ◌∷◌, nat_eq, if◌then◌else◌, Option, Some, None, codes}
 use Rattle.std.specs.Cmp.Lexicographic.{pointwise}
 use Rattle.std.specs.Option.{option_and_then, option_map}
 use Rattle.std.specs.Str.Parse.{digits_value, without_leading_plus}
@@ -103,10 +103,16 @@ are_paired (Some one) (Some two) = true
 are_paired None None = true
 are_paired _ _ = false
 
--- `run`, whose numbers have to be such, with a trial and its log, or neither
+-- the stamps of a log need a log in a file
+abbrev pub can_stamp : Bool → Option Text → Bool
+can_stamp stamp (Some log) = true
+can_stamp stamp None = not stamp
+
+-- `run`, whose numbers have to be such, with a trial and its log, or neither, and with stamps only of a log in a file
 abbrev pub service_of : Text → Values → Option ℕ → Option (Option ℕ) → Option Request
 service_of file value (Some turns) (Some stats) =
-    if are_paired (value (codes "trial")) (value (codes "trial-log")) then Some (Serves record {
+    if are_paired (value (codes "trial")) (value (codes "trial-log")) && can_stamp (is_true (value (codes "stamp"))) (value (codes "log"))
+    then Some (Serves record {
       config = file;
       log = value (codes "log");
       turns = turns;

@@ -4,8 +4,8 @@ ghost use Rattle.std.specs.Prelude.{◌≡◌, Some, codes, map, option_map, str
 ghost use Rattle.std.specs.Option.{option_and_then};
 ghost use Rattle.clap.specs.Words.{first_value, found_of, kind_of, subcommand_rows_of};
 ghost use Rattle.gw_command_line.specs.CommandLine.{AskFor, Chooses, IsAnswer, IsChosen, IsRefusal, IsWas};
-ghost use Rattle.gw_command_line.specs.Requests.{Reports, Request, TellsLog, are_paired, asked, asked_by, asked_of_file, check_asked};
-ghost use Rattle.gw_command_line.specs.Requests.{check_in_words, compare_asked, comparison_in, list_asked, log_asked, reload_asked};
+ghost use Rattle.gw_command_line.specs.Requests.{Reports, Request, TellsLog, are_paired, asked, asked_by, asked_of_file, can_stamp};
+ghost use Rattle.gw_command_line.specs.Requests.{check_asked, check_in_words, compare_asked, comparison_in, list_asked, log_asked, reload_asked};
 ghost use Rattle.gw_command_line.specs.Requests.{run_asked, state_asked, was_in, why_asked};
 
 use crate::commands::make_commands;
@@ -168,7 +168,17 @@ fn are_paired(one: &Option<String>, two: &Option<String>) -> bool
     }
 }
 
-/// What `run` asks for under the configuration in this file.
+/// Whether the lines of a log can be stamped, if that is asked for: a log in a file.
+fn can_stamp(stamp: bool, log: &Option<String>) -> bool
+    ensures { result ≡ can_stamp stamp (option_map string_bytes log.now) }
+{
+    match log {
+        Some(_) => true,
+        None => !stamp,
+    }
+}
+
+/// What `run` asks for under the configuration in this file. `CommandLine` if its options don't go together.
 fn run_choice(alloc: Global, matches: &ArgMatches<'_>, config: String) -> Result<Choice, WordsFault>
     ensures { IsChosen (run_asked (string_bytes config) (first_value (found_of matches.now))) result }
 {
@@ -180,12 +190,14 @@ fn run_choice(alloc: Global, matches: &ArgMatches<'_>, config: String) -> Result
     };
     let trial = file_of(alloc, matches, "trial")?;
     let trial_log = file_of(alloc, matches, "trial-log")?;
-    if !are_paired(&trial, &trial_log) {
+    let log = file_of(alloc, matches, "log")?;
+    let stamp = is_given(matches, "stamp");
+    if !are_paired(&trial, &trial_log) || !can_stamp(stamp, &log) {
         return Err(WordsFault::CommandLine);
     }
     Ok(Choice::Run(RunOptions {
         config,
-        log: file_of(alloc, matches, "log")?,
+        log,
         turns,
         verbose: is_given(matches, "verbose"),
         stats,
@@ -194,7 +206,7 @@ fn run_choice(alloc: Global, matches: &ArgMatches<'_>, config: String) -> Result
         trial,
         trial_log,
         audit: file_of(alloc, matches, "audit")?,
-        stamp: is_given(matches, "stamp"),
+        stamp,
         metrics: file_of(alloc, matches, "metrics")?,
     }))
 }

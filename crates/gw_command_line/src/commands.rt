@@ -160,7 +160,7 @@ fn make_run_of_audit<'a>(alloc: Global) -> Result<Command<'a>, AllocError>
 {
     let help = "What the asks are appended to that a rule with audit = true allows";
     let audit = make_option(alloc, "audit", FILE, help);
-    let help = "Begins each line of the log with the time at which it was written";
+    let help = "Begins each line of the log with the time, and adds notes; with --log";
     let stamp = make_flag(alloc, "stamp", help);
     make_run_of_trial(alloc)?.arg(audit)?.arg(stamp)
 }

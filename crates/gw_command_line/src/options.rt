@@ -26,7 +26,7 @@ pub struct RunOptions {
     pub trial_log: Option<String>,
     /// The file that allowed asks are appended to whose deciding rule says so.
     pub audit: Option<String>,
-    /// Whether each line of the log begins with the time at which it was written.
+    /// Whether each line of the log begins with the time at which it was written. Then `log` is there.
     pub stamp: bool,
     /// The file that the counts are written to for a collector of metrics.
     pub metrics: Option<String>,

@@ -35,8 +35,8 @@ use Rattle.gw_shell.specs.Objects.{LeavesJudgedIn, Lists}
 use Rattle.gw_shell.specs.Replay.{Plays}
 use Rattle.gw_shell.specs.Reporting.{IsReported}
 use Rattle.gw_rules.specs.declared.rule.Rule.{Rule}
-use Rattle.gw_service.specs.Kept.{WholeMachine}
 use Rattle.gw_service.specs.Serving.{IsFlushedFor}
+use Rattle.gw_service.specs.StampedRun.{TimedMachine}
 use Rattle.gw_shell.specs.Serving.{LeavesRun}
 use Rattle.gw_shell.specs.Suggesting.{Suggests}
 use Rattle.gw_suggest.specs.declared.suggestion.Manner.{Manner}
@@ -310,8 +310,8 @@ LeavesAnsweredIn Reads file how input held holds told outcome =
 -- opens what the machine says, and `reload` is answered what `Answers` says: at `check`, `replay` and `why` what they leave of some configuration that is the one they name,
 -- at `compare` of the two, at `state` of the one and the state, at `run` also what was reported at the start, at `log` what that leaves of the log, and at help its text, of which a
 -- failed write may leave a front. Words that choose nothing leave it as it was, and their fault is the outcome.
-abbrev pub LeavesOutput : {Log Sockets S Q : Type 0} → (Reads ReadsState : List ℕ → Result (List ℕ) Fault → Type 0)
-    → (Answers : List ℕ → List ℕ → Type 0) → WholeMachine Log Sockets S Q → Option (List ℕ) → Option (List ℕ) → Option (List ℕ) → List ℕ
+abbrev pub LeavesOutput : {C Log Sockets S Q : Type 0} → (Reads ReadsState : List ℕ → Result (List ℕ) Fault → Type 0)
+    → (Answers : List ℕ → List ℕ → Type 0) → TimedMachine C Log Sockets S Q → Option (List ℕ) → Option (List ℕ) → Option (List ℕ) → List ℕ
     → Result Choice Fault → Result (Unit {0}) Fault → Type 0
 LeavesOutput Reads ReadsState Answers machine input held holds told (Ok (choice.Check file explains lints)) outcome =
     (text : Result (List ℕ) Fault) × Reads (string_bytes file) text

@@ -15,6 +15,7 @@ ghost use Rattle.gw_system.specs.Host.{OpensAtLine};
 ghost use Rattle.gw_shell.specs.Program.{AppendsFront, IsChoiceOf, IsFlushed, IsFollowed, IsRun, LeavesAnswer, LeavesAnswered, LeavesAsked, LeavesCompared, LeavesComparison, LeavesConfigured, LeavesCounts, LeavesInFormatThree, LeavesMigrated, LeavesOfText, LeavesOutput, LeavesPlayed, LeavesPrinted, LeavesReload, LeavesReloadIn, LeavesSaid, LeavesState, LeavesStateIn, LeavesSuggested, LeavesSuggestedIn, LeavesText};
 ghost use Rattle.gw_service.specs.Kept.{state_machine, whole_machine};
 ghost use Rattle.gw_service.specs.Serving.{IsFlushedFor, machine};
+ghost use Rattle.gw_service.specs.StampedRun.{timed_machine};
 ghost use Rattle.gw_shell.specs.Serving.{LeavesRun};
 ghost use Rattle.gw_shell.specs.declared.fault.Fault.{Fault};
 ghost use Rattle.gw_shell.specs.declared.fault.Fault.TheVariants as fault;
@@ -38,7 +39,7 @@ use gw_configuration::{Config, ConfigFault};
 use gw_explanation::{Explanation, explain};
 use gw_migration::migrate;
 use gw_script::{OctetSink, OctetSource, write_whole};
-use gw_service::{ServiceFault, serve_ports, tell};
+use gw_service::{ServiceFault, serve_run, tell};
 use gw_suggest::Manner;
 use gw_system::Host;
 use std::alloc::{AllocError, Global};
@@ -284,10 +285,11 @@ fn serve<H: Host, W: Write + Drop, E: OctetSink>(
 ) -> Result<(), Fault>
     ensures served { (told : List ℕ) × (config : Result Configuration Fault)
         × IsConfigurationOf (result_map (λ octets. octets.items) text.now) config
-        × LeavesRun (whole_machine (machine (OpensAtLine (H.LogOpens host.old) (H.LogIsCut host.old) H.Log.held)
+        × LeavesRun (timed_machine {C = H.Calendar}
+        (whole_machine (machine (OpensAtLine (H.LogOpens host.old) (H.LogIsCut host.old) H.Log.held)
         (H.SocketsOpen host.old) (H.RoutesIp host.old) (H.Closes host.new) H.Log.held H.Sockets.calls)
         (state_machine (H.FileReads host.old) (H.LastLines host.old) (H.StoreOpens host.old)
-        (H.ReloadsOpen host.old) H.StateStore.held H.Reloads.told))
+        (H.ReloadsOpen host.old) H.StateStore.held H.Reloads.told)))
         (result_map (λ octets. octets.items) text.now)
         (writer_contents W.contents output.old) (writer_contents W.contents output.new) options.now
         config told result
@@ -297,7 +299,7 @@ fn serve<H: Host, W: Write + Drop, E: OctetSink>(
         (writer_buffer output.old) (writer_buffer output.new)) }
 {
     match configuration_of(alloc, text) {
-        Ok(config) => served(serve_ports(alloc, config, options, host, output, errors)),
+        Ok(config) => served(serve_run(alloc, config, options, host, output, errors)),
         Err(fault) => {
             tell(&fault_note(alloc, options.verbose, text, fault), errors);
             Err(fault)
@@ -317,10 +319,11 @@ fn follow<F: ConfigFiles, H: Host, R: OctetSource, W: Write + Drop, E: OctetSink
 ) -> Result<(), Fault>
     ensures followed { IsFollowed
         (LeavesOutput (F.Reads files.now) (F.ReadsState files.now) (answers_by (H.Asks host.old) H.Answers)
+        (timed_machine {C = H.Calendar}
         (whole_machine (machine (OpensAtLine (H.LogOpens host.old) (H.LogIsCut host.old) H.Log.held)
         (H.SocketsOpen host.old) (H.RoutesIp host.old) (H.Closes host.new) H.Log.held H.Sockets.calls)
         (state_machine (H.FileReads host.old) (H.LastLines host.old) (H.StoreOpens host.old)
-        (H.ReloadsOpen host.old) H.StateStore.held H.Reloads.told)) (R.left input.old)
+        (H.ReloadsOpen host.old) H.StateStore.held H.Reloads.told))) (R.left input.old)
         (writer_contents W.contents output.old) (writer_contents W.contents output.new))
         (λ told. E.NeverFails errors.old → Appends (E.held errors.old) (E.held errors.new) told)
         choice.now result }
@@ -460,10 +463,11 @@ pub fn run<F: ConfigFiles, H: Host, R: OctetSource, W: Write + Drop, E: OctetSin
         (λ w. IsChoiceOf (map string_bytes w.items) choice)
         (λ f. choice ≡ Err f))
         (LeavesOutput (F.Reads files.now) (F.ReadsState files.now) (answers_by (H.Asks host.old) H.Answers)
+        (timed_machine {C = H.Calendar}
         (whole_machine (machine (OpensAtLine (H.LogOpens host.old) (H.LogIsCut host.old) H.Log.held)
         (H.SocketsOpen host.old) (H.RoutesIp host.old) (H.Closes host.new) H.Log.held H.Sockets.calls)
         (state_machine (H.FileReads host.old) (H.LastLines host.old) (H.StoreOpens host.old)
-        (H.ReloadsOpen host.old) H.StateStore.held H.Reloads.told)) (R.left input.old)
+        (H.ReloadsOpen host.old) H.StateStore.held H.Reloads.told))) (R.left input.old)
         (writer_contents W.contents output.old) (writer_contents W.contents output.new))
         (writer_buffer output.old) (writer_buffer output.new)
         (λ line. E.NeverFails errors.old → Appends (E.held errors.old) (E.held errors.new) line)
