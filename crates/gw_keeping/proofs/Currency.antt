@@ -16,7 +16,7 @@ use Rattle.gw_core.specs.Resumed.{saved_of, saved_ports}
 use Rattle.gw_core.specs.State.{State}
 use Rattle.gw_continuity.specs.Laws.{entries_of}
 use Rattle.gw_continuity.proofs.LastingChanges.{only_lasting_changes}
-use Rattle.gw_serving.specs.Keeping.{HasPassed, Holds, IsHeld, IsTried, IsUnkept, IsUpToDate, KeepsAtTick, KeepsChanged, Keeping, KeptBy, PassesBy, TicksBy, Tries, is_due, is_kept, lasting_of, lasting_port}
+use Rattle.gw_serving.specs.Keeping.{HasPassed, Holds, IsHeld, IsUnkept, IsUpToDate, KeepsChanged, Keeping, KeptBy, PassesBy, TicksBy, Tries, is_due, is_kept, lasting_of, lasting_port}
 use Rattle.gw_serving.specs.Serve.{Turn, empty_turn, events_of, failed_turn, lost_event, taken_event, turn_events}
 use Rattle.gw_serving.specs.Stretch.{AreGuarded, GoOn, GuardsTurn, Moment}
 use Rattle.gw_serving.specs.declared.stretch.Pause.TheVariants.{Turns, Tick, Withheld}
@@ -24,7 +24,7 @@ use Rattle.gw_script.specs.Event as event
 use Rattle.gw_serving.specs.declared.alike.Part.TheVariants.{AllButTicks, Lasting}
 use Rattle.gw_serving.specs.declared.store.StoreFault.{StoreFault}
 use Rattle.gw_serving.proofs.AlikeLemmas.{alike_is_equal}
-use Rattle.gw_serving.proofs.ServeLemmas.{single, state_along}
+use Rattle.gw_serving.proofs.ServeLemmas.{state_along}
 use Rattle.gw_keeping.specs.Laws.{AnsweredIsKept, CurrentIsUpToDate, FaultsKeep, HeldStays, IsCurrent, LastsAs, PausesKeep, TicksKeepCurrent, TriedIsCurrent, WithheldIsOldOrNew}
 
 -- ---- what doesn't last leaves what lasts
@@ -92,7 +92,7 @@ unkept_has held k l due failed = (
   failed.origin,
 )
 
-passed_has : {S : Type 0} (held : S → Option (List ℕ)) (k l : Keeping S) (w : State) (event : Event) (is passes : Bool) → lasts w event ≡ is
+pub passed_has : {S : Type 0} (held : S → Option (List ℕ)) (k l : Keeping S) (w : State) (event : Event) (is passes : Bool) → lasts w event ≡ is
     → PassesBy is held k (saved_of k.origin (next w event)) l passes → IsHeld (held k.store) k.kept → LastsAs k.kept (saved_of k.origin w)
     → Has held l (saved_of k.origin (next w event)) × (l.origin ≡ k.origin)
 passed_has held k l w event true true is p has lasted =
@@ -105,7 +105,7 @@ passed_has held k l w event false passes is p has lasted =
     ((has, lasts_on k.kept due (saved_of k.origin w) (lasting_stays k.origin w event is) lasted), refl)
 
 -- a keeper stays current at an event
-event_current : {S : Type 0} (held : S → Option (List ℕ)) (k l : Keeping S) (w : State) (event : Event) (passes : Bool)
+pub event_current : {S : Type 0} (held : S → Option (List ℕ)) (k l : Keeping S) (w : State) (event : Event) (passes : Bool)
     → HasPassed held k w event l passes → IsCurrent held k w → IsCurrent held l (next w event)
 event_current held k l w event passes p current =
     let has = passed_has held k l w event (lasts w event) passes refl p current.text current.lasts in

@@ -1,1 +1,2 @@
 pub mod Currency
+pub mod Runs
