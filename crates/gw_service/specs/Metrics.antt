@@ -46,7 +46,7 @@ device_count link = length link.fdt.rows
 
 -- What is written of a run: what was measured, how many asks each of these rules decided, how many foreign devices each port
 -- has, and how many texts were lost. What was received was taken, or memory was refused for it.
-pub record AreCounts (m : Measures) (rules : List Rule) (decisions : Option (List ℕ)) (devices : List ℕ) (lost : ℕ) (c : Counts)
+pub record AreCounts (m : Measures) (in_force : List Rule) (decided : Option (List ℕ)) (devices : List ℕ) (lost : ℕ) (c : Counts)
     : Type 0 where
   pub ticks : c.ticks ≡ m.report.seconds
   pub received : c.received ≡ min (m.report.datagrams + m.report.memory_drops) (2 ^ 64 - 1)
@@ -56,8 +56,8 @@ pub record AreCounts (m : Measures) (rules : List Rule) (decisions : Option (Lis
   pub send_failures : c.send_failures ≡ m.report.send_failures
   pub receive_failures : c.receive_failures ≡ m.report.receive_failures
   pub denials : c.denials ≡ m.report.denials
-  pub rules : c.rules.now ≡ rules
-  pub decisions : c.decisions.now ≡ decisions
+  pub rules : c.rules.now ≡ in_force
+  pub decisions : c.decisions.now ≡ decided
   pub unwatched : c.unwatched ≡ m.losses.unwatched
   pub foreign_devices : c.foreign_devices.now ≡ devices
   pub peers : c.peers ≡ m.report.peers
