@@ -556,7 +556,9 @@ fn run_with(alloc: Global, config: &str, section: &str, room: usize) -> Result<L
         output,
         errors,
         closed: host.closed,
-        metrics: metrics.try_replace(Vec::new(alloc)).unwrap_or(Vec::new(alloc)),
+        metrics: metrics
+            .try_replace(Vec::new(alloc))
+            .unwrap_or(Vec::new(alloc)),
     })
 }
 

@@ -120,7 +120,13 @@ fn put_into<S: Store + Drop>(
 {
     let devices = devices_of(gateway.relay().ports());
     let lost = metrics.lost();
-    let counts = counts_of(measures, gateway.rules(), decisions, devices.as_slice(), lost);
+    let counts = counts_of(
+        measures,
+        gateway.rules(),
+        decisions,
+        devices.as_slice(),
+        lost,
+    );
     metrics.at_tick(alloc, measures.report.seconds, &counts);
 }
 
@@ -137,7 +143,13 @@ pub(crate) fn put_due<K: StateKeeper, S: Store + Drop>(
     if let Some(metrics) = metrics {
         if let Some(measures) = measured {
             let nothing = None;
-            put_into(alloc, metrics, measures, gateway, keeper.decisions(&nothing));
+            put_into(
+                alloc,
+                metrics,
+                measures,
+                gateway,
+                keeper.decisions(&nothing),
+            );
         }
     }
 }

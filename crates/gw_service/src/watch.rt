@@ -67,11 +67,7 @@ fn audit_under<H: Host>(
 }
 
 /// Counts of the rules, if they are asked for.
-fn counts_if(
-    alloc: Global,
-    config: &Config,
-    is_counted: bool,
-) -> Result<Option<Tally>, AllocError>
+fn counts_if(alloc: Global, config: &Config, is_counted: bool) -> Result<Option<Tally>, AllocError>
     ensures { IfOk result (AreCountsOf config.now is_counted) }
 {
     if is_counted {
