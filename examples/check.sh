@@ -424,19 +424,6 @@ ran 1 "bacgw: state isn't kept: refused by the system" --config "$work/served.to
 ln -s "$work/state" "$work/link"
 ran 1 "bacgw: state isn't kept: not permitted" --config "$work/served.toml" --state "$work/link" --turns 1
 
-# Metrics are written at the first tick; a collector reads them, and their place must be there.
-if "$program" run --help | grep -q -e --metrics; then
-    timeout 3 "$program" run --config "$work/served.toml" --metrics "$work/bacgw.prom" --turns 200 < /dev/null > "$work/out" 2> "$work/err"
-    same 'the ticks of metrics' "$(sed -n 's/^bacgw_ticks_total //p' "$work/bacgw.prom")" 1
-    same 'the ports of metrics' "$(grep -c '^bacgw_foreign_devices{' "$work/bacgw.prom")" 2
-    same 'the families of metrics' "$(grep -c '^# TYPE ' "$work/bacgw.prom")" 16
-    if command -v promtool > /dev/null; then
-        promtool check metrics < "$work/bacgw.prom" > "$work/out" 2>&1
-        same 'promtool reads the metrics' "$?" 0
-    fi
-    ran 1 'bacgw: metrics failed: refused by the system' --config "$work/served.toml" --metrics "$work/nowhere/prom" --turns 1
-fi
-
 # A gateway takes over the configuration that it is asked to read, and refuses a faulty one.
 cp "$work/served.toml" "$work/changed.toml"
 sed '/^name = "hide"$/,$d' "$work/served.toml" | sed '$d' > "$work/new.toml"

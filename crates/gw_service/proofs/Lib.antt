@@ -4,6 +4,5 @@ mod KeptLemmas
 mod LawLemmas
 mod ServedLemmas
 pub mod ServingLemmas
-mod StampedLemmas
 mod StatsLemmas
 mod WatchedLemmas

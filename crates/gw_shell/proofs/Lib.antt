@@ -1,8 +1,6 @@
 mod AppendLemmas
 mod ChoiceLemmas
-mod ComparingLemmas
 mod CountLemmas
-mod DecidingLemmas
 mod KeptLemmas
 mod LinesLemmas
 mod ReplayLemmas
