@@ -14,10 +14,10 @@ returns-then-clause-served g c =
     let held = writer_contents g.W.Write.contents c.args.output.now in
     let holds = writer_contents g.W.Write.contents c.serve_stamped.new.output in
     let whole : WholeMachine g.row.H-Log.Denot g.row.H-Sockets.Denot g.row.H-StateStore.Denot g.row.H-Reloads.Denot = whole_machine
-        (machine (OpensAtLine (g.H.Host.LogOpens old) (g.H.Host.LogIsCut old) g.H.Log.OctetSink.held) (g.H.Host.SocketsOpen old)
-        (g.H.Host.RoutesIp old) (g.H.Host.Closes c.serve_stamped.new.host) g.H.Log.OctetSink.held g.H.Sockets.Wire.calls)
-        (state_machine (g.H.Host.FileReads old) (g.H.Host.LastLines old) (g.H.Host.StoreOpens old) (g.H.Host.ReloadsOpen old)
-        g.H.StateStore.Store.held g.H.Reloads.Requests.told) in
+    (machine (OpensAtLine (g.H.Host.LogOpens old) (g.H.Host.LogIsCut old) g.H.Log.OctetSink.held) (g.H.Host.SocketsOpen old)
+    (g.H.Host.RoutesIp old) (g.H.Host.Closes c.serve_stamped.new.host) g.H.Log.OctetSink.held g.H.Sockets.Wire.calls)
+    (state_machine (g.H.Host.FileReads old) (g.H.Host.LastLines old) (g.H.Host.StoreOpens old) (g.H.Host.ReloadsOpen old)
+    g.H.StateStore.Store.held g.H.Reloads.Requests.told) in
     let done = c.serve_stamped.ensures.served in (
       done.0,
       with_them options.stamp
@@ -33,10 +33,10 @@ returns-else-clause-served g c =
     let held = writer_contents g.W.Write.contents c.args.output.now in
     let holds = writer_contents g.W.Write.contents c.serve_ports.new.output in
     let whole : WholeMachine g.row.H-Log.Denot g.row.H-Sockets.Denot g.row.H-StateStore.Denot g.row.H-Reloads.Denot = whole_machine
-        (machine (OpensAtLine (g.H.Host.LogOpens old) (g.H.Host.LogIsCut old) g.H.Log.OctetSink.held) (g.H.Host.SocketsOpen old)
-        (g.H.Host.RoutesIp old) (g.H.Host.Closes c.serve_ports.new.host) g.H.Log.OctetSink.held g.H.Sockets.Wire.calls)
-        (state_machine (g.H.Host.FileReads old) (g.H.Host.LastLines old) (g.H.Host.StoreOpens old) (g.H.Host.ReloadsOpen old)
-        g.H.StateStore.Store.held g.H.Reloads.Requests.told) in
+    (machine (OpensAtLine (g.H.Host.LogOpens old) (g.H.Host.LogIsCut old) g.H.Log.OctetSink.held) (g.H.Host.SocketsOpen old)
+    (g.H.Host.RoutesIp old) (g.H.Host.Closes c.serve_ports.new.host) g.H.Log.OctetSink.held g.H.Sockets.Wire.calls)
+    (state_machine (g.H.Host.FileReads old) (g.H.Host.LastLines old) (g.H.Host.StoreOpens old) (g.H.Host.ReloadsOpen old)
+    g.H.StateStore.Store.held g.H.Reloads.Requests.told) in
     let done = c.serve_ports.ensures.served in (
       done.0,
       without_them options.stamp

@@ -16,12 +16,12 @@ returns-clause-served g c =
     let Closes = g.H.Host.Closes c.close_on.new.host in
     let then = c.serve_ports-outcome.new.host.closed in
     let plain : Machine g.row.H-Log.Denot g.row.H-Sockets.Denot = machine (OpensAtLine (g.H.Host.LogOpens old) (g.H.Host.LogIsCut old) g.H.Log.OctetSink.held)
-        (g.H.Host.SocketsOpen old) (g.H.Host.RoutesIp old) Closes g.H.Log.OctetSink.held g.H.Sockets.Wire.calls in
+    (g.H.Host.SocketsOpen old) (g.H.Host.RoutesIp old) Closes g.H.Log.OctetSink.held g.H.Sockets.Wire.calls in
     let stamped : Machine (Noted (Stamped g.row.H-Log.Denot g.row.H-Calendar.Denot)) g.row.H-Sockets.Denot = with_stamps plain in
     let closed : Machine (Noted (Stamped g.row.H-Log.Denot g.row.H-Calendar.Denot)) g.row.H-Sockets.Denot =
-        record stamped { Closes = λ sockets log. then ≡ Some (sockets, log) } in
+    record stamped { Closes = λ sockets log. then ≡ Some (sockets, log) } in
     let states = state_machine (g.H.Host.FileReads old) (g.H.Host.LastLines old) (g.H.Host.StoreOpens old) (g.H.Host.ReloadsOpen old)
-        g.H.StateStore.Store.held g.H.Reloads.Requests.told in
+    g.H.StateStore.Store.held g.H.Reloads.Requests.told in
     let done = c.serve_ports-outcome.ensures.served in (
       done.0,
       service_closes closed states (λ sockets log. Closes sockets (log_if log)) c.close_on.ensures c.args.options.now
