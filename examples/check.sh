@@ -206,6 +206,7 @@ refused_alone run --config a --turns 0
 refused_alone run --config a --turns 9223372036854775808
 refused_alone run --config a --trial b
 refused_alone run --config a --trial-log c
+refused_alone run --config a --stamp
 refused run --config a --audit
 refused report --log a
 refused run --config a --explain
@@ -307,6 +308,9 @@ same 'what stood in the log before a run' "$(cat "$work/log"; echo .)" 'a line o
 # A log that is made is its owner's alone, and a symbolic link is not followed.
 "$program" run --config "$work/loopback.toml" --log "$work/made.log" --turns 1 < /dev/null 2> /dev/null
 same 'the status of a run that makes its log' "$?" 0
+"$program" run --config "$work/loopback.toml" --log "$work/stamped.log" --stamp --turns 1 < /dev/null 2> /dev/null
+same 'a log with stamps begins with a note' "$(sed -E 's/^[0-9]{4}(-[0-9]{2}){2}T[0-9]{2}(:[0-9]{2}){2}Z /TIME /' "$work/stamped.log")" \
+    'TIME # bacgw began'
 same 'who may read a log that was made' "$(stat -c %a "$work/made.log")" 600
 ln -s "$work/made.log" "$work/link.log"
 ran 1 'bacgw: log failed' --config "$work/loopback.toml" --log "$work/link.log" --turns 1

@@ -1,4 +1,3 @@
-use Rattle.std.proofs.Common.{◌∙◌, sym}
 use Rattle.std.specs.Io.Buffered.{writer_contents}
 use Rattle.gw_system.specs.Host.{OpensAtLine}
 use Rattle.gw_service.specs.Kept.{LeavesService, WholeMachine, state_machine, whole_machine}
@@ -7,8 +6,8 @@ use Rattle.gw_service.specs.StampedRun.{whole_with_stamps}
 use Rattle.gw_service.proofs.StampedLemmas.{with_them, without_them}
 use Rattle.gw_service.proofs.stamped_run.serve_run.Goals as goal
 
-pub returns-then-clause-served : goal.returns-then-clause-served
-returns-then-clause-served g c =
+pub returns-then-options-clause-served : goal.returns-then-options-clause-served
+returns-then-options-clause-served g c =
     let old = c.args.host.now in
     let options = c.args.options.now in
     let held = writer_contents g.W.Write.contents c.args.output.now in
@@ -22,12 +21,12 @@ returns-then-clause-served g c =
       done.0,
       with_them options.stamp
           (LeavesService (whole_with_stamps {C = g.row.H-Calendar.Denot} whole) options held holds c.args.config done.0 c.serve_stamped.result)
-          (LeavesService whole options held holds c.args.config done.0 c.serve_stamped.result) c.if.true done.1,
+          (LeavesService whole options held holds c.args.config done.0 c.serve_stamped.result) c.if-options.true done.1,
       done.2,
     )
 
-pub returns-else-clause-served : goal.returns-else-clause-served
-returns-else-clause-served g c =
+pub returns-else-options-clause-served : goal.returns-else-options-clause-served
+returns-else-options-clause-served g c =
     let old = c.args.host.now in
     let options = c.args.options.now in
     let held = writer_contents g.W.Write.contents c.args.output.now in
@@ -41,6 +40,6 @@ returns-else-clause-served g c =
       done.0,
       without_them options.stamp
           (LeavesService (whole_with_stamps {C = g.row.H-Calendar.Denot} whole) options held holds c.args.config done.0 c.serve_ports.result)
-          (LeavesService whole options held holds c.args.config done.0 c.serve_ports.result) c.if.false done.1,
+          (LeavesService whole options held holds c.args.config done.0 c.serve_ports.result) c.if-options.false done.1,
       done.2,
     )
