@@ -1,6 +1,7 @@
 -- Scripts that are read whole before they are played, and configurations of one text.
-use Rattle.std.proofs.Common.{◌≡◌, ◌∙◌, ◌⊎◌, ◌++◌, inl, inr, refl, sym, subst, rules, ℕ, List, [], ◌∷◌, length, take, Result, Ok, Err, Bool}
+use Rattle.std.proofs.Common.{◌≡◌, ◌∙◌, ◌⊎◌, ◌++◌, inl, inr, refl, sym, subst, rules, ℕ, List, [], ◌∷◌, length, take, Option, Some, None, Result, Ok, Err, Bool}
 use Rattle.std.proofs.lemmas.List.{append-nil}
+use Rattle.std.specs.Io.KnownBytes.{IsAtEnd, Keeps, prepend_known}
 use Rattle.gw_configuration.specs.Configuration.{Configuration}
 use Rattle.gw_core.specs.Replay.{RunsPart, RunsToMemory, Telling, text_after}
 use Rattle.gw_script.specs.Script.{AreLines, lines_of}
@@ -44,3 +45,18 @@ unread_plays explains c script before f (inl is) =
     subst (λ (x : Fault). Plays explains c script before (Err x) before) (sym is) (none_read (telling explains) c script before)
 unread_plays explains c script before f (inr is) =
     subst (λ (x : Fault). Plays explains c script before (Err x) before) (sym is) (none_held (telling explains) c script before)
+
+-- what is known stays known
+pub known_on : (old new : Option (List ℕ)) (text : List ℕ) → Keeps old new → old ≡ Some text → new ≡ Some text
+known_on None new text keeps is = search rules
+known_on (Some xs) None text keeps is = absurd keeps
+known_on (Some xs) (Some ys) text keeps is =
+    let same : xs ≡ text = cc in
+    subst (λ (t : List ℕ). Some ys ≡ Some t) same (subst (λ (t : List ℕ). Some ys ≡ Some t) keeps refl)
+
+-- all of a text was read if nothing of it is left
+pub read_whole : (read : List ℕ) (left : Option (List ℕ)) (text : List ℕ) → IsAtEnd left → prepend_known read left ≡ Some text → read ≡ text
+read_whole read None text ended is = search rules
+read_whole read (Some xs) text ended is =
+    let all : read ++ [] ≡ text = cc in
+    sym (append-nil read) ∙ all
