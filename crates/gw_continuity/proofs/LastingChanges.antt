@@ -1,5 +1,5 @@
 -- What doesn't last changes neither tables of peers nor the device.
-use Rattle.std.proofs.Common.{◌≡◌, ◌∙◌, sym, ap, refl, ℕ, zero, suc, ◌-◌, Bool, true, false, true≢false, ◌||◌, List, [], ◌∷◌, map, if◌then◌else◌, Option, Some, None, is_some}
+use Rattle.std.proofs.Common.{◌≡◌, ap, refl, ℕ, zero, suc, ◌-◌, Bool, true, false, true≢false, List, [], ◌∷◌, map, if◌then◌else◌, Option, Some, None, is_some}
 use Rattle.std.specs.Prelude.{◌==◌}
 use Rattle.std.proofs.lemmas.Bool.{or_parts}
 use Rattle.gw_bdt_fdt.specs.Registrations.{Registrations}

@@ -1,5 +1,5 @@
 -- The learned routes are taken over.
-use Rattle.std.proofs.Common.{◌≡◌, ◌∙◌, sym, ap, refl, subst, ℕ, ◌+◌, ◌<◌, ◌≤◌, arith, Bool, true, false, not, ◌&&◌, ◌||◌, List, [], ◌∷◌, ◌++◌, length, map, nat_eq, nat_lt, if◌then◌else◌, append_assoc, IsFalse}
+use Rattle.std.proofs.Common.{◌≡◌, ◌∙◌, sym, ap, refl, subst, ℕ, ◌+◌, ◌<◌, ◌≤◌, arith, Bool, true, false, not, ◌||◌, List, [], ◌∷◌, ◌++◌, length, map, nat_eq, nat_lt, if◌then◌else◌, append_assoc, IsFalse}
 use Rattle.std.specs.Prelude.{filter_map}
 use Rattle.std.specs.List.{AllByRecursion, IsDistinct, cons_option}
 use Rattle.std.specs.Map.{keys_of}

@@ -10,3 +10,4 @@ pub mod Learning
 pub mod States
 pub mod Whole
 pub mod LastingChanges
+pub mod Slots

@@ -1,5 +1,5 @@
 -- The tables of the ports are taken over.
-use Rattle.std.proofs.Common.{◌≡◌, ◌∙◌, sym, ap, refl, ℕ, zero, suc, ◌+◌, ◌<◌, ◌≤◌, arith, Bool, true, false, ◌&&◌, List, [], ◌∷◌, ◌++◌, length, map, nat_eq, if◌then◌else◌, Option, Some, None, append_assoc}
+use Rattle.std.proofs.Common.{◌≡◌, ◌∙◌, sym, ap, refl, ℕ, zero, suc, ◌+◌, ◌<◌, ◌≤◌, arith, true, false, ◌&&◌, List, [], ◌∷◌, ◌++◌, length, map, nat_eq, if◌then◌else◌, Option, Some, None, append_assoc}
 use Rattle.std.specs.Prelude.{find, slice_get}
 use Rattle.std.specs.Cmp.Lexicographic.{pointwise}
 use Rattle.std.specs.Cmp.{nat_eq_equiv}
@@ -21,7 +21,7 @@ use Rattle.gw_bdt_fdt.specs.Kept.{kept, row_of}
 use Rattle.gw_saved.specs.Saved.{origin_port, saved_port}
 use Rattle.gw_saved.specs.declared.port.SavedPort.{SavedPort}
 use Rattle.gw_relay.specs.Initial.{link_with, links_with}
-use Rattle.gw_saved.specs.Carried.{entries_from, is_port, number_now, port_then, same_entry, tables_carried, tables_from}
+use Rattle.gw_saved.specs.Carried.{is_port, number_now, port_then, same_entry, tables_carried, tables_from}
 use Rattle.gw_core.specs.Resumed.{saved_ports}
 use Rattle.gw_continuity.specs.StateOf.{AreLinksOf}
 use Rattle.gw_continuity.proofs.Found.{AllApart, all_push, find_after}

@@ -1,5 +1,5 @@
 -- Each write that is made puts a value in the range of its object.
-use Rattle.std.proofs.Common.{◌≡◌, ◌≢◌, ◌∙◌, sym, ap, refl, subst, ℕ, zero, suc, ◌-◌, ◌<◌, ◌≤◌, arith, Bool, true, false, not, ◌&&◌, nat_lt, List, [], ◌∷◌, length, map, set, if◌then◌else◌, Option, Some, None, Result, Ok, Err, ◌⊎◌, inl, inr, IsTrue}
+use Rattle.std.proofs.Common.{◌≡◌, sym, refl, subst, ℕ, zero, suc, ◌-◌, Bool, true, false, not, ◌&&◌, nat_lt, List, [], ◌∷◌, length, map, set, if◌then◌else◌, Option, Some, None, Result, Ok, Err}
 use Rattle.std.specs.Prelude.{◌==◌, ⊤, nat_le, slice_get, IfSome}
 use Rattle.std.specs.List.{AllByRecursion}
 use Rattle.std.specs.Option.{ok_or, option_map}
@@ -10,7 +10,7 @@ use Rattle.gw_objects.specs.declared.configured.ConfiguredObject.{ConfiguredObje
 use Rattle.gw_objects.specs.declared.configured.Details.{Details}
 use Rattle.gw_objects.specs.declared.configured.Details.TheVariants as details
 use Rattle.gw_objects.specs.declared.fault.WriteFault.{WriteFault}
-use Rattle.gw_objects.specs.declared.fault.WriteFault.TheVariants.{OutOfRange, CharacterSet, NoSpace, NotWritable, UnknownObject}
+use Rattle.gw_objects.specs.declared.fault.WriteFault.TheVariants.{OutOfRange, CharacterSet, NoSpace, UnknownObject}
 use Rattle.gw_objects.specs.declared.property.Property.{Property}
 use Rattle.gw_objects.specs.declared.property.Property.TheVariants as the
 use Rattle.gw_objects.specs.declared.property.ObjectType.TheVariants as types
@@ -259,7 +259,7 @@ acted_range object (Relinquish priority) slots fit range =
     (set_range (details_of object.value) slots.slots (priority - 1) None tt range.0, range.1)
 acted_range object (SetDefault value) slots fit range = (range.0, fit)
 
-put_more : (place : ℕ) (x : Option Slots) (slots : Slots) (states : List Slots) → put_at (suc place) x (slots ∷ states) ≡ slots ∷ put_at place x states
+pub put_more : (place : ℕ) (x : Option Slots) (slots : Slots) (states : List Slots) → put_at (suc place) x (slots ∷ states) ≡ slots ∷ put_at place x states
 put_more place None slots states = refl
 put_more place (Some x) slots states = refl
 

@@ -1,14 +1,14 @@
 -- Which states a gateway of a configuration is in.
-use Rattle.std.proofs.Common.{◌≡◌, ◌∙◌, sym, ap, refl, subst, List, [], ◌∷◌, length, map, Option, Some, None}
+use Rattle.std.proofs.Common.{◌≡◌, ◌∙◌, sym, refl, subst, [], ◌∷◌, length, map, Option, Some, None}
 use Rattle.std.proofs.lemmas.List.{length-map}
-use Rattle.std.proofs.Common.{ℕ, ◌≤◌, arith}
+use Rattle.std.proofs.Common.{◌≤◌, arith}
 use Rattle.gw_configuration.specs.Configuration.{Configuration}
 use Rattle.gw_objects.specs.declared.configured.Configured.{Configured}
 use Rattle.gw_objects.specs.Objects.{Database, database_of}
 use Rattle.gw_objects.specs.Write.{Write}
 use Rattle.gw_relay.specs.Initial.{direct_of, routed_of}
 use Rattle.gw_relay.specs.State.{moved_by}
-use Rattle.gw_routes.specs.Table.{Routed, table_of}
+use Rattle.gw_routes.specs.Table.{table_of}
 use Rattle.gw_script.specs.Event.{Event}
 use Rattle.gw_core.specs.Effects.{change_at, changed, move_at}
 use Rattle.gw_core.specs.History.{acts_of, next, state_after, state_from, written}
@@ -17,8 +17,6 @@ use Rattle.gw_core.specs.declared.event.Counts.{Counts}
 use Rattle.gw_core.proofs.HistoryLemmas.{state_next}
 use Rattle.gw_saved.specs.Carried.{routes_carried}
 use Rattle.gw_continuity.specs.Laws.{StatesAreCarried, StatesAreKept, StatesGoOn}
-use Rattle.gw_core.specs.Resumed.{carried}
-use Rattle.gw_saved.specs.Saved.{Saved}
 use Rattle.gw_continuity.specs.StateOf.{AllInRange, IsAccepted, IsStateOf, IsTableOf}
 use Rattle.gw_continuity.proofs.Learning.{table_stays}
 use Rattle.gw_continuity.proofs.LinkMoves.{format_moved, links_begin, links_numbered, links_stay}

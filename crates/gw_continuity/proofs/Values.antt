@@ -1,5 +1,5 @@
 -- The slots and the defaults of the objects are taken over.
-use Rattle.std.proofs.Common.{◌≡◌, ◌∙◌, sym, ap, refl, ℕ, zero, suc, ◌+◌, ◌*◌, ◌^◌, Bool, true, false, ◌&&◌, ◌||◌, List, [], ◌∷◌, ◌++◌, map, nat_eq, if◌then◌else◌, Option, Some, None, append_assoc, replicate, IsTrue}
+use Rattle.std.proofs.Common.{◌≡◌, ◌∙◌, sym, ap, refl, ℕ, zero, suc, ◌+◌, ◌*◌, ◌^◌, Bool, true, false, ◌&&◌, List, [], ◌∷◌, ◌++◌, map, nat_eq, if◌then◌else◌, Option, Some, None, append_assoc, replicate, IsTrue}
 use Rattle.std.specs.Prelude.{find, ◌==◌, IfSome}
 use Rattle.std.specs.Cmp.{int_eq_equiv, nat_eq_equiv}
 use Rattle.std.specs.List.{AllByRecursion, list_any}
@@ -13,7 +13,6 @@ use Rattle.gw_objects.specs.declared.configured.Details.{Details}
 use Rattle.gw_objects.specs.declared.value.PropertyValue.{PropertyValue}
 use Rattle.gw_objects.specs.declared.value.PropertyValue.TheVariants.{Binary, State as Numbered, Text, Integer, PositiveInteger}
 use Rattle.gw_objects.specs.Objects.{Slots, default_of, details_of, type_of}
-use Rattle.gw_objects.specs.Objects.{same as same_object}
 use Rattle.gw_objects.specs.Property.{type_number as number_of}
 use Rattle.gw_priority.specs.Commandable.{no_command}
 use Rattle.gw_saved.specs.Saved.{SavedObject, id_of, origin_object, saved_object, saved_objects}

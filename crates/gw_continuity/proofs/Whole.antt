@@ -1,12 +1,11 @@
 -- A whole state is taken over.
-use Rattle.std.proofs.Common.{◌≡◌, ◌∙◌, sym, ap, refl, subst, ℕ, ◌+◌, ◌≤◌, Bool, false, ◌||◌, List, [], ◌∷◌, ◌++◌, length, map, nat_eq, IsFalse}
+use Rattle.std.proofs.Common.{◌≡◌, ◌∙◌, sym, ap, refl, subst, ℕ, ◌+◌, ◌≤◌, false, ◌||◌, List, [], ◌∷◌, ◌++◌, length, map, nat_eq, IsFalse}
 use Rattle.std.specs.List.{AllByRecursion, list_any}
 use Rattle.std.proofs.lemmas.Bool.{or_parts}
 use Rattle.gw_configuration.specs.Configuration.{Configuration}
 use Rattle.gw_configuration.specs.Duplicates.{has_duplicates, has_twice, identifiers, networks, peer_addresses, port_addresses}
-use Rattle.gw_configuration.specs.declared.port.Port.{Port as ConfiguredPort}
 use Rattle.gw_objects.specs.declared.configured.Configured.{Configured}
-use Rattle.gw_objects.specs.Objects.{Slots, database_of}
+use Rattle.gw_objects.specs.Objects.{Slots}
 use Rattle.gw_relay.specs.Initial.{direct_of, routed_of}
 use Rattle.gw_relay.specs.declared.port.PortState.{PortState}
 use Rattle.gw_routes.specs.Table.{Routed, Table, is_fixed, table_of}

@@ -1,5 +1,5 @@
 -- That a gateway that is stopped and resumed goes on as if it had never stopped.
-use Rattle.std.specs.Prelude.{◌≡◌, false, List, [], map}
+use Rattle.std.specs.Prelude.{◌≡◌, false, List, map}
 use Rattle.gw_addr.specs.declared.entry.BdtEntry.{BdtEntry}
 use Rattle.gw_configuration.specs.Configuration.{Configuration}
 use Rattle.gw_core.specs.History.{IsStateAfter, next, run_from, state_after, state_from}
@@ -7,10 +7,11 @@ use Rattle.gw_core.specs.State.{State}
 use Rattle.gw_core.specs.declared.event.Counts.{Counts}
 use Rattle.gw_relay.specs.declared.port.PortState.{PortState}
 use Rattle.gw_script.specs.Event.{Event}
+use Rattle.std.specs.List.{AllByRecursion}
 use Rattle.gw_core.specs.Lasting.{lasts}
 use Rattle.gw_core.specs.Resumed.{carried, saved}
 use Rattle.gw_saved.specs.Saved.{Saved}
-use Rattle.gw_continuity.specs.StateOf.{AllInRange, IsStateOf}
+use Rattle.gw_continuity.specs.StateOf.{AllInRange, HasItsSlots, HaveTheirSlots, IsStateOf}
 
 -- ---- states
 
@@ -29,6 +30,24 @@ StatesGoOn c = (w : State) (l : List Event) → IsStateOf c w → IsStateOf c (s
 -- After every history the value of each slot and each default is in the range of its object.
 abbrev pub ValuesStayInRange : Configuration → Type 0
 ValuesStayInRange c = (k : Counts) (h : List Event) → AllInRange c.objects (state_after c k h).device.states
+
+-- ---- slots
+
+-- After every history each object has its sixteen slots, of which the sixth is empty.
+abbrev pub SlotsAreKept : Configuration → Type 0
+SlotsAreKept c = (k : Counts) (h : List Event) → HaveTheirSlots (state_after c k h).device.states
+
+-- If each has them, it has them after each list of events.
+abbrev pub SlotsGoOn : Type 0
+SlotsGoOn = (w : State) (l : List Event) → HaveTheirSlots w.device.states → HaveTheirSlots (state_from w l).device.states
+
+-- If each has them, each that is saved has them.
+abbrev pub SlotsAreSaved : Configuration → Type 0
+SlotsAreSaved c = (w : State) → HaveTheirSlots w.device.states → AllByRecursion (λ object. HasItsSlots object.slots) (saved c w).objects
+
+-- If each that was saved has them, under whatever configuration, each has them that takes them over.
+abbrev pub SlotsAreCarried : Configuration → Type 0
+SlotsAreCarried c = (s : Saved) → AllByRecursion (λ object. HasItsSlots object.slots) s.objects → HaveTheirSlots (carried c s).device.states
 
 -- ---- nothing is lost
 

@@ -1,5 +1,5 @@
 -- Which states a gateway of a configuration can be in.
-use Rattle.std.specs.Prelude.{◌≡◌, ℕ, ◌+◌, ◌≤◌, ⊤, IsTrue, IsFalse, nat_eq, List, [], ◌∷◌, length, map, IfSome}
+use Rattle.std.specs.Prelude.{◌≡◌, ℕ, ◌+◌, ◌≤◌, ⊤, IsTrue, IsFalse, nat_eq, List, [], ◌∷◌, get_or, length, map, IfSome, None}
 use Rattle.std.specs.List.{AllByRecursion, IsDistinct}
 use Rattle.std.specs.Map.{keys_of}
 use Rattle.gw_configuration.specs.Configuration.{Configuration}
@@ -71,3 +71,14 @@ pub record IsStateOf (c : Configuration) (w : State) : Type 0 where
   pub device : w.device.configured ≡ (database_of c).configured
   pub values : AllInRange c.objects w.device.states
   pub rules : w.rules ≡ c.rules
+
+-- ---- the slots
+
+-- An object has sixteen slots, of which the sixth is empty: nothing commands at priority 6 (clause 19.2.3).
+pub record HasItsSlots (slots : Slots) : Type 0 where
+  pub sixteen : length slots.slots ≡ 16
+  pub sixth : get_or slots.slots 5 None ≡ None
+
+-- so has each of these objects
+abbrev pub HaveTheirSlots : List Slots → Type 0
+HaveTheirSlots states = AllByRecursion HasItsSlots states

@@ -1,6 +1,6 @@
 //! Laws of what is saved of a gateway and of what is taken over, for each configuration that is accepted. The functions
 //! change nothing: their contracts are the laws.
-ghost use Rattle.gw_continuity.specs.Laws.{HistoriesGoOn, NothingIsLost, OnlyLastingChanges, RunsGoOn, StatesAreCarried, StatesAreKept, StatesGoOn, ValuesStayInRange};
+ghost use Rattle.gw_continuity.specs.Laws.{HistoriesGoOn, NothingIsLost, OnlyLastingChanges, RunsGoOn, SlotsAreCarried, SlotsAreKept, SlotsAreSaved, SlotsGoOn, StatesAreCarried, StatesAreKept, StatesGoOn, ValuesStayInRange};
 
 use crate::accepted::accepted;
 use gw_configuration::Config;
@@ -39,6 +39,15 @@ pub fn values_stay_in_range(config: &Config)
 {
     accepted(config);
 }
+
+/// Each object always has sixteen slots, of which the sixth is empty (clause 19.2.3): after every history, after each list of events,
+/// in what is saved, and in what takes over a saved state whose objects have such slots.
+pub fn slots_are_kept(config: &Config)
+    ensures histories { SlotsAreKept config.now }
+    ensures runs { SlotsGoOn }
+    ensures saved { SlotsAreSaved config.now }
+    ensures carried { SlotsAreCarried config.now }
+{}
 
 /// Only two kinds of events last: those that are granted a table of peers (Annex J.4), and those by which the device makes a
 /// write (clause 15.9). No other changes a table of peers, a slot or a default.
