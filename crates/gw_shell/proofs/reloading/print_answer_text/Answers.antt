@@ -1,7 +1,4 @@
-use Rattle.std.proofs.Common.{Err, ap, inl, inr, subst, ℕ, List, sym}
-use Rattle.std.specs.Io.Buffered.{writer_contents}
-use Rattle.std.specs.Io.KnownBytes.{Appends}
-use Rattle.gw_shell.specs.Program.{AppendsFront}
+use Rattle.std.proofs.Common.{Err, ap, inl, inr}
 use Rattle.gw_shell.proofs.reloading.print_answer_text.Goals as goal
 
 pub returns-in-Ok-clause-output : goal.returns-in-Ok-clause-output
