@@ -120,7 +120,7 @@ fn comparison_lines(
     let (before, after) = (old.rules().rules(), new.rules().rules());
     let summary = summarize(alloc, before, after, &asks, MAX_STEPS)?;
     let (kinds, left) = (summary.found.len(), summary.left.len());
-    let shown = &summary.found[..kinds.min(most)];
+    let shown = &summary.found[..most.min(kinds)];
     let mut text = Vec::new(alloc);
     put_all(alloc, before, after, shown, &mut text)?;
     put_summary(alloc, &mut text, kinds, left == 0, summary.steps)?;
