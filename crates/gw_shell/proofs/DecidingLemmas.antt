@@ -1,14 +1,13 @@
 -- Scripts that are read whole before they are played, and configurations of one text.
-use Rattle.std.proofs.Common.{◌≡◌, ◌∙◌, ◌⊎◌, ◌++◌, inl, inr, refl, sym, subst, rules, ℕ, List, [], ◌∷◌, length, take, Option, Some, None, Result, Ok, Err, Bool, IsSomeAnd}
+use Rattle.std.proofs.Common.{◌≡◌, ◌∙◌, ◌⊎◌, ◌++◌, inl, inr, refl, sym, subst, rules, ℕ, List, [], ◌∷◌, length, take, Option, Some, None, Result, Ok, Err, Bool, true, false}
 use Rattle.std.proofs.lemmas.List.{append-nil}
 use Rattle.std.specs.Io.KnownBytes.{IsAtEnd, Keeps, prepend_known}
 use Rattle.gw_configuration.specs.Configuration.{Configuration}
 use Rattle.gw_core.specs.Replay.{RunsPart, RunsToMemory, Telling, text_after}
 use Rattle.gw_script.proofs.KnownTexts.{holds_known}
-use Rattle.gw_script.specs.Known.{OnKnown}
 use Rattle.gw_script.specs.Script.{AreLines, lines_of}
 use Rattle.gw_shell.specs.Configured.{IsConfigurationOf}
-use Rattle.gw_shell.specs.Deciding.{IsDecidedAt, IsUnread}
+use Rattle.gw_shell.specs.Deciding.{IsDecidedAt, IsUnread, ReportsAsks}
 use Rattle.gw_shell.specs.Program.{LeavesCounted}
 use Rattle.gw_shell.specs.Replay.{Plays, telling}
 use Rattle.gw_shell.specs.declared.fault.Fault.{Fault}
@@ -80,17 +79,8 @@ unread_leaves explains text c input held f told is unread silent = (
   λ script known. subst (λ (t : List ℕ). IsDecidedAt c script (Err f) t) (sym silent) (unread_decided c script f unread),
 )
 
--- what it leaves if the script was read whole and played
-pub played_leaves : (explains : Bool) (text : Result (List ℕ) Fault) (c : Configuration) (input held holds : Option (List ℕ)) (read : List ℕ)
-    (outcome : Result (Unit {0}) Fault) (told : List ℕ) → IsConfigurationOf text (Ok c)
-    → ((script : List ℕ) → input ≡ Some script → read ≡ script)
-    → OnKnown (Some read) held holds (λ script before. Plays explains c script before outcome)
-    → ((d : Configuration) → IsConfigurationOf text (Ok d) → IsDecidedAt d read outcome told)
-    → LeavesCounted explains text input held holds outcome told
-played_leaves explains text c input held holds read outcome told is whole plays decided = (
-  Ok c,
-  is,
-  λ script before known written. subst (λ (t : List ℕ). IsSomeAnd holds (Plays explains c t before outcome)) (whole script known)
-      (plays read before refl written),
-  λ script known. subst (λ (t : List ℕ). IsDecidedAt c t outcome told) (whole script known) (decided c is),
-)
+-- nothing is reported of asks that aren't to be counted
+pub uncounted_reports : (counts : Bool) (input : Option (List ℕ)) (c : Result Configuration Fault) (outcome : Result (Unit {0}) Fault) → counts ≡ false
+    → ReportsAsks counts input c outcome []
+uncounted_reports false input c outcome is = refl
+uncounted_reports true input c outcome is = absurd cc
