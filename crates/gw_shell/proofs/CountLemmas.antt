@@ -1,4 +1,4 @@
--- Why asks aren't counted, as the program reports it.
+-- Why asks aren't counted, as the program reports it, and lines that are answered strictly.
 use Rattle.std.proofs.Common.{◌≡◌, refl, Bool, true, false, ℕ, List, [], Option, Result, Err}
 use Rattle.gw_configuration.specs.Configuration.{Configuration}
 use Rattle.gw_rules.specs.declared.rule.Rule.{Rule}

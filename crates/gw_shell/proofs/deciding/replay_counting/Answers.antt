@@ -1,4 +1,4 @@
-use Rattle.std.proofs.Common.{Err, ℕ, List, Result, subst, sym}
+use Rattle.std.proofs.Common.{Err, ℕ, Result, subst, sym}
 use Rattle.std.specs.Global.{Vec}
 use Rattle.std.specs.Io.Buffered.{writer_contents}
 use Rattle.gw_shell.specs.Deciding.{decisions_text}
