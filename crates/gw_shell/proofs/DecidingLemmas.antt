@@ -1,12 +1,14 @@
 -- Scripts that are read whole before they are played, and configurations of one text.
-use Rattle.std.proofs.Common.{◌≡◌, ◌∙◌, ◌⊎◌, ◌++◌, inl, inr, refl, sym, subst, rules, ℕ, List, [], ◌∷◌, length, take, Option, Some, None, Result, Ok, Err, Bool}
+use Rattle.std.proofs.Common.{◌≡◌, ◌∙◌, ◌++◌, inl, inr, refl, sym, subst, rules, ℕ, List, [], ◌∷◌, length, take, Option, Some, None, Result, Ok, Err, Bool, true, false}
 use Rattle.std.proofs.lemmas.List.{append-nil}
 use Rattle.std.specs.Io.KnownBytes.{IsAtEnd, Keeps, prepend_known}
 use Rattle.gw_configuration.specs.Configuration.{Configuration}
 use Rattle.gw_core.specs.Replay.{RunsPart, RunsToMemory, Telling, text_after}
+use Rattle.gw_script.proofs.KnownTexts.{holds_known}
 use Rattle.gw_script.specs.Script.{AreLines, lines_of}
 use Rattle.gw_shell.specs.Configured.{IsConfigurationOf}
-use Rattle.gw_shell.specs.Deciding.{IsUnread}
+use Rattle.gw_shell.specs.Deciding.{IsDecidedAt, IsUnread, ReportsAsks}
+use Rattle.gw_shell.specs.Program.{LeavesCounted}
 use Rattle.gw_shell.specs.Replay.{Plays, telling}
 use Rattle.gw_shell.specs.declared.fault.Fault.{Fault}
 use Rattle.gw_shell.specs.declared.fault.Fault.TheVariants as fault
@@ -60,3 +62,25 @@ read_whole read None text ended is = search rules
 read_whole read (Some xs) text ended is =
     let all : read ++ [] ≡ text = cc in
     sym (append-nil read) ∙ all
+
+-- nothing is reported of the asks of a script that isn't read
+unread_decided : (c : Configuration) (script : List ℕ) (f : Fault) → IsUnread f → IsDecidedAt c script (Err f) []
+unread_decided c script f (inl is) = subst (λ (x : Fault). IsDecidedAt c script (Err x) []) (sym is) refl
+unread_decided c script f (inr is) = subst (λ (x : Fault). IsDecidedAt c script (Err x) []) (sym is) refl
+
+-- what a replay with counts leaves if its script isn't read
+pub unread_leaves : (explains : Bool) (text : Result (List ℕ) Fault) (c : Configuration) (input held : Option (List ℕ)) (f : Fault) (told : List ℕ)
+    → IsConfigurationOf text (Ok c) → IsUnread f → told ≡ [] → LeavesCounted explains text input held held (Err f) told
+unread_leaves explains text c input held f told is unread silent = (
+  Ok c,
+  is,
+  λ script before known written.
+      holds_known (Plays explains c script before (Err f)) held before written (unread_plays explains c script before f unread),
+  λ script known. subst (λ (t : List ℕ). IsDecidedAt c script (Err f) t) (sym silent) (unread_decided c script f unread),
+)
+
+-- nothing is reported of asks that aren't to be counted
+pub uncounted_reports : (counts : Bool) (input : Option (List ℕ)) (c : Result Configuration Fault) (outcome : Result (Unit {0}) Fault) → counts ≡ false
+    → ReportsAsks counts input c outcome []
+uncounted_reports false input c outcome is = refl
+uncounted_reports true input c outcome is = absurd cc

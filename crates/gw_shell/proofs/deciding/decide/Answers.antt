@@ -1,4 +1,4 @@
-use Rattle.std.proofs.Common.{◌≡◌, inl, inr, refl, subst, sym, Result, Ok, ℕ, List}
+use Rattle.std.proofs.Common.{inl, inr, refl, subst, ℕ}
 use Rattle.std.specs.Global.{Vec}
 use Rattle.gw_configuration.specs.Configuration.{Configuration}
 use Rattle.gw_decisions.specs.Decisions.{IsReport}

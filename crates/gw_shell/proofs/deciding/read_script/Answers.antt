@@ -1,4 +1,4 @@
-use Rattle.std.proofs.Common.{refl}
+use Rattle.std.proofs.Common.{◌≡◌, Ok, false, rules}
 use Rattle.gw_script.proofs.KnownTexts.{nothing_held}
 use Rattle.gw_shell.proofs.DecidingLemmas.{known_on, read_whole}
 use Rattle.gw_shell.proofs.deciding.read_script.Goals as goal
@@ -11,4 +11,5 @@ loop-chunk-preserved g c = λ text known. known_on _ _ text c.in-Ok-true.ensures
 
 pub returns-in-Ok-false-clause-octets : goal.returns-in-Ok-false-clause-octets
 returns-in-Ok-false-clause-octets g c = λ text known.
-    read_whole _ _ text (c.read_chunk.ensures.end refl) (known_on _ _ text c.in-Ok-false.ensures.text (c.loop-chunk.invariant text known))
+    let ended : c.read_chunk.result ≡ Ok false = search rules in
+    read_whole _ _ text (c.read_chunk.ensures.end ended) (known_on _ _ text c.in-Ok-false.ensures.text (c.loop-chunk.invariant text known))
