@@ -77,7 +77,7 @@ returns-in-Ok-Replay-clause-followed g c =
 
 pub returns-in-Ok-CheckJson-clause-followed : goal.returns-in-Ok-CheckJson-clause-followed
 returns-in-Ok-CheckJson-clause-followed g c =
-    let chosen = choice.CheckJson c.in-Ok-CheckJson.field-0 in
+    let chosen = choice.CheckJson c.in-Ok-CheckJson.file in
     let is : c.args.choice.now ≡ Ok chosen = search rules in
     let text = result_map (λ (octets : Vec ℕ). octets.items) c.read-text-in-Ok-CheckJson.result in
     let reads = subst (λ (name : List ℕ). g.F.ConfigFiles.Reads c.args.files.now name text) c.deref-in-Ok-CheckJson.ensures
@@ -124,21 +124,59 @@ pub returns-in-Ok-CompareJson-clause-followed : goal.returns-in-Ok-CompareJson-c
 returns-in-Ok-CompareJson-clause-followed g c =
     let chosen = choice.CompareJson c.in-Ok-CompareJson.old c.in-Ok-CompareJson.new c.in-Ok-CompareJson.most in
     let is : c.args.choice.now ≡ Ok chosen = search rules in
-    let before = c.configuration_in-before-in-Ok-CompareJson.result in
-    let after = c.configuration_in-after-in-Ok-CompareJson.result in
+    let before = c.configuration_in-before.result in
+    let after = c.configuration_in-after.result in
     let first = subst (λ (name : List ℕ). IsConfigured (g.F.ConfigFiles.Reads c.args.files.now) (Some name) before)
-    c.deref-in-Ok-CompareJson.ensures c.configuration_in-before-in-Ok-CompareJson.ensures in
+    c.deref-in-Ok-CompareJson.ensures c.configuration_in-before.ensures in
     let second = subst (λ (name : List ℕ). IsConfigured (g.F.ConfigFiles.Reads c.args.files.now) (Some name) after)
-    c.deref-in-Ok-CompareJson-2.ensures c.configuration_in-after-in-Ok-CompareJson.ensures in
+    c.deref-in-Ok-CompareJson-2.ensures c.configuration_in-after.ensures in
     followed _ _ c.args.choice.now (Ok chosen) c.compare_in_json.result is refl (before, first, after, second, c.compare_in_json.ensures.output)
     (λ never. appends_nothing (g.E.OctetSink.held c.args.errors.now))
 
 pub returns-in-Ok-Points-clause-followed : goal.returns-in-Ok-Points-clause-followed
 returns-in-Ok-Points-clause-followed g c =
-    let chosen = choice.Points c.in-Ok-Points.field-0 in
+    let chosen = choice.Points c.in-Ok-Points.file in
     let is : c.args.choice.now ≡ Ok chosen = search rules in
     let config = c.configuration_in-config-in-Ok-Points.result in
     let configured = subst (λ (name : List ℕ). IsConfigured (g.F.ConfigFiles.Reads c.args.files.now) (Some name) config)
     c.deref-in-Ok-Points.ensures c.configuration_in-config-in-Ok-Points.ensures in
     followed _ _ c.args.choice.now (Ok chosen) c.print_points.result is refl (config, configured, c.print_points.ensures.output)
     (λ never. appends_nothing (g.E.OctetSink.held c.args.errors.now))
+
+pub returns-in-Ok-Run-clause-followed : goal.returns-in-Ok-Run-clause-followed
+returns-in-Ok-Run-clause-followed g c =
+    let chosen = choice.Run c.in-Ok-Run.options in
+    let is : c.args.choice.now ≡ Ok chosen = search rules in
+    let done = c.serve.ensures.served in
+    let text = result_map (λ (octets : Vec ℕ). octets.items) c.read-text-in-Ok-Run.result in
+    let reads = subst (λ (name : List ℕ). g.F.ConfigFiles.Reads c.args.files.now name text) c.deref-in-Ok-Run.ensures
+    c.read-text-in-Ok-Run.ensures in
+    reported _ _ c.args.choice.now (Ok chosen) c.serve.result done.0 is tt (text, reads, done.1, done.2, done.3) done.4
+
+pub returns-in-Ok-Compare-clause-followed : goal.returns-in-Ok-Compare-clause-followed
+returns-in-Ok-Compare-clause-followed g c =
+    let chosen = choice.Compare c.in-Ok-Compare.old c.in-Ok-Compare.new c.in-Ok-Compare.most c.in-Ok-Compare.steps in
+    let is : c.args.choice.now ≡ Ok chosen = search rules in
+    let old = c.configuration_in.result in
+    let new = c.configuration_in-in-Ok-Compare.result in
+    let first = subst (λ (name : List ℕ). IsConfigured (g.F.ConfigFiles.Reads c.args.files.now) (Some name) old)
+    c.deref-in-Ok-Compare.ensures c.configuration_in.ensures in
+    let second = subst (λ (name : List ℕ). IsConfigured (g.F.ConfigFiles.Reads c.args.files.now) (Some name) new)
+    c.deref-in-Ok-Compare-2.ensures c.configuration_in-in-Ok-Compare.ensures in
+    let done = c.compare.ensures.told in
+    reported _ _ c.args.choice.now (Ok chosen) c.compare.result done.0 is tt (old, first, new, second, c.compare.ensures.output, done.1) done.2
+
+pub returns-in-Ok-Reload-clause-followed : goal.returns-in-Ok-Reload-clause-followed
+returns-in-Ok-Reload-clause-followed g c =
+    let chosen = choice.Reload c.in-Ok-Reload.config c.in-Ok-Reload.request c.in-Ok-Reload.was in
+    let is : c.args.choice.now ≡ Ok chosen = search rules in
+    let held = writer_contents g.W.Write.contents c.args.output.now in
+    let holds = writer_contents g.W.Write.contents c.reload_in.new.output in
+    let done = c.reload_in.ensures.reloaded in
+    let named = subst (λ (name : List ℕ). LeavesReloadIn (g.F.ConfigFiles.Reads c.args.files.now)
+    (answers_by (g.H.Host.Asks c.args.host.now) g.H.Host.Answers) name c.deref-in-Ok-Reload-2.result.now c.in-Ok-Reload.was held holds done.0
+    c.reload_in.result) c.deref-in-Ok-Reload.ensures done.1 in
+    let both = subst (λ (name : List ℕ). LeavesReloadIn (g.F.ConfigFiles.Reads c.args.files.now)
+    (answers_by (g.H.Host.Asks c.args.host.now) g.H.Host.Answers) (string_bytes c.in-Ok-Reload.config) name c.in-Ok-Reload.was held holds done.0
+    c.reload_in.result) c.deref-in-Ok-Reload-2.ensures named in
+    reported _ _ c.args.choice.now (Ok chosen) c.reload_in.result done.0 is tt both done.2
