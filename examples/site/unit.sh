@@ -99,7 +99,7 @@ print({2: "done", 3: "active" if answer[-2] else "inactive", 5: "denied"}.get(an
 PYTHON
 
 # panel WORD ANSWER: whether the panel's read or write is answered so
-panel() { [ "$(inside python3 /panel.py "$1" 2>&1)" = "$2" ]; }
+panel() { [ "$(inside python3 /panel.py "$1" 2> /dev/null)" = "$2" ]; }
 
 # said TEXT: whether the unit's journal has it
 said() {
