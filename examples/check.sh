@@ -206,6 +206,7 @@ refused_alone run --config a --turns 0
 refused_alone run --config a --turns 9223372036854775808
 refused_alone run --config a --trial b
 refused_alone run --config a --trial-log c
+refused_alone run --config a --stamp
 refused run --config a --audit
 refused report --log a
 refused run --config a --explain
@@ -307,6 +308,9 @@ same 'what stood in the log before a run' "$(cat "$work/log"; echo .)" 'a line o
 # A log that is made is its owner's alone, and a symbolic link is not followed.
 "$program" run --config "$work/loopback.toml" --log "$work/made.log" --turns 1 < /dev/null 2> /dev/null
 same 'the status of a run that makes its log' "$?" 0
+"$program" run --config "$work/loopback.toml" --log "$work/stamped.log" --stamp --turns 1 < /dev/null 2> /dev/null
+same 'a log with stamps begins with a note' "$(sed -E 's/^[0-9]{4}(-[0-9]{2}){2}T[0-9]{2}(:[0-9]{2}){2}Z /TIME /' "$work/stamped.log")" \
+    'TIME # bacgw began'
 same 'who may read a log that was made' "$(stat -c %a "$work/made.log")" 600
 ln -s "$work/made.log" "$work/link.log"
 ran 1 'bacgw: log failed' --config "$work/loopback.toml" --log "$work/link.log" --turns 1
@@ -423,6 +427,19 @@ ran 1 'bacgw: cannot read state' --config "$work/served.toml" --state "$work/fol
 ran 1 "bacgw: state isn't kept: refused by the system" --config "$work/served.toml" --state "$work/nowhere/state" --turns 1
 ln -s "$work/state" "$work/link"
 ran 1 "bacgw: state isn't kept: not permitted" --config "$work/served.toml" --state "$work/link" --turns 1
+
+# Metrics are written at the first tick; a collector reads them, and their place must be there.
+if "$program" run --help | grep -q -e --metrics; then
+    timeout 3 "$program" run --config "$work/served.toml" --metrics "$work/bacgw.prom" --turns 200 < /dev/null > "$work/out" 2> "$work/err"
+    same 'the ticks of metrics' "$(sed -n 's/^bacgw_ticks_total //p' "$work/bacgw.prom")" 1
+    same 'the ports of metrics' "$(grep -c '^bacgw_foreign_devices{' "$work/bacgw.prom")" 2
+    same 'the families of metrics' "$(grep -c '^# TYPE ' "$work/bacgw.prom")" 16
+    if command -v promtool > /dev/null; then
+        promtool check metrics < "$work/bacgw.prom" > "$work/out" 2>&1
+        same 'promtool reads the metrics' "$?" 0
+    fi
+    ran 1 'bacgw: metrics failed: refused by the system' --config "$work/served.toml" --metrics "$work/nowhere/prom" --turns 1
+fi
 
 # A gateway takes over the configuration that it is asked to read, and refuses a faulty one.
 cp "$work/served.toml" "$work/changed.toml"

@@ -2,7 +2,7 @@
 use Rattle.std.proofs.Common.{refl, Some, None, codes}
 use Rattle.clap.proofs.OnLiterals.{clap_on_literals}
 use Rattle.gw_audit.proofs.MomentExamples.{morning, morning_is_read}
-use Rattle.gw_command_line.specs.Calls.{CallsAreTaken}
+use Rattle.gw_command_line.specs.Calls.{CallsAreRefused, CallsAreTaken}
 use Rattle.gw_command_line.specs.Commands.{commands, first_commands}
 
 pub calls_are_taken : CallsAreTaken
@@ -12,21 +12,44 @@ calls_are_taken = record {
   explain = λ program. record { taken = refl; asked = refl; sound = λ void. void };
   lint = λ program. record { taken = refl; asked = refl; sound = λ void. void };
   migrate = λ program. record { taken = refl; asked = refl; sound = λ void. void };
+  check_json = λ program. record { taken = refl; asked = refl; sound = λ void. void };
   replay = λ program. record { taken = refl; asked = refl; sound = λ void. void };
   replay_explained = λ program. record { taken = refl; asked = refl; sound = λ void. void };
+  replay_counted = λ program. record { taken = refl; asked = refl; sound = λ void. void };
   replay_of_file = λ program. record { taken = refl; asked = refl; sound = λ void. void };
   run = λ program. record { taken = refl; asked = refl; sound = λ void. void };
   run_whole = λ program. record { taken = refl; asked = refl; sound = λ void. void };
   why = λ program. record { taken = refl; asked = refl; sound = λ void. void };
   why_count = λ program. record { taken = refl; asked = refl; sound = λ void. void };
+  why_strict = λ program. record { taken = refl; asked = refl; sound = λ void. void };
   compare = λ program. record { taken = refl; asked = refl; sound = λ void. void };
+  compare_steps = λ program. record { taken = refl; asked = refl; sound = λ void. void };
+  compare_json = λ program. record { taken = refl; asked = refl; sound = λ void. void };
   state = λ program. record { taken = refl; asked = refl; sound = λ void. void };
   suggest = λ program. record { taken = refl; asked = refl; sound = λ void. void };
   suggest_whole = λ program. record { taken = refl; asked = refl; sound = λ void. void };
   reload = λ program. record { taken = refl; asked = refl; sound = λ void. void };
+  reload_shown = λ program. record { taken = refl; asked = refl; sound = λ void. void };
+  reload_few = λ program. record { taken = refl; asked = refl; sound = λ void. void };
   report = λ program. record { taken = refl; asked = refl; sound = λ void. void };
+  points = λ program. record { taken = refl; asked = refl; sound = λ void. void };
   log_json = λ program. record { taken = refl; asked = refl; sound = λ void. void };
   why_json = λ program. record { taken = refl; asked = refl; sound = λ void. void };
+  why_json_strict = λ program. record { taken = refl; asked = refl; sound = λ void. void };
   log = λ program. record { taken = refl; asked = refl; sound = λ void. void None refl };
   log_since = λ program. record { taken = refl; asked = refl; sound = λ void. void (Some morning) morning_is_read };
+}
+
+pub calls_are_refused : CallsAreRefused
+unfolding clap_on_literals commands first_commands
+calls_are_refused = record {
+  check_json_explain = λ program. (refl, refl);
+  check_json_lint = λ program. (refl, refl);
+  check_json_migrate = λ program. (refl, refl);
+  why_json_count = λ program. (refl, refl);
+  compare_json_steps = λ program. (refl, refl);
+  reload_most = λ program. (refl, refl);
+  trial = λ program. (refl, refl);
+  stamp = λ program. (refl, refl);
+  points = λ program. refl;
 }

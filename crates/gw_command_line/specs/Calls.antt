@@ -1,12 +1,19 @@
--- Worked command lines: what words ask for, whatever the program's name is.
-use Rattle.std.specs.Prelude.{ℕ, true, false, List, [], ◌∷◌, Some, None, codes}
-use Rattle.clap.specs.Words.{Text}
+-- Worked command lines: what words ask for, and which ask for nothing, whatever the program's name is.
+use Rattle.std.specs.Prelude.{◌≡◌, ℕ, true, false, List, [], ◌∷◌, Some, None, codes}
+use Rattle.clap.specs.Words.{Text, fault_of}
+use Rattle.clap.specs.declared.error.kind.ErrorKind.TheVariants as parse
 use Rattle.gw_command_line.specs.CommandLine.{AskFor}
-use Rattle.gw_command_line.specs.Requests.{Checks, Compares, Explains, Judges, ListsLog, Migrates, Reloads, Replays, Reports, Request, Serves, Shows, Suggests, TellsLog, most_count}
+use Rattle.gw_command_line.specs.Commands.{commands}
+use Rattle.gw_command_line.specs.Requests.{Checks, ChecksJson, Compares, ComparesJson, Explains, Judges, ListsLog, ListsPoints, Migrates}
+use Rattle.gw_command_line.specs.Requests.{Reloads, Replays, Reports, Request, Serves, Shows, Suggests, TellsLog, asked_in, most_count}
 
 -- these words, after the program's name, ask for this
 abbrev pub Calls : List Text → Request → Type 0
 Calls words request = (program : Text) → AskFor (program ∷ words) request
+
+-- these words, after the program's name, are taken by the parser and ask for nothing
+abbrev pub Mistakes : List Text → Type 0
+Mistakes words = (program : Text) → (fault_of commands (program ∷ words) ≡ []) × (asked_in (program ∷ words) ≡ None)
 
 -- the words `--config site.toml`
 abbrev pub on_site : List Text → List Text
@@ -20,9 +27,11 @@ pub record CallsAreTaken : Type 0 where
   pub explain : Calls (codes "check" ∷ on_site (codes "--explain" ∷ [])) (Checks site true false)
   pub lint : Calls (codes "check" ∷ on_site (codes "--lint" ∷ [])) (Checks site false true)
   pub migrate : Calls (codes "check" ∷ on_site (codes "--migrate" ∷ [])) (Migrates site)
-  pub replay : Calls (codes "replay" ∷ []) (Replays None false)
-  pub replay_explained : Calls (codes "replay" ∷ codes "--explain" ∷ []) (Replays None true)
-  pub replay_of_file : Calls (codes "replay" ∷ on_site []) (Replays (Some site) false)
+  pub check_json : Calls (codes "check" ∷ on_site (codes "--json" ∷ [])) (ChecksJson site)
+  pub replay : Calls (codes "replay" ∷ []) (Replays None false false)
+  pub replay_explained : Calls (codes "replay" ∷ codes "--explain" ∷ []) (Replays None true false)
+  pub replay_counted : Calls (codes "replay" ∷ codes "--stats" ∷ []) (Replays None false true)
+  pub replay_of_file : Calls (codes "replay" ∷ on_site []) (Replays (Some site) false false)
   pub run : Calls (codes "run" ∷ on_site []) (Serves record {
     config = site;
     log = None;
@@ -34,11 +43,14 @@ pub record CallsAreTaken : Type 0 where
     trial = None;
     trial_log = None;
     audit = None;
+    stamp = false;
+    metrics = None;
   })
   pub run_whole : Calls
       (codes "run" ∷ on_site (codes "--log" ∷ codes "denials.log" ∷ codes "--turns" ∷ codes "100" ∷ codes "--verbose"
       ∷ codes "--stats" ∷ codes "60" ∷ codes "--state" ∷ codes "state.txt" ∷ codes "--reload" ∷ codes "again"
-      ∷ codes "--trial" ∷ codes "new.toml" ∷ codes "--trial-log" ∷ codes "new.log" ∷ codes "--audit" ∷ codes "writes.log" ∷ []))
+      ∷ codes "--trial" ∷ codes "new.toml" ∷ codes "--trial-log" ∷ codes "new.log" ∷ codes "--audit" ∷ codes "writes.log"
+      ∷ codes "--stamp" ∷ codes "--metrics" ∷ codes "bacgw.prom" ∷ []))
       (Serves record {
         config = site;
         log = Some (codes "denials.log");
@@ -50,17 +62,49 @@ pub record CallsAreTaken : Type 0 where
         trial = Some (codes "new.toml");
         trial_log = Some (codes "new.log");
         audit = Some (codes "writes.log");
+        stamp = true;
+        metrics = Some (codes "bacgw.prom");
       })
-  pub why : Calls (codes "why" ∷ on_site []) (Explains site false)
-  pub why_count : Calls (codes "why" ∷ on_site (codes "--count" ∷ [])) (Explains site true)
-  pub compare : Calls (codes "compare" ∷ on_site (codes "--with" ∷ codes "new.toml" ∷ [])) (Compares site (codes "new.toml") most_count)
+  pub why : Calls (codes "why" ∷ on_site []) (Explains site false false)
+  pub why_count : Calls (codes "why" ∷ on_site (codes "--count" ∷ [])) (Explains site true false)
+  pub why_strict : Calls (codes "why" ∷ on_site (codes "--strict" ∷ [])) (Explains site false true)
+  pub compare : Calls
+      (codes "compare" ∷ on_site (codes "--with" ∷ codes "new.toml" ∷ []))
+      (Compares site (codes "new.toml") most_count false)
+  pub compare_steps : Calls
+      (codes "compare" ∷ on_site (codes "--with" ∷ codes "new.toml" ∷ codes "--most" ∷ codes "20" ∷ codes "--steps" ∷ []))
+      (Compares site (codes "new.toml") 20 true)
+  pub compare_json : Calls
+      (codes "compare" ∷ on_site (codes "--with" ∷ codes "new.toml" ∷ codes "--json" ∷ []))
+      (ComparesJson site (codes "new.toml") most_count)
   pub state : Calls (codes "state" ∷ on_site (codes "--state" ∷ codes "state.txt" ∷ [])) (Shows site (codes "state.txt"))
   pub suggest : Calls (codes "suggest" ∷ on_site []) (Suggests site false false)
   pub suggest_whole : Calls (codes "suggest" ∷ on_site (codes "--fill" ∷ codes "--exact" ∷ [])) (Suggests site true true)
-  pub reload : Calls (codes "reload" ∷ on_site (codes "--reload" ∷ codes "again" ∷ [])) (Reloads site (codes "again"))
+  pub reload : Calls (codes "reload" ∷ on_site (codes "--reload" ∷ codes "again" ∷ [])) (Reloads site (codes "again") None)
+  pub reload_shown : Calls
+      (codes "reload" ∷ on_site (codes "--reload" ∷ codes "again" ∷ codes "--was" ∷ codes "old.toml" ∷ []))
+      (Reloads site (codes "again") (Some (codes "old.toml", most_count)))
+  pub reload_few : Calls
+      (codes "reload" ∷ on_site (codes "--reload" ∷ codes "again" ∷ codes "--was" ∷ codes "old.toml" ∷ codes "--most" ∷ codes "20" ∷ []))
+      (Reloads site (codes "again") (Some (codes "old.toml", 20)))
   pub report : Calls (codes "report" ∷ on_site (codes "--log" ∷ codes "denials.log" ∷ [])) (Reports site (Some (codes "denials.log")))
+  pub points : Calls (codes "objects" ∷ on_site (codes "--csv" ∷ [])) (ListsPoints site)
   pub log : Calls (codes "log" ∷ []) (TellsLog None)
   pub log_json : Calls (codes "log" ∷ codes "--json" ∷ []) ListsLog
-  pub why_json : Calls (codes "why" ∷ on_site (codes "--json" ∷ [])) (Judges site)
+  pub why_json : Calls (codes "why" ∷ on_site (codes "--json" ∷ [])) (Judges site false)
+  pub why_json_strict : Calls (codes "why" ∷ on_site (codes "--json" ∷ codes "--strict" ∷ [])) (Judges site true)
   pub log_since : Calls (codes "log" ∷ codes "--start" ∷ codes "2026-11-25T08:00:00+01:00" ∷ [])
       (TellsLog (Some (codes "2026-11-25T08:00:00+01:00")))
+
+pub record CallsAreRefused : Type 0 where
+  pub check_json_explain : Mistakes (codes "check" ∷ on_site (codes "--json" ∷ codes "--explain" ∷ []))
+  pub check_json_lint : Mistakes (codes "check" ∷ on_site (codes "--json" ∷ codes "--lint" ∷ []))
+  pub check_json_migrate : Mistakes (codes "check" ∷ on_site (codes "--json" ∷ codes "--migrate" ∷ []))
+  pub why_json_count : Mistakes (codes "why" ∷ on_site (codes "--json" ∷ codes "--count" ∷ []))
+  pub compare_json_steps : Mistakes
+      (codes "compare" ∷ on_site (codes "--with" ∷ codes "new.toml" ∷ codes "--json" ∷ codes "--steps" ∷ []))
+  pub reload_most : Mistakes (codes "reload" ∷ on_site (codes "--reload" ∷ codes "again" ∷ codes "--most" ∷ codes "20" ∷ []))
+  pub trial : Mistakes (codes "run" ∷ on_site (codes "--trial" ∷ codes "new.toml" ∷ []))
+  pub stamp : Mistakes (codes "run" ∷ on_site (codes "--stamp" ∷ []))
+  pub points : (program : Text)
+      → fault_of commands (program ∷ codes "objects" ∷ on_site []) ≡ parse.MissingRequiredArgument ∷ []

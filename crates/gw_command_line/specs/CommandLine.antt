@@ -1,16 +1,18 @@
 -- Which words the program takes, and what it makes of them. `fault_of` of the crate `clap` lists the kinds of fault
 -- that a parser finds at some words, and is empty if it takes them.
-use Rattle.std.specs.Prelude.{◌≡◌, ◌≢◌, ◌⊎◌, ⊤, List, [], Option, Some, None, Result, Ok, Err, option_map, string_bytes}
+use Rattle.std.specs.Prelude.{◌≡◌, ◌≢◌, ◌⊎◌, ⊤, ℕ, List, [], Option, Some, None, Result, Ok, Err, option_map, string_bytes}
 use Rattle.clap.specs.Words.{IsAmong, Text, fault_of}
 use Rattle.clap.specs.declared.error.kind.ErrorKind.{ErrorKind}
 use Rattle.clap.specs.declared.error.kind.ErrorKind.TheVariants as parse
 use Rattle.gw_audit.specs.Moment.{IsTextOf}
 use Rattle.gw_audit.specs.declared.moment.Moment.{Moment}
 use Rattle.gw_command_line.specs.Commands.{commands}
-use Rattle.gw_command_line.specs.Requests.{Checks, Compares, Explains, Judges, ListsLog, Migrates, Reloads, Replays, Reports, Request, Serves, Service, Shows, Suggests, TellsLog, asked_in}
+use Rattle.gw_command_line.specs.Requests.{Checks, ChecksJson, Compares, ComparesJson, Explains, Judges, ListsLog, ListsPoints, Migrates}
+use Rattle.gw_command_line.specs.Requests.{Reloads, Replays, Reports, Request, Serves, Service, Shows, Suggests, TellsLog, asked_in}
 use Rattle.gw_command_line.specs.declared.command_line.Choice.{Choice}
 use Rattle.gw_command_line.specs.declared.command_line.Choice.TheVariants as choice
 use Rattle.gw_command_line.specs.declared.options.RunOptions.{RunOptions}
+use Rattle.gw_command_line.specs.declared.options.Shown.{Shown}
 use Rattle.gw_command_line.specs.declared.fault.WordsFault.{WordsFault}
 use Rattle.gw_command_line.specs.declared.fault.WordsFault.TheVariants as fault
 
@@ -37,25 +39,42 @@ service options = record {
   trial = option_map string_bytes options.trial;
   trial_log = option_map string_bytes options.trial_log;
   audit = option_map string_bytes options.audit;
+  stamp = options.stamp;
+  metrics = option_map string_bytes options.metrics;
 }
+
+-- what is compared before a reload: the file of the old configuration, and the most lines
+abbrev pub was_of : Shown → Text × ℕ
+was_of shown = (string_bytes shown.old, shown.most)
 
 -- a choice is what was asked for
 abbrev pub IsFor : Request → Choice → Type 0
 IsFor request (choice.Check file explains lints) = request ≡ Checks (string_bytes file) explains lints
+IsFor request (choice.CheckJson file) = request ≡ ChecksJson (string_bytes file)
 IsFor request (choice.Migrate file) = request ≡ Migrates (string_bytes file)
-IsFor request (choice.Replay file explains) = request ≡ Replays (option_map string_bytes file) explains
+IsFor request (choice.Replay file explains counts) = request ≡ Replays (option_map string_bytes file) explains counts
 IsFor request (choice.Run options) = request ≡ Serves (service options)
-IsFor request (choice.Why file counts) = request ≡ Explains (string_bytes file) counts
-IsFor request (choice.Compare old new most) = request ≡ Compares (string_bytes old) (string_bytes new) most
+IsFor request (choice.Why file counts strict) = request ≡ Explains (string_bytes file) counts strict
+IsFor request (choice.Compare old new most steps) = request ≡ Compares (string_bytes old) (string_bytes new) most steps
+IsFor request (choice.CompareJson old new most) = request ≡ ComparesJson (string_bytes old) (string_bytes new) most
 IsFor request (choice.State config state) = request ≡ Shows (string_bytes config) (string_bytes state)
 IsFor request (choice.Suggest file fills exact) = request ≡ Suggests (string_bytes file) fills exact
-IsFor request (choice.Reload config file) = request ≡ Reloads (string_bytes config) (string_bytes file)
+IsFor request (choice.Reload config file was) = request ≡ Reloads (string_bytes config) (string_bytes file) (option_map was_of was)
 IsFor request (choice.Log start) = (text : Option Text) × (request ≡ TellsLog text) × IsStart text start
 IsFor request choice.Objects = request ≡ ListsLog
-IsFor request (choice.Judge file) = request ≡ Judges (string_bytes file)
+IsFor request (choice.Judge file strict) = request ≡ Judges (string_bytes file) strict
 IsFor request (choice.Report file log) = request ≡ Reports (string_bytes file) (option_map string_bytes log)
+IsFor request (choice.Points file) = request ≡ ListsPoints (string_bytes file)
 IsFor request (choice.Help text) = ⊥
 IsFor request (choice.Usage text) = ⊥
+
+-- What is compared before a reload, and a bad command line if the options don't go together; memory may run out.
+abbrev pub IsWas : Option (Option (Text × ℕ)) → Result (Option Shown) WordsFault → Type 0
+IsWas (Some was) (Ok shown) = was ≡ option_map was_of shown
+IsWas None (Ok shown) = ⊥
+IsWas (Some was) (Err fault.CommandLine) = ⊥
+IsWas None (Err fault.CommandLine) = ⊤
+IsWas was (Err fault.Memory) = ⊤
 
 -- No choice is what was asked for: the text at which the log is to have begun is no moment.
 abbrev pub IsVoid : Request → Type 0

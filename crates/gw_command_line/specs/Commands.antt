@@ -14,23 +14,30 @@ needed name = record (option name) { required = true }
 abbrev pub flag : Text → Rule
 flag name = record (new_rule name) { long = Some name; action = Some SetTrue }
 
+-- one that has no value, and has to be given
+abbrev pub needed_flag : Text → Rule
+needed_flag name = record (flag name) { required = true }
+
 -- a command that needs the file of a configuration
 abbrev pub of_file : Text → App
 of_file name = with_rule (new_app name) (needed (codes "config"))
 
--- `check --config FILE [--explain] [--lint] [--migrate]`
+-- `check --config FILE [--explain] [--lint] [--migrate] [--json]`
 abbrev pub check_of_explanation : App
 check_of_explanation = with_rule (with_rule (of_file (codes "check")) (flag (codes "explain"))) (flag (codes "lint"))
 
 abbrev pub check : App
-check = with_rule check_of_explanation (flag (codes "migrate"))
+check = with_rule (with_rule check_of_explanation (flag (codes "migrate"))) (flag (codes "json"))
 
--- `replay [--config FILE] [--explain]`
+-- `replay [--config FILE] [--explain] [--stats]`
+abbrev pub replay_of_explanation : App
+replay_of_explanation = with_rule (with_rule (new_app (codes "replay")) (option (codes "config"))) (flag (codes "explain"))
+
 abbrev pub replay : App
-replay = with_rule (with_rule (new_app (codes "replay")) (option (codes "config"))) (flag (codes "explain"))
+replay = with_rule replay_of_explanation (flag (codes "stats"))
 
 -- `run --config FILE [--log FILE] [--turns N] [--verbose] [--stats SECONDS] [--state FILE] [--reload FILE] [--trial FILE]
--- [--trial-log FILE] [--audit FILE]`
+-- [--trial-log FILE] [--audit FILE] [--stamp] [--metrics FILE]`
 abbrev pub run_of_turns : App
 run_of_turns = with_rule (with_rule (of_file (codes "run")) (option (codes "log"))) (option (codes "turns"))
 
@@ -43,20 +50,29 @@ run_of_state = with_rule (with_rule run_of_reports (option (codes "state"))) (op
 abbrev pub run_of_trial : App
 run_of_trial = with_rule (with_rule run_of_state (option (codes "trial"))) (option (codes "trial-log"))
 
-abbrev pub run : App
-run = with_rule run_of_trial (option (codes "audit"))
+abbrev pub run_of_audit : App
+run_of_audit = with_rule (with_rule run_of_trial (option (codes "audit"))) (flag (codes "stamp"))
 
--- `why --config FILE [--count] [--json]`
+abbrev pub run : App
+run = with_rule run_of_audit (option (codes "metrics"))
+
+-- `why --config FILE [--count] [--json] [--strict]`
+abbrev pub why_of_form : App
+why_of_form = with_rule (with_rule (of_file (codes "why")) (flag (codes "count"))) (flag (codes "json"))
+
 abbrev pub why : App
-why = with_rule (with_rule (of_file (codes "why")) (flag (codes "count"))) (flag (codes "json"))
+why = with_rule why_of_form (flag (codes "strict"))
 
 -- `report --config FILE [--log FILE]`
 abbrev pub report : App
 report = with_rule (of_file (codes "report")) (option (codes "log"))
 
--- `compare --config FILE --with FILE [--most N]`
+-- `compare --config FILE --with FILE [--most N] [--steps] [--json]`
+abbrev pub compare_of_most : App
+compare_of_most = with_rule (with_rule (of_file (codes "compare")) (needed (codes "with"))) (option (codes "most"))
+
 abbrev pub compare : App
-compare = with_rule (with_rule (of_file (codes "compare")) (needed (codes "with"))) (option (codes "most"))
+compare = with_rule (with_rule compare_of_most (flag (codes "steps"))) (flag (codes "json"))
 
 -- `log [--start TIME] [--json]`
 abbrev pub log : App
@@ -70,9 +86,16 @@ state = with_rule (of_file (codes "state")) (needed (codes "state"))
 abbrev pub suggest : App
 suggest = with_rule (with_rule (of_file (codes "suggest")) (flag (codes "fill"))) (flag (codes "exact"))
 
--- `reload --config FILE --reload FILE`
+-- `reload --config FILE --reload FILE [--was FILE] [--most N]`
+abbrev pub reload_of_request : App
+reload_of_request = with_rule (of_file (codes "reload")) (needed (codes "reload"))
+
 abbrev pub reload : App
-reload = with_rule (of_file (codes "reload")) (needed (codes "reload"))
+reload = with_rule (with_rule reload_of_request (option (codes "was"))) (option (codes "most"))
+
+-- `objects --config FILE --csv`
+abbrev pub objects : App
+objects = with_rule (of_file (codes "objects")) (needed_flag (codes "csv"))
 
 -- the program, whose call has to name a command
 abbrev pub program : App
@@ -98,8 +121,10 @@ commands =
     (with_subcommand
     (with_subcommand
     (with_subcommand
+    (with_subcommand
     (with_subcommand first_commands log.top)
     compare.top)
     state.top)
     suggest.top)
-    reload.top
+    reload.top)
+    objects.top

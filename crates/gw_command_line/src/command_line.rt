@@ -3,12 +3,14 @@
 ghost use Rattle.std.specs.Prelude.{◌≡◌, Some, codes, map, option_map, string_bytes};
 ghost use Rattle.std.specs.Option.{option_and_then};
 ghost use Rattle.clap.specs.Words.{first_value, found_of, kind_of, subcommand_rows_of};
-ghost use Rattle.gw_command_line.specs.CommandLine.{AskFor, Chooses, IsAnswer, IsChosen, IsRefusal};
-ghost use Rattle.gw_command_line.specs.Requests.{Reports, Request, TellsLog, are_paired, asked, asked_by, asked_of_file, check_asked, compare_asked, list_asked, log_asked, reload_asked, run_asked, state_asked, why_asked};
+ghost use Rattle.gw_command_line.specs.CommandLine.{AskFor, Chooses, IsAnswer, IsChosen, IsRefusal, IsWas};
+ghost use Rattle.gw_command_line.specs.Requests.{Reports, Request, TellsLog, are_paired, asked, asked_by, asked_of_file, can_stamp};
+ghost use Rattle.gw_command_line.specs.Requests.{check_asked, check_in_words, compare_asked, comparison_in, list_asked, log_asked, reload_asked};
+ghost use Rattle.gw_command_line.specs.Requests.{run_asked, state_asked, was_in, why_asked};
 
 use crate::commands::make_commands;
 use crate::fault::WordsFault;
-use crate::options::RunOptions;
+use crate::options::{RunOptions, Shown};
 use crate::values::{count_of, file_of, is_given, period_of, start_of};
 use clap::error::ErrorKind;
 use clap::{ArgMatches, Error};
@@ -25,25 +27,37 @@ pub enum Choice {
         explains: bool,
         lints: bool,
     },
+    /// Say in JSON what the configuration in the file of this name has, or its fault.
+    CheckJson(String),
     /// Write the configuration in the file of this name in format 3.
     Migrate(String),
     /// Play the script on standard input, under the configuration in the file of this name or the
-    /// built-in one, and say of each ask which rule decides it if that is asked for.
+    /// built-in one; say of each ask which rule decides it, and at the end how many each rule decided, if
+    /// that is asked for.
     Replay {
         file: Option<String>,
         explains: bool,
+        counts: bool,
     },
     /// Serve the ports of a configuration over UDP.
     Run(RunOptions),
     /// Say of each ask on standard input which rule of the configuration in the file of this name
-    /// decides it, or how many each rule decides.
+    /// decides it, or how many each rule decides. Strict: a line that is no ask is a fault.
     Why {
         file: String,
         counts: bool,
+        strict: bool,
     },
     /// Say which asks the rules of the configurations in these files decide otherwise, in at most so many
-    /// lines.
+    /// lines, and how many steps that took if that is asked for.
     Compare {
+        old: String,
+        new: String,
+        most: u64,
+        steps: bool,
+    },
+    /// The same as a JSON object, without the steps.
+    CompareJson {
         old: String,
         new: String,
         most: u64,
@@ -54,10 +68,12 @@ pub enum Choice {
         state: String,
     },
     /// Ask the gateway that runs under the configuration in the first file to read it again, by making the
-    /// file of the request.
+    /// file of the request; and say before that what it changes, if the configuration that the gateway has
+    /// is named.
     Reload {
         config: String,
         request: String,
+        was: Option<Shown>,
     },
     /// Write rules that allow the asks on standard input, to be put in front of those of the configuration in
     /// this file: for each station what it did with all objects that it asked for, if that is asked for, and
@@ -73,13 +89,18 @@ pub enum Choice {
     /// Write the log on standard input as JSON objects.
     Objects,
     /// Answer each ask on standard input by the rules of the configuration in this file, as JSON
-    /// objects.
-    Judge(String),
+    /// objects. Strict: a line that is no ask is a fault.
+    Judge {
+        file: String,
+        strict: bool,
+    },
     /// Write a page of HTML that shows the configuration in the first file, and the log in the second one.
     Report {
         file: String,
         log: Option<String>,
     },
+    /// List the objects of the configuration in this file as comma-separated values.
+    Points(String),
     /// Print this text, which is help or the version.
     Help(String),
     /// Report that the words are no command line, and after it this text, which says how the program is
@@ -103,10 +124,24 @@ fn refusal_of(alloc: Global, error: Error) -> Result<Choice, WordsFault>
     }
 }
 
-/// What `check` asks for of the configuration in this file. `CommandLine` if it is to be written in format
-/// 3 and also explained or searched.
+/// What `check` asks for of the configuration in this file. `CommandLine` if the answer is to be in JSON and
+/// another flag is given.
 fn check_choice(matches: &ArgMatches<'_>, file: String) -> Result<Choice, WordsFault>
     ensures { IsChosen (check_asked (string_bytes file) (first_value (found_of matches.now))) result }
+{
+    if !is_given(matches, "json") {
+        return check_choice_in_words(matches, file);
+    }
+    if is_given(matches, "explain") || is_given(matches, "lint") || is_given(matches, "migrate") {
+        return Err(WordsFault::CommandLine);
+    }
+    Ok(Choice::CheckJson(file))
+}
+
+/// What `check` asks for without `--json`. `CommandLine` if the configuration is to be written in format 3
+/// and also explained or searched.
+fn check_choice_in_words(matches: &ArgMatches<'_>, file: String) -> Result<Choice, WordsFault>
+    ensures { IsChosen (check_in_words (string_bytes file) (first_value (found_of matches.now))) result }
 {
     let explains = is_given(matches, "explain");
     let lints = is_given(matches, "lint");
@@ -133,7 +168,17 @@ fn are_paired(one: &Option<String>, two: &Option<String>) -> bool
     }
 }
 
-/// What `run` asks for under the configuration in this file.
+/// Whether the lines of a log can be stamped, if that is asked for: a log in a file.
+fn can_stamp(stamp: bool, log: &Option<String>) -> bool
+    ensures { result ≡ can_stamp stamp (option_map string_bytes log.now) }
+{
+    match log {
+        Some(_) => true,
+        None => !stamp,
+    }
+}
+
+/// What `run` asks for under the configuration in this file. `CommandLine` if its options don't go together.
 fn run_choice(alloc: Global, matches: &ArgMatches<'_>, config: String) -> Result<Choice, WordsFault>
     ensures { IsChosen (run_asked (string_bytes config) (first_value (found_of matches.now))) result }
 {
@@ -145,12 +190,14 @@ fn run_choice(alloc: Global, matches: &ArgMatches<'_>, config: String) -> Result
     };
     let trial = file_of(alloc, matches, "trial")?;
     let trial_log = file_of(alloc, matches, "trial-log")?;
-    if !are_paired(&trial, &trial_log) {
+    let log = file_of(alloc, matches, "log")?;
+    let stamp = is_given(matches, "stamp");
+    if !are_paired(&trial, &trial_log) || !can_stamp(stamp, &log) {
         return Err(WordsFault::CommandLine);
     }
     Ok(Choice::Run(RunOptions {
         config,
-        log: file_of(alloc, matches, "log")?,
+        log,
         turns,
         verbose: is_given(matches, "verbose"),
         stats,
@@ -159,6 +206,8 @@ fn run_choice(alloc: Global, matches: &ArgMatches<'_>, config: String) -> Result
         trial,
         trial_log,
         audit: file_of(alloc, matches, "audit")?,
+        stamp,
+        metrics: file_of(alloc, matches, "metrics")?,
     }))
 }
 
@@ -174,9 +223,35 @@ fn compare_choice(
         return Err(WordsFault::CommandLine);
     };
     match file_of(alloc, matches, "with")? {
-        Some(new) => Ok(Choice::Compare { old, new, most }),
+        Some(new) => comparison_choice(matches, old, new, most),
         None => Err(WordsFault::CommandLine),
     }
+}
+
+/// The comparison of two files in at most so many lines. `CommandLine` if it is to be in JSON and with its
+/// steps.
+fn comparison_choice(
+    matches: &ArgMatches<'_>,
+    old: String,
+    new: String,
+    most: u64,
+) -> Result<Choice, WordsFault>
+    ensures { let value = first_value (found_of matches.now) in
+        IsChosen (comparison_in (string_bytes old) (string_bytes new) most value) result }
+{
+    let steps = is_given(matches, "steps");
+    if !is_given(matches, "json") {
+        return Ok(Choice::Compare {
+            old,
+            new,
+            most,
+            steps,
+        });
+    }
+    if steps {
+        return Err(WordsFault::CommandLine);
+    }
+    Ok(Choice::CompareJson { old, new, most })
 }
 
 /// What `state` asks for under the configuration in this file.
@@ -200,11 +275,35 @@ fn reload_choice(
     matches: &ArgMatches<'_>,
     config: String,
 ) -> Result<Choice, WordsFault>
-    ensures { let request = first_value (found_of matches.now) (codes "reload") in
-        IsChosen (reload_asked (string_bytes config) request) result }
+    ensures { IsChosen (reload_asked (string_bytes config) (first_value (found_of matches.now))) result }
 {
+    let was = match was_of(alloc, matches) {
+        Ok(was) => was,
+        Err(fault) => return Err(fault),
+    };
     match file_of(alloc, matches, "reload")? {
-        Some(request) => Ok(Choice::Reload { config, request }),
+        Some(request) => Ok(Choice::Reload {
+            config,
+            request,
+            was,
+        }),
+        None => Err(WordsFault::CommandLine),
+    }
+}
+
+/// What `reload` compares first. `CommandLine` if its number of lines is none, or it is given alone.
+fn was_of(alloc: Global, matches: &ArgMatches<'_>) -> Result<Option<Shown>, WordsFault>
+    ensures { let value = first_value (found_of matches.now) in
+        IsWas (was_in (value (codes "was")) (value (codes "most"))) result }
+{
+    let Some(old) = file_of(alloc, matches, "was")? else {
+        return match matches.get_str("most") {
+            Some(_) => Err(WordsFault::CommandLine),
+            None => Ok(None),
+        };
+    };
+    match count_of(matches, "most") {
+        Some(most) => Ok(Some(Shown { old, most })),
         None => Err(WordsFault::CommandLine),
     }
 }
@@ -260,13 +359,18 @@ fn why_choice(matches: &ArgMatches<'_>, file: String) -> Result<Choice, WordsFau
     ensures { IsChosen (why_asked (string_bytes file) (first_value (found_of matches.now))) result }
 {
     let counts = is_given(matches, "count");
+    let strict = is_given(matches, "strict");
     if !is_given(matches, "json") {
-        return Ok(Choice::Why { file, counts });
+        return Ok(Choice::Why {
+            file,
+            counts,
+            strict,
+        });
     }
     if counts {
         return Err(WordsFault::CommandLine);
     }
-    Ok(Choice::Judge(file))
+    Ok(Choice::Judge { file, strict })
 }
 
 /// What the command of this name asks for under the configuration in this file.
@@ -305,6 +409,9 @@ fn choice_of_file(
     if name == "report" {
         return report_choice(alloc, matches, file);
     }
+    if name == "objects" {
+        return Ok(Choice::Points(file));
+    }
     Err(WordsFault::CommandLine)
 }
 
@@ -318,9 +425,11 @@ fn choice_for(alloc: Global, name: &str, matches: &ArgMatches<'_>) -> Result<Cho
     let config = file_of(alloc, matches, "config")?;
     if name == "replay" {
         let explains = is_given(matches, "explain");
+        let counts = is_given(matches, "stats");
         return Ok(Choice::Replay {
             file: config,
             explains,
+            counts,
         });
     }
     match config {

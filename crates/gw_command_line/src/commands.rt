@@ -3,7 +3,10 @@
 ghost use Rattle.std.specs.Prelude.{◌≡◌, false, codes, IfOk};
 ghost use Rattle.clap.specs.Words.{app_of, rule_of};
 ghost use Rattle.clap.specs.declared.builder.command.Command.TheViews.{out-Command};
-ghost use Rattle.gw_command_line.specs.Commands.{check, check_of_explanation, commands, compare, first_commands, flag, log, needed, of_file, option, program, reload, replay, report, run, run_of_reports, run_of_state, run_of_trial, run_of_turns, state, suggest, why};
+ghost use Rattle.gw_command_line.specs.Commands.{check, check_of_explanation, commands, compare, compare_of_most, first_commands, flag};
+ghost use Rattle.gw_command_line.specs.Commands.{log, needed, needed_flag, objects, of_file, option, program, reload, reload_of_request};
+ghost use Rattle.gw_command_line.specs.Commands.{replay, replay_of_explanation, report, run, run_of_audit, run_of_reports, run_of_state};
+ghost use Rattle.gw_command_line.specs.Commands.{run_of_trial, run_of_turns, state, suggest, why, why_of_form};
 
 use clap::{Arg, ArgAction, Command};
 use std::alloc::{AllocError, Global};
@@ -42,6 +45,13 @@ const RELOAD_EXAMPLE: &str = "Example:
 const LOG_EXAMPLE: &str = "Example:
   bacgw log < denials.log | sort | uniq -c";
 
+const OBJECTS_EXAMPLE: &str = "Example:
+  bacgw objects --config site.toml --csv > site.csv";
+
+/// What help says of `--most`.
+const MOST_HELP: &str =
+    "How many lines are printed at most, or of each group, from 1 to 9223372036854775807, the default";
+
 /// An option of this name that has a value, which help calls so.
 fn make_option<'a>(alloc: Global, name: &'a str, value_name: &'a str, help: &'a str) -> Arg<'a>
     ensures rule { rule_of result ≡ option name.now }
@@ -62,6 +72,14 @@ fn make_flag<'a>(alloc: Global, name: &'a str, help: &'a str) -> Arg<'a>
         .long(name)
         .help(help)
         .action(ArgAction::SetTrue)
+}
+
+/// An option of this name that has no value, and has to be given.
+fn make_needed_flag<'a>(alloc: Global, name: &'a str, help: &'a str) -> Arg<'a>
+    ensures rule { rule_of result ≡ needed_flag name.now }
+    ensures local { result.global ≡ false }
+{
+    make_flag(alloc, name, help).required(true)
 }
 
 /// An option of this name that names a file, which has to be given.
@@ -87,7 +105,10 @@ fn make_check<'a>(alloc: Global) -> Result<Command<'a>, AllocError>
     ensures local { IfOk result (λ command. (out-Command command).has_globals ≡ false) }
 {
     let help = "Prints the configuration in format 3 instead; without --explain and --lint";
-    make_check_of_explanation(alloc)?.arg(make_flag(alloc, "migrate", help))
+    let migrate = make_flag(alloc, "migrate", help);
+    let help = "Prints a JSON object instead; without --explain, --lint and --migrate";
+    let json = make_flag(alloc, "json", help);
+    make_check_of_explanation(alloc)?.arg(migrate)?.arg(json)
 }
 
 fn make_check_of_explanation<'a>(alloc: Global) -> Result<Command<'a>, AllocError>
@@ -105,6 +126,15 @@ fn make_replay<'a>(alloc: Global) -> Result<Command<'a>, AllocError>
     ensures app { IfOk result (λ command. app_of command ≡ replay) }
     ensures local { IfOk result (λ command. (out-Command command).has_globals ≡ false) }
 {
+    let help = "Also reports at the end how many asks each rule decided";
+    let stats = make_flag(alloc, "stats", help);
+    make_replay_of_explanation(alloc)?.arg(stats)
+}
+
+fn make_replay_of_explanation<'a>(alloc: Global) -> Result<Command<'a>, AllocError>
+    ensures app { IfOk result (λ command. app_of command ≡ replay_of_explanation) }
+    ensures local { IfOk result (λ command. (out-Command command).has_globals ≡ false) }
+{
     let help = "The configuration, in TOML; without it the built-in one";
     let config = make_option(alloc, "config", FILE, help);
     let help = "Also prints each ask, and which rule decides it";
@@ -119,9 +149,20 @@ fn make_run<'a>(alloc: Global) -> Result<Command<'a>, AllocError>
     ensures app { IfOk result (λ command. app_of command ≡ run) }
     ensures local { IfOk result (λ command. (out-Command command).has_globals ≡ false) }
 {
+    let help = "Keeps the counts in this file, for a collector of metrics";
+    let metrics = make_option(alloc, "metrics", FILE, help);
+    make_run_of_audit(alloc)?.arg(metrics)
+}
+
+fn make_run_of_audit<'a>(alloc: Global) -> Result<Command<'a>, AllocError>
+    ensures app { IfOk result (λ command. app_of command ≡ run_of_audit) }
+    ensures local { IfOk result (λ command. (out-Command command).has_globals ≡ false) }
+{
     let help = "What the asks are appended to that a rule with audit = true allows";
     let audit = make_option(alloc, "audit", FILE, help);
-    make_run_of_trial(alloc)?.arg(audit)
+    let help = "Begins each line of the log with the time, and adds notes; with --log";
+    let stamp = make_flag(alloc, "stamp", help);
+    make_run_of_trial(alloc)?.arg(audit)?.arg(stamp)
 }
 
 fn make_run_of_trial<'a>(alloc: Global) -> Result<Command<'a>, AllocError>
@@ -150,9 +191,9 @@ fn make_run_of_reports<'a>(alloc: Global) -> Result<Command<'a>, AllocError>
     ensures app { IfOk result (λ command. app_of command ≡ run_of_reports) }
     ensures local { IfOk result (λ command. (out-Command command).has_globals ≡ false) }
 {
-    let help = "Tells at the start what is served, or where a fault is";
+    let help = "Reports at the start what is served, or where a fault is";
     let verbose = make_flag(alloc, "verbose", help);
-    let help = "Tells what was done, each so many seconds, from 1 to 4294967295, and at the end";
+    let help = "Reports what was done, each so many seconds, from 1 to 4294967295, and at the end";
     let stats = make_option(alloc, "stats", "SECONDS", help);
     make_run_of_turns(alloc)?.arg(verbose)?.arg(stats)
 }
@@ -176,6 +217,15 @@ fn make_why<'a>(alloc: Global) -> Result<Command<'a>, AllocError>
     ensures app { IfOk result (λ command. app_of command ≡ why) }
     ensures local { IfOk result (λ command. (out-Command command).has_globals ≡ false) }
 {
+    let help = "Ends at a line that isn't an ask alone; without it any text may be around an ask";
+    let strict = make_flag(alloc, "strict", help);
+    make_why_of_form(alloc)?.arg(strict)
+}
+
+fn make_why_of_form<'a>(alloc: Global) -> Result<Command<'a>, AllocError>
+    ensures app { IfOk result (λ command. app_of command ≡ why_of_form) }
+    ensures local { IfOk result (λ command. (out-Command command).has_globals ≡ false) }
+{
     let about = "Says which rule decides each ask of standard input, in the words of the log";
     let count = make_flag(
         alloc,
@@ -193,10 +243,19 @@ fn make_compare<'a>(alloc: Global) -> Result<Command<'a>, AllocError>
     ensures app { IfOk result (λ command. app_of command ≡ compare) }
     ensures local { IfOk result (λ command. (out-Command command).has_globals ≡ false) }
 {
+    let help = "Also prints how many steps the comparison took";
+    let steps = make_flag(alloc, "steps", help);
+    let help = "Prints a JSON object instead; without --steps";
+    let json = make_flag(alloc, "json", help);
+    make_compare_of_most(alloc)?.arg(steps)?.arg(json)
+}
+
+fn make_compare_of_most<'a>(alloc: Global) -> Result<Command<'a>, AllocError>
+    ensures app { IfOk result (λ command. app_of command ≡ compare_of_most) }
+    ensures local { IfOk result (λ command. (out-Command command).has_globals ≡ false) }
+{
     let with = make_needed(alloc, "with", "The other configuration, in TOML");
-    let help =
-        "How many lines are printed at most, or of each group, from 1 to 9223372036854775807, the default";
-    let most = make_option(alloc, "most", NUMBER, help);
+    let most = make_option(alloc, "most", NUMBER, MOST_HELP);
     let about = "Says which asks the rules of two configurations decide otherwise";
     make_of_file(alloc, "compare", about)?
         .after_help(COMPARE_EXAMPLE)
@@ -213,7 +272,7 @@ fn make_log<'a>(alloc: Global) -> Result<Command<'a>, AllocError>
     let help = "Makes each line a JSON object instead; without --start";
     let json = make_flag(alloc, "json", help);
     Command::new(alloc, "log")
-        .about("Tells each line of a log on standard input in words")
+        .about("Says each line of a log on standard input in words")
         .after_help(LOG_EXAMPLE)
         .arg(start)?
         .arg(json)
@@ -264,12 +323,34 @@ fn make_reload<'a>(alloc: Global) -> Result<Command<'a>, AllocError>
     ensures app { IfOk result (λ command. app_of command ≡ reload) }
     ensures local { IfOk result (λ command. (out-Command command).has_globals ≡ false) }
 {
+    let help = "The configuration that the gateway has; prints first what the new one changes";
+    let was = make_option(alloc, "was", FILE, help);
+    let most = make_option(alloc, "most", NUMBER, MOST_HELP);
+    make_reload_of_request(alloc)?.arg(was)?.arg(most)
+}
+
+fn make_reload_of_request<'a>(alloc: Global) -> Result<Command<'a>, AllocError>
+    ensures app { IfOk result (λ command. app_of command ≡ reload_of_request) }
+    ensures local { IfOk result (λ command. (out-Command command).has_globals ≡ false) }
+{
     let help = "The file that run --reload looks for";
     let request = make_needed(alloc, "reload", help);
     let about = "Asks a running gateway to read its configuration again, and says what it did";
     make_of_file(alloc, "reload", about)?
         .after_help(RELOAD_EXAMPLE)
         .arg(request)
+}
+
+fn make_objects<'a>(alloc: Global) -> Result<Command<'a>, AllocError>
+    ensures app { IfOk result (λ command. app_of command ≡ objects) }
+    ensures local { IfOk result (λ command. (out-Command command).has_globals ≡ false) }
+{
+    let help = "As comma-separated values, a line for each object; has to be given";
+    let csv = make_needed_flag(alloc, "csv", help);
+    let about = "Lists the objects of a configuration for engineering tools";
+    make_of_file(alloc, "objects", about)?
+        .after_help(OBJECTS_EXAMPLE)
+        .arg(csv)
 }
 
 /// The program, with no command yet.
@@ -308,10 +389,12 @@ pub fn make_commands<'a>(alloc: Global) -> Result<Command<'a>, AllocError>
     let state = make_state(alloc)?;
     let suggest = make_suggest(alloc)?;
     let reload = make_reload(alloc)?;
+    let objects = make_objects(alloc)?;
     make_first_commands(alloc)?
         .subcommand(log)?
         .subcommand(compare)?
         .subcommand(state)?
         .subcommand(suggest)?
-        .subcommand(reload)
+        .subcommand(reload)?
+        .subcommand(objects)
 }

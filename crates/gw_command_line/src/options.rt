@@ -26,6 +26,19 @@ pub struct RunOptions {
     pub trial_log: Option<String>,
     /// The file that allowed asks are appended to whose deciding rule says so.
     pub audit: Option<String>,
+    /// Whether each line of the log begins with the time at which it was written. Then `log` is there.
+    pub stamp: bool,
+    /// The file that the counts are written to for a collector of metrics.
+    pub metrics: Option<String>,
     pub ghost few: { turns < 2 ^ 63 },
     pub ghost seconds: { IfSome stats (λ n. 0 < n) } by { Prim.hlevel props },
+}
+
+/// What is compared before a reload.
+#[derive(Drop)]
+pub struct Shown {
+    /// The file of the configuration that the running gateway has.
+    pub old: String,
+    /// How many lines are printed at most, or of each group.
+    pub most: u64,
 }

@@ -20,6 +20,7 @@ use gw_stamping::{Calendar, moment_after};
 use gw_system::{ReadFailure, Requests};
 use itoa::Buffer;
 use std::alloc::{AllocError, Global};
+use std::cell::RefCell;
 use std::io;
 use std::io::{BufWriter, ErrorKind};
 use std::process::ExitCode;
@@ -29,6 +30,9 @@ const TRIAL: &str = "trial";
 
 /// The names of the logs beside the log.
 const BESIDE: [&str; 2] = ["trial.log", "audit.log"];
+
+/// The name of the file of the metrics.
+const METRICS: &str = "bacgw.prom";
 
 /// The name of the one file that can't be read.
 const UNREADABLE: &str = "unreadable";
@@ -125,22 +129,28 @@ impl Wire for MemSockets {
     }
 }
 
-/// A store that keeps nothing, or fails.
+/// A store that shows the last text that was put into it, or fails.
 #[derive(Drop)]
-pub struct MemStore {
+pub struct MemStore<'a> {
+    alloc: Global,
     fault: Option<StoreFault>,
+    shown: &'a RefCell<Vec<u8>>,
 }
 
-impl Store for MemStore {
+impl<'a> Store for MemStore<'a> {
     ghost held = { λ _. None };
 
     ghost NeverFails = { λ _. ⊥ };
 
-    fn replace(&mut self, _octets: &[u8]) -> Result<(), StoreFault> {
-        match self.fault {
-            None => Ok(()),
-            Some(fault) => Err(fault),
+    fn replace(&mut self, octets: &[u8]) -> Result<(), StoreFault> {
+        if let Some(fault) = self.fault {
+            return Err(fault);
         }
+        let Ok(text) = Vec::from_slice(self.alloc, octets) else {
+            return Err(StoreFault::Memory);
+        };
+        let _ = self.shown.try_replace(text);
+        Ok(())
     }
 }
 
@@ -189,8 +199,10 @@ type Closed = (MemSockets, Option<MemWriter>);
 /// A machine in memory: its log takes so many octets, or can't be opened, and may end in a line that
 /// was cut; the broadcast socket of one port may fail; and it may route IP. It keeps what was closed.
 #[derive(Drop)]
-struct MemHost {
+struct MemHost<'a> {
     alloc: Global,
+    metrics: &'a RefCell<Vec<u8>>,
+    state_text: &'a RefCell<Vec<u8>>,
     log: Option<usize>,
     beside: Option<usize>,
     trial: Option<Vec<u8>>,
@@ -204,12 +216,12 @@ struct MemHost {
     closed: Option<Closed>,
 }
 
-impl Host for MemHost {
+impl<'a> Host for MemHost<'a> {
     type Log = MemWriter;
 
     type Sockets = MemSockets;
 
-    type StateStore = MemStore;
+    type StateStore = MemStore<'a>;
 
     type Reloads = MemRequests;
 
@@ -303,8 +315,17 @@ impl Host for MemHost {
         Ok(None)
     }
 
-    fn open_store(&self, _alloc: Global, _name: &str) -> Result<MemStore, StoreFault> {
-        Ok(MemStore { fault: self.unkept })
+    fn open_store(&self, alloc: Global, name: &str) -> Result<MemStore<'a>, StoreFault> {
+        let shown = if name == METRICS {
+            self.metrics
+        } else {
+            self.state_text
+        };
+        Ok(MemStore {
+            alloc,
+            fault: self.unkept,
+            shown,
+        })
     }
 
     fn open_reloads(
@@ -358,13 +379,14 @@ impl Host for MemHost {
     }
 }
 
-/// What one run leaves: its exit status, both streams, and what the machine closed.
+/// What one run leaves: its exit status, both streams, what the machine closed, and the text of the metrics.
 #[derive(Drop)]
 struct Left {
     code: ExitCode,
     output: MemWriter,
     errors: MemWriter,
     closed: Option<Closed>,
+    metrics: Vec<u8>,
 }
 
 /// Whether a line is there.
@@ -488,8 +510,12 @@ fn run_with(alloc: Global, config: &str, section: &str, room: usize) -> Result<L
     let (head, input) = section.split_once("\ninput\n").unwrap_or((section, ""));
     let (line, lines) = head.split_once('\n').unwrap_or((head, ""));
     let words = words_of(alloc, line, lines)?;
+    let metrics = RefCell::new(Vec::new(alloc));
+    let state_text = RefCell::new(Vec::new(alloc));
     let mut host = MemHost {
         alloc,
+        metrics: &metrics,
+        state_text: &state_text,
         log: number_behind(lines, '\n', "log "),
         beside: number_behind(lines, '\n', "beside "),
         trial: trial_of(alloc, lines, config)?,
@@ -530,11 +556,14 @@ fn run_with(alloc: Global, config: &str, section: &str, room: usize) -> Result<L
         output,
         errors,
         closed: host.closed,
+        metrics: metrics
+            .try_replace(Vec::new(alloc))
+            .unwrap_or(Vec::new(alloc)),
     })
 }
 
-/// What the run of a section leaves: its exit status, each line of its streams and of its log, and what the
-/// machine closed.
+/// What the run of a section leaves: its exit status, each line of its streams, of its metrics and of its log, and what
+/// the machine closed.
 pub fn machine(alloc: Global, config: &str, section: &str, out: &mut Vec<u8>) -> io::Result<()> {
     let (_, lines) = section.split_once('\n').unwrap_or((section, ""));
     let room = number_behind(lines, '\n', "output ").unwrap_or(AMPLE);
@@ -542,6 +571,7 @@ pub fn machine(alloc: Global, config: &str, section: &str, out: &mut Vec<u8>) ->
     put(out, &["status ", status_text(left.code), "\n"])?;
     put_lines("out ", left.output.held(), out)?;
     put_lines("err ", left.errors.held(), out)?;
+    put_lines("metrics ", &left.metrics, out)?;
     match &left.closed {
         Some(closed) => Ok(put_closed(closed, out)?),
         None => Ok(()),

@@ -5,7 +5,7 @@ use gw_configuration::ConfigFault;
 use gw_migration::MigrationFault;
 use gw_script::LineFlaw;
 use gw_serving::StoreFault;
-use gw_shell::{Choice, Fault, RunOptions, WordsFault, choice_of, end};
+use gw_shell::{Choice, Fault, RunOptions, Shown, WordsFault, choice_of, end};
 use gw_state_text::{FaultKind, StateFault};
 use gw_watch_files::TrialFault;
 use itoa::Buffer;
@@ -52,49 +52,93 @@ fn put_choice(
             put_flag(out, " explain", *explains)?;
             put_flag(out, " lint", *lints)
         }
+        Ok(Choice::CheckJson(file)) => put(out, &["check ", file.as_str(), " json"]),
         Ok(Choice::Migrate(file)) => put(out, &["migrate ", file.as_str()]),
-        Ok(Choice::Replay { file, explains }) => {
+        Ok(
+            Choice::Replay {
+                file,
+                explains,
+                counts,
+            },
+        ) => {
             put(out, &["replay"])?;
             put_flag(out, " explain", *explains)?;
-            match file {
-                Some(file) => put(out, &[" ", file.as_str()]),
-                None => Ok(()),
-            }
+            put_flag(out, " stats", *counts)?;
+            put_file(out, " ", file)
         }
         Ok(Choice::Run(options)) => put_options(options, out),
-        Ok(Choice::Why { file, counts }) => {
+        Ok(
+            Choice::Why {
+                file,
+                counts,
+                strict,
+            },
+        ) => {
             put(out, &["why ", file.as_str()])?;
-            put_flag(out, " count", *counts)
+            put_flag(out, " count", *counts)?;
+            put_flag(out, " strict", *strict)
         }
         Ok(Choice::State { config, state }) => {
             put(out, &["state ", config.as_str(), " of=", state.as_str()])
         }
-        Ok(Choice::Reload { config, request }) => {
-            put(out, &["reload ", config.as_str(), " by=", request.as_str()])
+        Ok(
+            Choice::Reload {
+                config,
+                request,
+                was,
+            },
+        ) => {
+            put(out, &["reload ", config.as_str(), " by=", request.as_str()])?;
+            put_shown(was, out)
         }
         Ok(Choice::Suggest { file, fills, exact }) => {
             put(out, &["suggest ", file.as_str()])?;
             put_flag(out, " fill", *fills)?;
             put_flag(out, " exact", *exact)
         }
-        Ok(Choice::Compare { old, new, most }) => put(
-            out,
-            &[
-                "compare ",
-                old.as_str(),
-                " with=",
-                new.as_str(),
-                " most=",
-                Buffer::new().format(*most),
-            ],
-        ),
+        Ok(
+            Choice::Compare {
+                old,
+                new,
+                most,
+                steps,
+            },
+        ) => {
+            put_compare(old.as_str(), new.as_str(), *most, out)?;
+            put_flag(out, " steps", *steps)
+        }
+        Ok(Choice::CompareJson { old, new, most }) => {
+            put_compare(old.as_str(), new.as_str(), *most, out)?;
+            put(out, &[" json"])
+        }
         Ok(Choice::Log(start)) => put_log(alloc, *start, out),
         Ok(Choice::Objects) => put(out, &["log json"]),
-        Ok(Choice::Judge(file)) => put(out, &["why ", file.as_str(), " json"]),
+        Ok(Choice::Judge { file, strict }) => {
+            put(out, &["why ", file.as_str(), " json"])?;
+            put_flag(out, " strict", *strict)
+        }
+        Ok(Choice::Points(file)) => put(out, &["objects ", file.as_str(), " csv"]),
         Ok(Choice::Report { file, log }) => put_report(file.as_str(), log, out),
         Ok(Choice::Help(_)) => put(out, &["help"]),
         Ok(Choice::Usage(_)) | Err(WordsFault::CommandLine) => put(out, &["refused"]),
         Err(WordsFault::Memory) => put(out, &["out of memory"]),
+    }
+}
+
+/// What `compare` is asked for.
+fn put_compare(old: &str, new: &str, most: u64, out: &mut Vec<u8>) -> Result<(), AllocError> {
+    put(out, &["compare ", old, " with=", new])?;
+    put(out, &[" most=", Buffer::new().format(most)])
+}
+
+/// What is compared before a reload.
+fn put_shown(was: &Option<Shown>, out: &mut Vec<u8>) -> Result<(), AllocError> {
+    match was {
+        Some(Shown { old, most }) => {
+            put(out, &[" was=", old.as_str()])?;
+            put(out, &[" most=", Buffer::new().format(*most)])
+        }
+        None => Ok(()),
     }
 }
 
@@ -130,7 +174,9 @@ fn put_options(options: &RunOptions, out: &mut Vec<u8>) -> Result<(), AllocError
     put_file(out, " reload=", &options.reload)?;
     put_file(out, " trial=", &options.trial)?;
     put_file(out, " trial-log=", &options.trial_log)?;
-    put_file(out, " audit=", &options.audit)
+    put_file(out, " audit=", &options.audit)?;
+    put_flag(out, " stamp", options.stamp)?;
+    put_file(out, " metrics=", &options.metrics)
 }
 
 /// Appends what is in front of a file and its name, if there is one.
@@ -182,6 +228,7 @@ pub fn faults(alloc: Global, out: &mut Vec<u8>) -> io::Result<()> {
         Fault::Trial(TrialFault::Ports),
         Fault::Trial(TrialFault::Log),
         Fault::Audit,
+        Fault::Metrics(StoreFault::ReadOnly),
         Fault::State(StateFault {
             line: 7,
             kind: FaultKind::Range,

@@ -4,5 +4,6 @@ mod KeptLemmas
 mod LawLemmas
 mod ServedLemmas
 pub mod ServingLemmas
+mod StampedLemmas
 mod StatsLemmas
 mod WatchedLemmas

@@ -1,13 +1,15 @@
 -- What keeps the state of a gateway from stretch to stretch, if something does.
-use Rattle.std.specs.Prelude.{◌≡◌, ⊤, ℕ, Bool, true, List, [], Option, None}
+use Rattle.std.specs.Prelude.{◌≡◌, ⊤, ℕ, Bool, true, is_some, not, List, [], Option, Some, None}
 use Rattle.gw_configuration.specs.Configuration.{Configuration}
 use Rattle.gw_core.specs.State.{State}
 use Rattle.gw_saved.specs.Saved.{origin_of}
 use Rattle.gw_script.specs.Event.{Event}
 use Rattle.gw_serving.specs.Keeping.{HasPassed, IsTried, KeepsAtTick, failing_of}
 use Rattle.gw_serving.specs.declared.store.StoreFault.{StoreFault}
+use Rattle.gw_metrics.specs.declared.counts.StateTries.{StateTries}
 use Rattle.gw_service.specs.declared.keeping.Kept.{Kept}
 use Rattle.gw_service.specs.declared.keeping.Kept.TheVariants.{Nowhere, In}
+use Rattle.gw_service.specs.declared.losses.Losses.{Losses}
 use Rattle.gw_service.specs.declared.successor.Successor.{Successor}
 use Rattle.gw_service.specs.declared.troubles.Troubles.{Troubles}
 use Rattle.gw_service.specs.Notices.{of_state}
@@ -49,3 +51,12 @@ troubles_in k = of_state (failing_in k)
 abbrev pub unkept_in : {S : Type 0} → Kept S → ℕ
 unkept_in Nowhere = 0
 unkept_in (In k) = k.unkept
+
+-- how the state is kept, if it is
+abbrev pub tries_in : {S : Type 0} → Kept S → Option StateTries
+tries_in Nowhere = None
+tries_in (In k) = Some (record { is_kept = not (is_some (failing_of k.kept)); unkept = k.unkept })
+
+-- nothing is watched, so nothing of that is lost
+abbrev pub no_losses : Losses
+no_losses = record { unwatched = 0; trial_lines = 0; audit_lines = 0 }

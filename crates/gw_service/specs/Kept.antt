@@ -80,6 +80,16 @@ IsStoreUnder StoreOpens None outcome = outcome ≡ Ok None
 IsStoreUnder {S} StoreOpens (Some name) outcome =
     (opened : Result S StoreFault) × StoreOpens name opened × (outcome ≡ store_outcome opened)
 
+-- the store of the metrics under this name, if one is named, or why it can't be opened
+abbrev pub metrics_outcome : {S : Type 0} → Result S StoreFault → Result (Option S) ServiceFault
+metrics_outcome (Ok store) = Ok (Some store)
+metrics_outcome (Err f) = Err (fault.Metrics f)
+
+abbrev pub IsMetricsUnder : {S : Type 0} → (List ℕ → Result S StoreFault → Type 0) → Option (List ℕ) → Result (Option S) ServiceFault → Type 0
+IsMetricsUnder StoreOpens None outcome = outcome ≡ Ok None
+IsMetricsUnder {S} StoreOpens (Some name) outcome =
+    (opened : Result S StoreFault) × StoreOpens name opened × (outcome ≡ metrics_outcome opened)
+
 -- what asks by the file of this name to read this configuration again, if one is named
 abbrev pub AreRequestsUnder : {Q : Type 0} → (List ℕ → List ℕ → Q → Type 0) → Option (List ℕ) → List ℕ → Option Q → Type 0
 AreRequestsUnder ReloadsOpen None config None = ⊤
@@ -237,12 +247,13 @@ state_machine FileReads LastLines StoreOpens ReloadsOpen held told = record {
   told = told;
 }
 
--- the names of the files of a run: its configuration, and if there are some, its log, its state, its requests, and those of what
--- watches
+-- the names of the files of a run: its configuration, and if there are some, its log, its state, its metrics, its requests, and
+-- those of what watches
 pub record Names : Type 0 where
   pub config : List ℕ
   pub log : Option (List ℕ)
   pub state : Option (List ℕ)
+  pub metrics : Option (List ℕ)
   pub reload : Option (List ℕ)
   pub watch : WatchNames
 
@@ -251,6 +262,7 @@ names_of options = record {
   config = string_bytes options.config;
   log = option_map string_bytes options.log;
   state = option_map string_bytes options.state;
+  metrics = option_map string_bytes options.metrics;
   reload = option_map string_bytes options.reload;
   watch = watch_names options;
 }
@@ -262,15 +274,16 @@ pub record IsPrepared {S Q Log : Type 0} (machine : StateMachine S Q) (LogOpens 
   pub line : IsLastLine machine.LastLines names.state names.log (Ok (option_map (λ line. line.items) before.line))
   pub text : before.text.items ≡ text_before names.state is_verbose c before.saved
   pub store : IsStoreUnder machine.StoreOpens names.state (Ok before.store)
+  pub metrics : IsMetricsUnder machine.StoreOpens names.metrics (Ok before.metrics)
   pub requests : AreRequestsUnder machine.ReloadsOpen names.reload names.config before.requests
   pub watcher : IsWatcherUnder machine.FileReads machine.LastLines LogOpens c names.watch before.watcher
 
--- Why it couldn't be: the state can't be read, or isn't one; the last line of the log can't be read; the store can't be opened;
--- what is to watch can't; or memory ran out.
+-- Why it couldn't be: the state can't be read, or isn't one; the last line of the log can't be read; its store can't be opened,
+-- or that of the metrics; what is to watch can't; or memory ran out.
 abbrev pub IsUnprepared : {S Q Log : Type 0} → StateMachine S Q → LogOpening Log → Names → Configuration → ServiceFault → Type 0
 IsUnprepared machine LogOpens names c f =
     IsStateUnder machine.FileReads names.state (Err f) ⊎ (IsLastLine machine.LastLines names.state names.log (Err f)
-    ⊎ (IsStoreUnder machine.StoreOpens names.state (Err f)
+    ⊎ ((IsStoreUnder machine.StoreOpens names.state (Err f) ⊎ IsMetricsUnder machine.StoreOpens names.metrics (Err f))
     ⊎ (IsUnwatched machine.FileReads machine.LastLines LogOpens c names.watch f ⊎ (f ≡ fault.Memory))))
 
 -- What such a run leaves under a configuration: its state or its log's last line can't be had, and nothing is opened; not all can

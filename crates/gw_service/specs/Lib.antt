@@ -8,7 +8,9 @@ pub mod Serving
 pub mod Start
 pub mod Keeping
 pub mod Kept
+pub mod StampedRun
 pub mod Stats
 pub mod Laws
 pub mod Watch
 pub mod Scheduled
+pub mod Metrics

@@ -19,11 +19,12 @@ use Rattle.gw_service.specs.Keeping.{IsKeptAtTick, IsKeptFor, failing_in}
 use Rattle.gw_service.specs.declared.fault.ServiceFault.{ServiceFault}
 use Rattle.gw_service.specs.declared.fault.ServiceFault.TheVariants as fault
 use Rattle.gw_service.specs.declared.keeping.Kept.{Kept}
+use Rattle.gw_service.specs.declared.losses.Losses.{Losses}
 use Rattle.gw_service.specs.declared.troubles.Troubles.{Troubles}
 
 -- ---- at the start
 
--- the files of what watches, if there are some, and whether reports are asked for
+-- the files of what watches, if there are some, and whether reports or metrics are asked for, which have counts of the rules
 pub record WatchNames : Type 0 where
   pub trial : Option (List ℕ)
   pub trial_log : Option (List ℕ)
@@ -35,7 +36,7 @@ watch_names options = record {
   trial = option_map string_bytes options.trial;
   trial_log = option_map string_bytes options.trial_log;
   audit = option_map string_bytes options.audit;
-  counts = is_some options.stats;
+  counts = is_some options.stats || is_some options.metrics;
 }
 
 abbrev pub is_watched : WatchNames → Bool
@@ -75,7 +76,7 @@ abbrev pub IsAuditUnder : {Log : Type 0} → (LastLines : List ℕ → Result (O
     → Configuration → WatchNames → Result (Option (Beside (List Bool) Log)) ServiceFault → Type 0
 IsAuditUnder LastLines LogOpens c names outcome = IsAuditNamed LastLines LogOpens c names.audit outcome
 
--- counts of the rules, of which none began, if reports are asked for
+-- counts of the rules, of which none began, if they are asked for
 abbrev pub AreCountsOf : Configuration → Bool → Option (List ℕ) → Type 0
 AreCountsOf c false None = ⊤
 AreCountsOf c true (Some counts) = IsTally c.rules [] counts
@@ -126,6 +127,15 @@ pub record WatchesOn {T A : Type 0} (c : Configuration) (before after : Watching
 abbrev pub IsKeptForBeside : {S T A : Type 0} → (S → Option (List ℕ)) → Both (Kept S) (Watching T A) → Configuration → State
     → Both (Kept S) (Watching T A) → Type 0
 IsKeptForBeside held k c w l = IsKeptFor held k.first c w l.first × WatchesOn c k.second l.second
+
+-- ---- what is measured
+
+-- how many lines of a log beside the log were lost
+abbrev pub lost_of : {C S : Type 0} → Option (Beside C S) → ℕ
+lost_of log = option_map_or (λ (b : Beside _ _). b.lost) log 0
+
+abbrev pub losses_of : {S T A : Type 0} → Both (Kept S) (Watching T A) → Losses
+losses_of k = record { unwatched = k.second.unseen; trial_lines = lost_of k.second.trial; audit_lines = lost_of k.second.audit }
 
 -- ---- what is reported
 

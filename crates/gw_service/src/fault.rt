@@ -27,6 +27,8 @@ pub enum ServiceFault {
     Trial(TrialFault),
     /// 9: the audit can't be opened, or the last line of it can't be read.
     Audit,
+    /// 10: the place of the metrics can't be opened, and why.
+    Metrics(StoreFault),
 }
 
 impl From<WatchFault> for ServiceFault {

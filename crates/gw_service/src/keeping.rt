@@ -1,19 +1,24 @@
 //! What keeps the state of a gateway from stretch to stretch, or doesn't.
 
-ghost use Rattle.std.specs.Prelude.{◌≡◌, [], ℕ, List, false};
+ghost use Rattle.std.specs.Prelude.{◌≡◌, [], ℕ, List, None, Option, false};
 ghost use Rattle.std.specs.Io.KnownBytes.{Appends};
 ghost use Rattle.gw_configuration.specs.Configuration.{Configuration};
 ghost use Rattle.gw_core.specs.State.{State};
 ghost use Rattle.gw_saved.specs.Saved.{origin_of};
-ghost use Rattle.gw_service.specs.Keeping.{IsKeptAtTick, IsKeptFor, IsPassed, IsSuccessor, failing_in, troubles_in, unkept_in};
+ghost use Rattle.gw_service.specs.Keeping.{IsKeptAtTick, IsKeptFor, IsPassed, IsSuccessor, failing_in, no_losses, tries_in, troubles_in, unkept_in};
+ghost use Rattle.gw_metrics.specs.declared.counts.StateTries.{StateTries};
+ghost use Rattle.gw_service.specs.declared.losses.Losses.{Losses};
 ghost use Rattle.gw_service.specs.declared.troubles.Troubles.{Troubles};
 
+use crate::losses::Losses;
 use crate::successor::Successor;
 use crate::troubles::Troubles;
 use gw_core::{AllAsked, Gateway, Taken};
+use gw_metrics::StateTries;
 use gw_saved::Origin;
 use gw_script::OctetSink;
 use gw_serving::{Guard, Keeper, Store, StoreFault};
+use gw_tally::Tally;
 use std::alloc::Global;
 
 /// What keeps the state of a gateway from stretch to stretch.
@@ -33,6 +38,15 @@ pub trait StateKeeper: Guard {
     /// What it reports of itself beside that, by the state of the gateway.
     ghost more: { Self → State → List ℕ };
 
+    /// How the state is kept, if it is.
+    ghost tries: { Self → Option StateTries };
+
+    /// How many asks each rule decided, if that is counted.
+    ghost decisions: { Self → Option (List ℕ) };
+
+    /// How much of what is watched was lost.
+    ghost losses: { Self → Losses };
+
     /// Does what is due at a tick.
     fn keep_at_tick(&mut self, alloc: Global, gateway: &Gateway)
         ensures { Ticks self.old gateway.now self.new };
@@ -48,6 +62,18 @@ pub trait StateKeeper: Guard {
     /// How many tries failed so far.
     fn unkept(&self) -> u64
         ensures { result ≡ unkept self.now };
+
+    /// How the state is kept, if it is.
+    fn tries(&self) -> Option<StateTries>
+        ensures { result ≡ tries self.now };
+
+    /// How many asks each rule decided, or nothing, which the caller lends, if that isn't counted.
+    fn decisions<'a>(&'a self, nothing: &'a Option<Tally>) -> &'a Option<Tally>
+        ensures { nothing.now ≡ None → result.now ≡ decisions self.now };
+
+    /// How much of what is watched was lost.
+    fn losses(&self) -> Losses
+        ensures { result ≡ losses self.now };
 
     /// Reports more of itself.
     fn tell_more<E: OctetSink>(&self, gateway: &Gateway, errors: &mut E)
@@ -99,6 +125,12 @@ impl<S: Store + Drop> StateKeeper for Kept<S> {
 
     ghost more = { λ _ _. [] };
 
+    ghost tries = { tries_in };
+
+    ghost decisions = { λ _. None };
+
+    ghost losses = { λ _. no_losses };
+
     fn keep_at_tick(&mut self, alloc: Global, gateway: &Gateway) {
         if let Kept::In(keeper) = self {
             keeper.keep_at_tick(alloc, gateway);
@@ -117,6 +149,28 @@ impl<S: Store + Drop> StateKeeper for Kept<S> {
         match self {
             Kept::Nowhere => 0,
             Kept::In(keeper) => keeper.unkept(),
+        }
+    }
+
+    fn tries(&self) -> Option<StateTries> {
+        match self {
+            Kept::Nowhere => None,
+            Kept::In(keeper) => Some(StateTries {
+                is_kept: !keeper.failing().is_some(),
+                unkept: keeper.unkept(),
+            }),
+        }
+    }
+
+    fn decisions<'a>(&'a self, nothing: &'a Option<Tally>) -> &'a Option<Tally> {
+        nothing
+    }
+
+    fn losses(&self) -> Losses {
+        Losses {
+            unwatched: 0,
+            trial_lines: 0,
+            audit_lines: 0,
         }
     }
 

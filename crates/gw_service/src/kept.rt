@@ -4,11 +4,12 @@ ghost use Rattle.std.specs.Prelude.{◌≡◌, ◌<◌, ◌^◌, ◌||◌, ℕ, 
 ghost use Rattle.std.specs.Io.Buffered.{writer_buffer, writer_contents};
 ghost use Rattle.std.specs.Io.KnownBytes.{Appends};
 ghost use Rattle.gw_configuration.specs.Configuration.{Configuration};
+ghost use Rattle.gw_metrics_file.specs.Writing.{nothing_written};
 ghost use Rattle.gw_saved.specs.Saved.{origin_of};
 ghost use Rattle.gw_serving.specs.Serve.{zero_counts};
 ghost use Rattle.gw_serving.specs.Stretch.{CanCount};
 ghost use Rattle.gw_serving.specs.Tally.{no_tally};
-ghost use Rattle.gw_service.specs.Kept.{AreRequestsUnder, IsLastLine, IsStateUnder, IsStoreUnder, IsUnprepared, KeepsFirst, LeavesKept, LeavesWithState, given, line_read, names_of, outcome_by, state_machine, text_before};
+ghost use Rattle.gw_service.specs.Kept.{AreRequestsUnder, IsLastLine, IsMetricsUnder, IsStateUnder, IsStoreUnder, IsUnprepared, KeepsFirst, LeavesKept, LeavesWithState, given, line_read, names_of, outcome_by, state_machine, text_before};
 ghost use Rattle.gw_service.specs.Announcement.{startup_line};
 ghost use Rattle.gw_service.specs.Reload.{counts_since};
 ghost use Rattle.gw_service.specs.Serving.{IsFlushedFor, LogStays, ends, log_held, machine, service};
@@ -20,6 +21,7 @@ ghost use Rattle.gw_system.specs.Host.{OpensAtLine};
 use crate::announcement::warning_of;
 use crate::fault::ServiceFault;
 use crate::keeping::{Kept, StateKeeper};
+use crate::metrics::metrics_in;
 use crate::reload::ReloadCounts;
 use crate::running::Running;
 use crate::serving::{Opening, open};
@@ -40,7 +42,7 @@ use std::alloc::{AllocError, Global};
 use std::io::{BufWriter, Write};
 
 /// What is read and made before the log and the sockets are opened: what was saved, the last line of the log, what is said of
-/// the state, its store, and what asks to read the configuration again; and what watches.
+/// the state, its store, that of the metrics, and what asks to read the configuration again; and what watches.
 #[derive(Drop)]
 pub(crate) struct Before<S, Q, L: OctetSink + Drop> {
     /// What was saved, if something was.
@@ -51,6 +53,8 @@ pub(crate) struct Before<S, Q, L: OctetSink + Drop> {
     pub text: Vec<u8>,
     /// Its store, if it is kept.
     pub store: Option<S>,
+    /// The store of the metrics, if there is one.
+    pub metrics: Option<S>,
     /// What asks to read the configuration again, if something does.
     pub requests: Option<Q>,
     /// What watches, if something does.
@@ -110,6 +114,23 @@ fn store_under<H: Host>(
     }
 }
 
+/// Opens the place of the metrics, if one is named.
+fn metrics_under<H: Host>(
+    alloc: Global,
+    name: &Option<String>,
+    host: &H,
+) -> Result<Option<H::StateStore>, ServiceFault>
+    ensures { IsMetricsUnder (H.StoreOpens host.now) (option_map string_bytes name.now) result }
+{
+    match name {
+        Some(name) => match host.open_store(alloc, name) {
+            Ok(store) => Ok(Some(store)),
+            Err(fault) => Err(ServiceFault::Metrics(fault)),
+        },
+        None => Ok(None),
+    }
+}
+
 /// What asks to read the configuration again, if a file for that is named.
 fn requests_under<H: Host>(
     alloc: Global,
@@ -156,6 +177,8 @@ pub(crate) fn prepare<H: Host>(
         ≡ text_before (option_map string_bytes options.now.state) options.now.verbose config.now before.saved) }
     ensures store { IfOk result (λ before.
         IsStoreUnder (H.StoreOpens host.now) (option_map string_bytes options.now.state) (Ok before.store)) }
+    ensures metrics { IfOk result (λ before.
+        IsMetricsUnder (H.StoreOpens host.now) (option_map string_bytes options.now.metrics) (Ok before.metrics)) }
     ensures requests { IfOk result (λ before. AreRequestsUnder (H.ReloadsOpen host.now)
         (option_map string_bytes options.now.reload) (string_bytes options.now.config) before.requests) }
     ensures watcher { let LogOpens = OpensAtLine (H.LogOpens host.now) (H.LogIsCut host.now) H.Log.held in
@@ -177,6 +200,10 @@ pub(crate) fn prepare<H: Host>(
         Ok(store) => store,
         Err(fault) => return Err(fault),
     };
+    let metrics = match metrics_under(alloc, &options.metrics, host) {
+        Ok(metrics) => metrics,
+        Err(fault) => return Err(fault),
+    };
     let Ok(text) = text_of(alloc, options, config, &saved) else {
         return Err(ServiceFault::Memory);
     };
@@ -192,6 +219,7 @@ pub(crate) fn prepare<H: Host>(
         line,
         text,
         store,
+        metrics,
         requests,
         watcher,
     })
@@ -217,7 +245,7 @@ fn make_running<S: Store + Drop, Q: Requests + Drop, T: OctetSink + Drop>(
     alloc: Global,
     config: Config,
     before: Before<S, Q, T>,
-) -> Result<Running<Kept<S>, Option<Q>>, AllocError>
+) -> Result<Running<Kept<S>, Option<Q>, S>, AllocError>
     ensures origin { IfOk result (λ r. r.origin ≡ origin_of config) }
     ensures begins { IfOk result
         (λ r. BeginsAs config before.saved (option_map (λ line. line.items) before.line) r.gateway) }
@@ -227,6 +255,7 @@ fn make_running<S: Store + Drop, Q: Requests + Drop, T: OctetSink + Drop>(
     ensures served { IfOk result (λ r. r.state.served ≡ zero_counts) }
     ensures tally { IfOk result (λ r. r.state.tally ≡ no_tally) }
     ensures told { IfOk result (λ r. r.told ≡ no_troubles) }
+    ensures metrics { IfOk result (λ r. r.metrics ≡ option_map nothing_written before.metrics) }
     ensures ready { IfOk result (λ r. (failures turns : ℕ) → failures < 2 ^ 127 → turns < 2 ^ 63 →
         CanCount r.state.served r.state.tally failures turns) }
 {
@@ -235,6 +264,7 @@ fn make_running<S: Store + Drop, Q: Requests + Drop, T: OctetSink + Drop>(
         line,
         text: _,
         store,
+        metrics,
         requests,
         watcher: _,
     } = before;
@@ -251,6 +281,7 @@ fn make_running<S: Store + Drop, Q: Requests + Drop, T: OctetSink + Drop>(
         counts,
         state: ServeState::new(alloc),
         told: Troubles::none(),
+        metrics: metrics_in(metrics),
     })
 }
 

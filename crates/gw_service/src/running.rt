@@ -19,22 +19,24 @@ ghost use Rattle.gw_service.specs.Stats.{due_stats, end_stats};
 
 use crate::keeping::StateKeeper;
 use crate::line::{line_with_place, refusal_line};
+use crate::metrics::put_due;
 use crate::notices::tell_notices;
 use crate::reload::{Adopted, ReloadCounts, ReloadFault, reloaded};
 use crate::stats::Schedule;
 use crate::telling::tell;
 use crate::troubles::Troubles;
 use gw_core::Gateway;
+use gw_metrics_file::Metrics;
 use gw_policy_text::MAX_OCTETS;
 use gw_saved::Origin;
 use gw_script::OctetSink;
-use gw_serving::{Both, Pause, ServeFault, ServeState, Wire};
+use gw_serving::{Both, Pause, ServeFault, ServeState, Store, Wire};
 use gw_system::{ReadFailure, Requests};
 use std::alloc::Global;
 
 /// A gateway that runs by stretches, with what is configured of it, what keeps its state and what asks to read the
 /// configuration again.
-pub struct Running<K, Q> {
+pub struct Running<K, Q, M: Store + Drop> {
     /// The gateway.
     pub gateway: Gateway,
     /// What is configured of what can be written.
@@ -49,10 +51,12 @@ pub struct Running<K, Q> {
     pub state: ServeState,
     /// What was reported last of what isn't kept or recorded.
     pub told: Troubles,
+    /// What puts its metrics into a store, if something does.
+    pub metrics: Option<Metrics<M>>,
 }
 
 // By hand: a derived one is proved part by part wherever one is dropped (docs/GATE.md).
-impl<K: Drop, Q: Drop> Drop for Running<K, Q> {
+impl<K: Drop, Q: Drop, M: Store + Drop> Drop for Running<K, Q, M> {
     fn drop(self) {
         let Running {
             gateway: _,
@@ -62,6 +66,7 @@ impl<K: Drop, Q: Drop> Drop for Running<K, Q> {
             counts: _,
             state: _,
             told: _,
+            metrics: _,
         } = self;
     }
 }
@@ -76,7 +81,7 @@ fn line_or(line: &Option<Vec<u8>>, fault: ReloadFault) -> &[u8]
     }
 }
 
-impl<K: StateKeeper, Q: Requests> Running<K, Q> {
+impl<K: StateKeeper, Q: Requests, M: Store + Drop> Running<K, Q, M> {
     /// Takes the configuration of what was read over, or goes on as before; answers the request, and reports it.
     fn reload<E: OctetSink>(
         &mut self,
@@ -203,6 +208,19 @@ impl<K: StateKeeper, Q: Requests> Running<K, Q> {
                     self.counts,
                     errors,
                 );
+                let measured = schedule.measure(
+                    &self.gateway,
+                    &self.state,
+                    &self.keeper,
+                    self.counts,
+                );
+                put_due(
+                    alloc,
+                    &mut self.metrics,
+                    &measured,
+                    &self.gateway,
+                    &self.keeper,
+                );
             }
             Ok(Pause::Withheld) => self.told = self.notice(errors),
             Err(fault) => return Err(fault),
@@ -212,7 +230,7 @@ impl<K: StateKeeper, Q: Requests> Running<K, Q> {
 
     /// Serves a wire for so many turns, by stretches. After each tick the keeper does what is due, and a request is looked
     /// for; if there is one the configuration is read again, and the gateway goes on by it, or as it is. It reports as the
-    /// schedule asks.
+    /// schedule asks, and its metrics are put into their store when that is due.
     ///
     /// # Errors
     ///
@@ -290,7 +308,7 @@ impl<K: StateKeeper, Q: Requests> Running<K, Q> {
     }
 
     /// The same gateway, which is also watched.
-    pub(crate) fn watched_by<V>(self, watcher: V) -> Running<Both<K, V>, Q>
+    pub(crate) fn watched_by<V>(self, watcher: V) -> Running<Both<K, V>, Q, M>
         ensures gateway { result.gateway ≡ self.gateway }
         ensures origin { result.origin ≡ self.origin }
         ensures first { result.keeper.first ≡ self.keeper }
@@ -299,6 +317,7 @@ impl<K: StateKeeper, Q: Requests> Running<K, Q> {
         ensures counts { result.counts ≡ self.counts }
         ensures state { result.state ≡ self.state }
         ensures told { result.told ≡ self.told }
+        ensures metrics { result.metrics ≡ self.metrics }
     {
         let Running {
             gateway,
@@ -308,6 +327,7 @@ impl<K: StateKeeper, Q: Requests> Running<K, Q> {
             counts,
             state,
             told,
+            metrics,
         } = self;
         Running {
             gateway,
@@ -320,6 +340,7 @@ impl<K: StateKeeper, Q: Requests> Running<K, Q> {
             counts,
             state,
             told,
+            metrics,
         }
     }
 }

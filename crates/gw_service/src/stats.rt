@@ -4,9 +4,11 @@ ghost use Rattle.std.proofs.Props.{props};
 ghost use Rattle.std.specs.Prelude.{◌≡◌, ◌++◌, ◌-◌, ◌%◌, ◌==◌, ◌<◌, ◌≤◌, IfSome, IsOk, IsTrue, OnOk, decimal, if◌then◌else◌, [], List, ℕ, true};
 ghost use Rattle.std.specs.Io.KnownBytes.{Appends};
 ghost use Rattle.gw_serving.specs.ReportTurn.{HasGoneOn};
+ghost use Rattle.gw_service.specs.Metrics.{measures_of};
 ghost use Rattle.gw_service.specs.Stats.{due_stats, end_stats, has_gone_on, is_due, reloads_text, reporting, stats_text, tries_text, unkept_text};
 
 use crate::keeping::StateKeeper;
+use crate::metrics::Measures;
 use crate::reload::ReloadCounts;
 use gw_core::{Counts, Gateway};
 use gw_script::{OctetSink, WriteFailed, write_whole};
@@ -143,6 +145,29 @@ impl Schedule {
             let report = report_of(self.start, gateway, &state.served, state.tally);
             tell_report(&report, errors);
             self.tell_tries(gateway, keeper, counts, errors);
+        }
+    }
+
+    /// What is measured at a tick. It is always something.
+    pub(crate) fn measure<K: StateKeeper>(
+        &self,
+        gateway: &Gateway,
+        state: &ServeState,
+        keeper: &K,
+        reloads: ReloadCounts,
+    ) -> Option<Measures>
+        ensures { result ≡ measures_of self.now.start gateway.now state.now.served state.now.tally reloads
+            (K.losses keeper.now) (K.tries keeper.now) }
+    {
+        if has_gone_on(self.start, gateway, &state.served) {
+            Some(Measures {
+                report: report_of(self.start, gateway, &state.served, state.tally),
+                reloads,
+                losses: keeper.losses(),
+                tries: keeper.tries(),
+            })
+        } else {
+            None
         }
     }
 

@@ -1,8 +1,8 @@
 //! What watches a gateway, as the options ask.
 
-ghost use Rattle.std.specs.Prelude.{◌≡◌, Ok, option_map, string_bytes, IfErr, IfOk};
+ghost use Rattle.std.specs.Prelude.{◌≡◌, ◌||◌, Ok, is_some, option_map, string_bytes, IfErr, IfOk};
 ghost use Rattle.gw_system.specs.Host.{OpensAtLine};
-ghost use Rattle.gw_service.specs.Watch.{AreCountsUnder, IsAuditUnder, IsTrialUnder, IsUnwatched, IsWatcherUnder, fault_of_watching, is_watched, watch_names};
+ghost use Rattle.gw_service.specs.Watch.{AreCountsOf, AreCountsUnder, IsAuditUnder, IsTrialUnder, IsUnwatched, IsWatcherUnder, fault_of_watching, is_watched, watch_names};
 
 use crate::fault::ServiceFault;
 use gw_command_line::RunOptions;
@@ -14,11 +14,18 @@ use gw_watch_files::{open_audit, open_trial};
 use gw_watching::{Beside, Marks, Watcher};
 use std::alloc::{AllocError, Global};
 
-/// Whether the options ask for something that watches: a trial, an audit, or reports, which have how often each rule decided.
+/// Whether the options ask for counts of the rules, which reports and metrics have.
+fn is_counted(options: &RunOptions) -> bool
+    ensures { result ≡ (is_some options.now.stats || is_some options.now.metrics) }
+{
+    options.stats.is_some() || options.metrics.is_some()
+}
+
+/// Whether the options ask for something that watches: a trial, an audit, or counts of the rules.
 pub(crate) fn is_watched(options: &RunOptions) -> bool
     ensures { result ≡ is_watched (watch_names options.now) }
 {
-    options.trial.is_some() || options.audit.is_some() || options.stats.is_some()
+    options.trial.is_some() || options.audit.is_some() || is_counted(options)
 }
 
 /// The policy that is on trial, if one is named, with its log.
@@ -59,7 +66,18 @@ fn audit_under<H: Host>(
     }
 }
 
-/// Counts of the rules, if reports are asked for.
+/// Counts of the rules, if they are asked for.
+fn counts_if(alloc: Global, config: &Config, is_counted: bool) -> Result<Option<Tally>, AllocError>
+    ensures { IfOk result (AreCountsOf config.now is_counted) }
+{
+    if is_counted {
+        Ok(Some(Tally::new(alloc, config.rules())?))
+    } else {
+        Ok(None)
+    }
+}
+
+/// Counts of the rules, if the options ask for them.
 fn counts_under(
     alloc: Global,
     config: &Config,
@@ -67,10 +85,7 @@ fn counts_under(
 ) -> Result<Option<Tally>, AllocError>
     ensures { IfOk result (AreCountsUnder config.now (watch_names options.now)) }
 {
-    match options.stats {
-        Some(_) => Ok(Some(Tally::new(alloc, config.rules())?)),
-        None => Ok(None),
-    }
+    counts_if(alloc, config, is_counted(options))
 }
 
 /// What watches a gateway of this configuration, if the options ask for something. Faults: `Trial`, `Audit` and `Memory`.

@@ -1,14 +1,16 @@
 //! A gateway whose state may be kept, and which is watched.
 
 ghost use Rattle.std.specs.Prelude.{◌≡◌};
-ghost use Rattle.gw_service.specs.Watch.{BeginAnew, IsKeptAtTickBeside, IsKeptForBeside, has_lost, more_of, troubles_of};
-ghost use Rattle.gw_service.specs.Keeping.{unkept_in};
+ghost use Rattle.gw_service.specs.Watch.{BeginAnew, IsKeptAtTickBeside, IsKeptForBeside, has_lost, losses_of, lost_of, more_of, troubles_of};
+ghost use Rattle.gw_service.specs.Keeping.{tries_in, unkept_in};
 
 use crate::keeping::{Kept, StateKeeper};
+use crate::losses::Losses;
 use crate::successor::Successor;
 use crate::troubles::Troubles;
 use crate::watch_report::tell_watched;
 use gw_core::Gateway;
+use gw_metrics::StateTries;
 use gw_script::OctetSink;
 use gw_serving::{Both, Store};
 use gw_tally::Tally;
@@ -22,6 +24,16 @@ fn has_lost<C, S>(log: &Option<Beside<C, S>>) -> bool
     match log {
         Some(log) => log.lost > 0,
         None => false,
+    }
+}
+
+/// How many lines of a log beside the log were lost, if there is one.
+fn lost_of<C, S>(log: &Option<Beside<C, S>>) -> u64
+    ensures { result ≡ lost_of log.now }
+{
+    match log {
+        Some(log) => log.lost,
+        None => 0,
     }
 }
 
@@ -46,6 +58,12 @@ impl<S: Store + Drop, T: OctetSink + Drop, A: OctetSink + Drop> StateKeeper
     ghost unkept = { λ both. unkept_in both.first };
 
     ghost more = { more_of };
+
+    ghost tries = { λ both. tries_in both.first };
+
+    ghost decisions = { λ both. both.second.counts };
+
+    ghost losses = { losses_of };
 
     fn keep_at_tick(&mut self, alloc: Global, gateway: &Gateway) {
         self.first.keep_at_tick(alloc, gateway);
@@ -72,6 +90,22 @@ impl<S: Store + Drop, T: OctetSink + Drop, A: OctetSink + Drop> StateKeeper
 
     fn unkept(&self) -> u64 {
         self.first.unkept()
+    }
+
+    fn tries(&self) -> Option<StateTries> {
+        self.first.tries()
+    }
+
+    fn decisions<'a>(&'a self, _nothing: &'a Option<Tally>) -> &'a Option<Tally> {
+        self.second.counts()
+    }
+
+    fn losses(&self) -> Losses {
+        Losses {
+            unwatched: self.second.unseen(),
+            trial_lines: lost_of(self.second.trial()),
+            audit_lines: lost_of(self.second.audit()),
+        }
     }
 
     fn tell_more<E: OctetSink>(&self, gateway: &Gateway, errors: &mut E) {

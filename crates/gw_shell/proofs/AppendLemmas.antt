@@ -22,7 +22,7 @@ three_writes (Err failed) a b c d x y z first second third = tt
 pub line_joined : (a b c d e : List ℕ) → (a ++ (b ++ c)) ++ (d ++ e) ≡ (a ++ b ++ c ++ d) ++ e
 line_joined a b c d e = sym (ap (λ (t : List ℕ). t ++ (d ++ e)) (append_assoc a b c)) ∙ sym (append_assoc (a ++ b ++ c) d e)
 
-nothing_behind : (text : List ℕ) → text ++ [] ≡ text
+pub nothing_behind : (text : List ℕ) → text ++ [] ≡ text
 nothing_behind text = search rules
 
 -- a write has appended a front of its text, whether it went through or not
@@ -54,3 +54,9 @@ pub four_writes : {T E : Type 0} (r : Result T E) (a b c d e : Option (List ℕ)
 four_writes (Ok done) a b c d e w x y z first second third fourth =
     appends_two a d e (w ++ (x ++ y)) z (appends_three a b c d w x y first second third) fourth
 four_writes (Err failed) a b c d e w x y z first second third fourth = tt
+
+-- the last of two writes ends well only if it appends its text
+pub two_writes : {T E : Type 0} (r : Result T E) (a b c : Option (List ℕ)) (x y : List ℕ) → Appends a b x → OnOk r (Appends b c y)
+    → OnOk r (Appends a c (x ++ y))
+two_writes (Ok done) a b c x y first second = appends_two a b c x y first second
+two_writes (Err failed) a b c x y first second = tt

@@ -1,15 +1,28 @@
--- What was done by a choice that reports nothing at the start.
+-- What was done by a choice.
 use Rattle.std.proofs.Common.{◌≡◌, ℕ, List, [], Result, sym, subst}
 use Rattle.gw_shell.specs.Program.{IsFollowed, IsQuiet}
 use Rattle.gw_command_line.specs.declared.command_line.Choice.{Choice}
 use Rattle.gw_shell.specs.declared.fault.Fault.{Fault}
 
+-- one that reports nothing
 pub followed : (Leaves : List ℕ → Result Choice Fault → Result (Unit {0}) Fault → Type 0) (Adds : List ℕ → Type 0)
     (choice chosen : Result Choice Fault) (outcome : Result (Unit {0}) Fault)
     → choice ≡ chosen → IsQuiet chosen [] → Leaves [] chosen outcome → Adds [] → IsFollowed Leaves Adds choice outcome
 followed Leaves Adds choice chosen outcome is quiet leaves adds =
     subst (λ (c : Result Choice Fault). IsFollowed Leaves Adds c outcome) (sym is) (record {
       told = [];
+      output = leaves;
+      quiet = quiet;
+      errors = adds;
+    })
+
+-- the same by a choice that may report something
+pub reported : (Leaves : List ℕ → Result Choice Fault → Result (Unit {0}) Fault → Type 0) (Adds : List ℕ → Type 0)
+    (choice chosen : Result Choice Fault) (outcome : Result (Unit {0}) Fault) (told : List ℕ)
+    → choice ≡ chosen → IsQuiet chosen told → Leaves told chosen outcome → Adds told → IsFollowed Leaves Adds choice outcome
+reported Leaves Adds choice chosen outcome told is quiet leaves adds =
+    subst (λ (c : Result Choice Fault). IsFollowed Leaves Adds c outcome) (sym is) (record {
+      told = told;
       output = leaves;
       quiet = quiet;
       errors = adds;

@@ -1,6 +1,8 @@
 mod AppendLemmas
 mod ChoiceLemmas
+mod ComparingLemmas
 mod CountLemmas
+mod DecidingLemmas
 mod KeptLemmas
 mod LinesLemmas
 mod ReplayLemmas

@@ -1,5 +1,6 @@
 -- What `why` leaves written, at each outcome: over the definitions of `gw_verdicts`.
-use Rattle.std.specs.Prelude.{◌≡◌, ⊤, ℕ, List, Result, Ok, Err}
+use Rattle.std.specs.Prelude.{◌≡◌, ◌==◌, ⊤, ℕ, Bool, true, false, List, [], ◌++◌, Option, Result, Ok, Err, codes, decimal, if◌then◌else◌, option_map}
+use Rattle.gw_asks.specs.Asks.{ask_lines}
 use Rattle.gw_verdicts.specs.Why.{IsAnswered, TellsNoAsk}
 use Rattle.gw_rules.specs.declared.rule.Rule.{Rule}
 use Rattle.gw_shell.specs.Lines.{Leaves}
@@ -20,3 +21,27 @@ Counts rules text (Err (fault.Line n)) = EndsAtLine n text
 Counts rules text (Err fault.Read) = ⊤
 Counts rules text (Err fault.Memory) = ⊤
 Counts rules text (Err _) = ⊥
+
+-- ---- lines with something in front, and lines that show no ask
+
+-- the lines that `why` answers: strictly all that there are, else the own fields of those that show an ask
+abbrev pub asks_in : (strict : Bool) → Option (List ℕ) → Option (List ℕ)
+asks_in true input = input
+asks_in false input = option_map ask_lines input
+
+-- what is reported of so many lines that show no ask
+abbrev pub unread_text : ℕ → List ℕ
+unread_text n =
+    if n == 0 then []
+    else if n == 1 then codes "bacgw: 1 line shows no ask\n"
+    else codes "bacgw: " ++ (decimal n ++ codes " lines show no ask\n")
+
+-- the same after an outcome: nothing after a fault
+abbrev pub unread_after : ℕ → Result (Unit {0}) Fault → List ℕ
+unread_after n (Ok done) = unread_text n
+unread_after n (Err f) = []
+
+-- What is reported of the lines that show no ask: strictly nothing, since one is a fault then.
+abbrev pub ReportsUnread : (strict : Bool) → Result (Unit {0}) Fault → (told : List ℕ) → Type 0
+ReportsUnread true outcome told = told ≡ []
+ReportsUnread false outcome told = (n : ℕ) × (told ≡ unread_after n outcome)

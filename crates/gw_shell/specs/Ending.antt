@@ -98,6 +98,7 @@ text_of (fault.State f) = codes "bacgw: state: line " ++ decimal f.line ++ codes
 text_of (fault.Store f) = codes "bacgw: state isn't kept: " ++ store_words f
 text_of (fault.Trial f) = codes "bacgw: trial: " ++ (trial_words f ++ trial_reason f)
 text_of fault.Audit = codes "bacgw: audit failed"
+text_of (fault.Metrics f) = codes "bacgw: metrics failed: " ++ store_words f
 text_of (fault.Request f) = codes "bacgw: request failed: " ++ store_words f
 text_of fault.NoAnswer = codes "bacgw: no answer"
 text_of fault.TooManyAsks = codes "bacgw: suggestion: too many asks"
@@ -140,6 +141,7 @@ status_of (fault.State f) = 2
 status_of (fault.Store f) = 1
 status_of (fault.Trial f) = status_of_trial f
 status_of fault.Audit = 1
+status_of (fault.Metrics f) = 1
 status_of (fault.Request f) = 1
 status_of fault.NoAnswer = 1
 status_of fault.TooManyAsks = 2
@@ -182,6 +184,11 @@ fault_of_state f _ = fault.State f
 abbrev pub fault_of_store : StoreFault → Fault
 fault_of_store store.Memory = fault.Memory
 fault_of_store f = fault.Store f
+
+-- why metrics aren't written, as the program reports it
+abbrev pub fault_of_metrics : StoreFault → Fault
+fault_of_metrics store.Memory = fault.Memory
+fault_of_metrics f = fault.Metrics f
 
 -- why a request isn't made, as the program reports it
 abbrev pub fault_of_request : StoreFault → Fault
@@ -235,6 +242,7 @@ fault_of_service (service.State f) = fault_of_state f f.kind
 fault_of_service (service.Store f) = fault_of_store f
 fault_of_service (service.Trial f) = fault.Trial f
 fault_of_service service.Audit = fault.Audit
+fault_of_service (service.Metrics f) = fault_of_metrics f
 
 -- how serving ends, as the program reports it
 abbrev pub served : Result (Unit {0}) ServiceFault → Result (Unit {0}) Fault
@@ -275,7 +283,8 @@ status_after (Err of_program) = status_of of_program
 
 -- that after a choice
 abbrev pub status_by : Result Choice Fault → Result (Unit {0}) Fault → ℕ
-status_by (Ok (choice.Compare old new most)) (Err of_program) = status_of_comparison of_program
+status_by (Ok (choice.Compare old new most steps)) (Err of_program) = status_of_comparison of_program
+status_by (Ok (choice.CompareJson old new most)) (Err of_program) = status_of_comparison of_program
 status_by _ outcome = status_after outcome
 
 -- the line that explains this fault of a text, with no control character but its line feed

@@ -1,8 +1,11 @@
 pub mod Asking
 pub mod Checked
+pub mod Comparing
 pub mod Configured
+pub mod Deciding
 pub mod Ending
 pub mod Files
+pub mod Json
 pub mod Kept
 pub mod Lines
 pub mod Objects

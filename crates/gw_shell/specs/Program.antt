@@ -1,33 +1,42 @@
 -- The program as a whole: what the words chose, what is on standard output then, the line on standard error and
 -- the exit status.
-use Rattle.std.specs.Prelude.{◌≡◌, ◌≢◌, ◌⊎◌, ⊤, Bool, true, false, ℕ, List, [], ◌++◌, Option, Some, Result, Ok, Err, OnOk, option_map}
+use Rattle.std.specs.Prelude.{◌≡◌, ◌≢◌, ◌⊎◌, ⊤, Bool, true, false, ℕ, List, [], ◌++◌, Option, Some, None, Result, Ok, Err, OnOk, option_map}
 use Rattle.std.specs.Prelude.{string_bytes}
 use Rattle.std.specs.Io.KnownBytes.{Appends}
 use Rattle.gw_script.specs.Known.{OnKnown}
-use Rattle.gw_compare.specs.Comparison.{IsComparisonText}
+use Rattle.std.specs.declared.alloc.AllocError.{AllocError}
 use Rattle.gw_compare.specs.declared.comparison.Compared.{Compared}
 use Rattle.gw_compare.specs.declared.comparison.Compared.TheVariants as compared
 use Rattle.gw_configuration.specs.Configuration.{Configuration}
 use Rattle.gw_migration.specs.Migration.{Migrates}
+use Rattle.gw_points.specs.Points.{points_text}
 use Rattle.gw_migration.specs.declared.fault.MigrationFault.TheVariants as migration
 use Rattle.gw_rules.specs.declared.format.Format.TheVariants as formats
 use Rattle.gw_command_line.specs.declared.command_line.Choice.{Choice}
 use Rattle.gw_command_line.specs.declared.command_line.Choice.TheVariants as choice
 use Rattle.gw_command_line.specs.CommandLine.{IsAnswer}
+use Rattle.gw_command_line.specs.declared.options.Shown.{Shown}
 use Rattle.gw_command_line.specs.declared.fault.WordsFault.{WordsFault}
+use Rattle.gw_shell.specs.declared.asking.Answering.{Answering}
+use Rattle.gw_shell.specs.declared.comparing.Limits.{Limits}
+use Rattle.gw_shell.specs.declared.comparing.Lines.{Lines}
+use Rattle.gw_shell.specs.declared.deciding.Playing.{Playing}
 use Rattle.gw_shell.specs.declared.fault.Fault.{Fault}
 use Rattle.gw_shell.specs.declared.fault.Fault.TheVariants as fault
-use Rattle.gw_shell.specs.Asking.{Answers, Counts}
+use Rattle.gw_shell.specs.Asking.{Answers, Counts, ReportsUnread, asks_in}
+use Rattle.gw_shell.specs.Comparing.{AreProgress, IsCompared}
 use Rattle.gw_shell.specs.Configured.{IsConfigurationOf, IsConfigured}
+use Rattle.gw_shell.specs.Deciding.{ReportsAsks}
 use Rattle.gw_shell.specs.Ending.{FaultNote, IsAnswerTo, chosen, error_text, outcome_of_answer, status_by, usage_of}
 use Rattle.gw_shell.specs.Checked.{IsChecked}
+use Rattle.gw_shell.specs.Json.{AreComparisonLines, FaultLine, IsMade, checked_line}
 use Rattle.gw_shell.specs.Kept.{IsSaidOfText}
 use Rattle.gw_shell.specs.Objects.{LeavesJudgedIn, Lists}
 use Rattle.gw_shell.specs.Replay.{Plays}
 use Rattle.gw_shell.specs.Reporting.{IsReported}
 use Rattle.gw_rules.specs.declared.rule.Rule.{Rule}
-use Rattle.gw_service.specs.Kept.{WholeMachine}
 use Rattle.gw_service.specs.Serving.{IsFlushedFor}
+use Rattle.gw_service.specs.StampedRun.{TimedMachine}
 use Rattle.gw_shell.specs.Serving.{LeavesRun}
 use Rattle.gw_shell.specs.Suggesting.{Suggests}
 use Rattle.gw_suggest.specs.declared.suggestion.Manner.{Manner}
@@ -45,8 +54,8 @@ pub record AppendsFront (held holds : Option (List ℕ)) (text : List ℕ) : Typ
   pub appends : Appends held holds front
 
 -- What is left at a fault: where it is, of which a failed write may leave a front.
-abbrev pub LeavesFault : Bool → Result (List ℕ) Fault → Fault → Option (List ℕ) → Option (List ℕ) → Type 0
-LeavesFault explains text f held holds = (note : List ℕ) × FaultNote explains text f note × AppendsFront held holds note
+abbrev pub LeavesFault : Result (List ℕ) Fault → Fault → Option (List ℕ) → Option (List ℕ) → Type 0
+LeavesFault text f held holds = (note : List ℕ) × FaultNote true text f note × AppendsFront held holds note
 
 -- What `check` leaves of a configuration: what it says of it, of which a failed write may leave a front.
 abbrev pub LeavesConfigured : (explains lints : Bool) → Option (List ℕ) → Option (List ℕ) → Configuration
@@ -64,7 +73,7 @@ abbrev pub LeavesChecked : (explains lints : Bool) → Result (List ℕ) Fault �
     → Result Configuration Fault → Result (Unit {0}) Fault → Type 0
 LeavesChecked explains lints text held holds (Ok c) outcome = LeavesConfigured explains lints held holds c outcome
 LeavesChecked explains lints text held holds (Err f) outcome =
-    (outcome ≡ Err f) × LeavesFault explains text f held holds
+    (outcome ≡ Err f) × LeavesFault text f held holds
 
 -- what `check` leaves of a text that was read, or of why none was
 abbrev pub LeavesOfText : (explains lints : Bool) → Result (List ℕ) Fault → Option (List ℕ) → Option (List ℕ)
@@ -98,32 +107,86 @@ LeavesPlayed explains input held holds (Ok c) outcome =
     OnKnown input held holds (λ script before. Plays explains c script before outcome)
 LeavesPlayed explains input held holds (Err f) outcome = (outcome ≡ Err f) × (holds ≡ held)
 
--- What `compare` leaves of two configurations: what it says of them, of which a failed write may leave a front. If
--- they aren't alike, that is the outcome.
-abbrev pub LeavesCompared : ℕ → Option (List ℕ) → Option (List ℕ) → Configuration → Configuration
+-- What `replay --stats` leaves and reports under the configuration of a text that was read.
+abbrev pub LeavesCounted : Bool → Result (List ℕ) Fault → Option (List ℕ) → Option (List ℕ) → Option (List ℕ)
+    → Result (Unit {0}) Fault → (told : List ℕ) → Type 0
+LeavesCounted explains text input held holds outcome told =
+    (c : Result Configuration Fault) × IsConfigurationOf text c × LeavesPlayed explains input held holds c outcome
+    × ReportsAsks true input c outcome told
+
+-- What `replay` leaves and reports under that of the file of this name, or the built-in one.
+abbrev pub LeavesPlayedIn : (Reads : List ℕ → Result (List ℕ) Fault → Type 0) → Option (List ℕ) → Playing → Option (List ℕ)
+    → Option (List ℕ) → Option (List ℕ) → (told : List ℕ) → Result (Unit {0}) Fault → Type 0
+LeavesPlayedIn Reads file how input held holds told outcome =
+    (c : Result Configuration Fault) × IsConfigured Reads file c × LeavesPlayed how.explains input held holds c outcome
+    × ReportsAsks how.counts input c outcome told
+
+-- What printing leaves of a comparison that was made, of which a failed write may leave a front: if the two aren't alike,
+-- that is the outcome. Nothing if memory was refused for it.
+abbrev pub LeavesLines : Result Lines AllocError → Option (List ℕ) → Option (List ℕ) → Result (Unit {0}) Fault → Type 0
+LeavesLines (Ok lines) held holds (Ok done) = (lines.made ≡ compared.Alike) × Appends held holds lines.text.items
+LeavesLines (Ok lines) held holds (Err fault.Different) = (lines.made ≢ compared.Alike) × Appends held holds lines.text.items
+LeavesLines (Ok lines) held holds (Err fault.Write) = AppendsFront held holds lines.text.items
+LeavesLines (Ok lines) held holds (Err _) = ⊥
+LeavesLines (Err refused) held holds outcome = (outcome ≡ Err fault.Memory) × (holds ≡ held)
+
+-- The same of a comparison of which only this is known.
+abbrev pub LeavesSome : (Compared → List ℕ → Type 0) → Option (List ℕ) → Option (List ℕ) → Result (Unit {0}) Fault → Type 0
+LeavesSome Is held holds (Ok done) = (text : List ℕ) × Is compared.Alike text × Appends held holds text
+LeavesSome Is held holds (Err fault.Different) =
+    (made : Compared) × (made ≢ compared.Alike) × (text : List ℕ) × Is made text × Appends held holds text
+LeavesSome Is held holds (Err fault.Write) = (made : Compared) × (text : List ℕ) × Is made text × AppendsFront held holds text
+LeavesSome Is held holds (Err fault.Memory) = holds ≡ held
+LeavesSome Is held holds (Err _) = ⊥
+
+-- What `compare` leaves of two configurations: what it says of them within these limits.
+abbrev pub LeavesCompared : Limits → Option (List ℕ) → Option (List ℕ) → Configuration → Configuration
     → Result (Unit {0}) Fault → Type 0
-LeavesCompared most held holds old new (Ok done) =
-    (text : List ℕ) × IsComparisonText old new most compared.Alike text × Appends held holds text
-LeavesCompared most held holds old new (Err fault.Different) =
-    (made : Compared) × (made ≢ compared.Alike)
-    × (text : List ℕ) × IsComparisonText old new most made text × Appends held holds text
-LeavesCompared most held holds old new (Err fault.Write) =
-    (made : Compared) × (text : List ℕ) × IsComparisonText old new most made text × AppendsFront held holds text
-LeavesCompared most held holds old new (Err fault.Memory) = holds ≡ held
-LeavesCompared most held holds old new (Err _) = ⊥
+LeavesCompared limits held holds old new outcome = LeavesSome (IsCompared limits old new) held holds outcome
 
 -- What it leaves of the two that were read. If there is no first or no second one, the outcome is why.
-abbrev pub LeavesComparison : ℕ → Option (List ℕ) → Option (List ℕ) → (old new : Result Configuration Fault)
+abbrev pub LeavesComparison : Limits → Option (List ℕ) → Option (List ℕ) → (old new : Result Configuration Fault)
     → Result (Unit {0}) Fault → Type 0
-LeavesComparison most held holds (Ok old) (Ok new) outcome = LeavesCompared most held holds old new outcome
-LeavesComparison most held holds (Ok old) (Err f) outcome = (outcome ≡ Err f) × (holds ≡ held)
-LeavesComparison most held holds (Err f) new outcome = (outcome ≡ Err f) × (holds ≡ held)
+LeavesComparison limits held holds (Ok old) (Ok new) outcome = LeavesCompared limits held holds old new outcome
+LeavesComparison limits held holds (Ok old) (Err f) outcome = (outcome ≡ Err f) × (holds ≡ held)
+LeavesComparison limits held holds (Err f) new outcome = (outcome ≡ Err f) × (holds ≡ held)
 
 -- What printing leaves of a text that was made, of which a failed write may leave a front; or of why none was.
 abbrev pub LeavesPrinted : Result (List ℕ) Fault → Option (List ℕ) → Option (List ℕ) → Result (Unit {0}) Fault → Type 0
 LeavesPrinted (Ok text) held holds (Ok done) = Appends held holds text
 LeavesPrinted (Ok text) held holds (Err f) = (f ≡ fault.Write) × AppendsFront held holds text
 LeavesPrinted (Err f) held holds outcome = (outcome ≡ Err f) × (holds ≡ held)
+
+-- What `check --json` leaves of what was read of a text: the line of the configuration, or of its fault.
+abbrev pub LeavesJson : Result (List ℕ) Fault → Option (List ℕ) → Option (List ℕ) → Result Configuration Fault
+    → Result (Unit {0}) Fault → Type 0
+LeavesJson text held holds (Ok c) outcome =
+    (made : Result (List ℕ) Fault) × IsMade (checked_line c) made × LeavesPrinted made held holds outcome
+LeavesJson text held holds (Err f) outcome =
+    (outcome ≡ Err f) × (line : List ℕ) × FaultLine text f line × AppendsFront held holds line
+
+abbrev pub LeavesCheckedJson : Result (List ℕ) Fault → Option (List ℕ) → Option (List ℕ) → Result (Unit {0}) Fault → Type 0
+LeavesCheckedJson text held holds outcome =
+    (c : Result Configuration Fault) × IsConfigurationOf text c × LeavesJson text held holds c outcome
+
+-- What `compare --json` leaves of two configurations: lines for what they decide otherwise.
+abbrev pub LeavesComparedJson : ℕ → Option (List ℕ) → Option (List ℕ) → Configuration → Configuration
+    → Result (Unit {0}) Fault → Type 0
+LeavesComparedJson most held holds old new outcome = LeavesSome (AreComparisonLines old new most) held holds outcome
+
+-- What it leaves of the two that were read. If there is no first or no second one, the outcome is why.
+abbrev pub LeavesComparisonJson : ℕ → Option (List ℕ) → Option (List ℕ) → (old new : Result Configuration Fault)
+    → Result (Unit {0}) Fault → Type 0
+LeavesComparisonJson most held holds (Ok old) (Ok new) outcome = LeavesComparedJson most held holds old new outcome
+LeavesComparisonJson most held holds (Ok old) (Err f) outcome = (outcome ≡ Err f) × (holds ≡ held)
+LeavesComparisonJson most held holds (Err f) new outcome = (outcome ≡ Err f) × (holds ≡ held)
+
+-- What `objects --csv` leaves of the configuration that was read: the list of its objects. If there is none, the outcome
+-- is why.
+abbrev pub LeavesPoints : Option (List ℕ) → Option (List ℕ) → Result Configuration Fault → Result (Unit {0}) Fault → Type 0
+LeavesPoints held holds (Ok c) outcome =
+    (made : Result (List ℕ) Fault) × IsMade (points_text c) made × LeavesPrinted made held holds outcome
+LeavesPoints held holds (Err f) outcome = (outcome ≡ Err f) × (holds ≡ held)
 
 -- What `state` leaves of a configuration and of the text of a state: what it says of them.
 abbrev pub LeavesSaid : Option (List ℕ) → Option (List ℕ) → Configuration → Result (List ℕ) Fault
@@ -192,11 +255,34 @@ abbrev pub LeavesReload : (Answers : List ℕ → List ℕ → Type 0) → List 
 LeavesReload Answers request held holds (Ok c) outcome = LeavesAsked Answers request held holds outcome
 LeavesReload Answers request held holds (Err f) outcome = (outcome ≡ Err f) × (holds ≡ held)
 
--- What it leaves if that is the file of this name.
+-- What it leaves after a comparison with this outcome, if that is one: a comparison that finds something is no fault.
+abbrev pub LeavesAfter : (Answers : List ℕ → List ℕ → Type 0) → List ℕ → (compared : Result (Unit {0}) Fault)
+    → Option (List ℕ) → Option (List ℕ) → Result (Unit {0}) Fault → Type 0
+LeavesAfter Answers request (Ok done) mid holds outcome = LeavesAsked Answers request mid holds outcome
+LeavesAfter Answers request (Err fault.Different) mid holds outcome = LeavesAsked Answers request mid holds outcome
+LeavesAfter Answers request (Err f) mid holds outcome = (outcome ≡ Err f) × (holds ≡ mid)
+
+-- What `reload --was` leaves of the configurations that were read: what the new one changes of the old one, and then that.
+abbrev pub LeavesReloadShown : (Answers : List ℕ → List ℕ → Type 0) → List ℕ → ℕ → Option (List ℕ) → Option (List ℕ)
+    → (old new : Result Configuration Fault) → Result (Unit {0}) Fault → Type 0
+LeavesReloadShown Answers request most held holds (Ok old) (Ok new) outcome =
+    (mid : Option (List ℕ)) × (shown : Result (Unit {0}) Fault)
+    × LeavesCompared (record { most = most; steps = false }) held mid old new shown
+    × LeavesAfter Answers request shown mid holds outcome
+LeavesReloadShown Answers request most held holds (Err f) (Ok new) outcome = (outcome ≡ Err f) × (holds ≡ held)
+LeavesReloadShown Answers request most held holds old (Err f) outcome = (outcome ≡ Err f) × (holds ≡ held)
+
+-- What it leaves if that is the file of this name, and the old configuration that of another, if one is named.
 abbrev pub LeavesReloadIn : (Reads : List ℕ → Result (List ℕ) Fault → Type 0) → (Answers : List ℕ → List ℕ → Type 0)
-    → (file request : List ℕ) → Option (List ℕ) → Option (List ℕ) → Result (Unit {0}) Fault → Type 0
-LeavesReloadIn Reads Answers file request held holds outcome =
+    → (file request : List ℕ) → Option Shown → Option (List ℕ) → Option (List ℕ) → (told : List ℕ)
+    → Result (Unit {0}) Fault → Type 0
+LeavesReloadIn Reads Answers file request None held holds told outcome =
     (c : Result Configuration Fault) × IsConfigured Reads (Some file) c × LeavesReload Answers request held holds c outcome
+    × (told ≡ [])
+LeavesReloadIn Reads Answers file request (Some shown) held holds told outcome =
+    (c : Result Configuration Fault) × IsConfigured Reads (Some file) c
+    × (old : Result Configuration Fault) × IsConfigured Reads (Some (string_bytes shown.old)) old
+    × LeavesReloadShown Answers request shown.most held holds old c outcome × AreProgress told
 
 -- What `why --count` leaves of a text: how many of its asks each of these rules decides, or the first line that says none.
 abbrev pub LeavesCounts : List Rule → List ℕ → Option (List ℕ) → Option (List ℕ) → Result (Unit {0}) Fault → Type 0
@@ -213,45 +299,59 @@ LeavesAnswered true input held holds (Ok c) outcome =
     (text : List ℕ) → input ≡ Some text → LeavesCounts c.rules text held holds outcome
 LeavesAnswered counts input held holds (Err f) outcome = (outcome ≡ Err f) × (holds ≡ held)
 
+-- What it leaves by those of the file of this name, and reports of the lines that show no ask.
+abbrev pub LeavesAnsweredIn : (Reads : List ℕ → Result (List ℕ) Fault → Type 0) → List ℕ → Answering → Option (List ℕ)
+    → Option (List ℕ) → Option (List ℕ) → (told : List ℕ) → Result (Unit {0}) Fault → Type 0
+LeavesAnsweredIn Reads file how input held holds told outcome =
+    (c : Result Configuration Fault) × IsConfigured Reads (Some file) c
+    × LeavesAnswered how.counts (asks_in how.strict input) held holds c outcome × ReportsUnread how.strict outcome told
+
 -- What is on standard output, which held `held` before, if files give what `Reads` and `ReadsState` say, `run`
 -- opens what the machine says, and `reload` is answered what `Answers` says: at `check`, `replay` and `why` what they leave of some configuration that is the one they name,
 -- at `compare` of the two, at `state` of the one and the state, at `run` also what was reported at the start, at `log` what that leaves of the log, and at help its text, of which a
 -- failed write may leave a front. Words that choose nothing leave it as it was, and their fault is the outcome.
-abbrev pub LeavesOutput : {Log Sockets S Q : Type 0} → (Reads ReadsState : List ℕ → Result (List ℕ) Fault → Type 0)
-    → (Answers : List ℕ → List ℕ → Type 0) → WholeMachine Log Sockets S Q → Option (List ℕ) → Option (List ℕ) → Option (List ℕ) → List ℕ
+abbrev pub LeavesOutput : {C Log Sockets S Q : Type 0} → (Reads ReadsState : List ℕ → Result (List ℕ) Fault → Type 0)
+    → (Answers : List ℕ → List ℕ → Type 0) → TimedMachine C Log Sockets S Q → Option (List ℕ) → Option (List ℕ) → Option (List ℕ) → List ℕ
     → Result Choice Fault → Result (Unit {0}) Fault → Type 0
 LeavesOutput Reads ReadsState Answers machine input held holds told (Ok (choice.Check file explains lints)) outcome =
     (text : Result (List ℕ) Fault) × Reads (string_bytes file) text
     × LeavesOfText explains lints text held holds outcome
+LeavesOutput Reads ReadsState Answers machine input held holds told (Ok (choice.CheckJson file)) outcome =
+    (text : Result (List ℕ) Fault) × Reads (string_bytes file) text × LeavesCheckedJson text held holds outcome
 LeavesOutput Reads ReadsState Answers machine input held holds told (Ok (choice.Migrate file)) outcome =
     (c : Result Configuration Fault) × IsConfigured Reads (Some (string_bytes file)) c
     × LeavesMigrated held holds c outcome
-LeavesOutput Reads ReadsState Answers machine input held holds told (Ok (choice.Replay file explains)) outcome =
-    (c : Result Configuration Fault) × IsConfigured Reads (option_map string_bytes file) c
-    × LeavesPlayed explains input held holds c outcome
+LeavesOutput Reads ReadsState Answers machine input held holds told (Ok (choice.Replay file explains counts)) outcome =
+    LeavesPlayedIn Reads (option_map string_bytes file) (record { explains = explains; counts = counts }) input held holds told outcome
 LeavesOutput Reads ReadsState Answers machine input held holds told (Ok (choice.Run options)) outcome =
     (text : Result (List ℕ) Fault) × Reads (string_bytes options.config) text
     × (c : Result Configuration Fault) × IsConfigurationOf text c
     × LeavesRun machine text held holds options c told outcome
-LeavesOutput Reads ReadsState Answers machine input held holds told (Ok (choice.Why file counts)) outcome =
-    (c : Result Configuration Fault) × IsConfigured Reads (Some (string_bytes file)) c
-    × LeavesAnswered counts input held holds c outcome
-LeavesOutput Reads ReadsState Answers machine input held holds told (Ok (choice.Reload config request)) outcome =
-    LeavesReloadIn Reads Answers (string_bytes config) (string_bytes request) held holds outcome
-LeavesOutput Reads ReadsState Answers machine input held holds told (Ok (choice.Compare old new most)) outcome =
+LeavesOutput Reads ReadsState Answers machine input held holds told (Ok (choice.Why file counts strict)) outcome =
+    LeavesAnsweredIn Reads (string_bytes file) (record { counts = counts; strict = strict }) input held holds told outcome
+LeavesOutput Reads ReadsState Answers machine input held holds told (Ok (choice.Reload config request was)) outcome =
+    LeavesReloadIn Reads Answers (string_bytes config) (string_bytes request) was held holds told outcome
+LeavesOutput Reads ReadsState Answers machine input held holds told (Ok (choice.Compare old new most steps)) outcome =
     (a : Result Configuration Fault) × IsConfigured Reads (Some (string_bytes old)) a
     × (b : Result Configuration Fault) × IsConfigured Reads (Some (string_bytes new)) b
-    × LeavesComparison most held holds a b outcome
+    × LeavesComparison (record { most = most; steps = steps }) held holds a b outcome × AreProgress told
+LeavesOutput Reads ReadsState Answers machine input held holds told (Ok (choice.CompareJson old new most)) outcome =
+    (a : Result Configuration Fault) × IsConfigured Reads (Some (string_bytes old)) a
+    × (b : Result Configuration Fault) × IsConfigured Reads (Some (string_bytes new)) b
+    × LeavesComparisonJson most held holds a b outcome
+LeavesOutput Reads ReadsState Answers machine input held holds told (Ok (choice.Points file)) outcome =
+    (c : Result Configuration Fault) × IsConfigured Reads (Some (string_bytes file)) c × LeavesPoints held holds c outcome
 LeavesOutput Reads ReadsState Answers machine input held holds told (Ok (choice.State config state)) outcome =
     LeavesStateIn Reads ReadsState (string_bytes config) (string_bytes state) held holds outcome
 LeavesOutput Reads ReadsState Answers machine input held holds told (Ok (choice.Suggest file fills exact)) outcome =
-    LeavesSuggestedIn Reads (string_bytes file) (record { keeps_services = exact; fills = fills }) input held holds outcome
+    LeavesSuggestedIn Reads (string_bytes file) (record { keeps_services = exact; fills = fills }) (asks_in false input) held holds outcome
+    × ReportsUnread false outcome told
 LeavesOutput Reads ReadsState Answers machine input held holds told (Ok (choice.Log start)) outcome =
     OnKnown input held holds (λ log before. Tells start log before outcome)
 LeavesOutput Reads ReadsState Answers machine input held holds told (Ok choice.Objects) outcome =
     OnKnown input held holds (λ log before. Lists log before outcome)
-LeavesOutput Reads ReadsState Answers machine input held holds told (Ok (choice.Judge file)) outcome =
-    LeavesJudgedIn Reads (string_bytes file) input held holds outcome
+LeavesOutput Reads ReadsState Answers machine input held holds told (Ok (choice.Judge file strict)) outcome =
+    LeavesJudgedIn Reads (string_bytes file) (asks_in strict input) held holds outcome × ReportsUnread strict outcome told
 LeavesOutput Reads ReadsState Answers machine input held holds told (Ok (choice.Report file log)) outcome =
     LeavesReportIn Reads (string_bytes file) held holds outcome
 LeavesOutput Reads ReadsState Answers machine input held holds told (Ok (choice.Help text)) (Ok done) =
@@ -262,9 +362,15 @@ LeavesOutput Reads ReadsState Answers machine input held holds told (Ok (choice.
     (outcome ≡ Err fault.CommandLine) × (holds ≡ held)
 LeavesOutput Reads ReadsState Answers machine input held holds told (Err f) outcome = (outcome ≡ Err f) × (holds ≡ held)
 
--- Only `run` reports something before a fault's line.
+-- Only `run`, `replay`, `why`, `suggest`, `compare` and `reload` report something before a fault's line.
 abbrev pub IsQuiet : Result Choice Fault → List ℕ → Type 0
 IsQuiet (Ok (choice.Run options)) told = ⊤
+IsQuiet (Ok (choice.Replay file explains counts)) told = ⊤
+IsQuiet (Ok (choice.Why file counts strict)) told = ⊤
+IsQuiet (Ok (choice.Judge file strict)) told = ⊤
+IsQuiet (Ok (choice.Suggest file fills exact)) told = ⊤
+IsQuiet (Ok (choice.Compare old new most steps)) told = ⊤
+IsQuiet (Ok (choice.Reload config request was)) told = ⊤
 IsQuiet _ told = told ≡ []
 
 -- What of standard output isn't flushed after a choice that was done: nothing, but that `run` leaves what was so

@@ -1,17 +1,24 @@
 //! Asks of a log, answered by the rules of a configuration.
 
-ghost use Rattle.std.specs.Prelude.{◌≡◌, ◌+◌, [], ℕ, List, Some, length, IfOk, OnOk};
+ghost use Rattle.std.specs.Prelude.{◌≡◌, ◌+◌, [], ℕ, List, Some, false, length, IfOk, OnOk};
 ghost use Rattle.std.specs.Io.Buffered.{writer_buffer, writer_contents};
+ghost use Rattle.std.specs.Io.KnownBytes.{Appends};
 ghost use Rattle.gw_script.specs.Known.{OnKnown};
-ghost use Rattle.gw_shell.specs.Asking.{Answers, Counts};
+ghost use Rattle.gw_shell.specs.Asking.{Answers, Counts, ReportsUnread, asks_in};
 ghost use Rattle.gw_shell.specs.Files.{result_map};
+ghost use Rattle.gw_shell.specs.Program.{LeavesAnswered, LeavesAnsweredIn, LeavesCounts};
 ghost use Rattle.gw_tally.specs.Tally.{tally_text};
 
+use crate::configured::configuration_in;
 use crate::fault::Fault;
+use crate::files::ConfigFiles;
 use crate::lines::first_lines_fault;
+use crate::program::print_made;
+use crate::unread::tell_unread;
+use gw_asks::{AskLines, Lent};
 use gw_configuration::Config;
 use gw_rules::RuleList;
-use gw_script::OctetSource;
+use gw_script::{OctetSink, OctetSource};
 use gw_tally::{Tally, count_asks, put_tally};
 use std::alloc::{AllocError, Global};
 use std::io::{BufWriter, Write};
@@ -57,4 +64,94 @@ fn tally_lines(alloc: Global, rules: &RuleList, tally: &Tally) -> Result<Vec<u8>
     let mut text = Vec::new(alloc);
     put_tally(rules, tally, &mut text)?;
     Ok(text)
+}
+
+/// Answers each ask of standard input by the rules of a configuration, or counts them.
+fn answer<R: OctetSource, W: Write + Drop>(
+    alloc: Global,
+    counts: bool,
+    config: Result<Config, Fault>,
+    input: &mut R,
+    output: &mut BufWriter<W>,
+) -> Result<(), Fault>
+    ensures output { LeavesAnswered counts (R.left input.old) (writer_contents W.contents output.old)
+        (writer_contents W.contents output.new) config result }
+    ensures flush { OnOk result (writer_buffer output.new ≡ []) }
+{
+    let config = config?;
+    if counts {
+        print_counts(alloc, config.rules(), input, output)
+    } else {
+        why(alloc, &config, input, output)
+    }
+}
+
+/// Prints how many asks of standard input each rule decides.
+fn print_counts<R: OctetSource, W: Write + Drop>(
+    alloc: Global,
+    rules: &RuleList,
+    input: &mut R,
+    output: &mut BufWriter<W>,
+) -> Result<(), Fault>
+    ensures output { (text : List ℕ) → R.left input.old ≡ Some text → LeavesCounts rules.now text
+        (writer_contents W.contents output.old) (writer_contents W.contents output.new) result }
+    ensures flush { OnOk result (writer_buffer output.new ≡ []) }
+{
+    print_made(count(alloc, rules, input), output)
+}
+
+/// Answers the asks that standard input shows, whatever is in front of them, and reports how many lines show none.
+fn answer_shown<R: OctetSource, W: Write + Drop, E: OctetSink>(
+    alloc: Global,
+    counts: bool,
+    config: Result<Config, Fault>,
+    input: &mut R,
+    output: &mut BufWriter<W>,
+    errors: &mut E,
+) -> Result<(), Fault>
+    ensures shown { (told : List ℕ) × LeavesAnswered counts (asks_in false (R.left input.old))
+        (writer_contents W.contents output.old) (writer_contents W.contents output.new) config result
+        × ReportsUnread false result told
+        × (E.NeverFails errors.old → Appends (E.held errors.old) (E.held errors.new) told) }
+    ensures lasting { E.NeverFails errors.old → E.NeverFails errors.new }
+    ensures flush { OnOk result (writer_buffer output.new ≡ []) }
+{
+    let mut asks = AskLines::new(Lent::new(input));
+    let outcome = answer(alloc, counts, config, &mut asks, output);
+    tell_unread(outcome, asks.unread(), errors);
+    outcome
+}
+
+/// How asks are answered.
+#[derive(Clone, Copy)]
+pub struct Answering {
+    /// Whether they are counted by rule.
+    pub counts: bool,
+    /// Whether a line that is no ask alone is a fault.
+    pub strict: bool,
+}
+
+/// Answers the asks of standard input by the rules of the configuration in the file of this name.
+pub fn answer_in<F: ConfigFiles, R: OctetSource, W: Write + Drop, E: OctetSink>(
+    alloc: Global,
+    files: &F,
+    file: &str,
+    how: Answering,
+    input: &mut R,
+    output: &mut BufWriter<W>,
+    errors: &mut E,
+) -> Result<(), Fault>
+    ensures answered { (told : List ℕ) × LeavesAnsweredIn (F.Reads files.now) file.now how (R.left input.old)
+        (writer_contents W.contents output.old) (writer_contents W.contents output.new) told result
+        × (E.NeverFails errors.old → Appends (E.held errors.old) (E.held errors.new) told) }
+    ensures lasting { E.NeverFails errors.old → E.NeverFails errors.new }
+    ensures flush { OnOk result (writer_buffer output.new ≡ []) }
+{
+    let Answering { counts, strict } = how;
+    let config = configuration_in(alloc, files, file);
+    if strict {
+        answer(alloc, counts, config, input, output)
+    } else {
+        answer_shown(alloc, counts, config, input, output, errors)
+    }
 }

@@ -20,7 +20,7 @@ use itoa::Buffer;
 use std::process::ExitCode;
 
 /// Writes a text, this number, and another text.
-fn write_number<E: OctetSink>(
+pub fn write_number<E: OctetSink>(
     text: &str,
     number: u64,
     behind: &str,
@@ -150,6 +150,7 @@ fn write_fault<E: OctetSink>(fault: Fault, errors: &mut E) -> Result<(), WriteFa
         Fault::Store(why) => write_store_fault("bacgw: state isn't kept: ", why, errors),
         Fault::Trial(why) => write_trial_fault(why, errors),
         Fault::Audit => write_whole(errors, b"bacgw: audit failed\n"),
+        Fault::Metrics(why) => write_store_fault("bacgw: metrics failed: ", why, errors),
         Fault::Request(why) => write_store_fault("bacgw: request failed: ", why, errors),
         Fault::NoAnswer => write_whole(errors, b"bacgw: no answer\n"),
         Fault::TooManyAsks => write_whole(errors, b"bacgw: suggestion: too many asks\n"),
@@ -200,7 +201,7 @@ pub fn end_by<E: OctetSink>(
     ensures status { exit_status result ≡ status_by choice.now outcome }
 {
     match (choice, outcome) {
-        (Ok(Choice::Compare { .. }), Err(fault)) => {
+        (Ok(Choice::Compare { .. } | Choice::CompareJson { .. }), Err(fault)) => {
             let _ = write_fault(fault, errors);
             ExitCode::from(fault.status_of_comparison())
         }

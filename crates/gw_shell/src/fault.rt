@@ -1,7 +1,7 @@
 //! Why the program ends without success, and its exit status.
 
 ghost use Rattle.std.specs.Prelude.{◌≡◌, ◌≢◌};
-ghost use Rattle.gw_shell.specs.Ending.{IsUnanswered, cause_of, fault_of, fault_of_configuration, fault_of_migration, fault_of_request, fault_of_service, fault_of_state, fault_of_store, fault_of_suggestion, fault_of_words, reason_of, status_of, status_of_comparison, status_of_trial, store_words, trial_reason, trial_words, words_of};
+ghost use Rattle.gw_shell.specs.Ending.{IsUnanswered, cause_of, fault_of, fault_of_configuration, fault_of_metrics, fault_of_migration, fault_of_request, fault_of_service, fault_of_state, fault_of_store, fault_of_suggestion, fault_of_words, reason_of, status_of, status_of_comparison, status_of_trial, store_words, trial_reason, trial_words, words_of};
 ghost use Rattle.gw_shell.specs.Lines.{fault_of_lines};
 ghost use Rattle.gw_shell.specs.declared.fault.Fault.TheVariants.{CommandLine, Memory};
 
@@ -56,6 +56,8 @@ pub enum Fault {
     Trial(TrialFault),
     /// The audit can't be opened, or the last line of it can't be read.
     Audit,
+    /// The place of the metrics can't be opened, and why.
+    Metrics(StoreFault),
     /// The file of a request can't be made, and why.
     Request(StoreFault),
     /// No answer to a request came.
@@ -91,6 +93,16 @@ impl Fault {
         }
     }
 
+    /// The fault if the place of the metrics can't be opened.
+    fn of_metrics(fault: StoreFault) -> Fault
+        ensures { result ≡ fault_of_metrics fault }
+    {
+        match fault {
+            StoreFault::Memory => Fault::Memory,
+            _ => Fault::Metrics(fault),
+        }
+    }
+
     /// The fault if a request can't be made.
     pub fn of_request(fault: StoreFault) -> Fault
         ensures fault { result ≡ fault_of_request fault }
@@ -121,6 +133,7 @@ impl Fault {
             Fault::Unreadable
             | Fault::Store(_)
             | Fault::Audit
+            | Fault::Metrics(_)
             | Fault::Request(_)
             | Fault::NoAnswer
             | Fault::StateUnreadable
@@ -304,6 +317,7 @@ impl From<ServiceFault> for Fault {
             ServiceFault::Store(store) => Fault::of_store(store),
             ServiceFault::Trial(trial) => Fault::Trial(trial),
             ServiceFault::Audit => Fault::Audit,
+            ServiceFault::Metrics(store) => Fault::of_metrics(store),
         }
     }
 }

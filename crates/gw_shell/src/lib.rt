@@ -6,10 +6,13 @@
 
 mod asking;
 mod checked;
+mod comparing;
 mod configured;
+mod deciding;
 mod ending;
 mod fault;
 mod files;
+mod json;
 mod kept;
 mod lines;
 mod objects;
@@ -19,11 +22,12 @@ mod reporting;
 mod script;
 mod suggesting;
 mod telling;
+mod unread;
 
 pub use ending::end;
 pub use fault::{Fault, words_of};
 pub use files::{ConfigFiles, SystemFiles};
-pub use gw_command_line::{Choice, RunOptions, WordsFault, choice_of};
+pub use gw_command_line::{Choice, RunOptions, Shown, WordsFault, choice_of};
 pub use gw_system::{
     FailedStep, Host, LogFailure, OpenFailure, PollWaiter, Reason, SocketFailure, Step,
     SystemClock, SystemHost, UdpSock,

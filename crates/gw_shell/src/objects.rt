@@ -1,17 +1,21 @@
 //! A log, and the answers to its asks, as JSON objects.
 
-ghost use Rattle.std.specs.Prelude.{◌≡◌, [], OnOk};
+ghost use Rattle.std.specs.Prelude.{◌≡◌, [], ℕ, List, false, OnOk};
 ghost use Rattle.std.specs.Io.Buffered.{writer_buffer, writer_contents};
+ghost use Rattle.std.specs.Io.KnownBytes.{Appends};
 ghost use Rattle.gw_script.specs.Known.{OnKnown};
+ghost use Rattle.gw_shell.specs.Asking.{ReportsUnread, asks_in};
 ghost use Rattle.gw_shell.specs.Objects.{Judges, LeavesJudged, LeavesJudgedIn, Lists};
 
 use crate::configured::configuration_in;
 use crate::fault::Fault;
 use crate::files::ConfigFiles;
 use crate::lines::first_lines_fault;
+use crate::unread::tell_unread;
+use gw_asks::{AskLines, Lent};
 use gw_configuration::Config;
 use gw_json::{log_in_json, why_in_json};
-use gw_script::OctetSource;
+use gw_script::{OctetSink, OctetSource};
 use std::alloc::Global;
 use std::io::{BufWriter, Write};
 
@@ -64,7 +68,7 @@ fn judge_by<R: OctetSource, W: Write + Drop>(
 }
 
 /// Answers them by those of the file of this name.
-pub fn judge_in<F: ConfigFiles, R: OctetSource, W: Write + Drop>(
+fn judge_strictly<F: ConfigFiles, R: OctetSource, W: Write + Drop>(
     alloc: Global,
     files: &F,
     file: &str,
@@ -77,4 +81,50 @@ pub fn judge_in<F: ConfigFiles, R: OctetSource, W: Write + Drop>(
 {
     let config = configuration_in(alloc, files, file);
     judge_by(alloc, config, input, output)
+}
+
+/// Answers the asks that standard input shows, whatever is in front of them, and reports how many lines show none.
+fn judge_shown<F: ConfigFiles, R: OctetSource, W: Write + Drop, E: OctetSink>(
+    alloc: Global,
+    files: &F,
+    file: &str,
+    input: &mut R,
+    output: &mut BufWriter<W>,
+    errors: &mut E,
+) -> Result<(), Fault>
+    ensures shown { (told : List ℕ) × LeavesJudgedIn (F.Reads files.now) file.now (asks_in false (R.left input.old))
+        (writer_contents W.contents output.old) (writer_contents W.contents output.new) result
+        × ReportsUnread false result told
+        × (E.NeverFails errors.old → Appends (E.held errors.old) (E.held errors.new) told) }
+    ensures lasting { E.NeverFails errors.old → E.NeverFails errors.new }
+    ensures flush { OnOk result (writer_buffer output.new ≡ []) }
+{
+    let mut asks = AskLines::new(Lent::new(input));
+    let outcome = judge_strictly(alloc, files, file, &mut asks, output);
+    tell_unread(outcome, asks.unread(), errors);
+    outcome
+}
+
+/// Answers the asks of standard input by the rules of the configuration in the file of this name, as JSON objects.
+pub fn judge_in<F: ConfigFiles, R: OctetSource, W: Write + Drop, E: OctetSink>(
+    alloc: Global,
+    files: &F,
+    file: &str,
+    strict: bool,
+    input: &mut R,
+    output: &mut BufWriter<W>,
+    errors: &mut E,
+) -> Result<(), Fault>
+    ensures judged { (told : List ℕ) × LeavesJudgedIn (F.Reads files.now) file.now (asks_in strict (R.left input.old))
+        (writer_contents W.contents output.old) (writer_contents W.contents output.new) result
+        × ReportsUnread strict result told
+        × (E.NeverFails errors.old → Appends (E.held errors.old) (E.held errors.new) told) }
+    ensures lasting { E.NeverFails errors.old → E.NeverFails errors.new }
+    ensures flush { OnOk result (writer_buffer output.new ≡ []) }
+{
+    if strict {
+        judge_strictly(alloc, files, file, input, output)
+    } else {
+        judge_shown(alloc, files, file, input, output, errors)
+    }
 }

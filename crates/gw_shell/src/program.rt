@@ -15,30 +15,31 @@ ghost use Rattle.gw_system.specs.Host.{OpensAtLine};
 ghost use Rattle.gw_shell.specs.Program.{AppendsFront, IsChoiceOf, IsFlushed, IsFollowed, IsRun, LeavesAnswer, LeavesAnswered, LeavesAsked, LeavesCompared, LeavesComparison, LeavesConfigured, LeavesCounts, LeavesInFormatThree, LeavesMigrated, LeavesOfText, LeavesOutput, LeavesPlayed, LeavesPrinted, LeavesReload, LeavesReloadIn, LeavesSaid, LeavesState, LeavesStateIn, LeavesSuggested, LeavesSuggestedIn, LeavesText};
 ghost use Rattle.gw_service.specs.Kept.{state_machine, whole_machine};
 ghost use Rattle.gw_service.specs.Serving.{IsFlushedFor, machine};
+ghost use Rattle.gw_service.specs.StampedRun.{timed_machine};
 ghost use Rattle.gw_shell.specs.Serving.{LeavesRun};
 ghost use Rattle.gw_shell.specs.declared.fault.Fault.{Fault};
 ghost use Rattle.gw_shell.specs.declared.fault.Fault.TheVariants as fault;
 
-use crate::asking::{count, why};
+use crate::asking::{Answering, answer_in};
 use crate::checked::checked_text;
-use crate::configured::{configuration, configuration_in, configuration_of};
+use crate::comparing::{Both, Limits, Seconds, compare};
+use crate::configured::{configuration_in, configuration_of};
+use crate::deciding::{Playing, play_in};
 use crate::ending::{end_by, usage_of};
 use crate::fault::Fault;
 use crate::files::ConfigFiles;
+use crate::json::{check_in_json, compare_in_json, print_points};
 use crate::kept::words_of_text;
-use crate::reloading::{self, ask};
+use crate::reloading::{Asking, reload_in};
 use crate::reporting::print_report_in;
-use crate::script::replay;
-use crate::suggesting::suggest;
+use crate::suggesting::suggest_shown;
 use crate::{objects, telling};
 use gw_command_line::{Choice, RunOptions, choice_of};
-use gw_compare::{Compared, put_comparison};
 use gw_configuration::{Config, ConfigFault};
 use gw_explanation::{Explanation, explain};
 use gw_migration::migrate;
-use gw_rules::RuleList;
 use gw_script::{OctetSink, OctetSource, write_whole};
-use gw_service::{ServiceFault, serve_ports, tell};
+use gw_service::{ServiceFault, serve_run, tell};
 use gw_suggest::Manner;
 use gw_system::Host;
 use std::alloc::{AllocError, Global};
@@ -60,7 +61,7 @@ fn write_text<S: OctetSink>(text: &[u8], sink: &mut S) -> Result<(), Fault>
 
 /// Prints octets and flushes them. `Write` where a write or the flush fails; then a front of the text
 /// is written.
-fn print<W: Write + Drop>(text: &[u8], output: &mut BufWriter<W>) -> Result<(), Fault>
+pub(crate) fn print<W: Write + Drop>(text: &[u8], output: &mut BufWriter<W>) -> Result<(), Fault>
     ensures ok { OnOk result
         (Appends (writer_contents W.contents output.old) (writer_contents W.contents output.new)
         text.now) }
@@ -148,7 +149,7 @@ fn line_of(alloc: Global, explanation: &Explanation) -> Result<Vec<u8>, AllocErr
     Ok(line)
 }
 
-/// Prints what the configuration has that was read, or what is wrong with it where that is asked for.
+/// Prints what the configuration has that was read, or what is wrong with it.
 fn check<W: Write + Drop>(
     alloc: Global,
     explains: bool,
@@ -165,7 +166,7 @@ fn check<W: Write + Drop>(
         Ok(config) => print_checked(alloc, explains, lints, &config, output),
         Err(fault) => {
             // Where this can't be printed the fault is reported all the same.
-            let _ = print(&fault_note(alloc, explains, text, fault), output);
+            let _ = print(&fault_note(alloc, true, text, fault), output);
             Err(fault)
         }
     }
@@ -199,67 +200,6 @@ fn print_in_format_three<W: Write + Drop>(
 {
     let config = config?;
     print_migrated(alloc, &config, output)
-}
-
-/// Plays the script under a configuration, and reports its asks if `explains`.
-fn play<R: OctetSource, W: Write + Drop>(
-    alloc: Global,
-    explains: bool,
-    config: Result<Config, Fault>,
-    input: &mut R,
-    output: &mut BufWriter<W>,
-) -> Result<(), Fault>
-    ensures output { LeavesPlayed explains (R.left input.old) (writer_contents W.contents output.old)
-        (writer_contents W.contents output.new) config result }
-    ensures flush { OnOk result (writer_buffer output.new ≡ []) }
-{
-    replay(alloc, explains, config?, input, output)
-}
-
-/// How a comparison ends: `Different` unless the two are alike.
-fn outcome_of(made: Compared) -> Result<(), Fault>
-    ensures { result ≡ outcome_of_comparison made }
-{
-    match made {
-        Compared::Alike => Ok(()),
-        Compared::Different | Compared::Unfinished => Err(Fault::Different),
-    }
-}
-
-/// Prints what the rules of two configurations decide otherwise, in at most so many lines.
-fn print_compared<W: Write + Drop>(
-    alloc: Global,
-    most: u64,
-    old: &Config,
-    new: &Config,
-    output: &mut BufWriter<W>,
-) -> Result<(), Fault>
-    ensures output { let held = writer_contents W.contents output.old in
-        let holds = writer_contents W.contents output.new in
-        LeavesCompared most held holds old.now new.now result }
-    ensures flush { OnOk result (writer_buffer output.new ≡ []) }
-{
-    let mut text = Vec::new(alloc);
-    let made = put_comparison(alloc, old, new, most as usize, &mut text)?;
-    print(&text, output)?;
-    outcome_of(made)
-}
-
-/// Compares the two configurations that were read.
-fn compare<W: Write + Drop>(
-    alloc: Global,
-    most: u64,
-    old: Result<Config, Fault>,
-    new: Result<Config, Fault>,
-    output: &mut BufWriter<W>,
-) -> Result<(), Fault>
-    ensures output { LeavesComparison most (writer_contents W.contents output.old)
-        (writer_contents W.contents output.new) old new result }
-    ensures flush { OnOk result (writer_buffer output.new ≡ []) }
-{
-    let old = old?;
-    let new = new?;
-    print_compared(alloc, most, &old, &new, output)
 }
 
 /// Prints a text that was made.
@@ -306,114 +246,6 @@ fn print_said<W: Write + Drop>(
     print_made(words_of_text(alloc, config, text), output)
 }
 
-/// Prints the answer to a request, which says how it ends.
-fn print_answer<W: Write + Drop>(
-    answer: Result<Vec<u8>, Fault>,
-    output: &mut BufWriter<W>,
-) -> Result<(), Fault>
-    ensures output { LeavesAnswer (result_map (λ octets. octets.items) answer)
-        (writer_contents W.contents output.old) (writer_contents W.contents output.new) result }
-    ensures flush { OnOk result (writer_buffer output.new ≡ []) }
-{
-    match answer {
-        Ok(answer) => print_answer_text(&answer, output),
-        Err(fault) => Err(fault),
-    }
-}
-
-fn print_answer_text<W: Write + Drop>(answer: &[u8], output: &mut BufWriter<W>) -> Result<(), Fault>
-    ensures output { LeavesText answer.now (writer_contents W.contents output.old)
-        (writer_contents W.contents output.new) result }
-    ensures flush { OnOk result (writer_buffer output.new ≡ []) }
-{
-    match print(answer, output) {
-        Ok(()) => reloading::outcome_of(answer),
-        Err(fault) => Err(fault),
-    }
-}
-
-/// Asks the gateway that runs under the configuration that was read to read it again, and prints what it answers.
-fn reload<H: Host, W: Write + Drop>(
-    alloc: Global,
-    config: Result<Config, Fault>,
-    request: &str,
-    host: &H,
-    output: &mut BufWriter<W>,
-) -> Result<(), Fault>
-    ensures output { LeavesReload (answers_by (H.Asks host.now) H.Answers) request.now
-        (writer_contents W.contents output.old) (writer_contents W.contents output.new) config result }
-    ensures flush { OnOk result (writer_buffer output.new ≡ []) }
-{
-    let _config = config?;
-    print_asked(alloc, request, host, output)
-}
-
-/// Asks by the file of this name to read the configuration again, and prints the answer.
-fn print_asked<H: Host, W: Write + Drop>(
-    alloc: Global,
-    request: &str,
-    host: &H,
-    output: &mut BufWriter<W>,
-) -> Result<(), Fault>
-    ensures output { LeavesAsked (answers_by (H.Asks host.now) H.Answers) request.now
-        (writer_contents W.contents output.old) (writer_contents W.contents output.new) result }
-    ensures flush { OnOk result (writer_buffer output.new ≡ []) }
-{
-    print_answer(ask(alloc, request, host), output)
-}
-
-/// Answers each ask of standard input by the rules of a configuration, or counts them.
-fn answer<R: OctetSource, W: Write + Drop>(
-    alloc: Global,
-    counts: bool,
-    config: Result<Config, Fault>,
-    input: &mut R,
-    output: &mut BufWriter<W>,
-) -> Result<(), Fault>
-    ensures output { LeavesAnswered counts (R.left input.old) (writer_contents W.contents output.old)
-        (writer_contents W.contents output.new) config result }
-    ensures flush { OnOk result (writer_buffer output.new ≡ []) }
-{
-    let config = config?;
-    if counts {
-        print_counts(alloc, config.rules(), input, output)
-    } else {
-        why(alloc, &config, input, output)
-    }
-}
-
-/// Prints how many asks of standard input each rule decides.
-fn print_counts<R: OctetSource, W: Write + Drop>(
-    alloc: Global,
-    rules: &RuleList,
-    input: &mut R,
-    output: &mut BufWriter<W>,
-) -> Result<(), Fault>
-    ensures output { (text : List ℕ) → R.left input.old ≡ Some text → LeavesCounts rules.now text
-        (writer_contents W.contents output.old) (writer_contents W.contents output.new) result }
-    ensures flush { OnOk result (writer_buffer output.new ≡ []) }
-{
-    print_made(count(alloc, rules, input), output)
-}
-
-/// Suggests rules for the asks of standard input under the configuration of a text that was read.
-fn suggest_rules<R: OctetSource, W: Write + Drop>(
-    alloc: Global,
-    text: &Result<Vec<u8>, Fault>,
-    manner: Manner,
-    input: &mut R,
-    output: &mut BufWriter<W>,
-) -> Result<(), Fault>
-    ensures output { LeavesSuggested manner (R.left input.old) (writer_contents W.contents output.old)
-        (writer_contents W.contents output.new) (result_map (λ octets. octets.items) text.now) result }
-    ensures flush { OnOk result (writer_buffer output.new ≡ []) }
-{
-    match text {
-        Ok(text) => suggest(alloc, text, manner, input, output),
-        Err(fault) => Err(*fault),
-    }
-}
-
 /// Says what the state of a file holds under the configuration of another.
 fn print_state_in<F: ConfigFiles, W: Write + Drop>(
     alloc: Global,
@@ -429,40 +261,6 @@ fn print_state_in<F: ConfigFiles, W: Write + Drop>(
     let config = configuration_in(alloc, files, config);
     let text = files.read_state(alloc, state);
     print_state(alloc, config, &text, output)
-}
-
-/// Suggests rules for the asks of standard input under the configuration of a file.
-fn suggest_in<F: ConfigFiles, R: OctetSource, W: Write + Drop>(
-    alloc: Global,
-    files: &F,
-    file: &str,
-    manner: Manner,
-    input: &mut R,
-    output: &mut BufWriter<W>,
-) -> Result<(), Fault>
-    ensures output { LeavesSuggestedIn (F.Reads files.now) file.now manner (R.left input.old)
-        (writer_contents W.contents output.old) (writer_contents W.contents output.new) result }
-    ensures flush { OnOk result (writer_buffer output.new ≡ []) }
-{
-    let text = files.read(alloc, file);
-    suggest_rules(alloc, &text, manner, input, output)
-}
-
-/// Asks the gateway that runs under the configuration of a file to read it again.
-fn reload_in<F: ConfigFiles, H: Host, W: Write + Drop>(
-    alloc: Global,
-    files: &F,
-    config: &str,
-    request: &str,
-    host: &H,
-    output: &mut BufWriter<W>,
-) -> Result<(), Fault>
-    ensures output { LeavesReloadIn (F.Reads files.now) (answers_by (H.Asks host.now) H.Answers) config.now request.now
-        (writer_contents W.contents output.old) (writer_contents W.contents output.new) result }
-    ensures flush { OnOk result (writer_buffer output.new ≡ []) }
-{
-    let config = configuration_in(alloc, files, config);
-    reload(alloc, config, request, host, output)
 }
 
 /// How serving ended.
@@ -487,10 +285,11 @@ fn serve<H: Host, W: Write + Drop, E: OctetSink>(
 ) -> Result<(), Fault>
     ensures served { (told : List ℕ) × (config : Result Configuration Fault)
         × IsConfigurationOf (result_map (λ octets. octets.items) text.now) config
-        × LeavesRun (whole_machine (machine (OpensAtLine (H.LogOpens host.old) (H.LogIsCut host.old) H.Log.held)
+        × LeavesRun (timed_machine {C = H.Calendar}
+        (whole_machine (machine (OpensAtLine (H.LogOpens host.old) (H.LogIsCut host.old) H.Log.held)
         (H.SocketsOpen host.old) (H.RoutesIp host.old) (H.Closes host.new) H.Log.held H.Sockets.calls)
         (state_machine (H.FileReads host.old) (H.LastLines host.old) (H.StoreOpens host.old)
-        (H.ReloadsOpen host.old) H.StateStore.held H.Reloads.told))
+        (H.ReloadsOpen host.old) H.StateStore.held H.Reloads.told)))
         (result_map (λ octets. octets.items) text.now)
         (writer_contents W.contents output.old) (writer_contents W.contents output.new) options.now
         config told result
@@ -500,7 +299,7 @@ fn serve<H: Host, W: Write + Drop, E: OctetSink>(
         (writer_buffer output.old) (writer_buffer output.new)) }
 {
     match configuration_of(alloc, text) {
-        Ok(config) => served(serve_ports(alloc, config, options, host, output, errors)),
+        Ok(config) => served(serve_run(alloc, config, options, host, output, errors)),
         Err(fault) => {
             tell(&fault_note(alloc, options.verbose, text, fault), errors);
             Err(fault)
@@ -520,10 +319,11 @@ fn follow<F: ConfigFiles, H: Host, R: OctetSource, W: Write + Drop, E: OctetSink
 ) -> Result<(), Fault>
     ensures followed { IsFollowed
         (LeavesOutput (F.Reads files.now) (F.ReadsState files.now) (answers_by (H.Asks host.old) H.Answers)
+        (timed_machine {C = H.Calendar}
         (whole_machine (machine (OpensAtLine (H.LogOpens host.old) (H.LogIsCut host.old) H.Log.held)
         (H.SocketsOpen host.old) (H.RoutesIp host.old) (H.Closes host.new) H.Log.held H.Sockets.calls)
         (state_machine (H.FileReads host.old) (H.LastLines host.old) (H.StoreOpens host.old)
-        (H.ReloadsOpen host.old) H.StateStore.held H.Reloads.told)) (R.left input.old)
+        (H.ReloadsOpen host.old) H.StateStore.held H.Reloads.told))) (R.left input.old)
         (writer_contents W.contents output.old) (writer_contents W.contents output.new))
         (λ told. E.NeverFails errors.old → Appends (E.held errors.old) (E.held errors.new) told)
         choice.now result }
@@ -542,29 +342,85 @@ fn follow<F: ConfigFiles, H: Host, R: OctetSource, W: Write + Drop, E: OctetSink
             let text = files.read(alloc, file);
             check(alloc, *explains, *lints, &text, output)
         }
+        Ok(Choice::CheckJson(file)) => {
+            let text = files.read(alloc, file);
+            check_in_json(alloc, &text, output)
+        }
         Ok(Choice::Migrate(file)) => {
             let config = configuration_in(alloc, files, file);
             print_in_format_three(alloc, config, output)
         }
-        Ok(Choice::Replay { file, explains }) => {
-            let config = configuration(alloc, files, file);
-            play(alloc, *explains, config, input, output)
+        Ok(
+            Choice::Replay {
+                file,
+                explains,
+                counts,
+            },
+        ) => {
+            let how = Playing {
+                explains: *explains,
+                counts: *counts,
+            };
+            play_in(alloc, files, file, how, input, output, errors)
         }
         Ok(Choice::Run(options)) => {
             let text = files.read(alloc, &options.config);
             serve(alloc, &text, options, host, output, errors)
         }
-        Ok(Choice::Why { file, counts }) => {
-            let config = configuration_in(alloc, files, file);
-            answer(alloc, *counts, config, input, output)
+        Ok(
+            Choice::Why {
+                file,
+                counts,
+                strict,
+            },
+        ) => {
+            let how = Answering {
+                counts: *counts,
+                strict: *strict,
+            };
+            answer_in(alloc, files, file, how, input, output, errors)
         }
-        Ok(Choice::Reload { config, request }) => {
-            reload_in(alloc, files, config, request, host, output)
+        Ok(
+            Choice::Reload {
+                config,
+                request,
+                was,
+            },
+        ) => {
+            let asking = Asking {
+                config,
+                request,
+                was,
+            };
+            reload_in(alloc, files, &asking, host, output, errors)
         }
-        Ok(Choice::Compare { old, new, most }) => {
+        Ok(
+            Choice::Compare {
+                old,
+                new,
+                most,
+                steps,
+            },
+        ) => {
+            let both = Both {
+                old: configuration_in(alloc, files, old),
+                new: configuration_in(alloc, files, new),
+            };
+            let limits = Limits {
+                most: *most,
+                steps: *steps,
+            };
+            let mut seconds = Seconds::new(host.calendar());
+            compare(alloc, limits, both, &mut seconds, output, errors)
+        }
+        Ok(Choice::CompareJson { old, new, most }) => {
             let before = configuration_in(alloc, files, old);
             let after = configuration_in(alloc, files, new);
-            compare(alloc, *most, before, after, output)
+            compare_in_json(alloc, *most, before, after, output)
+        }
+        Ok(Choice::Points(file)) => {
+            let config = configuration_in(alloc, files, file);
+            print_points(alloc, config, output)
         }
         Ok(Choice::State { config, state }) => print_state_in(alloc, files, config, state, output),
         Ok(Choice::Suggest { file, fills, exact }) => {
@@ -572,11 +428,13 @@ fn follow<F: ConfigFiles, H: Host, R: OctetSource, W: Write + Drop, E: OctetSink
                 keeps_services: *exact,
                 fills: *fills,
             };
-            suggest_in(alloc, files, file, manner, input, output)
+            suggest_shown(alloc, files, file, manner, input, output, errors)
         }
         Ok(Choice::Log(start)) => telling::tell(alloc, *start, input, output),
         Ok(Choice::Objects) => objects::list(alloc, input, output),
-        Ok(Choice::Judge(file)) => objects::judge_in(alloc, files, file, input, output),
+        Ok(Choice::Judge { file, strict }) => {
+            objects::judge_in(alloc, files, file, *strict, input, output, errors)
+        }
         Ok(Choice::Report { file, log }) => print_report_in(alloc, files, file, log, output),
         Ok(Choice::Help(text)) => print(text.as_bytes(), output),
         Ok(Choice::Usage(_)) => Err(Fault::CommandLine),
@@ -605,10 +463,11 @@ pub fn run<F: ConfigFiles, H: Host, R: OctetSource, W: Write + Drop, E: OctetSin
         (λ w. IsChoiceOf (map string_bytes w.items) choice)
         (λ f. choice ≡ Err f))
         (LeavesOutput (F.Reads files.now) (F.ReadsState files.now) (answers_by (H.Asks host.old) H.Answers)
+        (timed_machine {C = H.Calendar}
         (whole_machine (machine (OpensAtLine (H.LogOpens host.old) (H.LogIsCut host.old) H.Log.held)
         (H.SocketsOpen host.old) (H.RoutesIp host.old) (H.Closes host.new) H.Log.held H.Sockets.calls)
         (state_machine (H.FileReads host.old) (H.LastLines host.old) (H.StoreOpens host.old)
-        (H.ReloadsOpen host.old) H.StateStore.held H.Reloads.told)) (R.left input.old)
+        (H.ReloadsOpen host.old) H.StateStore.held H.Reloads.told))) (R.left input.old)
         (writer_contents W.contents output.old) (writer_contents W.contents output.new))
         (writer_buffer output.old) (writer_buffer output.new)
         (λ line. E.NeverFails errors.old → Appends (E.held errors.old) (E.held errors.new) line)

@@ -1,12 +1,24 @@
 //! A running gateway is asked to read its configuration again.
 
-ghost use Rattle.std.specs.Prelude.{◌≡◌, MatchResult};
+ghost use Rattle.std.specs.Prelude.{◌≡◌, [], ℕ, List, MatchResult, OnOk};
+ghost use Rattle.std.specs.Io.Buffered.{writer_buffer, writer_contents};
+ghost use Rattle.std.specs.Io.KnownBytes.{Appends};
+ghost use Rattle.gw_shell.specs.Comparing.{AreProgress};
 ghost use Rattle.gw_shell.specs.Ending.{IsAnswerTo, IsUnanswered, answers_by, outcome_of_answer};
 ghost use Rattle.gw_shell.specs.Files.{result_map};
+ghost use Rattle.gw_shell.specs.Program.{LeavesAnswer, LeavesAsked, LeavesReload, LeavesReloadIn, LeavesReloadShown, LeavesText};
 
+use crate::comparing::{Both, Limits, Seconds, print_compared};
+use crate::configured::configuration_in;
 use crate::fault::Fault;
+use crate::files::ConfigFiles;
+use crate::program::print;
+use gw_command_line::Shown;
+use gw_configuration::Config;
+use gw_script::OctetSink;
 use gw_system::{Host, ReadFailure};
 use std::alloc::Global;
+use std::io::{BufWriter, Write};
 
 /// How many seconds an answer is waited for at most.
 const MAX_WAIT: u8 = 10;
@@ -41,5 +53,124 @@ pub fn outcome_of(answer: &[u8]) -> Result<(), Fault>
         Ok(())
     } else {
         Err(Fault::Refused)
+    }
+}
+
+/// Prints the answer to a request, which says how it ends.
+fn print_answer<W: Write + Drop>(
+    answer: Result<Vec<u8>, Fault>,
+    output: &mut BufWriter<W>,
+) -> Result<(), Fault>
+    ensures output { LeavesAnswer (result_map (λ octets. octets.items) answer)
+        (writer_contents W.contents output.old) (writer_contents W.contents output.new) result }
+    ensures flush { OnOk result (writer_buffer output.new ≡ []) }
+{
+    match answer {
+        Ok(answer) => print_answer_text(&answer, output),
+        Err(fault) => Err(fault),
+    }
+}
+
+fn print_answer_text<W: Write + Drop>(answer: &[u8], output: &mut BufWriter<W>) -> Result<(), Fault>
+    ensures output { LeavesText answer.now (writer_contents W.contents output.old)
+        (writer_contents W.contents output.new) result }
+    ensures flush { OnOk result (writer_buffer output.new ≡ []) }
+{
+    match print(answer, output) {
+        Ok(()) => outcome_of(answer),
+        Err(fault) => Err(fault),
+    }
+}
+
+/// Asks the gateway that runs under the configuration that was read to read it again, and prints what it answers.
+fn reload<H: Host, W: Write + Drop>(
+    alloc: Global,
+    config: Result<Config, Fault>,
+    request: &str,
+    host: &H,
+    output: &mut BufWriter<W>,
+) -> Result<(), Fault>
+    ensures output { LeavesReload (answers_by (H.Asks host.now) H.Answers) request.now
+        (writer_contents W.contents output.old) (writer_contents W.contents output.new) config result }
+    ensures flush { OnOk result (writer_buffer output.new ≡ []) }
+{
+    let _config = config?;
+    print_asked(alloc, request, host, output)
+}
+
+/// Asks by the file of this name to read the configuration again, and prints the answer.
+fn print_asked<H: Host, W: Write + Drop>(
+    alloc: Global,
+    request: &str,
+    host: &H,
+    output: &mut BufWriter<W>,
+) -> Result<(), Fault>
+    ensures output { LeavesAsked (answers_by (H.Asks host.now) H.Answers) request.now
+        (writer_contents W.contents output.old) (writer_contents W.contents output.new) result }
+    ensures flush { OnOk result (writer_buffer output.new ≡ []) }
+{
+    print_answer(ask(alloc, request, host), output)
+}
+
+/// Prints what the new configuration changes of the old one, and then asks as [`reload`] does. A comparison that isn't
+/// finished, or finds something, is no fault.
+fn reload_shown<H: Host, W: Write + Drop, E: OctetSink>(
+    alloc: Global,
+    both: Both,
+    asking: &Asking<'_>,
+    most: u64,
+    host: &H,
+    output: &mut BufWriter<W>,
+    errors: &mut E,
+) -> Result<(), Fault>
+    ensures output { LeavesReloadShown (answers_by (H.Asks host.now) H.Answers) asking.now.request.now most
+        (writer_contents W.contents output.old) (writer_contents W.contents output.new) both.old both.new result }
+    ensures told { (told : List ℕ) × AreProgress told
+        × (E.NeverFails errors.old → Appends (E.held errors.old) (E.held errors.new) told) }
+    ensures lasts { E.NeverFails errors.old → E.NeverFails errors.new }
+    ensures flush { OnOk result (writer_buffer output.new ≡ []) }
+{
+    let new = both.new?;
+    let old = both.old?;
+    let limits = Limits { most, steps: false };
+    let mut seconds = Seconds::new(host.calendar());
+    match print_compared(alloc, limits, &old, &new, &mut seconds, output, errors) {
+        Ok(()) | Err(Fault::Different) => print_asked(alloc, asking.request, host, output),
+        Err(fault) => Err(fault),
+    }
+}
+
+/// What `reload` is asked for: the files of the configuration and of the request, and what is compared first.
+#[derive(Drop)]
+pub struct Asking<'a> {
+    pub config: &'a str,
+    pub request: &'a str,
+    pub was: &'a Option<Shown>,
+}
+
+/// Asks the gateway that runs under the configuration of a file to read it again.
+pub fn reload_in<F: ConfigFiles, H: Host, W: Write + Drop, E: OctetSink>(
+    alloc: Global,
+    files: &F,
+    asking: &Asking<'_>,
+    host: &H,
+    output: &mut BufWriter<W>,
+    errors: &mut E,
+) -> Result<(), Fault>
+    ensures reloaded { (told : List ℕ) × LeavesReloadIn (F.Reads files.now) (answers_by (H.Asks host.now) H.Answers)
+        asking.now.config.now asking.now.request.now asking.now.was.now
+        (writer_contents W.contents output.old) (writer_contents W.contents output.new) told result
+        × (E.NeverFails errors.old → Appends (E.held errors.old) (E.held errors.new) told) }
+    ensures lasts { E.NeverFails errors.old → E.NeverFails errors.new }
+    ensures flush { OnOk result (writer_buffer output.new ≡ []) }
+{
+    let new = configuration_in(alloc, files, asking.config);
+    match asking.was {
+        Some(shown) => {
+            let old = configuration_in(alloc, files, &shown.old);
+            let both = Both { old, new };
+            reload_shown(alloc, both, asking, shown.most, host, output, errors)
+        }
+        None => reload(alloc, new, asking.request, host, output),
     }
 }

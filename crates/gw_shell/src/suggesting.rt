@@ -1,12 +1,19 @@
 //! Rules suggested for the asks of a log.
 
-ghost use Rattle.std.specs.Prelude.{◌≡◌, [], OnOk};
+ghost use Rattle.std.specs.Prelude.{◌≡◌, [], ℕ, List, false, OnOk};
 ghost use Rattle.std.specs.Io.Buffered.{writer_buffer, writer_contents};
+ghost use Rattle.std.specs.Io.KnownBytes.{Appends};
 ghost use Rattle.gw_script.specs.Known.{OnKnown};
+ghost use Rattle.gw_shell.specs.Asking.{ReportsUnread, asks_in};
+ghost use Rattle.gw_shell.specs.Files.{result_map};
+ghost use Rattle.gw_shell.specs.Program.{LeavesSuggested, LeavesSuggestedIn};
 ghost use Rattle.gw_shell.specs.Suggesting.{Suggests, first_suggestion_fault};
 
 use crate::fault::Fault;
-use gw_script::OctetSource;
+use crate::files::ConfigFiles;
+use crate::unread::tell_unread;
+use gw_asks::{AskLines, Lent};
+use gw_script::{OctetSink, OctetSource};
 use gw_suggest::{Manner, SuggestFault};
 use std::alloc::Global;
 use std::io::{BufWriter, Write};
@@ -39,4 +46,64 @@ fn first_fault(suggestion: Result<(), SuggestFault>, is_flushed: bool) -> Result
         Ok(()) => Err(Fault::Write),
         Err(fault) => Err(Fault::from(fault)),
     }
+}
+
+/// Suggests rules for the asks of standard input under the configuration of a text that was read.
+fn suggest_rules<R: OctetSource, W: Write + Drop>(
+    alloc: Global,
+    text: &Result<Vec<u8>, Fault>,
+    manner: Manner,
+    input: &mut R,
+    output: &mut BufWriter<W>,
+) -> Result<(), Fault>
+    ensures output { LeavesSuggested manner (R.left input.old) (writer_contents W.contents output.old)
+        (writer_contents W.contents output.new) (result_map (λ octets. octets.items) text.now) result }
+    ensures flush { OnOk result (writer_buffer output.new ≡ []) }
+{
+    match text {
+        Ok(text) => suggest(alloc, text, manner, input, output),
+        Err(fault) => Err(*fault),
+    }
+}
+
+/// Suggests rules for the asks of standard input under the configuration of a file.
+fn suggest_in<F: ConfigFiles, R: OctetSource, W: Write + Drop>(
+    alloc: Global,
+    files: &F,
+    file: &str,
+    manner: Manner,
+    input: &mut R,
+    output: &mut BufWriter<W>,
+) -> Result<(), Fault>
+    ensures output { LeavesSuggestedIn (F.Reads files.now) file.now manner (R.left input.old)
+        (writer_contents W.contents output.old) (writer_contents W.contents output.new) result }
+    ensures flush { OnOk result (writer_buffer output.new ≡ []) }
+{
+    let text = files.read(alloc, file);
+    suggest_rules(alloc, &text, manner, input, output)
+}
+
+/// Suggests rules for the asks that standard input shows, whatever is in front of them, and reports how many lines show
+/// none.
+pub fn suggest_shown<F: ConfigFiles, R: OctetSource, W: Write + Drop, E: OctetSink>(
+    alloc: Global,
+    files: &F,
+    file: &str,
+    manner: Manner,
+    input: &mut R,
+    output: &mut BufWriter<W>,
+    errors: &mut E,
+) -> Result<(), Fault>
+    ensures suggested { (told : List ℕ) × LeavesSuggestedIn (F.Reads files.now) file.now manner
+        (asks_in false (R.left input.old))
+        (writer_contents W.contents output.old) (writer_contents W.contents output.new) result
+        × ReportsUnread false result told
+        × (E.NeverFails errors.old → Appends (E.held errors.old) (E.held errors.new) told) }
+    ensures lasting { E.NeverFails errors.old → E.NeverFails errors.new }
+    ensures flush { OnOk result (writer_buffer output.new ≡ []) }
+{
+    let mut asks = AskLines::new(Lent::new(input));
+    let outcome = suggest_in(alloc, files, file, manner, &mut asks, output);
+    tell_unread(outcome, asks.unread(), errors);
+    outcome
 }

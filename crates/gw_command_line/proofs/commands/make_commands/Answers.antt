@@ -12,5 +12,6 @@ returns c =
     let two = c.in_ok-subcommand-2.ensures.shape c.in_ok-compare.ensures.local ∙ ap₂ with_subcommand one (ap (λ (a : App). a.top) c.in_ok-compare.ensures.app) in
     let three = c.in_ok-subcommand-3.ensures.shape c.in_ok-state.ensures.local ∙ ap₂ with_subcommand two (ap (λ (a : App). a.top) c.in_ok-state.ensures.app) in
     let four = c.in_ok-subcommand-4.ensures.shape c.in_ok-suggest.ensures.local ∙ ap₂ with_subcommand three (ap (λ (a : App). a.top) c.in_ok-suggest.ensures.app) in
-    IfOk-weaker c.subcommand-5.result _ _
-    (λ m h. h.shape c.in_ok-reload.ensures.local ∙ ap₂ with_subcommand four (ap (λ (a : App). a.top) c.in_ok-reload.ensures.app)) c.subcommand-5.ensures
+    let five = c.in_ok-subcommand-5.ensures.shape c.in_ok-reload.ensures.local ∙ ap₂ with_subcommand four (ap (λ (a : App). a.top) c.in_ok-reload.ensures.app) in
+    IfOk-weaker c.subcommand-6.result _ _
+    (λ m h. h.shape c.in_ok-objects.ensures.local ∙ ap₂ with_subcommand five (ap (λ (a : App). a.top) c.in_ok-objects.ensures.app)) c.subcommand-6.ensures

@@ -1,4 +1,4 @@
-use Rattle.std.proofs.Common.{List, ℕ, Err, subst, sym}
+use Rattle.std.proofs.Common.{Err, subst, sym}
 use Rattle.gw_shell.specs.Asking.{Counts}
 use Rattle.gw_shell.specs.declared.fault.Fault.{Fault}
 use Rattle.gw_shell.proofs.CountLemmas.{uncounted}

@@ -1,0 +1,45 @@
+use Rattle.std.specs.Io.Buffered.{writer_contents}
+use Rattle.gw_system.specs.Host.{OpensAtLine}
+use Rattle.gw_service.specs.Kept.{LeavesService, WholeMachine, state_machine, whole_machine}
+use Rattle.gw_service.specs.Serving.{machine}
+use Rattle.gw_service.specs.StampedRun.{whole_with_stamps}
+use Rattle.gw_service.proofs.StampedLemmas.{with_them, without_them}
+use Rattle.gw_service.proofs.stamped_run.serve_run.Goals as goal
+
+pub returns-then-options-clause-served : goal.returns-then-options-clause-served
+returns-then-options-clause-served g c =
+    let old = c.args.host.now in
+    let options = c.args.options.now in
+    let held = writer_contents g.W.Write.contents c.args.output.now in
+    let holds = writer_contents g.W.Write.contents c.serve_stamped.new.output in
+    let whole : WholeMachine g.row.H-Log.Denot g.row.H-Sockets.Denot g.row.H-StateStore.Denot g.row.H-Reloads.Denot = whole_machine
+    (machine (OpensAtLine (g.H.Host.LogOpens old) (g.H.Host.LogIsCut old) g.H.Log.OctetSink.held) (g.H.Host.SocketsOpen old)
+    (g.H.Host.RoutesIp old) (g.H.Host.Closes c.serve_stamped.new.host) g.H.Log.OctetSink.held g.H.Sockets.Wire.calls)
+    (state_machine (g.H.Host.FileReads old) (g.H.Host.LastLines old) (g.H.Host.StoreOpens old) (g.H.Host.ReloadsOpen old)
+    g.H.StateStore.Store.held g.H.Reloads.Requests.told) in
+    let done = c.serve_stamped.ensures.served in (
+      done.0,
+      with_them options.stamp
+          (LeavesService (whole_with_stamps {C = g.row.H-Calendar.Denot} whole) options held holds c.args.config done.0 c.serve_stamped.result)
+          (LeavesService whole options held holds c.args.config done.0 c.serve_stamped.result) c.if-options.true done.1,
+      done.2,
+    )
+
+pub returns-else-options-clause-served : goal.returns-else-options-clause-served
+returns-else-options-clause-served g c =
+    let old = c.args.host.now in
+    let options = c.args.options.now in
+    let held = writer_contents g.W.Write.contents c.args.output.now in
+    let holds = writer_contents g.W.Write.contents c.serve_ports.new.output in
+    let whole : WholeMachine g.row.H-Log.Denot g.row.H-Sockets.Denot g.row.H-StateStore.Denot g.row.H-Reloads.Denot = whole_machine
+    (machine (OpensAtLine (g.H.Host.LogOpens old) (g.H.Host.LogIsCut old) g.H.Log.OctetSink.held) (g.H.Host.SocketsOpen old)
+    (g.H.Host.RoutesIp old) (g.H.Host.Closes c.serve_ports.new.host) g.H.Log.OctetSink.held g.H.Sockets.Wire.calls)
+    (state_machine (g.H.Host.FileReads old) (g.H.Host.LastLines old) (g.H.Host.StoreOpens old) (g.H.Host.ReloadsOpen old)
+    g.H.StateStore.Store.held g.H.Reloads.Requests.told) in
+    let done = c.serve_ports.ensures.served in (
+      done.0,
+      without_them options.stamp
+          (LeavesService (whole_with_stamps {C = g.row.H-Calendar.Denot} whole) options held holds c.args.config done.0 c.serve_ports.result)
+          (LeavesService whole options held holds c.args.config done.0 c.serve_ports.result) c.if-options.false done.1,
+      done.2,
+    )

@@ -1,0 +1,82 @@
+-- The metrics of a run, which are put into a store.
+use Rattle.std.specs.Prelude.{◌≡◌, ℕ, ◌+◌, ◌-◌, ◌^◌, min, if◌then◌else◌, List, length, map, Option, Some, None}
+use Rattle.gw_core.specs.State.{State}
+use Rattle.gw_core.specs.declared.event.Counts as gateway
+use Rattle.gw_metrics.specs.Text.{metrics_text}
+use Rattle.gw_metrics.specs.declared.counts.Counts.{Counts}
+use Rattle.gw_metrics.specs.declared.counts.Drops.{Drops}
+use Rattle.gw_metrics.specs.declared.counts.Reloads.{Reloads}
+use Rattle.gw_metrics.specs.declared.counts.StateTries.{StateTries}
+use Rattle.gw_metrics_file.specs.Writing.{Writing, WritesAtTick}
+use Rattle.gw_relay.specs.declared.port.PortState.{PortState}
+use Rattle.gw_rules.specs.declared.rule.Rule.{Rule}
+use Rattle.gw_serving.specs.Reports.{report_of}
+use Rattle.gw_serving.specs.declared.report.Report.{Report}
+use Rattle.gw_serving.specs.declared.serving.Served.{Served}
+use Rattle.gw_serving.specs.declared.tally.Tally.{Tally}
+use Rattle.gw_service.specs.Stats.{has_gone_on}
+use Rattle.gw_service.specs.declared.losses.Losses.{Losses}
+use Rattle.gw_service.specs.declared.metrics.Measures.{Measures}
+use Rattle.gw_service.specs.declared.reload.ReloadCounts.{ReloadCounts}
+
+-- What is measured of a run whose gateway began with these counts and is in this state, when so much was done. The counts never
+-- fell since then; if they had, nothing would be.
+abbrev pub measures_of : gateway.Counts → State → Served → Tally → ReloadCounts → Losses → Option StateTries → Option Measures
+measures_of start w s tally reloads losses tries =
+    if has_gone_on start w s
+    then Some (record { report = report_of start w s tally; reloads = reloads; losses = losses; tries = tries })
+    else None
+
+abbrev pub drops_of : Report → Drops
+drops_of r = record {
+  enter = r.tally.enter;
+  claim = r.tally.claim;
+  malformed = r.tally.malformed;
+  own_network = r.tally.own_network;
+  no_peer = r.tally.no_peer;
+  memory = r.memory_drops;
+}
+
+abbrev pub reloads_of : ReloadCounts → Reloads
+reloads_of counts = record { taken_over = counts.taken_over; refused = counts.refused }
+
+-- how many foreign devices are registered at a port
+abbrev pub device_count : PortState → ℕ
+device_count link = length link.fdt.rows
+
+-- What is written of a run: what was measured, how many asks each of these rules decided, how many foreign devices each port
+-- has, and how many texts were lost. What was received was taken, or memory was refused for it.
+pub record AreCounts (m : Measures) (in_force : List Rule) (decided : Option (List ℕ)) (devices : List ℕ) (lost : ℕ) (c : Counts)
+    : Type 0 where
+  pub ticks : c.ticks ≡ m.report.seconds
+  pub received : c.received ≡ min (m.report.datagrams + m.report.memory_drops) (2 ^ 64 - 1)
+  pub taken : c.taken ≡ m.report.datagrams
+  pub drops : c.drops ≡ drops_of m.report
+  pub sends : c.sends ≡ m.report.sends
+  pub send_failures : c.send_failures ≡ m.report.send_failures
+  pub receive_failures : c.receive_failures ≡ m.report.receive_failures
+  pub denials : c.denials ≡ m.report.denials
+  pub rules : c.rules.now ≡ in_force
+  pub decisions : c.decisions.now ≡ decided
+  pub unwatched : c.unwatched ≡ m.losses.unwatched
+  pub foreign_devices : c.foreign_devices.now ≡ devices
+  pub peers : c.peers ≡ m.report.peers
+  pub learned_routes : c.learned_routes ≡ m.report.learned_routes
+  pub reloads : c.reloads ≡ reloads_of m.reloads
+  pub state : c.state ≡ m.tries
+  pub lost_trial_lines : c.lost_trial_lines ≡ m.losses.trial_lines
+  pub lost_audit_lines : c.lost_audit_lines ≡ m.losses.audit_lines
+  pub lost_metrics : c.lost_metrics ≡ lost
+
+-- the text of that is put into the store, if it is due
+abbrev pub PutsInto : {S : Type 0} → (S → Option (List ℕ)) → Writing S → Measures → State → Option (List ℕ) → Writing S → Type 0
+PutsInto held before m w decisions after =
+    (c : Counts) × AreCounts m w.rules decisions (map device_count w.relay.links) before.lost c
+    × WritesAtTick held before m.report.seconds (metrics_text c) after
+
+-- if there is a store
+abbrev pub PutsDue : {S : Type 0} → (S → Option (List ℕ)) → Option (Writing S) → Option Measures → State → Option (List ℕ)
+    → Option (Writing S) → Type 0
+PutsDue held (Some before) (Some m) w decisions (Some after) = PutsInto held before m w decisions after
+PutsDue held (Some before) (Some m) w decisions None = ⊥
+PutsDue held before _ w decisions after = after ≡ before

@@ -1,0 +1,165 @@
+//! The metrics of a run, which are put into a store.
+
+ghost use Rattle.std.specs.Prelude.{◌≡◌, ◌≤◌, length, map, option_map};
+ghost use Rattle.gw_addr.specs.declared.TheConstants.{MAX_PORTS};
+ghost use Rattle.gw_metrics_file.specs.Writing.{nothing_written};
+ghost use Rattle.gw_service.specs.Metrics.{AreCounts, PutsDue, PutsInto, device_count, drops_of, reloads_of};
+
+use crate::keeping::StateKeeper;
+use crate::losses::Losses;
+use crate::reload::ReloadCounts;
+use arrayvec::ArrayVec;
+use gw_addr::MAX_PORTS;
+use gw_core::Gateway;
+use gw_metrics::{Counts, Drops, Reloads, StateTries};
+use gw_metrics_file::Metrics;
+use gw_relay::PortState;
+use gw_rules::RuleList;
+use gw_serving::{Report, Store};
+use gw_tally::Tally;
+use std::alloc::Global;
+
+/// What is measured of a run at a moment, beside what each rule decided and what each port has.
+#[derive(Clone, Copy)]
+pub(crate) struct Measures {
+    /// What was done since the gateway began, and what its tables hold.
+    pub report: Report,
+    /// How often its configuration was read again.
+    pub reloads: ReloadCounts,
+    /// How much of what is watched was lost.
+    pub losses: Losses,
+    /// How its state is kept, if it is.
+    pub tries: Option<StateTries>,
+}
+
+/// How many datagrams weren't passed on, by the reason.
+fn drops_of(report: &Report) -> Drops
+    ensures { result ≡ drops_of report.now }
+{
+    Drops {
+        enter: report.tally.enter,
+        claim: report.tally.claim,
+        malformed: report.tally.malformed,
+        own_network: report.tally.own_network,
+        no_peer: report.tally.no_peer,
+        memory: report.memory_drops,
+    }
+}
+
+/// How often the configuration was read again.
+fn reloads_of(counts: ReloadCounts) -> Reloads
+    ensures { result ≡ reloads_of counts }
+{
+    Reloads {
+        taken_over: counts.taken_over,
+        refused: counts.refused,
+    }
+}
+
+/// How many foreign devices are registered at each port, in order.
+fn devices_of(ports: &[PortState]) -> ArrayVec<u64, MAX_PORTS>
+    requires few { length ports.now ≤ MAX_PORTS }
+    ensures { result.items ≡ map device_count ports.now }
+{
+    let mut counts = ArrayVec::new();
+    for port in ports {
+        counts.push(port.fdt.count() as u64);
+    }
+    counts
+}
+
+/// What is written of a run: what was measured, how many asks each of these rules decided, how many foreign devices each
+/// port has, and how many texts were lost.
+fn counts_of<'a>(
+    measures: &Measures,
+    rules: &'a RuleList,
+    decisions: &'a Option<Tally>,
+    foreign_devices: &'a [u64],
+    lost_metrics: u64,
+) -> Counts<'a>
+    ensures { AreCounts measures.now rules.now decisions.now foreign_devices.now lost_metrics result }
+{
+    let Measures {
+        report,
+        reloads,
+        losses,
+        tries,
+    } = *measures;
+    Counts {
+        ticks: report.seconds,
+        received: report.datagrams.saturating_add(report.memory_drops),
+        taken: report.datagrams,
+        drops: drops_of(&report),
+        sends: report.sends,
+        send_failures: report.send_failures,
+        receive_failures: report.receive_failures,
+        denials: report.denials,
+        rules,
+        decisions,
+        unwatched: losses.unwatched,
+        foreign_devices,
+        peers: report.peers,
+        learned_routes: report.learned_routes,
+        reloads: reloads_of(reloads),
+        state: tries,
+        lost_trial_lines: losses.trial_lines,
+        lost_audit_lines: losses.audit_lines,
+        lost_metrics,
+    }
+}
+
+/// Puts the text of what was measured into a store, if it is due.
+fn put_into<S: Store + Drop>(
+    alloc: Global,
+    metrics: &mut Metrics<S>,
+    measures: &Measures,
+    gateway: &Gateway,
+    decisions: &Option<Tally>,
+)
+    ensures { PutsInto S.held metrics.old measures.now gateway.now decisions.now metrics.new }
+{
+    let devices = devices_of(gateway.relay().ports());
+    let lost = metrics.lost();
+    let counts = counts_of(
+        measures,
+        gateway.rules(),
+        decisions,
+        devices.as_slice(),
+        lost,
+    );
+    metrics.at_tick(alloc, measures.report.seconds, &counts);
+}
+
+/// Puts the text of what was measured into a store, if there is one, something was measured and a text is due.
+pub(crate) fn put_due<K: StateKeeper, S: Store + Drop>(
+    alloc: Global,
+    metrics: &mut Option<Metrics<S>>,
+    measured: &Option<Measures>,
+    gateway: &Gateway,
+    keeper: &K,
+)
+    ensures { PutsDue S.held metrics.old measured.now gateway.now (K.decisions keeper.now) metrics.new }
+{
+    if let Some(metrics) = metrics {
+        if let Some(measures) = measured {
+            let nothing = None;
+            put_into(
+                alloc,
+                metrics,
+                measures,
+                gateway,
+                keeper.decisions(&nothing),
+            );
+        }
+    }
+}
+
+/// What puts metrics into this store, nothing yet, if there is one.
+pub(crate) fn metrics_in<S: Store + Drop>(store: Option<S>) -> Option<Metrics<S>>
+    ensures { result ≡ option_map nothing_written store }
+{
+    match store {
+        Some(store) => Some(Metrics::new(store)),
+        None => None,
+    }
+}

@@ -1,0 +1,99 @@
+//! A run whose log in a file may have stamps and notes.
+
+ghost use Rattle.std.specs.Prelude.{◌≡◌, List, ℕ, Option, Some, OnOk, option_map, string_bytes};
+ghost use Rattle.std.specs.Io.Buffered.{writer_buffer, writer_contents};
+ghost use Rattle.std.specs.Io.KnownBytes.{Appends};
+ghost use Rattle.gw_stamping.specs.declared.noted.Noted.{Noted};
+ghost use Rattle.gw_stamping.specs.declared.stamped.Stamped.{Stamped};
+ghost use Rattle.gw_system.specs.Host.{OpensAtLine};
+ghost use Rattle.gw_system.specs.StampedHost.{log_if};
+ghost use Rattle.gw_service.specs.Kept.{LeavesService, state_machine, whole_machine};
+ghost use Rattle.gw_service.specs.Serving.{IsFlushedFor, machine};
+ghost use Rattle.gw_service.specs.StampedRun.{LeavesTimed, timed_machine, whole_with_stamps};
+
+use crate::fault::ServiceFault;
+use crate::serving::serve_ports;
+use gw_command_line::RunOptions;
+use gw_configuration::Config;
+use gw_script::OctetSink;
+use gw_stamping::{Noted, Stamped};
+use gw_system::{Host, StampedHost, into_log};
+use std::alloc::Global;
+use std::io::{BufWriter, Write};
+
+/// The sockets and the log that were closed on a machine with stamps, if some were.
+type Closed<S, L, C> = Option<(S, Option<Noted<Stamped<L, C>>>)>;
+
+/// Closes what was closed on a machine with stamps.
+fn close_on<H: Host>(host: &mut H, closed: Closed<H::Sockets, H::Log, H::Calendar>)
+    ensures { (sockets : H.Sockets) → (log : Option (Noted (Stamped H.Log H.Calendar))) → closed ≡ Some (sockets, log) →
+        H.Closes host.new sockets (log_if log) }
+{
+    if let Some((sockets, log)) = closed {
+        host.close(sockets, into_log(log));
+    }
+}
+
+/// Serves the ports of a configuration with stamps and notes: each line of a log in a file begins with the time, and each log gets a
+/// note when it is opened. What a log holds without them is what it holds by [`serve_ports`]. A log on standard output has neither.
+/// Faults: those of [`serve_ports`].
+fn serve_stamped<H: Host, W: Write + Drop, E: OctetSink>(
+    alloc: Global,
+    config: Config,
+    options: &RunOptions,
+    host: &mut H,
+    output: &mut BufWriter<W>,
+    errors: &mut E,
+) -> Result<(), ServiceFault>
+    ensures served { (told : List ℕ)
+        × LeavesService (whole_with_stamps {C = H.Calendar}
+        (whole_machine (machine (OpensAtLine (H.LogOpens host.old) (H.LogIsCut host.old) H.Log.held)
+        (H.SocketsOpen host.old) (H.RoutesIp host.old) (H.Closes host.new) H.Log.held H.Sockets.calls)
+        (state_machine (H.FileReads host.old) (H.LastLines host.old) (H.StoreOpens host.old)
+        (H.ReloadsOpen host.old) H.StateStore.held H.Reloads.told))) options.now
+        (writer_contents W.contents output.old) (writer_contents W.contents output.new) config told result
+        × (E.NeverFails errors.old → Appends (E.held errors.old) (E.held errors.new) told) }
+    ensures lasting { E.NeverFails errors.old → E.NeverFails errors.new }
+    ensures flush { OnOk result (IsFlushedFor (option_map string_bytes options.now.log)
+        (writer_buffer output.old) (writer_buffer output.new)) }
+{
+    let mut machine = StampedHost { host, closed: None };
+    let outcome = serve_ports(alloc, config, options, &mut machine, output, errors);
+    let StampedHost { closed, .. } = machine;
+    close_on(host, closed);
+    outcome
+}
+
+/// Serves the ports of a configuration as [`serve_ports`] does. If the options ask for stamps, each line of a log in a file begins with
+/// the time, and each log gets a note when it is opened; without both it holds what it would hold then. A log on standard output has
+/// neither.
+///
+/// # Errors
+///
+/// Those of [`serve_ports`].
+pub fn serve_run<H: Host, W: Write + Drop, E: OctetSink>(
+    alloc: Global,
+    config: Config,
+    options: &RunOptions,
+    host: &mut H,
+    output: &mut BufWriter<W>,
+    errors: &mut E,
+) -> Result<(), ServiceFault>
+    ensures served { (told : List ℕ)
+        × LeavesTimed (timed_machine {C = H.Calendar}
+        (whole_machine (machine (OpensAtLine (H.LogOpens host.old) (H.LogIsCut host.old) H.Log.held)
+        (H.SocketsOpen host.old) (H.RoutesIp host.old) (H.Closes host.new) H.Log.held H.Sockets.calls)
+        (state_machine (H.FileReads host.old) (H.LastLines host.old) (H.StoreOpens host.old)
+        (H.ReloadsOpen host.old) H.StateStore.held H.Reloads.told))) options.now
+        (writer_contents W.contents output.old) (writer_contents W.contents output.new) config told result
+        × (E.NeverFails errors.old → Appends (E.held errors.old) (E.held errors.new) told) }
+    ensures lasting { E.NeverFails errors.old → E.NeverFails errors.new }
+    ensures flush { OnOk result (IsFlushedFor (option_map string_bytes options.now.log)
+        (writer_buffer output.old) (writer_buffer output.new)) }
+{
+    if options.stamp {
+        serve_stamped(alloc, config, options, host, output, errors)
+    } else {
+        serve_ports(alloc, config, options, host, output, errors)
+    }
+}

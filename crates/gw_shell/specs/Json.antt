@@ -1,0 +1,56 @@
+-- What `check --json`, `compare --json` and `objects --csv` print, over the definitions of `gw_json` and `gw_points`.
+use Rattle.std.specs.Prelude.{◌≡◌, ◌⊎◌, ⊤, ℕ, ◌==◌, List, [], ◌++◌, length, take, Option, Some, None, Result, Ok, Err}
+use Rattle.std.specs.List.{flat_map}
+use Rattle.gw_compare.specs.Asks.{asks_of}
+use Rattle.gw_compare.specs.Comparison.{compared_by}
+use Rattle.gw_compare.specs.declared.comparison.Compared.{Compared}
+use Rattle.gw_configuration.specs.Configuration.{Configuration}
+use Rattle.gw_configuration.specs.declared.fault.ConfigFault.{ConfigFault}
+use Rattle.gw_explanation.specs.Explanation.{ExplainsText}
+use Rattle.gw_json.specs.Check.{checked_value, fault_value}
+use Rattle.gw_json.specs.Comparison.{found_value, summary_value}
+use Rattle.gw_json.specs.Document.{line_of}
+use Rattle.gw_points.specs.Points.{points_text}
+use Rattle.gw_regions.specs.Comparing.{IsSummary}
+use Rattle.gw_regions.specs.Regions.{Region}
+use Rattle.gw_regions.specs.declared.comparison.Found.{Found}
+use Rattle.gw_shell.specs.declared.fault.Fault.{Fault}
+use Rattle.gw_shell.specs.declared.fault.Fault.TheVariants as fault
+
+-- a text that was made, or memory was refused for it
+abbrev pub IsMade : List ℕ → Result (List ℕ) Fault → Type 0
+IsMade text (Ok made) = made ≡ text
+IsMade text (Err f) = f ≡ fault.Memory
+
+-- ---- `check`
+
+-- the line of a configuration
+abbrev pub checked_line : Configuration → List ℕ
+checked_line c = line_of (checked_value c)
+
+-- what explains a fault of a text, if something is said
+abbrev pub IsSaid : List ℕ → ConfigFault → Option (List ℕ) → Type 0
+IsSaid text f None = ⊤
+IsSaid text f (Some line) = ExplainsText text f (Some line)
+
+-- the line of a fault of a text, or nothing if memory was refused
+abbrev pub IsFaultLine : List ℕ → ConfigFault → List ℕ → Type 0
+IsFaultLine text f line =
+    (line ≡ []) ⊎ ((explanation : Option (List ℕ)) × IsSaid text f explanation × (line ≡ line_of (fault_value f explanation)))
+
+-- What is printed of a fault: that line if it is one of the text that was read.
+abbrev pub FaultLine : Result (List ℕ) Fault → Fault → List ℕ → Type 0
+FaultLine (Ok text) (fault.Configuration f) line = IsFaultLine text f line
+FaultLine _ _ line = line ≡ []
+
+-- ---- `compare`
+
+-- A line for each region in which the old and the new rules decide otherwise, at most so many, and a last line.
+pub record AreComparisonLines (old new : Configuration) (most : ℕ) (made : Compared) (text : List ℕ) : Type 0 where
+  pub found : List Found
+  pub left : List Region
+  pub steps : ℕ
+  pub summary : IsSummary (asks_of old new) old.rules new.rules found left
+  pub verdict : made ≡ compared_by (length found) (length left)
+  pub lines : text ≡ flat_map (λ f. line_of (found_value old.rules new.rules f)) (take most found)
+      ++ line_of (summary_value (length found) (length left == 0) steps)
