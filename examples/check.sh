@@ -93,7 +93,7 @@ refusals() {
     cut -d' ' -f3-10,12- "$work/denials" | "$program" why --config "$1.toml" > "$work/out" 2> "$work/err"
     status=$?
     agrees "the rules of the middle words of a log: $1" 0 "$1.why.out" /dev/null
-    { head -2 "$work/denials"; echo 'no line of a log'; } | "$program" why --config "$1.toml" > "$work/out" 2> "$work/err"
+    { head -2 "$work/denials"; echo 'no line of a log'; } | "$program" why --strict --config "$1.toml" > "$work/out" 2> "$work/err"
     status=$?
     head -2 "$1.why.out" > "$work/line"
     echo 'bacgw: line 3' > "$work/told"
