@@ -7,7 +7,7 @@ pub mod ReadingLemmas
 pub mod MacLemmas
 pub mod KeyLemmas
 pub mod AskLemmas
-pub mod TellingLemmas
+pub mod TranslatingLemmas
 pub mod MomentExamples
 pub mod MomentLemmas
 pub mod OnceLemmas

@@ -11,9 +11,9 @@ use Rattle.jiff_core.proofs.DateLemmas.{epoch_day-lt, epoch_day_injective}
 use Rattle.jiff_core.proofs.DateTimeLemmas.{civil_nanos-lt, civil_nanos_injective, civil_nanos_range, time_nanos_injective}
 use Rattle.gw_audit.specs.Moment.{ComesLater, IsLater, IsMomentOf, IsTextOf, day_of, fraction_of, front_text, moment_text, time_with, written_with}
 use Rattle.gw_audit.specs.Entry.{IsLineOf, IsShowable, denial_of}
-use Rattle.gw_audit.specs.Told.{IsToldAs}
+use Rattle.gw_audit.specs.Translation.{IsTranslatedAs}
 use Rattle.gw_audit.specs.declared.entry.ShownAsk.{ShownAsk}
-use Rattle.gw_audit.proofs.TellingLemmas.{shown_again}
+use Rattle.gw_audit.proofs.TranslatingLemmas.{shown_again}
 use Rattle.gw_audit.specs.Words.{words_of}
 use Rattle.gw_audit.specs.declared.entry.Shown.{Shown}
 use Rattle.gw_audit.specs.internal.Written.{IsClock}
@@ -93,23 +93,23 @@ is_date date d year month day of_year of_month of_day since e =
 -- a text whose time of day no clock shows gives no moment
 pub no_clock : (text : List ℕ) (read : Datetime) (time : Time) → parse_datetime text ≡ Some read → read.time ≡ Some time → IsClock time None
     → (m : Moment) → ¬ (IsTextOf text m)
-no_clock text read time is has none m told =
-    let written : read ≡ written_with m told.fraction = cc in
-    let clock : Some time ≡ Some (time_with m.local.time told.fraction) = sym has ∙ ap (λ (d : Datetime). d.time) written in
-    none m.local.time told.fraction told.nanosecond cc
+no_clock text read time is has none m translated =
+    let written : read ≡ written_with m translated.fraction = cc in
+    let clock : Some time ≡ Some (time_with m.local.time translated.fraction) = sym has ∙ ap (λ (d : Datetime). d.time) written in
+    none m.local.time translated.fraction translated.nanosecond cc
 
 -- the text for a line that shows a denial: the moment of its tick, and its words
 pub tells_shown : {T F : Type 0} (r : Result T F) (start : Option Moment) (line : List ℕ) (shown : Shown) (at : Option Moment) (a b text : List ℕ)
     → IsLineOf line (denial_of shown) → IsShowable (denial_of shown) → IsMomentOf start shown.tick at → a ≡ [] → b ≡ a ++ front_text at
-    → OnOk r (text ≡ b ++ (words_of shown.ask shown.rule.now ++ 10 ∷ [])) → OnOk r (IsToldAs start line text)
+    → OnOk r (text ≡ b ++ (words_of shown.ask shown.rule.now ++ 10 ∷ [])) → OnOk r (IsTranslatedAs start line text)
 tells_shown (Ok x) start line shown at a b text spelled is moment none front then = inl (record {
   denial = denial_of shown;
   showable = is;
   spelled = spelled;
-  told = record {
+  translated = record {
     at = at;
     moment = moment;
-    told = then ∙ ap (λ (t : List ℕ). t ++ (words_of shown.ask shown.rule.now ++ 10 ∷ [])) (front ∙ ap (λ (t : List ℕ). t ++ front_text at) none)
+    translated = then ∙ ap (λ (t : List ℕ). t ++ (words_of shown.ask shown.rule.now ++ 10 ∷ [])) (front ∙ ap (λ (t : List ℕ). t ++ front_text at) none)
         ∙ sym (append_assoc (front_text at) (words_of shown.ask shown.rule.now) (10 ∷ []))
         ∙ ap (λ (ask : ShownAsk). front_text at ++ words_of ask shown.rule.now ++ 10 ∷ []) (sym (shown_again shown.number shown.tick shown.rule.now shown.ask));
   };

@@ -7,7 +7,7 @@ use Rattle.gw_audit.specs.declared.denial.Denial.{Denial}
 use Rattle.gw_audit.specs.declared.moment.Moment.{Moment}
 use Rattle.gw_audit.proofs.MomentLemmas.{one_front}
 use Rattle.gw_audit.proofs.LineLemmas.{names_one_denial}
-use Rattle.gw_audit.specs.Told.{IsTelling, TellsEach, TellsOnce, TellsWords}
+use Rattle.gw_audit.specs.Translation.{IsTranslation, TranslatesEach, TranslatesOnce, TranslatesWords}
 use Rattle.gw_audit.specs.internal.Reading.{with_both}
 use Rattle.gw_audit.specs.Words.{words, words_of}
 
@@ -31,35 +31,35 @@ same_front start tick other a b same of_a of_b =
 
 -- so two texts for denials that are shown alike are the same
 same_telling : (start : Option Moment) (a b : Denial) (line x y : List ℕ) → IsShowable a → IsShowable b → IsLineOf line a → IsLineOf line b
-    → IsTelling start a x → IsTelling start b y → x ≡ y
+    → IsTranslation start a x → IsTranslation start b y → x ≡ y
 same_telling start a b line x y shown_a shown_b of_a of_b told_x told_y =
     let same = names_one_denial a b shown_a.numbers shown_b.numbers (sym of_a ∙ of_b) in
     let front = same_front start a.tick b.tick told_x.at told_y.at same.tick told_x.moment told_y.moment in
     let spelled = same_words a b line shown_a shown_b of_a of_b in
-    told_x.told ∙ ap (λ (t : List ℕ). t ++ words a ++ 10 ∷ []) front
-    ∙ ap (λ (t : List ℕ). front_text told_y.at ++ t ++ 10 ∷ []) spelled ∙ sym told_y.told
+    told_x.translated ∙ ap (λ (t : List ℕ). t ++ words a ++ 10 ∷ []) front
+    ∙ ap (λ (t : List ℕ). front_text told_y.at ++ t ++ 10 ∷ []) spelled ∙ sym told_y.translated
 
 -- a text for a denial is one for each that is shown alike
 alike : (start : Option Moment) (a b : Denial) (line text : List ℕ) → IsShowable a → IsShowable b → IsLineOf line a → IsLineOf line b
-    → IsTelling start a text → IsTelling start b text
-alike start a b line text shown_a shown_b of_a of_b told =
+    → IsTranslation start a text → IsTranslation start b text
+alike start a b line text shown_a shown_b of_a of_b translated =
     let same = names_one_denial a b shown_a.numbers shown_b.numbers (sym of_a ∙ of_b) in
     record {
-      at = told.at;
-      moment = subst (λ (t : ℕ). IsMomentOf start t told.at) same.tick told.moment;
-      told = told.told ∙ ap (λ (t : List ℕ). front_text told.at ++ t ++ 10 ∷ []) (same_words a b line shown_a shown_b of_a of_b);
+      at = translated.at;
+      moment = subst (λ (t : ℕ). IsMomentOf start t translated.at) same.tick translated.moment;
+      translated = translated.translated ∙ ap (λ (t : List ℕ). front_text translated.at ++ t ++ 10 ∷ []) (same_words a b line shown_a shown_b of_a of_b);
     }
 
-pub each : TellsEach
-each start d line text shown of_d (inl told) = alike start told.denial d line text told.showable shown told.spelled of_d told.told
+pub each : TranslatesEach
+each start d line text shown of_d (inl translated) = alike start translated.denial d line text translated.showable shown translated.spelled of_d translated.translated
 each start d line text shown of_d (inr passed) = absurd (passed.is_none d shown of_d)
 
-pub once : TellsOnce
-once start line a b (inl told) (inl other) =
-    same_telling start told.denial other.denial line a b told.showable other.showable told.spelled other.spelled told.told other.told
-once start line a b (inl told) (inr passed) = absurd (passed.is_none told.denial told.showable told.spelled)
-once start line a b (inr passed) (inl told) = absurd (passed.is_none told.denial told.showable told.spelled)
+pub once : TranslatesOnce
+once start line a b (inl translated) (inl other) =
+    same_telling start translated.denial other.denial line a b translated.showable other.showable translated.spelled other.spelled translated.translated other.translated
+once start line a b (inl translated) (inr passed) = absurd (passed.is_none translated.denial translated.showable translated.spelled)
+once start line a b (inr passed) (inl translated) = absurd (passed.is_none translated.denial translated.showable translated.spelled)
 once start line a b (inr passed) (inr other) = passed.same ∙ sym other.same
 
-pub words_alone : TellsWords
-words_alone d text told = told.told ∙ ap (λ (at : Option Moment). front_text at ++ words d ++ 10 ∷ []) told.moment
+pub words_alone : TranslatesWords
+words_alone d text translated = translated.translated ∙ ap (λ (at : Option Moment). front_text at ++ words d ++ 10 ∷ []) translated.moment

@@ -116,5 +116,5 @@ pub record IsAskInWords (line : List ℕ) (s : ShownAsk) : Type 0 where
   pub spelled : line ≡ ask_text s
 
 -- a line that shows an ask: that of a denial, or its words alone
-abbrev pub TellsAsk : List ℕ → ShownAsk → Type 0
-TellsAsk line s = IsLineOfAsk line s ⊎ IsAskInWords line s
+abbrev pub ShowsAsk : List ℕ → ShownAsk → Type 0
+ShowsAsk line s = IsLineOfAsk line s ⊎ IsAskInWords line s

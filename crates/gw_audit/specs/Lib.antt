@@ -4,5 +4,5 @@ pub mod Entry
 pub mod internal
 pub mod Moment
 pub mod Short
-pub mod Told
+pub mod Translation
 pub mod Words

@@ -7,7 +7,7 @@ ghost use Rattle.gw_addr.specs.Text.{Lacks};
 ghost use Rattle.gw_rules.specs.Name.{is_name};
 ghost use Rattle.gw_audit.specs.Entry.{IsShowable};
 ghost use Rattle.gw_audit.specs.Laws.{EndsOnce, IsDenial, IsKept, NamesOneDenial, StaysShort};
-ghost use Rattle.gw_audit.specs.Told.{TellsEach, TellsOnce, TellsWords};
+ghost use Rattle.gw_audit.specs.Translation.{TranslatesEach, TranslatesOnce, TranslatesWords};
 
 use crate::denial::Denial;
 use gw_rules::RuleName;
@@ -23,10 +23,10 @@ pub fn lines()
 
 /// Nothing is lost, and nothing is made up: a line has one text; and the text for a denial's line
 /// is the words of that denial, after the moment of its tick if it is known when the log began.
-pub fn telling()
-    ensures once { TellsOnce }
-    ensures each { TellsEach }
-    ensures words { TellsWords }
+pub fn translating()
+    ensures once { TranslatesOnce }
+    ensures each { TranslatesEach }
+    ensures words { TranslatesWords }
 {}
 
 /// The numbers of each denial fit their types, and its rule has a name, so those laws hold of every

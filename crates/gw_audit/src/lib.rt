@@ -9,14 +9,14 @@ mod entry;
 pub mod laws;
 mod moment;
 mod reading;
-mod telling;
 mod text;
+mod translating;
 mod words;
 
 pub use denial::{Denial, Denials};
 pub use entry::{Shown, ShownAsk, Stations};
 pub use moment::Moment;
 pub use reading::{read_ask, read_line};
-pub use telling::tell_log;
 pub use text::{line, put_ask};
-pub use words::tell_line;
+pub use translating::translate_log;
+pub use words::translate_line;

@@ -7,9 +7,9 @@ ghost use Rattle.std.specs.Option.{IsSomeAnd, option_and_then};
 ghost use Rattle.hex.specs.Hex.{decode_of};
 ghost use Rattle.gw_rules.specs.Operation.{operation_name};
 ghost use Rattle.gw_audit.specs.declared.denial.Denial.{Denial};
-ghost use Rattle.gw_audit.specs.Entry.{IsLineOf, IsShowable, TellsAsk, denial_of};
+ghost use Rattle.gw_audit.specs.Entry.{IsLineOf, IsShowable, ShowsAsk, denial_of};
 ghost use Rattle.gw_audit.specs.Laws.{AreShownAlike};
-ghost use Rattle.gw_audit.specs.internal.Reading.{Gives, ask_at, ask_in, behind, field_in, field_to, is_lower, key_in, key_to, labelled_to, line_in, long_key, long_key_in, mac_in, mac_to, name_of, named_number, named_stations, net_of, number_in, number_to, operation_in, other_number, parted_at, port_at, port_of, priority_at, request_at, rule_at, source_at, station_in, station_key, stations_in, target_at, told_by, whole_ask, word_at};
+ghost use Rattle.gw_audit.specs.internal.Reading.{Gives, ask_at, ask_in, behind, field_in, field_to, is_lower, key_in, key_to, labelled_to, line_in, long_key, long_key_in, mac_in, mac_to, name_of, named_number, named_stations, net_of, number_in, number_to, operation_in, other_number, parted_at, port_at, port_of, priority_at, request_at, rule_at, source_at, station_in, station_key, stations_in, target_at, shown_by, whole_ask, word_at};
 
 use crate::entry::{Shown, ShownAsk, Stations};
 use crate::text::{KEYS, operation_named};
@@ -47,15 +47,15 @@ pub fn read_line(line: &[u8]) -> Option<Shown<'_>>
 /// 1 1:C0A80105BAC0 read dst=100 svc=12 obj=5,2 prop=85 prio=- sender=C0A80105BAC0 station=-
 /// ```
 pub fn read_ask(line: &[u8]) -> Option<ShownAsk>
-    ensures found { IfSome result (TellsAsk line.now) }
-    ensures only { (ask : ShownAsk) → TellsAsk line.now ask → result ≡ Some ask }
+    ensures found { IfSome result (ShowsAsk line.now) }
+    ensures only { (ask : ShownAsk) → ShowsAsk line.now ask → result ≡ Some ask }
 {
-    ask_told(line)
+    ask_in_line(line)
 }
 
 /// The ask of a whole line, or else of its words alone.
-fn ask_told(line: &[u8]) -> Option<ShownAsk>
-    ensures { result ≡ told_by (line_in line.now) line.now }
+fn ask_in_line(line: &[u8]) -> Option<ShownAsk>
+    ensures { result ≡ shown_by (line_in line.now) line.now }
 {
     match line_in(line) {
         Some(shown) => Some(shown.ask),

@@ -4,7 +4,7 @@ ghost use Rattle.std.specs.Prelude.{◌≡◌, ◌++◌, ◌∷◌, [], decimal,
 ghost use Rattle.gw_addr.specs.Appending.{IsAppended};
 ghost use Rattle.gw_audit.specs.Line.{field_text};
 ghost use Rattle.gw_audit.specs.Moment.{IsMomentOf, front_text};
-ghost use Rattle.gw_audit.specs.Told.{IsToldAs};
+ghost use Rattle.gw_audit.specs.Translation.{IsTranslatedAs};
 ghost use Rattle.gw_audit.specs.Words.{asker_text, by_other_text, by_text, claim_text, deed_of, deed_text, device_name, device_text, foreign_text, goal_text, is_one, key_name, kind_text, name_text, network_name, network_text, object_text, priority_text, property_text, sender_text, service_text, source_text, station_of, station_text, target_text, words_of};
 
 use crate::entry::{Shown, ShownAsk};
@@ -41,13 +41,13 @@ const CLAIM: u64 = 13;
 /// ```
 ///
 /// 1 Memory: a growth of the buffer was refused; it then holds no more than a front of the text.
-pub fn tell_line(
+pub fn translate_line(
     alloc: Global,
     start: Option<Moment>,
     line: &[u8],
     text: &mut Vec<u8>,
 ) -> Result<(), AllocError>
-    ensures { OnOk result (IsToldAs start line.now text.new.items) }
+    ensures { OnOk result (IsTranslatedAs start line.now text.new.items) }
 {
     text.clear();
     match read_line(line) {

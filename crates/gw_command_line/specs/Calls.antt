@@ -5,7 +5,7 @@ use Rattle.clap.specs.declared.error.kind.ErrorKind.TheVariants as parse
 use Rattle.gw_command_line.specs.CommandLine.{AskFor}
 use Rattle.gw_command_line.specs.Commands.{commands}
 use Rattle.gw_command_line.specs.Requests.{Checks, ChecksJson, Compares, ComparesJson, Explains, Judges, ListsLog, ListsPoints, Migrates}
-use Rattle.gw_command_line.specs.Requests.{Reloads, Replays, Reports, Request, Serves, Shows, Suggests, TellsLog, asked_in, most_count}
+use Rattle.gw_command_line.specs.Requests.{Reloads, Replays, Reports, Request, Serves, Shows, Suggests, TranslatesLog, asked_in, most_count}
 
 -- these words, after the program's name, ask for this
 abbrev pub Calls : List Text → Request → Type 0
@@ -89,12 +89,12 @@ pub record CallsAreTaken : Type 0 where
       (Reloads site (codes "again") (Some (codes "old.toml", 20)))
   pub report : Calls (codes "report" ∷ on_site (codes "--log" ∷ codes "denials.log" ∷ [])) (Reports site (Some (codes "denials.log")))
   pub points : Calls (codes "objects" ∷ on_site (codes "--csv" ∷ [])) (ListsPoints site)
-  pub log : Calls (codes "log" ∷ []) (TellsLog None)
+  pub log : Calls (codes "log" ∷ []) (TranslatesLog None)
   pub log_json : Calls (codes "log" ∷ codes "--json" ∷ []) ListsLog
   pub why_json : Calls (codes "why" ∷ on_site (codes "--json" ∷ [])) (Judges site false)
   pub why_json_strict : Calls (codes "why" ∷ on_site (codes "--json" ∷ codes "--strict" ∷ [])) (Judges site true)
   pub log_since : Calls (codes "log" ∷ codes "--start" ∷ codes "2026-11-25T08:00:00+01:00" ∷ [])
-      (TellsLog (Some (codes "2026-11-25T08:00:00+01:00")))
+      (TranslatesLog (Some (codes "2026-11-25T08:00:00+01:00")))
 
 pub record CallsAreRefused : Type 0 where
   pub check_json_explain : Mistakes (codes "check" ∷ on_site (codes "--json" ∷ codes "--explain" ∷ []))

@@ -8,7 +8,7 @@ use Rattle.gw_audit.specs.Moment.{IsTextOf}
 use Rattle.gw_audit.specs.declared.moment.Moment.{Moment}
 use Rattle.gw_command_line.specs.Commands.{commands}
 use Rattle.gw_command_line.specs.Requests.{Checks, ChecksJson, Compares, ComparesJson, Explains, Judges, ListsLog, ListsPoints, Migrates}
-use Rattle.gw_command_line.specs.Requests.{Reloads, Replays, Reports, Request, Serves, Service, Shows, Suggests, TellsLog, asked_in}
+use Rattle.gw_command_line.specs.Requests.{Reloads, Replays, Reports, Request, Serves, Service, Shows, Suggests, TranslatesLog, asked_in}
 use Rattle.gw_command_line.specs.declared.command_line.Choice.{Choice}
 use Rattle.gw_command_line.specs.declared.command_line.Choice.TheVariants as choice
 use Rattle.gw_command_line.specs.declared.options.RunOptions.{RunOptions}
@@ -60,7 +60,7 @@ IsFor request (choice.CompareJson old new most) = request ≡ ComparesJson (stri
 IsFor request (choice.State config state) = request ≡ Shows (string_bytes config) (string_bytes state)
 IsFor request (choice.Suggest file fills exact) = request ≡ Suggests (string_bytes file) fills exact
 IsFor request (choice.Reload config file was) = request ≡ Reloads (string_bytes config) (string_bytes file) (option_map was_of was)
-IsFor request (choice.Log start) = (text : Option Text) × (request ≡ TellsLog text) × IsStart text start
+IsFor request (choice.Log start) = (text : Option Text) × (request ≡ TranslatesLog text) × IsStart text start
 IsFor request choice.Objects = request ≡ ListsLog
 IsFor request (choice.Judge file strict) = request ≡ Judges (string_bytes file) strict
 IsFor request (choice.Report file log) = request ≡ Reports (string_bytes file) (option_map string_bytes log)
@@ -78,7 +78,7 @@ IsWas was (Err fault.Memory) = ⊤
 
 -- No choice is what was asked for: the text at which the log is to have begun is no moment.
 abbrev pub IsVoid : Request → Type 0
-IsVoid (TellsLog text) = (start : Option Moment) → ¬ (IsStart text start)
+IsVoid (TranslatesLog text) = (start : Option Moment) → ¬ (IsStart text start)
 IsVoid _ = ⊥
 
 -- a choice is what a call asks for, and a bad command line is a call that asks for nothing; memory may run out at any

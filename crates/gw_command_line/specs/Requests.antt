@@ -35,7 +35,7 @@ pub data Request : Type 0 where
   Shows : (config state : Text) → Request
   Reloads : (config request : Text) (was : Option (Text × ℕ)) → Request
   Suggests : (file : Text) (fills exact : Bool) → Request
-  TellsLog : (start : Option Text) → Request
+  TranslatesLog : (start : Option Text) → Request
   ListsLog : Request
   Judges : (file : Text) (strict : Bool) → Request
   Reports : (file : Text) (log : Option Text) → Request
@@ -184,7 +184,7 @@ list_asked (Some start) = None
 -- `log`: in words, or as JSON objects
 abbrev pub log_asked : Values → Option Request
 log_asked value =
-    if is_true (value (codes "json")) then list_asked (value (codes "start")) else Some (TellsLog (value (codes "start")))
+    if is_true (value (codes "json")) then list_asked (value (codes "start")) else Some (TranslatesLog (value (codes "start")))
 
 -- a command's name is this one
 abbrev pub is_named : Text → Text → Bool

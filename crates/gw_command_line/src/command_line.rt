@@ -4,7 +4,7 @@ ghost use Rattle.std.specs.Prelude.{◌≡◌, Some, codes, map, option_map, str
 ghost use Rattle.std.specs.Option.{option_and_then};
 ghost use Rattle.clap.specs.Words.{first_value, found_of, kind_of, subcommand_rows_of};
 ghost use Rattle.gw_command_line.specs.CommandLine.{AskFor, Chooses, IsAnswer, IsChosen, IsRefusal, IsWas};
-ghost use Rattle.gw_command_line.specs.Requests.{Reports, Request, TellsLog, are_paired, asked, asked_by, asked_of_file, can_stamp};
+ghost use Rattle.gw_command_line.specs.Requests.{Reports, Request, TranslatesLog, are_paired, asked, asked_by, asked_of_file, can_stamp};
 ghost use Rattle.gw_command_line.specs.Requests.{check_asked, check_in_words, compare_asked, comparison_in, list_asked, log_asked, reload_asked};
 ghost use Rattle.gw_command_line.specs.Requests.{run_asked, state_asked, was_in, why_asked};
 
@@ -345,7 +345,7 @@ fn list_choice(matches: &ArgMatches<'_>) -> Result<Choice, WordsFault>
 
 /// What `log` asks for in words.
 fn words_choice(matches: &ArgMatches<'_>) -> Result<Choice, WordsFault>
-    ensures { IsChosen (Some (TellsLog (first_value (found_of matches.now) (codes "start")))) result }
+    ensures { IsChosen (Some (TranslatesLog (first_value (found_of matches.now) (codes "start")))) result }
 {
     match start_of(matches.get_str("start")) {
         Ok(start) => Ok(Choice::Log(start)),

@@ -60,11 +60,11 @@ plain true c = refl
 plain false c = refl
 
 pub found_is_all : FoundIsAll
-found_is_all old new most made text told finished ask is =
-    let none : told.left ≡ [] = none_by_length told.left (nothing_left (length told.found) (length told.left) made told.verdict finished) in
-    told.summary.exact ask (there old new ask is)
-    ∙ ap (λ (left : List Region). is_found told.found ask || (lies_in_one left ask && differs old.rules new.rules ask)) none
-    ∙ plain (is_found told.found ask) (differs old.rules new.rules ask)
+found_is_all old new most made text written finished ask is =
+    let none : written.left ≡ [] = none_by_length written.left (nothing_left (length written.found) (length written.left) made written.verdict finished) in
+    written.summary.exact ask (there old new ask is)
+    ∙ ap (λ (left : List Region). is_found written.found ask || (lies_in_one left ask && differs old.rules new.rules ask)) none
+    ∙ plain (is_found written.found ask) (differs old.rules new.rules ask)
 
 same : (a b : Bool) → unlike a b ≡ false → a ≡ b
 same true true e = refl
@@ -73,28 +73,28 @@ same false true e = absurd (both_ways true e refl)
 same false false e = refl
 
 pub alike_is_alike : AlikeIsAlike
-alike_is_alike old new most text told ask is =
-    let none : told.found ≡ [] = none_by_length told.found (nothing_found (length told.found) (length told.left) told.verdict) in
+alike_is_alike old new most text written ask is =
+    let none : written.found ≡ [] = none_by_length written.found (nothing_found (length written.found) (length written.left) written.verdict) in
     same (allows old.rules ask) (allows new.rules ask)
-    (found_is_all old new most compared.Alike text told (λ e. cc) ask is ∙ ap (λ (found : List Found). is_found found ask) none)
+    (found_is_all old new most compared.Alike text written (λ e. cc) ask is ∙ ap (λ (found : List Found). is_found found ask) none)
 
 pub lines_are_true : LinesAreTrue
-lines_are_true old new most made text told =
+lines_are_true old new most made text written =
     each_weaker (λ f. (ask : Ask) → lies_in_one (asks_of old new) ask ≡ true → lies f.region ask ≡ true → IsDecided old.rules new.rules f ask)
     (λ f. (ask : Ask) → IsAskOf old new ask → lies f.region ask ≡ true → IsDecided old.rules new.rules f ask)
-    (λ f is ask one within. is ask (there old new ask one) within) told.found told.summary.verdicts
+    (λ f is ask one within. is ask (there old new ask one) within) written.found written.summary.verdicts
 
 pub lines_have_asks : LinesHaveAsks
-lines_have_asks old new most made text told =
+lines_have_asks old new most made text written =
     each_weaker (λ f. (lies f.region f.ask && lies_in_one (asks_of old new) f.ask) ≡ true)
     (λ f. (lies f.region f.ask ≡ true) × IsAskOf old new f.ask)
     (λ f both. let parts = and_parts (lies f.region f.ask) (lies_in_one (asks_of old new) f.ask) both in
-    (parts.0, (all_asks old new).inner f.ask parts.1)) told.found told.summary.asks
+    (parts.0, (all_asks old new).inner f.ask parts.1)) written.found written.summary.asks
 
 pub none_has_ask : NoneHasAsk
-none_has_ask old new most made text told =
+none_has_ask old new most made text written =
     each_weaker (λ f. NoneIsMeant (asks_of old new) f.region)
     (λ f. (field : FieldName) → has (value_of field f.region) None ≡ true → is_any (value_of field f.region) ≡ false
     → (ask : Ask) × (lies f.region ask ≡ true) × IsAskOf old new ask × (value_of field ask ≡ None))
     (λ f meant field may some. let is = meant field may some in
-    (is.ask, is.there, (all_asks old new).inner is.ask is.in_shape, is.lacks)) told.found told.or_none
+    (is.ask, is.there, (all_asks old new).inner is.ask is.in_shape, is.lacks)) written.found written.or_none

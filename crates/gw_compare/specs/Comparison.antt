@@ -50,7 +50,7 @@ pub record IsComparisonText (old new : Configuration) (most : ℕ) (made : Compa
   pub or_none : OrNoneIsMeant (asks_of old new) found
   pub in_order : IsNonDecreasingBy rank found
   pub verdict : made ≡ compared_by (length found) (length left)
-  pub told : text ≡ notes ++ (regions_text old.rules new.rules most found ++ ending_text made (length found))
+  pub written : text ≡ notes ++ (regions_text old.rules new.rules most found ++ ending_text made (length found))
 
 -- such a text is after what a buffer held
 abbrev pub AppendsComparison : Configuration → Configuration → ℕ → Compared → List ℕ → List ℕ → Type 0

@@ -24,8 +24,8 @@ IsAskOf old new ask = LiesInOne (shapes old) ask ⊎ LiesInOne (shapes new) ask
 -- Unless the comparison isn't finished, such an ask is decided otherwise exactly if it lies in a region that was found.
 abbrev pub FoundIsAll : Type 0
 FoundIsAll = (old new : Configuration) (most : ℕ) (made : Compared) (text : List ℕ)
-    (told : IsComparisonText old new most made text) → made ≢ compared.Unfinished
-    → (ask : Ask) → IsAskOf old new ask → differs old.rules new.rules ask ≡ is_found told.found ask
+    (written : IsComparisonText old new most made text) → made ≢ compared.Unfinished
+    → (ask : Ask) → IsAskOf old new ask → differs old.rules new.rules ask ≡ is_found written.found ask
 
 -- If the text says that no ask is decided otherwise, the two decide each of them alike.
 abbrev pub AlikeIsAlike : Type 0
@@ -36,23 +36,23 @@ AlikeIsAlike = (old new : Configuration) (most : ℕ) (text : List ℕ) → IsCo
 -- rules that it names.
 abbrev pub LinesAreTrue : Type 0
 LinesAreTrue = (old new : Configuration) (most : ℕ) (made : Compared) (text : List ℕ)
-    (told : IsComparisonText old new most made text)
+    (written : IsComparisonText old new most made text)
     → AllByRecursion (λ f. (ask : Ask) → IsAskOf old new ask → lies f.region ask ≡ true → IsDecided old.rules new.rules f ask)
-    told.found
+    written.found
 
 -- Each region that was found has such an ask.
 abbrev pub LinesHaveAsks : Type 0
 LinesHaveAsks = (old new : Configuration) (most : ℕ) (made : Compared) (text : List ℕ)
-    (told : IsComparisonText old new most made text)
-    → AllByRecursion (λ f. (lies f.region f.ask ≡ true) × IsAskOf old new f.ask) told.found
+    (written : IsComparisonText old new most made text)
+    → AllByRecursion (λ f. (lies f.region f.ask ≡ true) × IsAskOf old new f.ask) written.found
 
 -- A field of a region that may be absent, but isn't just anything, is absent in such an ask that lies there: a line that
 -- says `or none` of a field, or `without` it, has an ask without it.
 abbrev pub NoneHasAsk : Type 0
 NoneHasAsk = (old new : Configuration) (most : ℕ) (made : Compared) (text : List ℕ)
-    (told : IsComparisonText old new most made text)
+    (written : IsComparisonText old new most made text)
     → AllByRecursion (λ f. (field : FieldName) → has (value_of field f.region) None ≡ true → is_any (value_of field f.region) ≡ false
-    → (ask : Ask) × (lies f.region ask ≡ true) × IsAskOf old new ask × (value_of field ask ≡ None)) told.found
+    → (ask : Ask) × (lies f.region ask ≡ true) × IsAskOf old new ask × (value_of field ask ≡ None)) written.found
 
 -- Each region is in the group of exactly one of the first regions: the groups have each region once.
 abbrev pub EachHasOneGroup : Type 0

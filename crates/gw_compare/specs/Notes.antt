@@ -32,4 +32,4 @@ notes_text same = frame_text same ++ parts_text same
 pub record AreNotes (old new : Configuration) (text : List ℕ) : Type 0 where
   pub same : Sameness
   pub is_so : IsSameness old new same
-  pub told : text ≡ notes_text same
+  pub written : text ≡ notes_text same

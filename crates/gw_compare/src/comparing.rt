@@ -5,7 +5,7 @@ ghost use Rattle.gw_compare.specs.Comparing.{IsUnderWay, is_finished, steps_text
 ghost use Rattle.gw_compare.specs.Comparison.{AppendsComparison};
 
 use crate::asks::asks_of;
-use crate::comparison::{Compared, put_whole, summary_of, told_of};
+use crate::comparison::{Compared, comparison_of, put_whole, summary_of};
 use gw_addr::{keep_whole, put_decimal, put_slice};
 use gw_configuration::Config;
 use gw_regions::{Comparison, MAX_STEPS, Policies, Region};
@@ -129,9 +129,9 @@ impl<'a> Comparing<'a> {
             comparison,
         } = self;
         let summary = summary_of(alloc, &asks, comparison)?;
-        let told = told_of(alloc, before, after, &summary, most)?;
-        put_whole(out, &told.text)?;
-        Ok(told.made)
+        let written = comparison_of(alloc, before, after, &summary, most)?;
+        put_whole(out, &written.text)?;
+        Ok(written.made)
     }
 }
 

@@ -27,14 +27,14 @@ pub enum Compared {
 }
 
 /// A text, and how the policies compare that it is about.
-pub(crate) struct Told {
+pub(crate) struct ComparisonText {
     pub text: Vec<u8>,
     pub made: Compared,
 }
 
-impl Drop for Told {
+impl Drop for ComparisonText {
     fn drop(self) {
-        let Told { text: _, made: _ } = self;
+        let ComparisonText { text: _, made: _ } = self;
     }
 }
 
@@ -77,18 +77,18 @@ pub(crate) fn put_whole(out: &mut Vec<u8>, text: &[u8]) -> Result<(), AllocError
 }
 
 /// What there is to say of what two configurations decide otherwise.
-pub(crate) fn told_of(
+pub(crate) fn comparison_of(
     alloc: Global,
     old: &Config,
     new: &Config,
     summary: &Summary,
     most: usize,
-) -> Result<Told, AllocError>
-    ensures { IfOk result (λ told.
+) -> Result<ComparisonText, AllocError>
+    ensures { IfOk result (λ written.
         IsSummary (asks_of old.now new.now) old.now.rules new.now.rules summary.now.found.items summary.now.left.items →
         OrNoneIsMeant (asks_of old.now new.now) summary.now.found.items →
         IsNonDecreasingBy rank summary.now.found.items →
-        IsComparisonText old.now new.now most told.made told.text.items) }
+        IsComparisonText old.now new.now most written.made written.text.items) }
 {
     let mut text = notes(alloc, old, new)?;
     let made = compared_by(summary.found.len(), summary.left.len());
@@ -100,7 +100,7 @@ pub(crate) fn told_of(
     };
     put_regions(alloc, &mut text, &listing)?;
     put_ending(&mut text, made, summary.found.len())?;
-    Ok(Told { text, made })
+    Ok(ComparisonText { text, made })
 }
 
 /// What a comparison over these asks has found so far, what is newly allowed first.

@@ -141,8 +141,8 @@ repetition c =
     (option_map rule_twice (second (pointwise nat_eq) (rule_names c.rules))))))))
 
 -- law: such a place is found exactly if something appears twice
-abbrev pub RepetitionsAreTold : Type 0
-RepetitionsAreTold = (c : Configuration) → is_some (repetition c) ≡ has_duplicates c
+abbrev pub RepetitionsAreNamed : Type 0
+RepetitionsAreNamed = (c : Configuration) → is_some (repetition c) ≡ has_duplicates c
 
 -- a configuration in which nothing does
 abbrev pub unique : Configuration → Find Configuration

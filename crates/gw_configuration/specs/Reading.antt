@@ -18,8 +18,8 @@ Finds view (Ok x) reading = reading ≡ Ok (view x)
 Finds view (Err located) reading = located.fault ≢ Memory → reading ≡ Err (located_view located)
 
 -- a fault of what is read is returned: no lack of memory comes before it
-abbrev pub Tells : {X Y : Type 0} → Result X ConfigFault → Result Y ConfigFault → Type 0
-Tells result reading = (fault : ConfigFault) → reading ≡ Err fault → result ≡ Err fault
+abbrev pub NamesFault : {X Y : Type 0} → Result X ConfigFault → Result Y ConfigFault → Type 0
+NamesFault result reading = (fault : ConfigFault) → reading ≡ Err fault → result ≡ Err fault
 
 -- the result is this fault
 abbrev pub IsErrOf : {X : Type 0} → Located → Result X Lent → Type 0
@@ -27,8 +27,8 @@ IsErrOf located (Ok x) = ⊥
 IsErrOf located (Err lent) = located_view lent ≡ located
 
 -- so is the fault of a table, with its place
-abbrev pub TellsFault : {X : Type 0} → Result X Lent → Option Located → Type 0
-TellsFault result found = (located : Located) → found ≡ Some located → IsErrOf located result
+abbrev pub NamesLocated : {X : Type 0} → Result X Lent → Option Located → Type 0
+NamesLocated result found = (located : Located) → found ≡ Some located → IsErrOf located result
 
 -- what a fault of a rule or of a list of rules is to a configuration
 abbrev pub fault_of : RuleFault → ConfigFault

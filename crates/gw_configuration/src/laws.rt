@@ -8,7 +8,7 @@ ghost use Rattle.gw_rules.specs.Range.{holds};
 ghost use Rattle.gw_configuration.specs.Configuration.{format_of};
 ghost use Rattle.gw_configuration.specs.Subnet as spec;
 ghost use Rattle.gw_configuration.specs.Subnet.{IsSubnet, keys_of, subnet_holds};
-ghost use Rattle.gw_configuration.specs.Duplicates.{RepetitionsAreTold};
+ghost use Rattle.gw_configuration.specs.Duplicates.{RepetitionsAreNamed};
 ghost use Rattle.gw_rules.specs.declared.format.Format.TheVariants.{One, Three, Two};
 
 use crate::Subnet;
@@ -56,5 +56,5 @@ pub fn subnets()
 /// may appear only once.
 #[tactic(auto, using(crate::proofs::Repeats::repetition_found))]
 pub fn repetitions()
-    ensures { RepetitionsAreTold }
+    ensures { RepetitionsAreNamed }
 {}

@@ -1,6 +1,6 @@
 //! The texts of a configuration.
 ghost use Rattle.std.specs.Prelude.{◌≡◌, ◌≤◌, length, IfOk};
-ghost use Rattle.gw_configuration.specs.Reading.{Gives, Tells};
+ghost use Rattle.gw_configuration.specs.Reading.{Gives, NamesFault};
 ghost use Rattle.gw_configuration.specs.Text.{text_within};
 
 use crate::ConfigFault;
@@ -37,7 +37,7 @@ impl Text {
     /// than 255; `Memory` where there is none for it.
     pub fn new(alloc: Global, least: usize, text: &str) -> Result<Self, ConfigFault>
         ensures text { Gives (λ t. t) result (text_within least text.now) }
-        ensures told { Tells result (text_within least text.now) }
+        ensures fault_named { NamesFault result (text_within least text.now) }
         ensures least { IfOk result (λ t. least ≤ length t) }
     {
         if text.len() < least || MAX_TEXT < text.len() {

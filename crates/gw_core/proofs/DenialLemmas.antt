@@ -39,7 +39,7 @@ pub denials_more : (rules : List Rule) (number tick : ℕ) (from : Origin) (refu
     (r ∷ drop (suc i) refusals)
     → so_far ++ denials_from rules (number + i) tick from (drop i refusals) ≡ whole
     → (so_far ++ denial ∷ []) ++ denials_from rules (number + (i + 1)) tick from (drop (i + 1) refusals) ≡ whole
-denials_more rules number tick from refusals i r denial so_far whole lt is one told =
+denials_more rules number tick from refusals i r denial so_far whole lt is one wording =
     let rest : drop i refusals ≡ r ∷ drop (suc i) refusals = drop-cons refusals i r lt
     ∙ ap (λ (x : Refusal). x ∷ drop (suc i) refusals) (sym is) in
     let later : number + (i + 1) ≡ number + i + 1 = omega arith in
@@ -48,33 +48,33 @@ denials_more rules number tick from refusals i r denial so_far whole lt is one t
     ∙ ap (λ (n : ℕ). so_far ++ denial ∷ denials_from rules n tick from (drop (i + 1) refusals)) later
     ∙ ap (λ (n : ℕ). so_far ++ denial ∷ denials_from rules (number + i + 1) tick from (drop n refusals)) place
     ∙ ap (λ (l : List Denial). so_far ++ l) (one ∙ ap (denials_from rules (number + i) tick from) (sym rest))
-    ∙ told
+    ∙ wording
 
 -- what is asked for the APDU that a message has for the device
 pub asks_put : (rules : List Rule) (format : Format) (d : Database) (m : Message) (network : ℕ) (context : Context) (octets : List ℕ)
     → network ≡ device_network d → Some octets ≡ apdu_for network m.npdu → context ≡ context_of format network m
     → message_asks rules format d m ≡ device_asks rules d context octets
-asks_put rules format d m network context octets its apdu told =
+asks_put rules format d m network context octets its apdu wording =
     ap (λ (n : ℕ). apdu_asks rules d (context_of format n m) (apdu_for n m.npdu)) (sym its)
     ∙ ap (apdu_asks rules d (context_of format network m)) (sym apdu)
-    ∙ ap (λ (x : Context). device_asks rules d x octets) (sym told)
+    ∙ ap (λ (x : Context). device_asks rules d x octets) (sym wording)
 
 -- its answer and its write
 pub answer_put : (rules : List Rule) (format : Format) (d : Database) (m : Message) (network : ℕ) (context : Context) (octets : List ℕ)
     → network ≡ device_network d → Some octets ≡ apdu_for network m.npdu → context ≡ context_of format network m
     → apdu_answer rules d (context_of format (device_network d) m) (apdu_for (device_network d) m.npdu) ≡ device_answer rules d context octets
-answer_put rules format d m network context octets its apdu told =
+answer_put rules format d m network context octets its apdu wording =
     ap (λ (n : ℕ). apdu_answer rules d (context_of format n m) (apdu_for n m.npdu)) (sym its)
     ∙ ap (apdu_answer rules d (context_of format network m)) (sym apdu)
-    ∙ ap (λ (x : Context). device_answer rules d x octets) (sym told)
+    ∙ ap (λ (x : Context). device_answer rules d x octets) (sym wording)
 
 pub change_put : (rules : List Rule) (format : Format) (d : Database) (m : Message) (network : ℕ) (context : Context) (octets : List ℕ)
     → network ≡ device_network d → Some octets ≡ apdu_for network m.npdu → context ≡ context_of format network m
     → apdu_change rules d (context_of format (device_network d) m) (apdu_for (device_network d) m.npdu) ≡ device_change rules d context octets
-change_put rules format d m network context octets its apdu told =
+change_put rules format d m network context octets its apdu wording =
     ap (λ (n : ℕ). apdu_change rules d (context_of format n m) (apdu_for n m.npdu)) (sym its)
     ∙ ap (apdu_change rules d (context_of format network m)) (sym apdu)
-    ∙ ap (λ (x : Context). device_change rules d x octets) (sym told)
+    ∙ ap (λ (x : Context). device_change rules d x octets) (sym wording)
 
 pub no_asks_put : (rules : List Rule) (format : Format) (d : Database) (m : Message) (network : ℕ) → network ≡ device_network d
     → None ≡ apdu_for network m.npdu → message_asks rules format d m ≡ []

@@ -123,10 +123,10 @@ unfolding receive
 receive_datagram w port from octets received is = ap (admit w.rules w.relay) is
 
 -- what isn't said to be past isn't past
-pub not_past : (told : Bool) (m n : ℕ) → told ≡ false → (m < n → IsTrue told) → n ≤ m
-not_past told m n e tells =
+pub not_past : (wording : Bool) (m n : ℕ) → wording ≡ false → (m < n → IsTrue wording) → n ≤ m
+not_past wording m n e tells =
     elim (cases_lt m n) [
-      | inl lt ↦ absurd (differs told e (tells lt))
+      | inl lt ↦ absurd (differs wording e (tells lt))
       | inr le ↦ le
     ]
 

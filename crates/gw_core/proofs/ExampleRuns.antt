@@ -16,7 +16,7 @@ use Rattle.gw_relay.specs.State.{moved_by}
 use Rattle.gw_core.specs.Effects.{change_at, move_at, sends, effects_at, passes_end}
 use Rattle.gw_core.specs.History.{acts_of, run_after, written}
 use Rattle.gw_core.specs.Receive.{npdu_of, receive}
-use Rattle.gw_core.specs.Examples.{ReadIsAnswered, HiddenReadIsDenied, LocalReadIsUnheard, HiddenObjectIsUntold, UnknownObjectIsTold, EachCutIsDropped, WrongLengthsAreDropped, RoutedReadIsAnswered, CountsEnd, DenialsAreCountedOn, WriteIsSeen, RelinquishIsSeen, DeniedWriteIsUnseen, AllArePlaced, DeniedSetIsRefused, DeniedTableIsRefused, WhoIsIsAnswered, RegistrationEnds, BroadcastIsDistributed, LearnedRouteIsTaken, UnknownNetworkIsSought, GlobalWhoIsGoesOn, HiddenWriteIsUnseen, HidingIsSeen}
+use Rattle.gw_core.specs.Examples.{ReadIsAnswered, HiddenReadIsDenied, LocalReadIsUnheard, HiddenObjectIsUnnamed, UnknownObjectIsNamed, EachCutIsDropped, WrongLengthsAreDropped, RoutedReadIsAnswered, CountsEnd, DenialsAreCountedOn, WriteIsSeen, RelinquishIsSeen, DeniedWriteIsUnseen, AllArePlaced, DeniedSetIsRefused, DeniedTableIsRefused, WhoIsIsAnswered, RegistrationEnds, BroadcastIsDistributed, LearnedRouteIsTaken, UnknownNetworkIsSought, GlobalWhoIsGoesOn, HiddenWriteIsUnseen, HidingIsSeen}
 
 -- all that a frame runs through
 unfoldable frames : ⊤
@@ -50,13 +50,13 @@ pub local_read_is_unheard : LocalReadIsUnheard
 unfolding frames reads passes steps
 local_read_is_unheard = refl
 
-pub hidden_object_is_untold : HiddenObjectIsUntold
+pub hidden_object_is_unnamed : HiddenObjectIsUnnamed
 unfolding frames reads passes steps
-hidden_object_is_untold = refl
+hidden_object_is_unnamed = refl
 
-pub unknown_object_is_told : UnknownObjectIsTold
+pub unknown_object_is_named : UnknownObjectIsNamed
 unfolding frames reads passes steps
-unknown_object_is_told = refl
+unknown_object_is_named = refl
 
 pub each_cut_is_dropped : EachCutIsDropped
 unfolding frames reads passes steps

@@ -120,7 +120,7 @@ pub record RunProgress (first w : State) (all rest : List Event) (given : List E
   pub done : List Event
   pub parts : all ≡ done ++ rest
   pub state : w ≡ state_from first done
-  pub told : given ++ run_from w rest ≡ run_from first all
+  pub wording : given ++ run_from w rest ≡ run_from first all
 
 pub run_begins : (w : State) (all : List Event) (given : List Effects) → given ≡ [] → RunProgress w w all all given
 unfolding state_from
@@ -128,7 +128,7 @@ run_begins w all given none = record {
   done = [];
   parts = refl;
   state = refl;
-  told = ap (λ (g : List Effects). g ++ run_from w all) none;
+  wording = ap (λ (g : List Effects). g ++ run_from w all) none;
 }
 
 pub run_goes_on : (first w v : State) (all rest later : List Event) (given more : List Effects) (e : Event) (x : Effects)
@@ -139,12 +139,12 @@ run_goes_on first w v all rest others given more e x p split goes does pushed = 
   done = p.done ++ e ∷ [];
   parts = p.parts ∙ ap (λ (l : List Event). p.done ++ l) split ∙ sym (append_assoc p.done (e ∷ []) others);
   state = goes ∙ ap (λ (s : State). next s e) p.state ∙ sym (state_from-append first p.done e);
-  told = ap (λ (g : List Effects). g ++ run_from v others) pushed
+  wording = ap (λ (g : List Effects). g ++ run_from v others) pushed
       ∙ append_assoc given (x ∷ []) (run_from v others)
       ∙ ap (λ (s : State). given ++ x ∷ run_from s others) goes
       ∙ ap (λ (y : Effects). given ++ y ∷ run_from (next w e) others) does
       ∙ ap (λ (l : List Event). given ++ run_from w l) (sym split)
-      ∙ p.told;
+      ∙ p.wording;
 }
 
 -- the events that are done are the first ones
@@ -162,8 +162,8 @@ fault_is fault other e = cc
 -- a fault that is passed on
 pub fault_of_call : {T : Type 0} (result : Result T StepFault) (fault other : StepFault) → IsErrAnd result (λ e. e ≡ fault)
     → IsErrOf result other → fault ≡ other
-fault_of_call (Ok given) fault other is told = absurd is
-fault_of_call {T} (Err known) fault other is told = sym is ∙ fault_is {T = T} known other told
+fault_of_call (Ok given) fault other is wording = absurd is
+fault_of_call {T} (Err known) fault other is wording = sym is ∙ fault_is {T = T} known other wording
 
 -- where the next event would pass the end of a count
 pub run_stops : (first w v : State) (all rest later : List Event) (given : List Effects) (e : Event) → RunProgress first w all rest given

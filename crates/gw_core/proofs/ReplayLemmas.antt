@@ -10,10 +10,10 @@ use Rattle.gw_configuration.specs.Configuration.{Configuration}
 use Rattle.gw_core.specs.State.{State}
 use Rattle.gw_core.specs.Effects.{passes_end, NeedsNoMemory}
 use Rattle.gw_core.specs.History.{run_after, history_after, effects, IsStateAfter, state_after}
-use Rattle.gw_core.specs.Laws.{RunsAreTold}
+use Rattle.gw_core.specs.Laws.{RunsAreWritten}
 use Rattle.gw_script.specs.Script.{lines_of, IsLine, AreLines}
 use Rattle.gw_core.specs.Shown.{event_text, text_of_run, effects_text}
-use Rattle.gw_core.specs.Replay.{Telling, no_counts, run_text, text_after, FirstLines, Replays, RunsWhole, RunsToLine, RunsToEnd, RunsToMemory, RunsPart, RunsFront}
+use Rattle.gw_core.specs.Replay.{EventText, no_counts, run_text, text_after, FirstLines, Replays, RunsWhole, RunsToLine, RunsToEnd, RunsToMemory, RunsPart, RunsFront}
 use Rattle.gw_core.specs.LineOutcome.{LineOutcome}
 use Rattle.gw_core.specs.Flawed.{HasFlaw, IsFirstFlaw}
 use Rattle.gw_script.specs.Flaw.{IsFlaw}
@@ -28,18 +28,18 @@ taken_more h [] e = refl
 taken_more h (x ∷ l) e = taken_more (x ∷ h) l e
 
 -- the text goes on by that of one event more
-text_more : (told : Telling) (c : Configuration) (h l : List Event) (e : Event)
-    → text_after told c h (l ++ e ∷ []) ≡ text_after told c h l ++ told (state_after c no_counts (history_after h l)) e
+text_more : (wording : EventText) (c : Configuration) (h l : List Event) (e : Event)
+    → text_after wording c h (l ++ e ∷ []) ≡ text_after wording c h l ++ wording (state_after c no_counts (history_after h l)) e
 unfolding text_after history_after
-text_more told c h [] e = append-nil (told (state_after c no_counts h) e)
-text_more told c h (x ∷ l) e =
-    ap (λ (t : List ℕ). told (state_after c no_counts h) x ++ t) (text_more told c (x ∷ h) l e)
-    ∙ sym (append_assoc (told (state_after c no_counts h) x) (text_after told c (x ∷ h) l)
-    (told (state_after c no_counts (history_after (x ∷ h) l)) e))
+text_more wording c h [] e = append-nil (wording (state_after c no_counts h) e)
+text_more wording c h (x ∷ l) e =
+    ap (λ (t : List ℕ). wording (state_after c no_counts h) x ++ t) (text_more wording c (x ∷ h) l e)
+    ∙ sym (append_assoc (wording (state_after c no_counts h) x) (text_after wording c (x ∷ h) l)
+    (wording (state_after c no_counts (history_after (x ∷ h) l)) e))
 
-pub run_text_more : (told : Telling) (c : Configuration) (l : List Event) (e : Event)
-    → run_text told c (l ++ e ∷ []) ≡ run_text told c l ++ told (state_after c no_counts (history_after [] l)) e
-run_text_more told c l e = text_more told c [] l e
+pub run_text_more : (wording : EventText) (c : Configuration) (l : List Event) (e : Event)
+    → run_text wording c (l ++ e ∷ []) ≡ run_text wording c l ++ wording (state_after c no_counts (history_after [] l)) e
+run_text_more wording c l e = text_more wording c [] l e
 
 -- the text of what each event does is that of the run
 effects_told : (c : Configuration) (h l : List Event) → text_after event_text c h l ≡ text_of_run (run_after c no_counts h l)
@@ -49,7 +49,7 @@ effects_told c h (e ∷ l) =
     ap (λ (t : List ℕ). event_text (state_after c no_counts h) e ++ t) (effects_told c (e ∷ h) l)
     ∙ sym (flat_map-cons effects_text (effects c no_counts h e) (run_after c no_counts (e ∷ h) l))
 
-pub runs_are_told : RunsAreTold
+pub runs_are_told : RunsAreWritten
 runs_are_told c l = effects_told c [] l
 
 pub are_more : (ports : ℕ) (lines : List (List ℕ)) (events : List Event) (line : List ℕ) (e : Event) → AreLines ports lines events
@@ -66,20 +66,20 @@ are_length ports (l ∷ lines) [] are = absurd are
 are_length ports (l ∷ lines) (x ∷ events) are = ap suc (are_length ports lines events are.1)
 
 -- how far a replay has come: these lines are done, which write these events, and this text is left
-pub record Progress (told : Telling) (c : Configuration) (script before : List ℕ) (n : ℕ) (w : State) (text written : Option (List ℕ)) : Type 0 where
+pub record Progress (wording : EventText) (c : Configuration) (script before : List ℕ) (n : ℕ) (w : State) (text written : Option (List ℕ)) : Type 0 where
   pub events : List Event
   pub done : List (List ℕ)
   pub left : List ℕ
   pub are : AreLines (length c.ports) done events
   pub lines : lines_of script ≡ done ++ lines_of left
   pub text_is : text ≡ Some left
-  pub written_is : written ≡ Some (before ++ run_text told c events)
+  pub written_is : written ≡ Some (before ++ run_text wording c events)
   pub stands : IsStateAfter w c no_counts (history_after [] events)
   pub number : n ≡ length events + 1
 
 -- what a turn says of what it began with
-abbrev pub Turns : Telling → ℕ → State → State → Option (List ℕ) → Option (List ℕ) → Option (List ℕ) → Option (List ℕ) → Result Bool RunFault → Type 0
-Turns told n w moved text left written after r = (t b : List ℕ) → text ≡ Some t → written ≡ Some b → LineOutcome told n w moved t left b after r
+abbrev pub Turns : EventText → ℕ → State → State → Option (List ℕ) → Option (List ℕ) → Option (List ℕ) → Option (List ℕ) → Result Bool RunFault → Type 0
+Turns wording n w moved text left written after r = (t b : List ℕ) → text ≡ Some t → written ≡ Some b → LineOutcome wording n w moved t left b after r
 
 first_lines : (c : Configuration) (script : List ℕ) (done others : List (List ℕ)) (events : List Event)
     → AreLines (length c.ports) done events → lines_of script ≡ done ++ others → FirstLines c script events
@@ -100,18 +100,18 @@ on_ports : (c : Configuration) (w : State) (h : List Event) (line : List ℕ) (e
     → IsLine (length w.relay.links) line e → IsLine (length c.ports) line e
 on_ports c w h line e stands is = subst (λ (p : ℕ). IsLine p line e) (same_ports c w h stands) is
 
-told_on : (told : Telling) (c : Configuration) (w : State) (before : List ℕ) (events : List Event) (e : Event)
+told_on : (wording : EventText) (c : Configuration) (w : State) (before : List ℕ) (events : List Event) (e : Event)
     → IsStateAfter w c no_counts (history_after [] events)
-    → (before ++ run_text told c events) ++ told w e ≡ before ++ run_text told c (events ++ e ∷ [])
-told_on told c w before events e stands =
-    append_assoc before (run_text told c events) (told w e)
-    ∙ ap (λ (x : State). before ++ (run_text told c events ++ told x e)) stands
-    ∙ ap (λ (t : List ℕ). before ++ t) (sym (run_text_more told c events e))
+    → (before ++ run_text wording c events) ++ wording w e ≡ before ++ run_text wording c (events ++ e ∷ [])
+told_on wording c w before events e stands =
+    append_assoc before (run_text wording c events) (wording w e)
+    ∙ ap (λ (x : State). before ++ (run_text wording c events ++ wording x e)) stands
+    ∙ ap (λ (t : List ℕ). before ++ t) (sym (run_text_more wording c events e))
 
-pub begins : (told : Telling) (c : Configuration) (script before : List ℕ) (w : State) (text written : Option (List ℕ)) → text ≡ Some script
-    → written ≡ Some before → IsStateAfter w c no_counts [] → Progress told c script before 1 w text written
+pub begins : (wording : EventText) (c : Configuration) (script before : List ℕ) (w : State) (text written : Option (List ℕ)) → text ≡ Some script
+    → written ≡ Some before → IsStateAfter w c no_counts [] → Progress wording c script before 1 w text written
 unfolding history_after text_after
-begins told c script before w text written known held stands = record {
+begins wording c script before w text written known held stands = record {
   events = [];
   done = [];
   left = script;
@@ -123,11 +123,11 @@ begins told c script before w text written known held stands = record {
   number = refl;
 }
 
-pub goes_on : (told : Telling) (c : Configuration) (script before : List ℕ) (n : ℕ) (w moved : State) (text left written after : Option (List ℕ))
-    → Progress told c script before n w text written → Turns told n w moved text left written after (Ok true)
-    → Progress told c script before (n + 1) moved left after
-goes_on told c script before n w moved text left written after p turns =
-    let step = turns p.left (before ++ run_text told c p.events) p.text_is p.written_is in
+pub goes_on : (wording : EventText) (c : Configuration) (script before : List ℕ) (n : ℕ) (w moved : State) (text left written after : Option (List ℕ))
+    → Progress wording c script before n w text written → Turns wording n w moved text left written after (Ok true)
+    → Progress wording c script before (n + 1) moved left after
+goes_on wording c script before n w moved text left written after p turns =
+    let step = turns p.left (before ++ run_text wording c p.events) p.text_is p.written_is in
     let done_lines : lines_of script ≡ (p.done ++ step.line ∷ []) ++ lines_of step.rest =
     p.lines ∙ ap (λ (l : List (List ℕ)). p.done ++ l) step.lines ∙ sym (append_assoc p.done (step.line ∷ []) (lines_of step.rest)) in
     let stood : IsStateAfter moved c no_counts (history_after [] (p.events ++ step.event ∷ [])) =
@@ -141,41 +141,41 @@ goes_on told c script before n w moved text left written after p turns =
       are = are_more (length c.ports) p.done p.events step.line step.event p.are is;
       lines = done_lines;
       text_is = step.remains;
-      written_is = step.appended ∙ ap (λ (t : List ℕ). Some t) (told_on told c w before p.events step.event p.stands);
+      written_is = step.appended ∙ ap (λ (t : List ℕ). Some t) (told_on wording c w before p.events step.event p.stands);
       stands = stood;
       number = omega (arith, p.number, length-append p.events (step.event ∷ []));
     }
 
-pub ends_whole : (told : Telling) (c : Configuration) (script before : List ℕ) (n : ℕ) (w moved : State) (text left written after : Option (List ℕ))
-    → Progress told c script before n w text written → Turns told n w moved text left written after (Ok false)
-    → IsSomeAnd after (RunsWhole told c script before)
-ends_whole told c script before n w moved text left written after p turns =
-    let said = turns p.left (before ++ run_text told c p.events) p.text_is p.written_is in
+pub ends_whole : (wording : EventText) (c : Configuration) (script before : List ℕ) (n : ℕ) (w moved : State) (text left written after : Option (List ℕ))
+    → Progress wording c script before n w text written → Turns wording n w moved text left written after (Ok false)
+    → IsSomeAnd after (RunsWhole wording c script before)
+ends_whole wording c script before n w moved text left written after p turns =
+    let said = turns p.left (before ++ run_text wording c p.events) p.text_is p.written_is in
     let all : lines_of script ≡ p.done = p.lines ∙ ap (λ (l : List (List ℕ)). p.done ++ l) said.0 ∙ append-nil p.done in
-    holds_known (RunsWhole told c script before) after (before ++ run_text told c p.events) said.1
+    holds_known (RunsWhole wording c script before) after (before ++ run_text wording c p.events) said.1
     (record { events = p.events; lines = subst (λ (l : List (List ℕ)). AreLines (length c.ports) l p.events) (sym all) p.are; text = refl })
 
-pub ends_part : (told : Telling) (c : Configuration) (script before : List ℕ) (n : ℕ) (w : State) (text written : Option (List ℕ))
-    → Progress told c script before n w text written → IsSomeAnd written (RunsPart told c script before)
-ends_part told c script before n w text written p =
-    holds_known (RunsPart told c script before) written (before ++ run_text told c p.events) p.written_is
+pub ends_part : (wording : EventText) (c : Configuration) (script before : List ℕ) (n : ℕ) (w : State) (text written : Option (List ℕ))
+    → Progress wording c script before n w text written → IsSomeAnd written (RunsPart wording c script before)
+ends_part wording c script before n w text written p =
+    holds_known (RunsPart wording c script before) written (before ++ run_text wording c p.events) p.written_is
     (record { events = p.events; lines = first_lines c script p.done (lines_of p.left) p.events p.are p.lines; text = refl })
 
-ends_at_read : (told : Telling) (c : Configuration) (script before : List ℕ) (n : ℕ) (w moved : State) (text left written after : Option (List ℕ))
-    → Progress told c script before n w text written → Turns told n w moved text left written after (Err Read)
-    → IsSomeAnd after (RunsPart told c script before)
-ends_at_read told c script before n w moved text left written after p turns =
-    holds_known (RunsPart told c script before) after (before ++ run_text told c p.events)
-    (turns p.left (before ++ run_text told c p.events) p.text_is p.written_is)
+ends_at_read : (wording : EventText) (c : Configuration) (script before : List ℕ) (n : ℕ) (w moved : State) (text left written after : Option (List ℕ))
+    → Progress wording c script before n w text written → Turns wording n w moved text left written after (Err Read)
+    → IsSomeAnd after (RunsPart wording c script before)
+ends_at_read wording c script before n w moved text left written after p turns =
+    holds_known (RunsPart wording c script before) after (before ++ run_text wording c p.events)
+    (turns p.left (before ++ run_text wording c p.events) p.text_is p.written_is)
     (record { events = p.events; lines = first_lines c script p.done (lines_of p.left) p.events p.are p.lines; text = refl })
 
-ends_at_memory : (told : Telling) (c : Configuration) (script before : List ℕ) (n : ℕ) (w moved : State) (text left written after : Option (List ℕ))
-    → Progress told c script before n w text written → Turns told n w moved text left written after (Err Memory)
-    → IsSomeAnd after (RunsToMemory told c script before)
-ends_at_memory told c script before n w moved text left written after p turns =
-    let said = turns p.left (before ++ run_text told c p.events) p.text_is p.written_is in
+ends_at_memory : (wording : EventText) (c : Configuration) (script before : List ℕ) (n : ℕ) (w moved : State) (text left written after : Option (List ℕ))
+    → Progress wording c script before n w text written → Turns wording n w moved text left written after (Err Memory)
+    → IsSomeAnd after (RunsToMemory wording c script before)
+ends_at_memory wording c script before n w moved text left written after p turns =
+    let said = turns p.left (before ++ run_text wording c p.events) p.text_is p.written_is in
     let want = said.0 in
-    holds_known (RunsToMemory told c script before) after (before ++ run_text told c p.events) said.1 (record {
+    holds_known (RunsToMemory wording c script before) after (before ++ run_text wording c p.events) said.1 (record {
       events = p.events;
       lines = first_lines c script p.done (lines_of p.left) p.events p.are p.lines;
       cause = inr (record {
@@ -190,20 +190,20 @@ ends_at_memory told c script before n w moved text left written after p turns =
     })
 
 -- where memory is wanted before the first line
-pub ends_before : (told : Telling) (c : Configuration) (script before : List ℕ) (written : Option (List ℕ)) → written ≡ Some before
-    → IsSomeAnd written (RunsToMemory told c script before)
+pub ends_before : (wording : EventText) (c : Configuration) (script before : List ℕ) (written : Option (List ℕ)) → written ≡ Some before
+    → IsSomeAnd written (RunsToMemory wording c script before)
 unfolding text_after
-ends_before told c script before written is = holds_known (RunsToMemory told c script before) written before is
+ends_before wording c script before written is = holds_known (RunsToMemory wording c script before) written before is
     (record { events = []; lines = tt; cause = inl refl; text = sym (append-nil before) })
 
-ends_at_line : (told : Telling) (c : Configuration) (script before : List ℕ) (n : ℕ) (w moved : State) (text left written after : Option (List ℕ))
+ends_at_line : (wording : EventText) (c : Configuration) (script before : List ℕ) (n : ℕ) (w moved : State) (text left written after : Option (List ℕ))
     (m : ℕ)
-    → Progress told c script before n w text written → Turns told n w moved text left written after (Err (Line m))
-    → IsSomeAnd after (RunsToLine told m c script before)
-ends_at_line told c script before n w moved text left written after m p turns =
-    let said = turns p.left (before ++ run_text told c p.events) p.text_is p.written_is in
+    → Progress wording c script before n w text written → Turns wording n w moved text left written after (Err (Line m))
+    → IsSomeAnd after (RunsToLine wording m c script before)
+ends_at_line wording c script before n w moved text left written after m p turns =
+    let said = turns p.left (before ++ run_text wording c p.events) p.text_is p.written_is in
     let none = said.1 in
-    holds_known (RunsToLine told m c script before) after (before ++ run_text told c p.events) said.2 (record {
+    holds_known (RunsToLine wording m c script before) after (before ++ run_text wording c p.events) said.2 (record {
       events = p.events;
       number = said.0 ∙ p.number;
       lines = first_lines c script p.done (lines_of p.left) p.events p.are p.lines;
@@ -215,15 +215,15 @@ ends_at_line told c script before n w moved text left written after m p turns =
       text = refl;
     })
 
-pub flaw_at_line : (told : Telling) (c : Configuration) (script before : List ℕ) (n : ℕ) (w moved : State) (text left written after : Option (List ℕ))
+pub flaw_at_line : (wording : EventText) (c : Configuration) (script before : List ℕ) (n : ℕ) (w moved : State) (text left written after : Option (List ℕ))
     (m : ℕ) (flaw : LineFlaw)
-    → Progress told c script before n w text written → Turns told n w moved text left written after (Err (Line m))
+    → Progress wording c script before n w text written → Turns wording n w moved text left written after (Err (Line m))
     → ((t : List ℕ) → text ≡ Some t → IsFirstFlaw (length w.relay.links) t flaw)
     → IsSomeAnd after (λ (a : List ℕ). HasFlaw (length c.ports) m script flaw)
-flaw_at_line told c script before n w moved text left written after m flaw p turns first =
-    let said = turns p.left (before ++ run_text told c p.events) p.text_is p.written_is in
+flaw_at_line wording c script before n w moved text left written after m flaw p turns first =
+    let said = turns p.left (before ++ run_text wording c p.events) p.text_is p.written_is in
     let one = first p.left p.text_is in
-    holds_known (λ (a : List ℕ). HasFlaw (length c.ports) m script flaw) after (before ++ run_text told c p.events) said.2 (record {
+    holds_known (λ (a : List ℕ). HasFlaw (length c.ports) m script flaw) after (before ++ run_text wording c p.events) said.2 (record {
       before = p.done;
       line = one.line;
       others = one.others;
@@ -232,13 +232,13 @@ flaw_at_line told c script before n w moved text left written after m flaw p tur
       is = subst (λ (q : ℕ). IsFlaw q one.line flaw) (same_ports c w (history_after [] p.events) p.stands) one.is;
     })
 
-ends_at_end : (told : Telling) (c : Configuration) (script before : List ℕ) (n : ℕ) (w moved : State) (text left written after : Option (List ℕ))
-    → Progress told c script before n w text written → Turns told n w moved text left written after (Err CountEnd)
-    → IsSomeAnd after (RunsToEnd told c script before)
-ends_at_end told c script before n w moved text left written after p turns =
-    let said = turns p.left (before ++ run_text told c p.events) p.text_is p.written_is in
+ends_at_end : (wording : EventText) (c : Configuration) (script before : List ℕ) (n : ℕ) (w moved : State) (text left written after : Option (List ℕ))
+    → Progress wording c script before n w text written → Turns wording n w moved text left written after (Err CountEnd)
+    → IsSomeAnd after (RunsToEnd wording c script before)
+ends_at_end wording c script before n w moved text left written after p turns =
+    let said = turns p.left (before ++ run_text wording c p.events) p.text_is p.written_is in
     let past = said.0 in
-    holds_known (RunsToEnd told c script before) after (before ++ run_text told c p.events) said.1 (record {
+    holds_known (RunsToEnd wording c script before) after (before ++ run_text wording c p.events) said.1 (record {
       events = p.events;
       lines = first_lines c script p.done (lines_of p.left) p.events p.are p.lines;
       line = past.line;
@@ -250,40 +250,40 @@ ends_at_end told c script before n w moved text left written after p turns =
       text = refl;
     })
 
-ends_at_write : (told : Telling) (c : Configuration) (script before : List ℕ) (n : ℕ) (w moved : State) (text left written after : Option (List ℕ))
-    → Progress told c script before n w text written → Turns told n w moved text left written after (Err Write)
-    → IsSomeAnd after (RunsFront told c script before)
-ends_at_write told c script before n w moved text left written after p turns =
-    let cut_step = turns p.left (before ++ run_text told c p.events) p.text_is p.written_is in
-    let so_far = before ++ run_text told c p.events in
+ends_at_write : (wording : EventText) (c : Configuration) (script before : List ℕ) (n : ℕ) (w moved : State) (text left written after : Option (List ℕ))
+    → Progress wording c script before n w text written → Turns wording n w moved text left written after (Err Write)
+    → IsSomeAnd after (RunsFront wording c script before)
+ends_at_write wording c script before n w moved text left written after p turns =
+    let cut_step = turns p.left (before ++ run_text wording c p.events) p.text_is p.written_is in
+    let so_far = before ++ run_text wording c p.events in
     let is = on_ports c w (history_after [] p.events) cut_step.line cut_step.event p.stands cut_step.writes in
     let lines : lines_of script ≡ (p.done ++ cut_step.line ∷ []) ++ cut_step.others =
     p.lines ∙ ap (λ (l : List (List ℕ)). p.done ++ l) cut_step.lines ∙ sym (append_assoc p.done (cut_step.line ∷ []) cut_step.others) in
-    holds_known (RunsFront told c script before) after (so_far ++ cut_step.front) cut_step.appended (record {
+    holds_known (RunsFront wording c script before) after (so_far ++ cut_step.front) cut_step.appended (record {
       events = p.events ++ cut_step.event ∷ [];
       lines = first_lines c script (p.done ++ cut_step.line ∷ []) cut_step.others (p.events ++ cut_step.event ∷ [])
           (are_more (length c.ports) p.done p.events cut_step.line cut_step.event p.are is) lines;
-      front = run_text told c p.events ++ cut_step.front;
+      front = run_text wording c p.events ++ cut_step.front;
       unwritten = cut_step.unwritten;
-      parts = sym (told_on told c w [] p.events cut_step.event p.stands) ∙ ap (λ (t : List ℕ). run_text told c p.events ++ t) cut_step.parts
-          ∙ sym (append_assoc (run_text told c p.events) cut_step.front cut_step.unwritten);
-      text = append_assoc before (run_text told c p.events) cut_step.front;
+      parts = sym (told_on wording c w [] p.events cut_step.event p.stands) ∙ ap (λ (t : List ℕ). run_text wording c p.events ++ t) cut_step.parts
+          ∙ sym (append_assoc (run_text wording c p.events) cut_step.front cut_step.unwritten);
+      text = append_assoc before (run_text wording c p.events) cut_step.front;
     })
 
-ends_at_fault : (told : Telling) (c : Configuration) (script before : List ℕ) (n : ℕ) (w moved : State) (text left written after : Option (List ℕ))
+ends_at_fault : (wording : EventText) (c : Configuration) (script before : List ℕ) (n : ℕ) (w moved : State) (text left written after : Option (List ℕ))
     (fault : RunFault)
-    → Progress told c script before n w text written → Turns told n w moved text left written after (Err fault)
-    → IsSomeAnd after (Replays told c (Err fault) script before)
-ends_at_fault told c script before n w moved text left written after (Line m) = ends_at_line told c script before n w moved text left written after m
-ends_at_fault told c script before n w moved text left written after CountEnd = ends_at_end told c script before n w moved text left written after
-ends_at_fault told c script before n w moved text left written after Read = ends_at_read told c script before n w moved text left written after
-ends_at_fault told c script before n w moved text left written after Write = ends_at_write told c script before n w moved text left written after
-ends_at_fault told c script before n w moved text left written after Memory = ends_at_memory told c script before n w moved text left written after
+    → Progress wording c script before n w text written → Turns wording n w moved text left written after (Err fault)
+    → IsSomeAnd after (Replays wording c (Err fault) script before)
+ends_at_fault wording c script before n w moved text left written after (Line m) = ends_at_line wording c script before n w moved text left written after m
+ends_at_fault wording c script before n w moved text left written after CountEnd = ends_at_end wording c script before n w moved text left written after
+ends_at_fault wording c script before n w moved text left written after Read = ends_at_read wording c script before n w moved text left written after
+ends_at_fault wording c script before n w moved text left written after Write = ends_at_write wording c script before n w moved text left written after
+ends_at_fault wording c script before n w moved text left written after Memory = ends_at_memory wording c script before n w moved text left written after
 
-pub ends_passed : (told : Telling) (c : Configuration) (script before : List ℕ) (n : ℕ) (w moved : State) (text left written after : Option (List ℕ))
+pub ends_passed : (wording : EventText) (c : Configuration) (script before : List ℕ) (n : ℕ) (w moved : State) (text left written after : Option (List ℕ))
     (fault : RunFault) (r : Result (Unit {0}) RunFault)
-    → Passes fault r → Progress told c script before n w text written → Turns told n w moved text left written after (Err fault)
-    → IsSomeAnd after (Replays told c r script before)
-ends_passed told c script before n w moved text left written after fault r passes p turns =
-    passes_on (λ (q : Result (Unit {0}) RunFault). IsSomeAnd after (Replays told c q script before)) fault r passes
-    (ends_at_fault told c script before n w moved text left written after fault p turns)
+    → Passes fault r → Progress wording c script before n w text written → Turns wording n w moved text left written after (Err fault)
+    → IsSomeAnd after (Replays wording c r script before)
+ends_passed wording c script before n w moved text left written after fault r passes p turns =
+    passes_on (λ (q : Result (Unit {0}) RunFault). IsSomeAnd after (Replays wording c q script before)) fault r passes
+    (ends_at_fault wording c script before n w moved text left written after fault p turns)

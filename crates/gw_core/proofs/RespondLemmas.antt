@@ -104,8 +104,8 @@ unserved rules format d m network its none = (
 pub sends_put : (rules : List Rule) (format : Format) (d : Database) (m : Message) (network : ℕ) (context : Context) (octets : List ℕ) (answer : Option Answer)
     → network ≡ device_network d → Some octets ≡ apdu_for network m.npdu → context ≡ context_of format network m
     → answer ≡ device_answer rules d context octets → answer_sends network m answer ≡ message_sends rules format d m
-sends_put rules format d m network context octets answer its apdu told is =
-    ap (answer_sends network m) (is ∙ sym (answer_put rules format d m network context octets its apdu told))
+sends_put rules format d m network context octets answer its apdu wording is =
+    ap (answer_sends network m) (is ∙ sym (answer_put rules format d m network context octets its apdu wording))
     ∙ ap (λ (n : ℕ). answer_sends n m (apdu_answer rules d (context_of format (device_network d) m) (apdu_for (device_network d) m.npdu))) its
 
 -- an unregistered sender is answered
@@ -123,7 +123,7 @@ told_so rules format m (bvll.delete address) is s none = absurd cc
 told_so rules format m (bvll.distribute octets) is s none =
     let heard : accepts m.here m.from m.frame ≡ true = ap (accepts m.here m.from) is in
     let strange : is_unregistered m.here m.from m.frame ≡ true = ap (is_unregistered m.here m.from) is ∙ s in
-    let told : map (answer_to m.here.port m.from) (refused (bvll.distribute octets)) ≡ [] =
+    let wording : map (answer_to m.here.port m.from) (refused (bvll.distribute octets)) ≡ [] =
     ap (λ (frame : Frame). map (answer_to m.here.port m.from) (refused frame)) (sym is) ∙ sym (strange_sends rules format m heard strange) ∙ none in
     absurd cc
 told_so rules format m (bvll.original_unicast octets) is s none = absurd cc

@@ -215,10 +215,10 @@ pub silent_message : (rules : List Rule) (format : Format) (d : Database) (m : M
     → network ≡ device_network d → Some octets ≡ apdu_for network m.npdu → context ≡ context_of format network m → 1497 ≤ context.room + 522
     → message_asks rules format d m ≡ [] → message_sends rules format d m ≡ []
     → (device_asks rules d context octets ≡ []) × (device_answer rules d context octets ≡ None)
-silent_message rules format d m network context octets its apdu told least asks sends =
-    let put : device_asks rules d context octets ≡ [] = sym (asks_put rules format d m network context octets its apdu told) ∙ asks in
-    let due = answer_put rules format d m network context octets its apdu told in
-    let room : 1497 ≤ max_reply_apdu network m.npdu + 522 = subst (λ (x : Context). 1497 ≤ x.room + 522) told least in
+silent_message rules format d m network context octets its apdu wording least asks sends =
+    let put : device_asks rules d context octets ≡ [] = sym (asks_put rules format d m network context octets its apdu wording) ∙ asks in
+    let due = answer_put rules format d m network context octets its apdu wording in
+    let room : 1497 ≤ max_reply_apdu network m.npdu + 522 = subst (λ (x : Context). 1497 ≤ x.room + 522) wording least in
     let header_fits : length (npdu.header (reply_npdu network m.npdu (alone_answer []))) ≤ 522 = omega (arith, room) in
     let sent : answer_sends network m (device_answer rules d context octets) ≡ [] =
     ap (λ (n : ℕ). answer_sends n m (device_answer rules d context octets)) its

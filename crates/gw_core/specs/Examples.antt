@@ -97,14 +97,14 @@ abbrev pub LocalReadIsUnheard : Type 0
 LocalReadIsUnheard = gives (hex (codes "810A001101040005070C0C014000011955")) ≡ nothing
 
 -- A read of Binary Value 7, which isn't there but is hidden, doesn't show that it isn't there.
-abbrev pub HiddenObjectIsUntold : Type 0
-HiddenObjectIsUntold =
+abbrev pub HiddenObjectIsUnnamed : Type 0
+HiddenObjectIsUnnamed =
     gives (hex (codes "810A0016012400640101FF0005090C0C014000071955"))
     ≡ refuses (hex (codes "810A001101080064010150090C9102911B")) 7
 
 -- A read of Binary Value 50, which is neither hidden nor there, shows that the object is unknown.
-abbrev pub UnknownObjectIsTold : Type 0
-UnknownObjectIsTold =
+abbrev pub UnknownObjectIsNamed : Type 0
+UnknownObjectIsNamed =
     gives (hex (codes "810A0016012400640101FF0005090C0C014000321955"))
     ≡ answers (hex (codes "810A001101080064010150090C9101911F"))
 

@@ -211,8 +211,8 @@ ConfigurationStays = (c : Configuration) (k : Counts) (h : List Event) →
     (state_after c k h).device.configured ≡ (database_of c).configured
 
 -- What a replay that doesn't explain writes of a run is the text of its effects.
-abbrev pub RunsAreTold : Type 0
-RunsAreTold = (c : Configuration) (l : List Event) → run_text event_text c l ≡ text_of_run (run c no_counts l)
+abbrev pub RunsAreWritten : Type 0
+RunsAreWritten = (c : Configuration) (l : List Event) → run_text event_text c l ≡ text_of_run (run c no_counts l)
 
 -- The lines of those asks of an event that the policy denies are those of its denials, in order.
 abbrev pub DeniedLinesAreLogged : Type 0

@@ -9,10 +9,10 @@ use Rattle.gw_core.specs.State.{State}
 use Rattle.gw_core.specs.Effects.{passes_end, NeedsNoMemory}
 use Rattle.gw_core.specs.History.{next}
 use Rattle.gw_script.specs.Script.{lines_of, IsLine}
-use Rattle.gw_core.specs.Replay.{Telling}
+use Rattle.gw_core.specs.Replay.{EventText}
 
 -- the first line writes an event, whose text was appended, and the gateway moved on by it
-pub record WholeStep (told : Telling) (w moved : State) (text : List ℕ) (left : Option (List ℕ)) (before : List ℕ)
+pub record WholeStep (wording : EventText) (w moved : State) (text : List ℕ) (left : Option (List ℕ)) (before : List ℕ)
     (after : Option (List ℕ)) : Type 0 where
   pub line : List ℕ
   pub event : Event
@@ -20,7 +20,7 @@ pub record WholeStep (told : Telling) (w moved : State) (text : List ℕ) (left 
   pub rest : List ℕ
   pub remains : left ≡ Some rest
   pub lines : lines_of text ≡ line ∷ lines_of rest
-  pub appended : after ≡ Some (before ++ told w event)
+  pub appended : after ≡ Some (before ++ wording w event)
   pub moves : moved ≡ next w event
 
 -- the first line writes no event
@@ -31,7 +31,7 @@ pub record NoEvent (w : State) (text : List ℕ) : Type 0 where
   pub no_event : (e : Event) → ¬ (IsLine (length w.relay.links) line e)
 
 -- the first line writes an event, of whose text a front was appended
-pub record CutStep (told : Telling) (w : State) (text before : List ℕ) (after : Option (List ℕ)) : Type 0 where
+pub record CutStep (wording : EventText) (w : State) (text before : List ℕ) (after : Option (List ℕ)) : Type 0 where
   pub line : List ℕ
   pub event : Event
   pub others : List (List ℕ)
@@ -39,7 +39,7 @@ pub record CutStep (told : Telling) (w : State) (text before : List ℕ) (after 
   pub lines : lines_of text ≡ line ∷ others
   pub front : List ℕ
   pub unwritten : List ℕ
-  pub parts : told w event ≡ front ++ unwritten
+  pub parts : wording w event ≡ front ++ unwritten
   pub appended : after ≡ Some (before ++ front)
 
 -- the first line writes an event that would pass the end of a count
@@ -61,26 +61,26 @@ pub record MemoryWant (w : State) (text : List ℕ) : Type 0 where
   pub wants : ¬ (NeedsNoMemory w event)
 
 -- what comes of the first line, whose number this is
-abbrev pub LineOutcome : Telling → ℕ → State → State → List ℕ → Option (List ℕ) → List ℕ → Option (List ℕ)
+abbrev pub LineOutcome : EventText → ℕ → State → State → List ℕ → Option (List ℕ) → List ℕ → Option (List ℕ)
     → Result Bool RunFault → Type 0
-LineOutcome told n w moved text left before after (Ok true) = WholeStep told w moved text left before after
-LineOutcome told n w moved text left before after (Ok false) =
+LineOutcome wording n w moved text left before after (Ok true) = WholeStep wording w moved text left before after
+LineOutcome wording n w moved text left before after (Ok false) =
     (lines_of text ≡ []) × (after ≡ Some before)
-LineOutcome told n w moved text left before after (Err (Line m)) =
+LineOutcome wording n w moved text left before after (Err (Line m)) =
     (m ≡ n) × NoEvent w text × (after ≡ Some before)
-LineOutcome told n w moved text left before after (Err Write) = CutStep told w text before after
-LineOutcome told n w moved text left before after (Err Read) = after ≡ Some before
-LineOutcome told n w moved text left before after (Err Memory) =
+LineOutcome wording n w moved text left before after (Err Write) = CutStep wording w text before after
+LineOutcome wording n w moved text left before after (Err Read) = after ≡ Some before
+LineOutcome wording n w moved text left before after (Err Memory) =
     MemoryWant w text × (after ≡ Some before)
-LineOutcome told n w moved text left before after (Err CountEnd) =
+LineOutcome wording n w moved text left before after (Err CountEnd) =
     PassesEnd w text × (after ≡ Some before)
 
 -- the same, where the text that is left and what was written are known
-abbrev pub OnKnownLine : Telling → ℕ → State → State → Option (List ℕ) → Option (List ℕ) → Option (List ℕ)
+abbrev pub OnKnownLine : EventText → ℕ → State → State → Option (List ℕ) → Option (List ℕ) → Option (List ℕ)
     → Option (List ℕ) → Result Bool RunFault → Type 0
-OnKnownLine told n w moved left leaves held holds result =
+OnKnownLine wording n w moved left leaves held holds result =
     (text before : List ℕ) → left ≡ Some text → held ≡ Some before
-    → LineOutcome told n w moved text leaves before holds result
+    → LineOutcome wording n w moved text leaves before holds result
 
 -- an event is not taken for want of memory, which it may want, or since it would pass the end of a
 -- count

@@ -16,31 +16,31 @@ no_counts = record { ticks = 0; denials = 0 }
 
 -- How an event is reported: its text, in the state in which it comes. A replay reports what each
 -- event does (`event_text`), and one that explains also what each asks (`explained_text`).
-abbrev pub Telling : Type 0
-Telling = State → Event → List ℕ
+abbrev pub EventText : Type 0
+EventText = State → Event → List ℕ
 
 -- the text of events after a history, each in the state that those before it left
-unfoldable pub text_after : Telling → Configuration → List Event → List Event → List ℕ
-text_after told c h [] = []
-text_after told c h (e ∷ l) = told (state_after c no_counts h) e ++ text_after told c (e ∷ h) l
+unfoldable pub text_after : EventText → Configuration → List Event → List Event → List ℕ
+text_after wording c h [] = []
+text_after wording c h (e ∷ l) = wording (state_after c no_counts h) e ++ text_after wording c (e ∷ h) l
 
 -- the text of the run of these events, from a fresh gateway
-abbrev pub run_text : Telling → Configuration → List Event → List ℕ
-run_text told c events = text_after told c [] events
+abbrev pub run_text : EventText → Configuration → List Event → List ℕ
+run_text wording c events = text_after wording c [] events
 
 -- these events are the first lines of the script
 abbrev pub FirstLines : Configuration → List ℕ → List Event → Type 0
 FirstLines c script events = AreLines (length c.ports) (take (length events) (lines_of script)) events
 
 -- every line of the script writes an event, and what was written is the text of their run
-pub record RunsWhole (told : Telling) (c : Configuration) (script before after : List ℕ) : Type 0 where
+pub record RunsWhole (wording : EventText) (c : Configuration) (script before after : List ℕ) : Type 0 where
   pub events : List Event
   pub lines : AreLines (length c.ports) (lines_of script) events
-  pub text : after ≡ before ++ run_text told c events
+  pub text : after ≡ before ++ run_text wording c events
 
 -- the lines before this one, which is counted from 1, write events, this line writes none, and what
 -- was written is the text of their run
-pub record RunsToLine (told : Telling) (n : ℕ) (c : Configuration) (script before after : List ℕ) : Type 0 where
+pub record RunsToLine (wording : EventText) (n : ℕ) (c : Configuration) (script before after : List ℕ) : Type 0 where
   pub events : List Event
   pub number : n ≡ length events + 1
   pub lines : FirstLines c script events
@@ -48,17 +48,17 @@ pub record RunsToLine (told : Telling) (n : ℕ) (c : Configuration) (script bef
   pub rest : List (List ℕ)
   pub stands : drop (length events) (lines_of script) ≡ line ∷ rest
   pub no_event : (e : Event) → ¬ (IsLine (length c.ports) line e)
-  pub text : after ≡ before ++ run_text told c events
+  pub text : after ≡ before ++ run_text wording c events
 
 -- some first lines write events, and what was written is the text of their run, whole
-pub record RunsPart (told : Telling) (c : Configuration) (script before after : List ℕ) : Type 0 where
+pub record RunsPart (wording : EventText) (c : Configuration) (script before after : List ℕ) : Type 0 where
   pub events : List Event
   pub lines : FirstLines c script events
-  pub text : after ≡ before ++ run_text told c events
+  pub text : after ≡ before ++ run_text wording c events
 
 -- some first lines write events, the line after them writes one that would pass the end of a
 -- count, and what was written is the text of the run of those before
-pub record RunsToEnd (told : Telling) (c : Configuration) (script before after : List ℕ) : Type 0 where
+pub record RunsToEnd (wording : EventText) (c : Configuration) (script before after : List ℕ) : Type 0 where
   pub events : List Event
   pub lines : FirstLines c script events
   pub line : List ℕ
@@ -67,7 +67,7 @@ pub record RunsToEnd (told : Telling) (c : Configuration) (script before after :
   pub event : Event
   pub writes : IsLine (length c.ports) line event
   pub passes : passes_end (state_after c no_counts (history_after [] events)) event ≡ true
-  pub text : after ≡ before ++ run_text told c events
+  pub text : after ≡ before ++ run_text wording c events
 
 -- The line after those of these events writes one for which memory may be wanted.
 pub record MemoryLine (c : Configuration) (script : List ℕ) (events : List Event) : Type 0 where
@@ -80,26 +80,26 @@ pub record MemoryLine (c : Configuration) (script : List ℕ) (events : List Eve
 
 -- Some first lines write events, and what was written is the text of their run, whole. Either there
 -- are none of them, or the line after them writes an event for which memory may be wanted.
-pub record RunsToMemory (told : Telling) (c : Configuration) (script before after : List ℕ) : Type 0 where
+pub record RunsToMemory (wording : EventText) (c : Configuration) (script before after : List ℕ) : Type 0 where
   pub events : List Event
   pub lines : FirstLines c script events
   pub cause : (events ≡ []) ⊎ MemoryLine c script events
-  pub text : after ≡ before ++ run_text told c events
+  pub text : after ≡ before ++ run_text wording c events
 
 -- some first lines write events, and what was written is a front of the text of their run
-pub record RunsFront (told : Telling) (c : Configuration) (script before after : List ℕ) : Type 0 where
+pub record RunsFront (wording : EventText) (c : Configuration) (script before after : List ℕ) : Type 0 where
   pub events : List Event
   pub lines : FirstLines c script events
   pub front : List ℕ
   pub unwritten : List ℕ
-  pub parts : run_text told c events ≡ front ++ unwritten
+  pub parts : run_text wording c events ≡ front ++ unwritten
   pub text : after ≡ before ++ front
 
 -- what a replay leaves written, by its outcome
-abbrev pub Replays : Telling → Configuration → Result (Unit {0}) RunFault → (script before after : List ℕ) → Type 0
-Replays told c (Ok done) script before after = RunsWhole told c script before after
-Replays told c (Err (Line n)) script before after = RunsToLine told n c script before after
-Replays told c (Err CountEnd) script before after = RunsToEnd told c script before after
-Replays told c (Err Read) script before after = RunsPart told c script before after
-Replays told c (Err Write) script before after = RunsFront told c script before after
-Replays told c (Err Memory) script before after = RunsToMemory told c script before after
+abbrev pub Replays : EventText → Configuration → Result (Unit {0}) RunFault → (script before after : List ℕ) → Type 0
+Replays wording c (Ok done) script before after = RunsWhole wording c script before after
+Replays wording c (Err (Line n)) script before after = RunsToLine wording n c script before after
+Replays wording c (Err CountEnd) script before after = RunsToEnd wording c script before after
+Replays wording c (Err Read) script before after = RunsPart wording c script before after
+Replays wording c (Err Write) script before after = RunsFront wording c script before after
+Replays wording c (Err Memory) script before after = RunsToMemory wording c script before after

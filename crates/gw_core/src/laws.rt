@@ -1,10 +1,10 @@
 //! Laws of the definitions, and worked examples of them. The functions do nothing: their contracts are the laws.
 
 ghost use Rattle.std.specs.Prelude.{◌≡◌};
-ghost use Rattle.gw_core.specs.Examples.{AllArePlaced, BroadcastIsDistributed, CountsEnd, DeniedSetIsRefused, DeniedTableIsRefused, DeniedWriteIsUnseen, DenialsAreCountedOn, EachCutIsDropped, GlobalWhoIsGoesOn, HiddenObjectIsUntold, HiddenReadIsDenied, HiddenWriteIsUnseen, HidingIsSeen, LearnedRouteIsTaken, LocalReadIsUnheard, ReadIsAnswered, RegistrationEnds, RelinquishIsSeen, RoutedReadIsAnswered, UnknownNetworkIsSought, UnknownObjectIsTold, WhoIsIsAnswered, WriteIsSeen, WrongLengthsAreDropped};
+ghost use Rattle.gw_core.specs.Examples.{AllArePlaced, BroadcastIsDistributed, CountsEnd, DeniedSetIsRefused, DeniedTableIsRefused, DeniedWriteIsUnseen, DenialsAreCountedOn, EachCutIsDropped, GlobalWhoIsGoesOn, HiddenObjectIsUnnamed, HiddenReadIsDenied, HiddenWriteIsUnseen, HidingIsSeen, LearnedRouteIsTaken, LocalReadIsUnheard, ReadIsAnswered, RegistrationEnds, RelinquishIsSeen, RoutedReadIsAnswered, UnknownNetworkIsSought, UnknownObjectIsNamed, WhoIsIsAnswered, WriteIsSeen, WrongLengthsAreDropped};
 ghost use Rattle.gw_core.specs.Drops.{DropsHaveReasons};
 ghost use Rattle.gw_core.specs.NoLeak.{AsksCarryTheirClaim, QuietIsUnseen, WritesAreHidden, WritesAreUnread};
-ghost use Rattle.gw_core.specs.Laws.{ActsLeaveTheTables, AllowedTrafficIsSent, ConfigurationStays, DeniedAsksAreLogged, DeniedBroadcastsAreKept, DeniedLinesAreLogged, DeniedReadsAreRefused, DeniedWritesAreRefused, DenialsAreCounted, DenialsHaveTheirTick, DroppedNeedsNoMemory, FormatOneIsAsBefore, FormatOneRunsAsBefore, FormatStays, FormatTwoIsAsBefore, FormatTwoRunsAsBefore, FormatWasUnread, NoDeliveryOutside, NoForgedClaim, NoStranger, LearningsLeaveTheRoutes, LogIsNumbered, NothingAskedIsChanged, NothingAskedIsLogged, NothingAskedIsWritten, PortsStay, RelayTicksAreCounted, RunsAreTold, RunsExtendHistories, StepsExtendHistories, TicksAreCounted, TicksOnlyCount, WritesLeaveTheSlots};
+ghost use Rattle.gw_core.specs.Laws.{ActsLeaveTheTables, AllowedTrafficIsSent, ConfigurationStays, DeniedAsksAreLogged, DeniedBroadcastsAreKept, DeniedLinesAreLogged, DeniedReadsAreRefused, DeniedWritesAreRefused, DenialsAreCounted, DenialsHaveTheirTick, DroppedNeedsNoMemory, FormatOneIsAsBefore, FormatOneRunsAsBefore, FormatStays, FormatTwoIsAsBefore, FormatTwoRunsAsBefore, FormatWasUnread, NoDeliveryOutside, NoForgedClaim, NoStranger, LearningsLeaveTheRoutes, LogIsNumbered, NothingAskedIsChanged, NothingAskedIsLogged, NothingAskedIsWritten, PortsStay, RelayTicksAreCounted, RunsAreWritten, RunsExtendHistories, StepsExtendHistories, TicksAreCounted, TicksOnlyCount, WritesLeaveTheSlots};
 ghost use Rattle.gw_core.specs.Refused.{DeniedListingsAreSilent, DeniedManagementIsRefused, DeniedMembersAreRefused, DeniedPropertiesAreRefused, OthersAreAnswered, RepliesAreTheirParts};
 
 use gw_relay::laws::{delivery, entry};
@@ -94,7 +94,7 @@ pub fn counts()
 /// What a replay writes: of each run the text of its effects. And where it explains, the lines of the asks that the
 /// policy denies are those of the denials.
 pub fn replays()
-    ensures told { RunsAreTold }
+    ensures wording { RunsAreWritten }
     ensures denied { DeniedLinesAreLogged }
 {}
 
@@ -103,8 +103,8 @@ pub fn worked_examples()
     ensures read_is_answered { ReadIsAnswered }
     ensures hidden_read_is_denied { HiddenReadIsDenied }
     ensures local_read_is_unheard { LocalReadIsUnheard }
-    ensures hidden_object_is_untold { HiddenObjectIsUntold }
-    ensures unknown_object_is_told { UnknownObjectIsTold }
+    ensures hidden_object_is_unnamed { HiddenObjectIsUnnamed }
+    ensures unknown_object_is_named { UnknownObjectIsNamed }
     ensures each_cut_is_dropped { EachCutIsDropped }
     ensures wrong_lengths_are_dropped { WrongLengthsAreDropped }
     ensures routed_read_is_answered { RoutedReadIsAnswered }

@@ -8,6 +8,7 @@ mod denial;
 mod drops;
 mod effects;
 mod event;
+mod event_writer;
 mod explaining;
 mod fault;
 mod gateway;
@@ -19,7 +20,6 @@ mod respond;
 mod saving;
 mod setting;
 mod shown;
-mod telling;
 mod whole_run;
 
 pub use asked::{AllAsked, Asked};

@@ -14,8 +14,8 @@ ghost use Rattle.gw_core.specs.LineOutcome.{OnKnownLine};
 ghost use Rattle.gw_core.specs.Flawed.{HasFlaw, IsFirstFlaw};
 
 use crate::event::Counts;
+use crate::event_writer::{EventText, Explaining, Plain};
 use crate::gateway::Gateway;
-use crate::telling::{Explaining, Plain, Telling};
 use gw_configuration::Config;
 use gw_script::{
     LineFlaw, LineReader, MAX_DATAGRAM, NextLine, OctetSink, OctetSource, flaw_of, parse_spelled,
@@ -102,7 +102,7 @@ pub fn replay<R: OctetSource, W: OctetSink>(
     ensures sure_writer { W.NeverFails writer.old → ¬ (IsErrOf result RunFault.Write) }
 {
     let mut flaw = LineFlaw::Form;
-    replay_telling(&Plain { alloc }, config, reader, writer, &mut flaw)
+    replay_with(&Plain { alloc }, config, reader, writer, &mut flaw)
 }
 
 /// As [`replay`], and before the lines of what an event does there is one for each of its asks, allowed or
@@ -136,19 +136,19 @@ pub fn replay_explaining<R: OctetSource, W: OctetSink>(
         ¬ (IsErrOf result RunFault.Read) }
     ensures sure_writer { W.NeverFails writer.old → ¬ (IsErrOf result RunFault.Write) }
 {
-    replay_telling(&Explaining { alloc }, config, reader, writer, flaw)
+    replay_with(&Explaining { alloc }, config, reader, writer, flaw)
 }
 
-/// Runs the events of a script through a fresh gateway, and reports each by `telling`.
-fn replay_telling<T: Telling, R: OctetSource, W: OctetSink>(
-    telling: &T,
+/// Runs the events of a script through a fresh gateway, and reports each by `event_writer`.
+fn replay_with<T: EventText, R: OctetSource, W: OctetSink>(
+    event_writer: &T,
     config: Config,
     reader: &mut R,
     writer: &mut W,
     flaw: &mut LineFlaw,
 ) -> Result<(), RunFault>
     ensures run { OnKnown (R.left reader.old) (W.held writer.old) (W.held writer.new)
-        (Replays T.told config result) }
+        (Replays T.wording config result) }
     ensures flaw { (n : ℕ) → IsErrOf result (RunFault.Line n) →
         OnKnown (R.left reader.old) (W.held writer.old) (W.held writer.new)
         (λ script before after. HasFlaw (length config.ports) n script flaw.new) }
@@ -157,7 +157,7 @@ fn replay_telling<T: Telling, R: OctetSource, W: OctetSink>(
         ¬ (IsErrOf result RunFault.Read) }
     ensures sure_writer { W.NeverFails writer.old → ¬ (IsErrOf result RunFault.Write) }
 {
-    let alloc = telling.alloc();
+    let alloc = event_writer.alloc();
     let counts = Counts {
         ticks: 0,
         denials: 0,
@@ -175,16 +175,16 @@ fn replay_telling<T: Telling, R: OctetSource, W: OctetSink>(
         text,
         flaw: *flaw,
     };
-    let done = run.replay_script(telling, reader, writer);
+    let done = run.replay_script(event_writer, reader, writer);
     *flaw = run.flaw;
     done
 }
 
 impl ScriptRun {
     /// Replays each line, in order.
-    fn replay_script<T: Telling, R: OctetSource, W: OctetSink>(
+    fn replay_script<T: EventText, R: OctetSource, W: OctetSink>(
         &mut self,
-        telling: &T,
+        event_writer: &T,
         reader: &mut R,
         writer: &mut W,
     ) -> Result<(), RunFault>
@@ -192,7 +192,7 @@ impl ScriptRun {
         requires calls { self.old.lines.calls ≡ 0 }
         ensures run { (c : Configuration) → IsStateAfter self.old.gateway c no_counts [] →
             OnKnown (R.left reader.old) (W.held writer.old) (W.held writer.new)
-            (Replays T.told c result) }
+            (Replays T.wording c result) }
         ensures flaw { (c : Configuration) (n : ℕ) → IsStateAfter self.old.gateway c no_counts [] →
             IsErrOf result (RunFault.Line n) →
             OnKnown (R.left reader.old) (W.held writer.old) (W.held writer.new)
@@ -203,7 +203,7 @@ impl ScriptRun {
         ensures sure_writer { W.NeverFails writer.old → ¬ (IsErrOf result RunFault.Write) }
     {
         for number in 1..u64::MAX {
-            if !self.replay_line(telling, number, reader, writer)? {
+            if !self.replay_line(event_writer, number, reader, writer)? {
                 return Ok(());
             }
         }
@@ -211,14 +211,14 @@ impl ScriptRun {
     }
 
     /// Replays the line of this number. It answers whether there was one.
-    fn replay_line<T: Telling, R: OctetSource, W: OctetSink>(
+    fn replay_line<T: EventText, R: OctetSource, W: OctetSink>(
         &mut self,
-        telling: &T,
+        event_writer: &T,
         number: u64,
         reader: &mut R,
         writer: &mut W,
     ) -> Result<bool, RunFault>
-        ensures outcome { OnKnownLine T.told number self.old.gateway self.new.gateway
+        ensures outcome { OnKnownLine T.wording number self.old.gateway self.new.gateway
             (prepend_known self.old.lines.unread (R.left reader.old))
             (prepend_known self.new.lines.unread (R.left reader.new))
             (W.held writer.old) (W.held writer.new) result }
@@ -251,7 +251,7 @@ impl ScriptRun {
             self.flaw = flaw_of(ports, line);
             return Err(RunFault::Line(number));
         };
-        telling.make_text(&mut self.gateway, &event, &sender, &mut self.text)?;
+        event_writer.make_text(&mut self.gateway, &event, &sender, &mut self.text)?;
         let Ok(()) = write_whole(writer, &self.text) else {
             return Err(RunFault::Write);
         };

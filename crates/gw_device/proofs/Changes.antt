@@ -325,11 +325,11 @@ from_apdu rules d context (Err fault) = tt
 
 sources : (context : Context) (asks : List Ask) → FromIt context asks → AllByRecursion (IsFrom context.source_network context.source_key) asks
 sources context [] _ = tt
-sources context (ask ∷ asks) told = (told.0.source, sources context asks told.1)
+sources context (ask ∷ asks) announcement_of = (announcement_of.0.source, sources context asks announcement_of.1)
 
 senders : (context : Context) (asks : List Ask) → FromIt context asks → AllByRecursion (IsSentBy context.sender) asks
 senders context [] _ = tt
-senders context (ask ∷ asks) told = (told.0.sender, senders context asks told.1)
+senders context (ask ∷ asks) announcement_of = (announcement_of.0.sender, senders context asks announcement_of.1)
 
 -- ---- the laws
 

@@ -25,7 +25,7 @@ pub item_fault : (fault : ReadFault) (why : ServiceError) (p : ℕ) (index : Opt
 item_fault fault why p index (Ok octets) old begun head value cut new a b other is front e = absurd (other b)
 item_fault fault why p index (Err found) old begun head value cut new a b other is front e =
     e ∙ ap (λ text. text ++ error_item p index why) (front ∙ ap (take (length old)) a ∙ take_at old begun (length old) refl)
-    ∙ ap (λ told. old ++ error_item p index told) (is ∙ ap read_error b)
+    ∙ ap (λ announcement_of. old ++ error_item p index announcement_of) (is ∙ ap read_error b)
 
 -- what was begun is taken off again; what is then appended, if anything, makes it no shorter
 pub longer_after : {T F : Type 0} (result : Result T F) (begun text : List ℕ) (old value cut new : Vec ℕ) → vec_items value ≡ vec_items old ++ begun

@@ -71,9 +71,9 @@ abbrev pub to_everyone : List ℕ → Option Answer
 to_everyone apdu = Some (record { apdu = apdu; broadcast = true })
 
 -- an answer to everyone, if there is something to announce
-abbrev pub told : Option (List ℕ) → Option Answer
-told None = None
-told (Some apdu) = to_everyone apdu
+abbrev pub announcement_of : Option (List ℕ) → Option Answer
+announcement_of None = None
+announcement_of (Some apdu) = to_everyone apdu
 
 -- a request that is turned down before anything is asked
 abbrev pub turned_down : List ℕ → Response

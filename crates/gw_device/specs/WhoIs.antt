@@ -14,7 +14,7 @@ use Rattle.gw_services.specs.IAm.{i_am_encoding, segmentation_number}
 use Rattle.gw_services.specs.WhoIs.{Limits, WhoIs}
 use Rattle.gw_device.specs.declared.context.Context.{Context}
 use Rattle.gw_device.specs.Asks.{property_ask}
-use Rattle.gw_device.specs.Response.{Response, silence, unchanged, told}
+use Rattle.gw_device.specs.Response.{Response, silence, unchanged, announcement_of}
 use Rattle.gw_services.specs.Choices.{who_is, i_am}
 
 -- an unconfirmed request: its type and its service (clause 20.1.3)
@@ -47,7 +47,7 @@ i_am_apdu c = unconfirmed i_am ++ i_am_encoding (record {
 
 -- what there is to announce, if its ask is allowed
 abbrev pub if_allowed : List Rule → Ask → Option (List ℕ) → Response
-if_allowed rules ask apdu = unchanged (ask ∷ []) (if allows rules ask then told apdu else None)
+if_allowed rules ask apdu = unchanged (ask ∷ []) (if allows rules ask then announcement_of apdu else None)
 
 abbrev pub who_is_response : List Rule → Database → Context → WhoIs → Response
 who_is_response rules d context request =

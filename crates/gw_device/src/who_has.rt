@@ -6,7 +6,7 @@ ghost use Rattle.gw_rules.specs.declared.rule.Rule.{Rule};
 ghost use Rattle.gw_objects.specs.Objects.{name_at};
 ghost use Rattle.gw_services.specs.WhoHas.{sought_view, who_has_view};
 ghost use Rattle.gw_tags.specs.Object.{object_view};
-ghost use Rattle.gw_device.specs.Response.{IsServed, answer_view, told, with_room};
+ghost use Rattle.gw_device.specs.Response.{IsServed, answer_view, announcement_of, with_room};
 ghost use Rattle.gw_device.specs.WhoHas.{i_have_apdu, object_response, sought_object, who_has_ask, who_has_response};
 
 use crate::Served;
@@ -76,10 +76,10 @@ impl Access<'_> {
     }
 
     /// The I-Have of an object that may be announced, if it is there.
-    fn tell_object(&self, alloc: Global, object: ObjectId) -> Result<Served, AllocError>
+    fn announce_object(&self, alloc: Global, object: ObjectId) -> Result<Served, AllocError>
         ensures answer { let object = object_view object in
             let name = name_at self.now.objects.now.configured object in
-            let due = told (option_map (i_have_apdu self.now.objects.now.configured object) name) in
+            let due = announcement_of (option_map (i_have_apdu self.now.objects.now.configured object) name) in
             IfOk result (λ served. option_map answer_view served.answer ≡ due) }
         ensures place { IfOk result (λ served. served.change ≡ None) }
     {
@@ -104,7 +104,7 @@ impl Access<'_> {
         ensures place { IfOk result (λ served. served.change ≡ None) }
     {
         if asker.authorize(&self.who_has_ask(object))? {
-            self.tell_object(asker.alloc(), object)
+            self.announce_object(asker.alloc(), object)
         } else {
             Ok(Served::silence())
         }

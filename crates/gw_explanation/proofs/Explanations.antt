@@ -16,7 +16,7 @@ use Rattle.gw_policy_text.specs.Document.{configuration_of, document, located_co
 use Rattle.gw_explanation.specs.Explanation.{Explains, IsNoDocument, IsTextWanted, IsWanted, IsExplanation, is_printed, position_words, shown, tables_in, tables_or}
 use Rattle.gw_explanation.specs.Wanted.{wanted_words}
 use Rattle.gw_explanation.specs.Place.{place_words, value_at}
-use Rattle.gw_explanation.specs.Told.{fault_words, single_words}
+use Rattle.gw_explanation.specs.FaultWords.{fault_words, single_words}
 use Rattle.gw_configuration.specs.Located.{Find, Located, Read, of_text}
 
 printed_shown : (octet : ℕ) → is_printed (shown octet) ≡ true
@@ -73,10 +73,10 @@ pub of_document : (text : List ℕ) (tables : Read Members) → nat_lt 1048576 (
 of_document text tables short is = rw short is
 
 -- the line of a text without tables, and of one with them
-pub no_tables : {E : Type 0} (text : List ℕ) (told fault : ConfigFault) (result : Result (Option (List ℕ)) E) → tables_in text ≡ Err told
-    → IfOk result (λ line. Explains (located_configuration text) (tables_or (Err told)) (λ (at : Located) (w : List ℕ). IsTextWanted text w) fault line)
+pub no_tables : {E : Type 0} (text : List ℕ) (fault_named fault : ConfigFault) (result : Result (Option (List ℕ)) E) → tables_in text ≡ Err fault_named
+    → IfOk result (λ line. Explains (located_configuration text) (tables_or (Err fault_named)) (λ (at : Located) (w : List ℕ). IsTextWanted text w) fault line)
     → IfOk result (λ line. Explains (located_configuration text) (tables_or (tables_in text)) (IsWanted text (tables_in text)) fault line)
-no_tables text told fault result is line =
+no_tables text fault_named fault result is line =
     subst
     (λ (t : Read Members). IfOk result (λ line. Explains (located_configuration text) (tables_or t) (IsWanted text t) fault line))
     (sym is) line
@@ -99,10 +99,10 @@ pub no_document_at : {E : Type 0} (text : List ℕ) (place : ℕ) (front reason 
     → front ≡ take place text
     → IfOk result (λ words. vec_items words ≡ codes "is no TOML document" ++ position_words front ++ codes ": " ++ reason)
     → IfOk result (λ words. IsNoDocument text (vec_items words))
-no_document_at text place front reason (Ok words) within same told = record {
+no_document_at text place front reason (Ok words) within same fault_named = record {
   place = place;
   within = within;
   reason = reason;
-  told = told ∙ ap (λ (f : List ℕ). codes "is no TOML document" ++ position_words f ++ codes ": " ++ reason) same;
+  fault_named = fault_named ∙ ap (λ (f : List ℕ). codes "is no TOML document" ++ position_words f ++ codes ": " ++ reason) same;
 }
-no_document_at text place front reason (Err failed) within same told = tt
+no_document_at text place front reason (Err failed) within same fault_named = tt

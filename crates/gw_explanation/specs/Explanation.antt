@@ -10,7 +10,7 @@ use Rattle.gw_configuration.specs.Configuration.{Configuration}
 use Rattle.gw_configuration.specs.Located.{Find, Located, Read, numbered, without_place}
 use Rattle.gw_policy_text.specs.Document.{document, located_configuration}
 use Rattle.gw_explanation.specs.Place.{place_words, value_at}
-use Rattle.gw_explanation.specs.Told.{fault_words}
+use Rattle.gw_explanation.specs.FaultWords.{fault_words}
 use Rattle.gw_explanation.specs.Wanted.{wanted_words}
 
 -- the octets
@@ -36,7 +36,7 @@ pub record IsNoDocument (text words : List ℕ) : Type 0 where
   pub place : ℕ
   pub within : place ≤ length text
   pub reason : List ℕ
-  pub told : words ≡ codes "is no TOML document" ++ position_words (take place text) ++ codes ": " ++ reason
+  pub fault_named : words ≡ codes "is no TOML document" ++ position_words (take place text) ++ codes ": " ++ reason
 
 -- it is too long, isn't UTF-8, or is no document
 pub record IsTextWanted (text words : List ℕ) : Type 0 where

@@ -1,5 +1,5 @@
 pub mod Explanation
 pub mod Near
 pub mod Place
-pub mod Told
+pub mod FaultWords
 pub mod Wanted

@@ -31,7 +31,7 @@ use Rattle.gw_config_tables.specs.Value.{list_in}
 use Rattle.gw_config_tables.specs.Written.{mask_written}
 use Rattle.gw_explanation.specs.Near.{near_words, noun_of}
 use Rattle.gw_explanation.specs.Place.{table_at, value_at}
-use Rattle.gw_explanation.specs.Told.{value_words}
+use Rattle.gw_explanation.specs.FaultWords.{value_words}
 
 -- what a single value must be
 

@@ -12,7 +12,7 @@ ghost use Rattle.gw_configuration.specs.declared.fault.ConfigFault.TheVariants.{
 
 use crate::explanation::Explanation;
 use crate::reason::put_wanted;
-use crate::told::{put_told, value_at};
+use crate::value::{put_fault, value_at};
 use crate::words::{put_numbered, put_place};
 use gw_configuration::{ConfigFault, Located};
 use gw_policy_text::{MAX_OCTETS, config_of, document};
@@ -36,7 +36,7 @@ pub fn explain(
     match document(alloc, text) {
         Ok(top) => in_tables(alloc, &top, fault),
         Err(ConfigFault::Memory) => Err(AllocError),
-        Err(told) => of_text(alloc, text, told, fault),
+        Err(fault_named) => of_text(alloc, text, fault_named, fault),
     }
 }
 
@@ -44,18 +44,18 @@ pub fn explain(
 fn of_text(
     alloc: Global,
     text: &[u8],
-    told: ConfigFault,
+    fault_named: ConfigFault,
     fault: ConfigFault,
 ) -> Result<Option<Explanation>, AllocError>
-    ensures { (found : Find Configuration) (top : Members) → found ≡ Err (of_text told) →
+    ensures { (found : Find Configuration) (top : Members) → found ≡ Err (of_text fault_named) →
         IfOk result (λ line. Explains found top (λ _ words. IsTextWanted text.now words) fault line) }
 {
-    if told != fault {
+    if fault_named != fault {
         return Ok(None);
     }
     let wanted = text_wanted(alloc, text)?;
     let mut line = Vec::from_slice(alloc, b"the text: ")?;
-    put_told(&mut line, fault, None)?;
+    put_fault(&mut line, fault, None)?;
     line.extend_from_slice(&wanted)?;
     Ok(Some(Explanation::of_words(alloc, &line)?))
 }
@@ -169,7 +169,7 @@ fn of_fault(
     let value = value_at(located, top);
     let mut line = Vec::new(alloc);
     put_place(&mut line, located, top)?;
-    put_told(&mut line, fault, value)?;
+    put_fault(&mut line, fault, value)?;
     put_wanted(&mut line, located, top)?;
     Ok(Some(Explanation::of_words(alloc, &line)?))
 }

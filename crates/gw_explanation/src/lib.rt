@@ -6,7 +6,7 @@ mod explanation;
 pub mod laws;
 mod near;
 mod reason;
-mod told;
+mod value;
 mod words;
 
 pub use diagnosis::explain;

@@ -10,7 +10,7 @@ ghost use Rattle.gw_config_tables.specs.Value.{list_in};
 ghost use Rattle.gw_explanation.specs.Wanted.{address_text, addresses_words, bits_in, bounds_words, due_words, end_of, every_port_words, first_address, first_octet, fixed_words, host_bits, is_reversed, is_slash, is_known, is_known_in, item_words, kind_at, kind_words, last_address, last_octet, length_range_words, length_words, list_kind_words, list_noun, list_words, long_item_words, long_length_words, mention_words, missing_words, must_words, name_words, named_text, named_words, number_words, other_front, other_words, range_words, reversed_ends, scalar_words, shape_words, single_words, straight_words, subnet_in, subnet_words, twice_words, two_front, two_words, type_words, wanted_words, within_32};
 
 use crate::near::{noun_of, put_near};
-use crate::told::{put_value, value_at};
+use crate::value::{put_value, value_at};
 use crate::words::table_at;
 use gw_addr::{BipAddr, Mask, put_decimal};
 use gw_config_tables::items::{items_named, set_name};

@@ -1,7 +1,7 @@
 //! Lines of a log, read back and written in words.
 
 use gw_addr::Source;
-use gw_audit::{Moment, ShownAsk, read_ask, read_line, tell_log};
+use gw_audit::{Moment, ShownAsk, read_ask, read_line, translate_log};
 use gw_cases::{MemReader, Streams, put_end, put_octets, put_word};
 use std::alloc::Global;
 use std::io;
@@ -62,26 +62,31 @@ pub fn line(alloc: Global, case: &str, out: &mut Vec<u8>) -> io::Result<()> {
 /// A log in words, and how the writing of it ends. A case has the read that fails, from 0, or `-`,
 /// the write that fails, how many octets a write takes, and the log.
 pub fn told(alloc: Global, line: &str, out: &mut Vec<u8>) -> io::Result<()> {
-    tell(alloc, None, line, out)
+    put_translation(alloc, None, line, out)
 }
 
 /// The same of a log that began at the moment in front of the case.
 pub fn since(alloc: Global, line: &str, out: &mut Vec<u8>) -> io::Result<()> {
     let (start, line) = line.split_once(' ').unwrap_or((line, ""));
     match Moment::parse(start) {
-        Some(start) => tell(alloc, Some(start), line, out),
+        Some(start) => put_translation(alloc, Some(start), line, out),
         None => write!(out, "no moment"),
     }
 }
 
 /// Writes the log of a case in words, and appends how that ends and what was written.
-fn tell(alloc: Global, start: Option<Moment>, line: &str, out: &mut Vec<u8>) -> io::Result<()> {
+fn put_translation(
+    alloc: Global,
+    start: Option<Moment>,
+    line: &str,
+    out: &mut Vec<u8>,
+) -> io::Result<()> {
     let Streams {
         text,
         fails,
         mut writer,
     } = Streams::parse(alloc, line)?;
     let mut reader = MemReader::slow(&text, fails);
-    put_end(tell_log(alloc, start, &mut reader, &mut writer), out)?;
+    put_end(translate_log(alloc, start, &mut reader, &mut writer), out)?;
     put_word(writer.held(), out)
 }

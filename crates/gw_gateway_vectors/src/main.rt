@@ -6,8 +6,8 @@ mod keeping;
 mod objects;
 mod replays;
 mod serving;
+mod sockets;
 mod streams;
-mod turns;
 mod watching;
 mod wire;
 
@@ -33,9 +33,9 @@ impl Kinds for GatewayKinds {
             "trial" => watching::watched(alloc, config, line, out),
             "serve" => serving::call(alloc, config, line, out),
             "reports" => serving::reports(alloc, config, line, out),
-            "turns" => turns::turns(alloc, line, out),
-            "watches" => turns::watches(alloc, line, out),
-            "seconds" => turns::seconds(alloc, line, out),
+            "turns" => sockets::turns(alloc, line, out),
+            "watches" => sockets::watches(alloc, line, out),
+            "seconds" => sockets::seconds(alloc, line, out),
             _ => Err(ErrorKind::InvalidData.into()),
         }
     }

@@ -1,7 +1,7 @@
 //! A wire over memory, whose calls fail at the choice of a case, and which reports each call with its answer.
 
 ghost use Rattle.std.specs.Prelude.{◌≡◌, ◌∷◌, [], None, IfOk, IfErr, if◌then◌else◌};
-ghost use Rattle.gw_serving.specs.Wire.{Tells, arrival, departure, failed_send};
+ghost use Rattle.gw_serving.specs.Wire.{Records, arrival, departure, failed_send};
 ghost use Rattle.gw_relay.specs.Sends.{sending};
 ghost use Rattle.gw_script.specs.Event.{Datagram};
 ghost use Rattle.gw_gateway_vectors.specs.Calls.{call_of, calls_of};
@@ -154,9 +154,9 @@ impl<'a> MemWire<'a> {
     }
 
     /// Reports a call; if there is no memory for it, it reports none from then on.
-    fn tell(&mut self, call: Result<Call, AllocError>)
+    fn record_call(&mut self, call: Result<Call, AllocError>)
         ensures failures { self.new.failures ≡ self.old.failures }
-        ensures told { IfOk call (λ told. Tells (calls_of self.old.calls) (calls_of self.new.calls) (call_of told ∷ [])) }
+        ensures recorded { IfOk call (λ recorded. Records (calls_of self.old.calls) (calls_of self.new.calls) (call_of recorded ∷ [])) }
         ensures ends { IfErr call (λ fault. self.new.calls ≡ None) }
     {
         let calls = self.calls.take();
@@ -204,7 +204,7 @@ impl Wire for MemWire<'_> {
     fn recv(&mut self, buf: &mut [u8; RECEIVE_ROOM]) -> Result<Got, WireFault> {
         if self.is_failing() {
             self.failures += 1;
-            self.tell(Ok(Call::FailedReceive));
+            self.record_call(Ok(Call::FailedReceive));
             return Err(WireFault::Failed);
         }
         let line = self.next_line();
@@ -213,15 +213,15 @@ impl Wire for MemWire<'_> {
                 let len = octets.len().min(RECEIVE_ROOM);
                 buf[..len].copy_from_slice(&octets[..len]);
                 let call = received(self.alloc, port, from, &buf[..len]);
-                self.tell(call);
+                self.record_call(call);
                 Ok(Got::Datagram { port, from, len })
             }
             Some(Event::Tick) => {
-                self.tell(Ok(Call::Tick));
+                self.record_call(Ok(Call::Tick));
                 Ok(Got::Tick)
             }
             None => {
-                self.tell(Ok(Call::EmptyReceive));
+                self.record_call(Ok(Call::EmptyReceive));
                 Ok(Got::Idle)
             }
         }
@@ -230,7 +230,7 @@ impl Wire for MemWire<'_> {
     fn send(&mut self, port: u8, to: BipAddr, octets: &[u8]) -> Result<(), WireFault> {
         let is_failing = self.is_failing();
         let call = sent(self.alloc, port, to, octets, is_failing);
-        self.tell(call);
+        self.record_call(call);
         if is_failing {
             self.failures += 1;
             return Err(WireFault::Failed);

@@ -1,7 +1,7 @@
 -- What a line of the log shows is the denial whose line it is.
 use Rattle.std.proofs.Common.{◌≡◌, ◌∙◌, inl, ℕ, List, Result, Ok, Err, IfOk, ap, sym}
 use Rattle.std.specs.Global.{Vec}
-use Rattle.gw_audit.proofs.TellingLemmas.{shown_again}
+use Rattle.gw_audit.proofs.TranslatingLemmas.{shown_again}
 use Rattle.gw_audit.specs.Entry.{IsLineOf, IsShowable, denial_of}
 use Rattle.gw_audit.specs.declared.entry.Shown.{Shown}
 use Rattle.gw_audit.specs.declared.entry.ShownAsk.{ShownAsk}

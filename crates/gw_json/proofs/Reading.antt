@@ -8,7 +8,7 @@ use Rattle.json.specs.Print.{escape_byte, print, print_from, quoted, token_text}
 use Rattle.json.specs.Token.{Token}
 use Rattle.json.specs.Tree.{json_tokens, members_tokens}
 use Rattle.gw_addr.specs.Station.{is_network}
-use Rattle.gw_audit.specs.Entry.{IsShowable, IsShownAsk, TellsAsk, ask_shown, shown_ask}
+use Rattle.gw_audit.specs.Entry.{IsShowable, IsShownAsk, ShowsAsk, ask_shown, shown_ask}
 use Rattle.gw_audit.specs.Line.{key_octets, operation_named}
 use Rattle.gw_audit.specs.declared.denial.Denial.{Denial}
 use Rattle.gw_audit.specs.declared.entry.ShownAsk.{ShownAsk}
@@ -334,7 +334,7 @@ small_words ask is = record {
   priority = is.priority;
 }
 
-small_told : (line : List ℕ) (ask : ShownAsk) → TellsAsk line ask → AreSmall ask
+small_told : (line : List ℕ) (ask : ShownAsk) → ShowsAsk line ask → AreSmall ask
 small_told line ask (inl of) = subst AreSmall of.ask (small_denial of.denial of.showable)
 small_told line ask (inr of) = small_words ask of.numbers
 
@@ -407,7 +407,7 @@ answers_read rules notes few line text answer =
     let ask = answer.ask in
     let truth = allows rules (ask_shown ask) in
     let by = first rules (ask_shown ask) in
-    let small = small_told line ask answer.tells in
+    let small = small_told line ask answer.translates in
     let numbered = by_small rules (ask_shown ask) few in
     subst (λ (text : List ℕ). ReadsAs text (answer_value rules notes ask)) (verdict_line rules notes truth by ask small numbered ∙ sym answer.answer)
     (reads _ (verdict_single rules notes truth by ask small numbered))

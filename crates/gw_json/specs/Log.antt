@@ -4,7 +4,7 @@ use Rattle.std.specs.Str.{IsUtf8}
 use Rattle.hex.specs.Hex.{encode_upper}
 use Rattle.json.specs.Print.{quoted}
 use Rattle.gw_audit.specs.Entry.{IsLineOf, IsShowable, shown_ask}
-use Rattle.gw_audit.specs.Told.{RefusesNone}
+use Rattle.gw_audit.specs.Translation.{RefusesNone}
 use Rattle.gw_audit.specs.declared.denial.Denial.{Denial}
 use Rattle.gw_audit.specs.declared.entry.ShownAsk.{ShownAsk}
 use Rattle.gw_json.specs.Text.{ask_text}

@@ -2,7 +2,7 @@
 use Rattle.std.specs.Prelude.{◌≡◌, ◌-◌, ◌==◌, ℕ, Bool, List, ◌++◌, length, if◌then◌else◌, codes, Option, Result, slice_get}
 use Rattle.std.specs.Option.{option_and_then, option_map_or}
 use Rattle.json.specs.Print.{quoted}
-use Rattle.gw_audit.specs.Entry.{TellsAsk, ask_shown}
+use Rattle.gw_audit.specs.Entry.{ShowsAsk, ask_shown}
 use Rattle.gw_audit.specs.declared.entry.ShownAsk.{ShownAsk}
 use Rattle.gw_json.specs.Text.{ask_text, number_text}
 use Rattle.gw_rules.specs.RuleList.{allows, first}
@@ -50,12 +50,12 @@ answer_line rules notes ask =
 -- a line that says an ask, and the answer to it
 pub record IsAnswerIn (rules : List Rule) (notes : List (List ℕ)) (line text : List ℕ) : Type 0 where
   pub ask : ShownAsk
-  pub tells : TellsAsk line ask
+  pub translates : ShowsAsk line ask
   pub answer : text ≡ answer_line rules notes ask
 
 -- a line that says no ask
 abbrev pub SaysNoAsk : List ℕ → Type 0
-SaysNoAsk line = (ask : ShownAsk) → ¬ (TellsAsk line ask)
+SaysNoAsk line = (ask : ShownAsk) → ¬ (ShowsAsk line ask)
 
 -- what is left written, by its outcome; a line that says no ask ends it, or one of more than 4096 octets
 abbrev pub LeavesVerdicts : List Rule → List (List ℕ) → Result (Unit {0}) LinesFault → (text before after : List ℕ) → Type 0

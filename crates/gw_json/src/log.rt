@@ -9,7 +9,7 @@ use crate::ask::put_ask;
 use crate::value::{put_number, put_quoted};
 use gw_addr::put_slice;
 use gw_audit::{Shown, read_line};
-use gw_script::{LineTeller, LinesFault, OctetSink, OctetSource, tell_lines};
+use gw_script::{LineTranslator, LinesFault, OctetSink, OctetSource, translate_lines};
 use std::alloc::{AllocError, Global};
 
 /// How many octets of an object there is room for at the start.
@@ -40,19 +40,24 @@ pub fn log_in_json<R: OctetSource, W: OctetSink>(
         ¬ (IsErrOf result LinesFault.Read) }
     ensures sure_writer { W.NeverFails writer.old → ¬ (IsErrOf result LinesFault.Write) }
 {
-    tell_lines(alloc, &Entries {}, reader, writer)
+    translate_lines(alloc, &Entries {}, reader, writer)
 }
 
 /// Makes the objects of the lines of a log.
 #[derive(Drop)]
 struct Entries {}
 
-impl LineTeller for Entries {
-    ghost Tells = { λ _ line text. IsEntryIn line text };
+impl LineTranslator for Entries {
+    ghost Translates = { λ _ line text. IsEntryIn line text };
 
     ghost Refuses = { λ _ _. ⊥ };
 
-    fn tell(&self, alloc: Global, line: &[u8], text: &mut Vec<u8>) -> Result<bool, AllocError> {
+    fn translate(
+        &self,
+        alloc: Global,
+        line: &[u8],
+        text: &mut Vec<u8>,
+    ) -> Result<bool, AllocError> {
         *text = entry(alloc, line)?;
         Ok(true)
     }

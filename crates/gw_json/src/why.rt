@@ -12,7 +12,7 @@ use gw_addr::put_slice;
 use gw_audit::{ShownAsk, read_ask};
 use gw_configuration::{Config, Text};
 use gw_rules::{NO_RULE, Rule, RuleList};
-use gw_script::{LineTeller, LinesFault, OctetSink, OctetSource, tell_lines};
+use gw_script::{LineTranslator, LinesFault, OctetSink, OctetSource, translate_lines};
 use std::alloc::{AllocError, Global};
 
 /// How many octets of an object there is room for at the start.
@@ -47,7 +47,7 @@ pub fn why_in_json<R: OctetSource, W: OctetSink>(
         rules: config.rules(),
         notes: config.notes(),
     };
-    tell_lines(alloc, &answers, reader, writer)
+    translate_lines(alloc, &answers, reader, writer)
 }
 
 /// Makes the objects that answer the asks of a text by these rules, with their notes.
@@ -57,12 +57,17 @@ struct Answers<'a> {
     notes: &'a [Text],
 }
 
-impl<'a> LineTeller for Answers<'a> {
-    ghost Tells = { λ answers line text. IsAnswerIn answers.rules.now answers.notes.now line text };
+impl<'a> LineTranslator for Answers<'a> {
+    ghost Translates = { λ answers line text. IsAnswerIn answers.rules.now answers.notes.now line text };
 
     ghost Refuses = { λ _ line. SaysNoAsk line };
 
-    fn tell(&self, alloc: Global, line: &[u8], text: &mut Vec<u8>) -> Result<bool, AllocError> {
+    fn translate(
+        &self,
+        alloc: Global,
+        line: &[u8],
+        text: &mut Vec<u8>,
+    ) -> Result<bool, AllocError> {
         let Some(ask) = read_ask(line) else {
             return Ok(false);
         };

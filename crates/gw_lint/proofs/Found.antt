@@ -5,14 +5,14 @@ use Rattle.std.proofs.lemmas.List.{get_or_append_left, get_or_at, length-append}
 use Rattle.std.proofs.lemmas.Option.{slice_get-get_or, slice_get_past}
 use Rattle.gw_rules.specs.RuleList.{HasNumber}
 use Rattle.gw_rules.specs.declared.rule.Rule.{Rule}
-use Rattle.gw_lint.specs.Finding.{Tells}
+use Rattle.gw_lint.specs.Finding.{Finds}
 use Rattle.gw_shapes.specs.Shape.{Shape}
 use Rattle.gw_lint.specs.declared.finding.Finding.{Finding}
 
 -- each of the findings that are there says what is true
 abbrev pub Each : List Shape → List Rule → List Finding → Type 0
 Each boxes rules findings = (number : ℕ) (rule : Rule) (found : Finding) → HasNumber rules number rule
-    → slice_get findings (number - 1) ≡ Some found → Tells boxes rules number rule found
+    → slice_get findings (number - 1) ≡ Some found → Finds boxes rules number rule found
 
 -- what is at a place before the end, at the end, and after it
 in_front : (xs : List Finding) (y f : Finding) (place : ℕ) → place < length xs → slice_get (xs ++ y ∷ []) place ≡ Some f → slice_get xs place ≡ Some f
@@ -41,7 +41,7 @@ one_rule rules number one other a b =
 
 -- one finding more
 pub each_next : (shapes : List Shape) (rules : List Rule) (findings : List Finding) (place : ℕ) (rule : Rule) (found : Finding)
-    → length findings ≡ place → HasNumber rules (place + 1) rule → Tells shapes rules (place + 1) rule found → Each shapes rules findings
+    → length findings ≡ place → HasNumber rules (place + 1) rule → Finds shapes rules (place + 1) rule found → Each shapes rules findings
     → Each shapes rules (findings ++ found ∷ [])
 each_next shapes rules findings place rule found ends has tells each n r f numbered there =
     let counted = numbered.counted in
@@ -50,9 +50,9 @@ each_next shapes rules findings place rule found ends has tells each n r f numbe
           let next : place + 1 ≡ n = omega (arith, same, ends, counted) in
           let is : found ≡ f = at_end findings found f (n - 1) (sym same) there in
           let here : HasNumber rules n rule = subst (λ (m : ℕ). HasNumber rules m rule) next has in
-          let said : Tells shapes rules n rule found = subst (λ (m : ℕ). Tells shapes rules m rule found) next tells in
-          subst (λ (x : Rule). Tells shapes rules n x f) (one_rule rules n rule r here numbered)
-          (subst (λ (x : Finding). Tells shapes rules n rule x) is said)
+          let said : Finds shapes rules n rule found = subst (λ (m : ℕ). Finds shapes rules m rule found) next tells in
+          subst (λ (x : Rule). Finds shapes rules n x f) (one_rule rules n rule r here numbered)
+          (subst (λ (x : Finding). Finds shapes rules n rule x) is said)
       | inr apart ↦ elim apart [
         | inl below ↦ each n r f numbered (in_front findings found f (n - 1) below there)
         | inr above ↦ absurd (past_end findings found f (n - 1) above there)
@@ -61,7 +61,7 @@ each_next shapes rules findings place rule found ends has tells each n r f numbe
 
 -- one finding more, and how many there are
 pub all_next : (shapes : List Shape) (rules : List Rule) (findings more : List Finding) (place : ℕ) (rule : Rule) (found : Finding)
-    → more ≡ findings ++ found ∷ [] → HasNumber rules (place + 1) rule → Tells shapes rules (place + 1) rule found
+    → more ≡ findings ++ found ∷ [] → HasNumber rules (place + 1) rule → Finds shapes rules (place + 1) rule found
     → (length findings ≡ place) × Each shapes rules findings → (length more ≡ place + 1) × Each shapes rules more
 all_next shapes rules findings more place rule found grown has tells (count, each) = (
   omega (arith, count, ap length grown, length-append findings (found ∷ [])),

@@ -26,18 +26,18 @@ IsTakenByNone shapes rules number later = taker shapes (take (number - 1) rules)
 
 -- what a finding says of a rule: of an ask that it decides, that it is one of the shapes and the rule the first to match
 -- it, and where nothing is known, that neither of the first two is found
-abbrev pub Tells : List Shape → List Rule → ℕ → Rule → Finding → Type 0
-Tells shapes rules number rule finding.MatchesNothing = MatchesNothing shapes rule
-Tells shapes rules number rule (finding.TakenBy by) =
+abbrev pub Finds : List Shape → List Rule → ℕ → Rule → Finding → Type 0
+Finds shapes rules number rule finding.MatchesNothing = MatchesNothing shapes rule
+Finds shapes rules number rule (finding.TakenBy by) =
     (is_met shapes rule ≡ true) × IsTakenBy shapes rules number by rule
-Tells shapes rules number rule finding.TakenTogether =
+Finds shapes rules number rule finding.TakenTogether =
     (is_met shapes rule ≡ true) × IsTakenByNone shapes rules number rule × IsNeverFirst shapes rules number
-Tells shapes rules number rule (finding.Decides ask) =
+Finds shapes rules number rule (finding.Decides ask) =
     (is_met shapes rule ≡ true) × IsTakenByNone shapes rules number rule × IsFirstFor shapes rules number ask
-Tells shapes rules number rule finding.Unknown = (is_met shapes rule ≡ true) × IsTakenByNone shapes rules number rule
+Finds shapes rules number rule finding.Unknown = (is_met shapes rule ≡ true) × IsTakenByNone shapes rules number rule
 
 -- there is one finding for each rule, in their order, and each says what is true
 pub record AreTrue (shapes : List Shape) (rules : List Rule) (findings : List Finding) : Type 0 where
   pub count : length findings ≡ length rules
   pub each : (number : ℕ) (rule : Rule) (found : Finding) → HasNumber rules number rule →
-      slice_get findings (number - 1) ≡ Some found → Tells shapes rules number rule found
+      slice_get findings (number - 1) ≡ Some found → Finds shapes rules number rule found

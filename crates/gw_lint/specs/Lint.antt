@@ -17,7 +17,7 @@ lint_text c explains findings = in_order (line_text explains c.rules) 1 findings
 pub record IsLint (c : Configuration) (explains : Bool) (text : List ℕ) : Type 0 where
   pub findings : List Finding
   pub are_true : AreTrue (shapes c) c.rules findings
-  pub told : text ≡ lint_text c explains findings
+  pub shown : text ≡ lint_text c explains findings
 
 -- a lint follows what a buffer held
 abbrev pub AppendsLint : Configuration → Bool → List ℕ → List ℕ → Type 0

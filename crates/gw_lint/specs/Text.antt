@@ -93,13 +93,13 @@ found_text rules number (finding.Decides ask) = codes "decides, for one," ++ ask
 found_text rules number finding.Unknown = codes "can't tell within the steps given"
 
 -- a rule that decides has a line only where that is asked for
-abbrev pub is_told : Bool → Finding → Bool
-is_told explains (finding.Decides ask) = explains
-is_told explains _ = true
+abbrev pub is_listed : Bool → Finding → Bool
+is_listed explains (finding.Decides ask) = explains
+is_listed explains _ = true
 
 -- the line of the rule of a number, if it has one
 abbrev pub line_text : Bool → List Rule → ℕ → Finding → List ℕ
 line_text explains rules number found =
-    if is_told explains found
+    if is_listed explains found
     then rule_text rules number ++ codes ": " ++ found_text rules number found ++ 10 ∷ []
     else []

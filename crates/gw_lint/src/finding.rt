@@ -1,7 +1,7 @@
 //! What is found of each rule of a policy.
 ghost use Rattle.std.specs.Prelude.{◌≡◌, ◌<◌, ◌-◌, IfOk, IfSome, length, take};
 ghost use Rattle.gw_rules.specs.RuleList.{HasNumber};
-ghost use Rattle.gw_lint.specs.Finding.{AreTrue, Tells, taker};
+ghost use Rattle.gw_lint.specs.Finding.{AreTrue, Finds, taker};
 
 use gw_rules::{Ask, Rule, RuleList};
 use gw_shapes::{Outcome, Shape, matches_nothing, search_for, takes_all};
@@ -45,7 +45,7 @@ pub fn finding_of(
     rule: &Rule,
 ) -> Result<Finding, AllocError>
     requires { HasNumber rules.now number rule.now }
-    ensures { IfOk result (Tells shapes.now rules.now number rule.now) }
+    ensures { IfOk result (Finds shapes.now rules.now number rule.now) }
 {
     if matches_nothing(shapes, rule) {
         return Ok(Finding::MatchesNothing);

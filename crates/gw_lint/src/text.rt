@@ -4,7 +4,7 @@ ghost use Rattle.std.specs.List.{flat_map};
 ghost use Rattle.gw_audit.specs.Line.{operation_of, operation_text};
 ghost use Rattle.gw_rules.specs.RuleList.{allows_at};
 ghost use Rattle.gw_script.specs.Order.{in_order};
-ghost use Rattle.gw_lint.specs.Text.{found_text, is_shown, is_told, item_text, key_of, likeness_text, line_text, rule_text, says_same, source_text, value_text};
+ghost use Rattle.gw_lint.specs.Text.{found_text, is_shown, is_listed, item_text, key_of, likeness_text, line_text, rule_text, says_same, source_text, value_text};
 
 use crate::Finding;
 use gw_addr::{BipAddr, put_decimal};
@@ -47,7 +47,7 @@ fn put_line(
     ensures { OnOk result
         (out.new.items ≡ out.old.items ++ line_text explains rules.now number found.now) }
 {
-    if !is_told(explains, found) {
+    if !is_listed(explains, found) {
         return Ok(());
     }
     put_rule(out, rules, number)?;
@@ -58,8 +58,8 @@ fn put_line(
 }
 
 /// Whether a finding has a line: a rule that decides has one only where that is asked for.
-fn is_told(explains: bool, found: &Finding) -> bool
-    ensures { result ≡ is_told explains found.now }
+fn is_listed(explains: bool, found: &Finding) -> bool
+    ensures { result ≡ is_listed explains found.now }
 {
     match found {
         Finding::Decides(_) => explains,

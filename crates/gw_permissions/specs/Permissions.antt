@@ -146,19 +146,19 @@ abbrev pub property_words : List ℕ → List ℕ
 property_words name = codes "its " ++ name ++ codes ", though not its Present_Value\n"
 
 -- a property that reveals what Present_Value is or may become can be read
-abbrev pub told_line : Configuration → ℕ → Object → ℕ → ℕ → List ℕ → List ℕ
-told_line c number object network property name =
+abbrev pub listed_line : Configuration → ℕ → Object → ℕ → ℕ → List ℕ → List ℕ
+listed_line c number object network property name =
     if is_readable c network (point_of object property)
     then network_may number object network ++ property_words name else []
 
 abbrev pub property_lines : Configuration → ℕ → Object → ℕ → List ℕ
 property_lines c number object network =
-    told_line c number object network 87 (codes "Priority_Array")
-    ++ told_line c number object network 104 (codes "Relinquish_Default")
+    listed_line c number object network 87 (codes "Priority_Array")
+    ++ listed_line c number object network 104 (codes "Relinquish_Default")
 
 -- and Present_Value (85) can't
-abbrev pub told_lines : Configuration → ℕ → Object → ℕ → List ℕ
-told_lines c number object network =
+abbrev pub listed_lines : Configuration → ℕ → Object → ℕ → List ℕ
+listed_lines c number object network =
     if is_readable c network (point_of object 85) then [] else property_lines c number object network
 
 -- what a network, and so whoever claims to be of it, may read of an object that is hidden, or whose Present_Value is
@@ -167,7 +167,7 @@ reading_lines c number object port =
     if is_hidden c.rules object port.network
     then hidden_words number object port.network ++ codes ": from whoever claims to be of it\n"
     ++ list_line c number object port.network
-    else told_lines c number object port.network
+    else listed_lines c number object port.network
 
 abbrev pub object_lines : Configuration → ℕ → Object → List ℕ
 object_lines c number object = flat_map (reading_lines c number object) c.ports

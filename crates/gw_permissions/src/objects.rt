@@ -3,7 +3,7 @@ ghost use Rattle.std.specs.Prelude.{◌≡◌, ◌++◌, ◌≤◌, codes, lengt
 ghost use Rattle.std.specs.List.{flat_map};
 ghost use Rattle.gw_configuration.specs.Duplicates.{type_number};
 ghost use Rattle.gw_script.specs.Order.{in_order};
-ghost use Rattle.gw_permissions.specs.Permissions.{hidden_line, hidden_words, identifier_words, is_hidden, is_readable, list_line, name_words, network_may, object_lines, object_list, object_words, plain_lines, point_of, property_lines, property_words, reading_lines, told_line, told_lines};
+ghost use Rattle.gw_permissions.specs.Permissions.{hidden_line, hidden_words, identifier_words, is_hidden, is_readable, list_line, name_words, network_may, object_lines, object_list, object_words, plain_lines, point_of, property_lines, property_words, reading_lines, listed_line, listed_lines};
 
 use crate::passing::may_pass;
 use crate::questions::{Point, reading};
@@ -87,7 +87,7 @@ fn put_readings(
     if is_hidden(config.rules(), object, reader.network) {
         put_hiding(out, &reader)
     } else {
-        put_told_lines(out, &reader)
+        put_listed_lines(out, &reader)
     }
 }
 
@@ -104,9 +104,9 @@ fn put_hiding(out: &mut Vec<u8>, reader: &Reader<'_>) -> Result<(), AllocError>
 }
 
 /// Appends the properties that reveal a Present_Value that is hidden from the network.
-fn put_told_lines(out: &mut Vec<u8>, reader: &Reader<'_>) -> Result<(), AllocError>
+fn put_listed_lines(out: &mut Vec<u8>, reader: &Reader<'_>) -> Result<(), AllocError>
     ensures { OnOk result (out.new.items ≡ out.old.items ++
-        told_lines reader.now.config.now reader.now.number reader.now.object.now reader.now.network) }
+        listed_lines reader.now.config.now reader.now.number reader.now.object.now reader.now.network) }
 {
     if is_readable(
         reader.config,
@@ -122,17 +122,17 @@ fn put_properties(out: &mut Vec<u8>, reader: &Reader<'_>) -> Result<(), AllocErr
     ensures { OnOk result (out.new.items ≡ out.old.items ++ property_lines reader.now.config.now
         reader.now.number reader.now.object.now reader.now.network) }
 {
-    put_told(out, reader, PRIORITY_ARRAY, "Priority_Array")?;
-    put_told(out, reader, RELINQUISH_DEFAULT, "Relinquish_Default")
+    put_listed(out, reader, PRIORITY_ARRAY, "Priority_Array")?;
+    put_listed(out, reader, RELINQUISH_DEFAULT, "Relinquish_Default")
 }
 
-fn put_told(
+fn put_listed(
     out: &mut Vec<u8>,
     reader: &Reader<'_>,
     property: u64,
     name: &str,
 ) -> Result<(), AllocError>
-    ensures { OnOk result (out.new.items ≡ out.old.items ++ told_line reader.now.config.now
+    ensures { OnOk result (out.new.items ≡ out.old.items ++ listed_line reader.now.config.now
         reader.now.number reader.now.object.now reader.now.network property name.now) }
 {
     if !is_readable(
@@ -142,11 +142,11 @@ fn put_told(
     ) {
         return Ok(());
     }
-    put_telling(out, reader, name)
+    put_listed_name(out, reader, name)
 }
 
 /// Appends that this property of the object may be read.
-fn put_telling(out: &mut Vec<u8>, reader: &Reader<'_>, name: &str) -> Result<(), AllocError>
+fn put_listed_name(out: &mut Vec<u8>, reader: &Reader<'_>, name: &str) -> Result<(), AllocError>
     ensures { OnOk result (out.new.items ≡ out.old.items ++
         (network_may reader.now.number reader.now.object.now reader.now.network
         ++ property_words name.now)) }

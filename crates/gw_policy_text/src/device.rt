@@ -5,7 +5,7 @@ ghost use Rattle.toml.specs.View.{table_view};
 ghost use Rattle.gw_policy_text.specs.Parts.{device_of, device_parts};
 ghost use Rattle.gw_config_tables.specs.Field.{located_in};
 ghost use Rattle.gw_configuration.specs.Configuration.{is_named};
-ghost use Rattle.gw_configuration.specs.Reading.{Finds, Gives, TellsFault};
+ghost use Rattle.gw_configuration.specs.Reading.{Finds, Gives, NamesLocated};
 ghost use Rattle.gw_configuration.specs.declared.located.Place.TheVariants as places;
 ghost use Rattle.gw_config_tables.specs.Tables.{device_fields};
 
@@ -23,7 +23,7 @@ use toml::Table;
 pub(crate) fn device<'a>(alloc: Global, table: &'a Table) -> Result<Device, Located<'a>>
     ensures device { Finds (λ d. d) result (device_of (table_view table.now)) }
     ensures named { IfOk result (λ d. IsTrue (is_named d.name)) }
-    ensures told { TellsFault result (located_in places.Device device_fields (table_view table.now)) }
+    ensures fault_named { NamesLocated result (located_in places.Device device_fields (table_view table.now)) }
 {
     match located_in(Place::Device, &device_fields(), table) {
         Some(located) => Err(located),

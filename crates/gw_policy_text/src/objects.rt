@@ -8,7 +8,7 @@ ghost use Rattle.gw_config_tables.specs.Field.{located_in};
 ghost use Rattle.gw_config_tables.specs.Items.{each};
 ghost use Rattle.gw_configuration.specs.Configuration.{is_named};
 ghost use Rattle.gw_configuration.specs.Located.{located_view};
-ghost use Rattle.gw_configuration.specs.Reading.{Finds, Gives, Tells, TellsFault};
+ghost use Rattle.gw_configuration.specs.Reading.{Finds, Gives, NamesFault, NamesLocated};
 ghost use Rattle.gw_config_tables.specs.Tables.{object_fields};
 ghost use Rattle.gw_config_tables.specs.Value.{text_in};
 ghost use Rattle.gw_configuration.specs.declared.located.Place.TheVariants as places;
@@ -94,8 +94,8 @@ fn object_of_kind<'a>(
 ) -> Result<Object, Located<'a>>
     ensures object { Finds (λ o. o) result (object_of_kind object kind (table_view table.now)) }
     ensures named { IfOk result (λ o. IsTrue (is_named o.name)) }
-    ensures told { let states = count_at (codes "states") (table_view table.now) in
-        TellsFault result (located_in (places.Object object) (object_fields kind states) (table_view table.now)) }
+    ensures fault_named { let states = count_at (codes "states") (table_view table.now) in
+        NamesLocated result (located_in (places.Object object) (object_fields kind states) (table_view table.now)) }
 {
     match object_located(Place::Object(object), kind, table) {
         Some(located) => Err(located),
@@ -201,7 +201,7 @@ fn texts(alloc: Global, values: &[Value]) -> Result<Sequence<Text>, ConfigFault>
 
 fn text(alloc: Global, value: &Value) -> Result<Text, ConfigFault>
     ensures text { Gives (λ t. t) result (text_in 0 (view value.now)) }
-    ensures told { Tells result (text_in 0 (view value.now)) }
+    ensures fault_named { NamesFault result (text_in 0 (view value.now)) }
 {
     match string(value) {
         Some(text) => Text::new(alloc, 0, text),

@@ -8,7 +8,7 @@ ghost use Rattle.gw_config_tables.specs.Items.{each};
 ghost use Rattle.gw_config_tables.specs.Value.{subnet_in};
 ghost use Rattle.gw_rules.specs.Format.{names_stations};
 ghost use Rattle.gw_config_tables.specs.Field.{located_in};
-ghost use Rattle.gw_configuration.specs.Reading.{Finds, Gives, TellsFault};
+ghost use Rattle.gw_configuration.specs.Reading.{Finds, Gives, NamesLocated};
 ghost use Rattle.gw_configuration.specs.declared.located.Place.TheVariants as places;
 ghost use Rattle.gw_config_tables.specs.Tables.{port_fields};
 ghost use Rattle.gw_addr.specs.Reading as plain;
@@ -61,7 +61,7 @@ fn port_of_table<'a>(
     table: &'a Table,
 ) -> Result<Port, Located<'a>>
     ensures port { Finds (λ p. p) result (port_of format port (table_view table.now)) }
-    ensures told { TellsFault result
+    ensures fault_named { NamesLocated result
         (located_in (places.Port port) (port_fields format) (table_view table.now)) }
     ensures plain { IfOk result (λ p. IsTrue (has_no_stations format p)) }
 {

@@ -4,7 +4,7 @@ ghost use Rattle.std.specs.Str.{IsUtf8};
 ghost use Rattle.toml.specs.View.{table_view};
 ghost use Rattle.gw_policy_text.specs.Document.{configuration, configuration_of, document};
 ghost use Rattle.gw_config_tables.specs.Field.{located_in};
-ghost use Rattle.gw_configuration.specs.Reading.{Finds, Gives, TellsFault};
+ghost use Rattle.gw_configuration.specs.Reading.{Finds, Gives, NamesLocated};
 ghost use Rattle.gw_config_tables.specs.Tables.{format_in, top_fields};
 ghost use Rattle.gw_configuration.specs.declared.fault.ConfigFault.TheVariants.{NotToml, TooMany};
 ghost use Rattle.gw_configuration.specs.declared.located.Place.TheVariants as places;
@@ -62,7 +62,7 @@ pub fn document(alloc: Global, text: &[u8]) -> Result<Table, ConfigFault>
 #[tactic(auto, unfolding(crate::specs::Document::configuration_of))]
 pub fn config_of<'a>(alloc: Global, top: &'a Table) -> Result<Config, Located<'a>>
     ensures configuration { Finds (λ c. c) result (configuration_of (table_view top.now)) }
-    ensures told { TellsFault result (located_in places.Top (top_fields (format_in (table_view top.now))) (table_view top.now)) }
+    ensures fault_named { NamesLocated result (located_in places.Top (top_fields (format_in (table_view top.now))) (table_view top.now)) }
 {
     match top_located(format_of(top), top) {
         Some(located) => Err(located),

@@ -4,7 +4,7 @@ ghost use Rattle.gw_addr.specs.Reading as plain;
 ghost use Rattle.toml.specs.Data.{get_member};
 ghost use Rattle.toml.specs.View.{table_view, view};
 ghost use Rattle.gw_policy_text.specs.Parts.{address_at, at, key_of, list_at, list_or, mask_at, number_at, optional_text, text_at};
-ghost use Rattle.gw_configuration.specs.Reading.{Gives, Tells};
+ghost use Rattle.gw_configuration.specs.Reading.{Gives, NamesFault};
 
 use gw_addr::{BipAddr, Mask, NetNum};
 use gw_config_tables::value::{self, member, string};
@@ -112,7 +112,7 @@ pub(crate) fn text_at(
     table: &Table,
 ) -> Result<Text, ConfigFault>
     ensures text { Gives (λ t. t) result (text_at least key.now (table_view table.now)) }
-    ensures told { Tells result (text_at least key.now (table_view table.now)) }
+    ensures fault_named { NamesFault result (text_at least key.now (table_view table.now)) }
     ensures least { IfOk result (λ t. least ≤ length t) }
 {
     match string(at(key, table)?) {
@@ -129,7 +129,7 @@ pub(crate) fn optional_text(
     table: &Table,
 ) -> Result<Text, ConfigFault>
     ensures text { Gives (λ t. t) result (optional_text default.now key.now (table_view table.now)) }
-    ensures told { Tells result (optional_text default.now key.now (table_view table.now)) }
+    ensures fault_named { NamesFault result (optional_text default.now key.now (table_view table.now)) }
 {
     match member(table, key) {
         Some(value) => match string(value) {

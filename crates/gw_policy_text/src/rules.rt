@@ -10,7 +10,7 @@ ghost use Rattle.gw_rules.specs.declared.field.TheConstants.FieldName.{ALL};
 ghost use Rattle.gw_rules.specs.declared.rule_list.TheConstants.{MAX_RANGES_IN_ALL};
 ghost use Rattle.gw_configuration.specs.Configuration.{is_configurable};
 ghost use Rattle.gw_configuration.specs.Located.{located_view};
-ghost use Rattle.gw_configuration.specs.Reading.{Finds, Gives, TellsFault};
+ghost use Rattle.gw_configuration.specs.Reading.{Finds, Gives, NamesLocated};
 ghost use Rattle.gw_configuration.specs.declared.located.Place.TheVariants as places;
 ghost use Rattle.gw_config_tables.specs.Field.{located_beside};
 ghost use Rattle.gw_config_tables.specs.Items.{each};
@@ -74,7 +74,7 @@ fn rule_of_table<'a>(
 ) -> Result<Rule, Located<'a>>
     ensures rule { Finds (λ r. r) result (rule_of format (map view sets.now) rule (table_view table.now)) }
     ensures configurable { IfOk result (λ r. IsTrue (is_configurable format r)) }
-    ensures told { TellsFault result
+    ensures fault_named { NamesLocated result
         (located_beside (map view sets.now) (places.Rule rule) (rule_fields format) (table_view table.now)) }
 {
     match rule_located(format, sets, rule, table) {

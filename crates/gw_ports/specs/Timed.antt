@@ -31,10 +31,10 @@ with_due ticks ports = record ports { ticks = min (ports.ticks + ticks) (2 ^ 63)
 
 -- The clock gave a moment. The whole seconds until then are counted, each a tick that is due, and
 -- so long is left to the next.
-pub record IsCounted {S C P : Type 0} (Told : C → ℕ → Type 0) (before after : TimedPorts S C P) (left : ℕ)
+pub record IsCounted {S C P : Type 0} (Shows : C → ℕ → Type 0) (before after : TimedPorts S C P) (left : ℕ)
     : Type 0 where
   pub moment : ℕ
-  pub told : Told after.clock moment
+  pub recorded : Shows after.clock moment
   pub ports : after.ports ≡ with_due (seconds_between (as_nanos before.counted) moment) before.ports
   pub counted : as_nanos after.counted
       ≡ min (as_nanos before.counted + seconds_between (as_nanos before.counted) moment * second) max_nanos
@@ -81,30 +81,30 @@ pub data HasLooked {S C P : Type 0} (Waited Quiet : P → ℕ → Type 0) (befor
   asleep : list_any is_awake before.ports.pairs ≡ false → after ≡ before → HasLooked Waited Quiet before after
 
 -- It was waited so long at most, then the seconds were counted, and this came next.
-pub record IsReceivedLater {S C P : Type 0} (Told : C → ℕ → Type 0) (Waited Quiet : P → ℕ → Type 0)
+pub record IsReceivedLater {S C P : Type 0} (Shows : C → ℕ → Type 0) (Waited Quiet : P → ℕ → Type 0)
     (Follows : Following S)
     (before after : TimedPorts S C P) (most : ℕ) (buffer : List ℕ) (given : Got) : Type 0 where
   pub woken : TimedPorts S C P
   pub counted : TimedPorts S C P
   pub left : ℕ
   pub waits : HasWaited Waited Quiet before woken most
-  pub counts : IsCounted Told woken counted left
+  pub counts : IsCounted Shows woken counted left
   pub follows : Follows counted.ports after.ports buffer given
   pub stays : after ≡ with_ports after.ports counted
 
 -- The seconds were counted, it was looked for what came where that was due, and something came next;
 -- or nothing did, and it was waited for as long as is left of the second.
-pub data IsReceived {S C P : Type 0} (Told : C → ℕ → Type 0) (Waited Quiet : P → ℕ → Type 0) (Follows : Following S)
+pub data IsReceived {S C P : Type 0} (Shows : C → ℕ → Type 0) (Waited Quiet : P → ℕ → Type 0) (Follows : Following S)
     (before after : TimedPorts S C P) (buffer : List ℕ) (given : Got) : Type 0 where
-  at_once : (counted looked : TimedPorts S C P) (left : ℕ) → IsCounted Told before counted left →
+  at_once : (counted looked : TimedPorts S C P) (left : ℕ) → IsCounted Shows before counted left →
       HasLooked Waited Quiet counted looked → Follows looked.ports after.ports buffer given
       → is_idle (Ok given) ≡ false → after ≡ with_ports after.ports looked →
-      IsReceived Told Waited Quiet Follows before after buffer given
-  later : (counted looked idle : TimedPorts S C P) (left : ℕ) (held : List ℕ) → IsCounted Told before counted left →
+      IsReceived Shows Waited Quiet Follows before after buffer given
+  later : (counted looked idle : TimedPorts S C P) (left : ℕ) (held : List ℕ) → IsCounted Shows before counted left →
       HasLooked Waited Quiet counted looked → Follows looked.ports idle.ports held got.Idle
       → idle ≡ with_ports idle.ports looked →
-      IsReceivedLater Told Waited Quiet Follows idle after left buffer given →
-      IsReceived Told Waited Quiet Follows before after buffer given
+      IsReceivedLater Shows Waited Quiet Follows idle after left buffer given →
+      IsReceived Shows Waited Quiet Follows before after buffer given
 
 -- ---- how long what came may go unseen, also where calls fail
 

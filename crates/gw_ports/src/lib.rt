@@ -9,7 +9,6 @@ mod sock_pair;
 mod socket;
 mod timed;
 mod timepiece;
-mod turns;
 mod waiter;
 mod waking;
 mod watch;

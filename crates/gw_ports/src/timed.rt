@@ -2,7 +2,7 @@
 
 ghost use Rattle.std.specs.Prelude.{◌≡◌, ◌+◌, ◌-◌, ◌*◌, ◌<◌, ◌^◌, ◌∷◌, [], length, min, slice_index_or, true, false, IfOk, OnErr, OnOk, None};
 ghost use Rattle.std.specs.Duration.{as_nanos, max_nanos};
-ghost use Rattle.gw_serving.specs.Wire.{IsHandedIn, Tells, failures_of, receive_answer, receive_call, send_call};
+ghost use Rattle.gw_serving.specs.Wire.{IsHandedIn, Records, failures_of, receive_answer, receive_call, send_call};
 ghost use Rattle.gw_ports.specs.Ports.{HasSentOn};
 ghost use Rattle.gw_ports.specs.Timed.{WatchesNext, HasLooked, HasWaited, IsCounted, IsLookedInTime, IsReceived, IsReceivedLater, KeepsCount, is_idle, rest_between, second, seconds_between, with_due, with_ports};
 ghost use Rattle.gw_ports.specs.Watch.{HasSent};
@@ -51,7 +51,7 @@ impl<S: Sock, C: Timepiece, P: Waiter> TimedPorts<S, C, P> {
         P: Drop,
         ensures ports { IfOk result (λ timed. timed.ports ≡ ports) }
         ensures waiter { IfOk result (λ timed. timed.waiter ≡ waiter) }
-        ensures now { IfOk result (λ timed. C.Told timed.clock (as_nanos timed.counted)) }
+        ensures now { IfOk result (λ timed. C.Shows timed.clock (as_nanos timed.counted)) }
         ensures unlooked { IfOk result (λ timed. timed.unlooked ≡ 0) }
     {
         let counted = clock.elapsed()?;
@@ -89,7 +89,7 @@ impl<S: Sock, C: Timepiece, P: Waiter> TimedPorts<S, C, P> {
 
     /// Counts the whole seconds that passed, and answers how long it is to the next one.
     fn count_seconds(&mut self) -> io::Result<Duration>
-        ensures counts { IfOk result (λ left. IsCounted C.Told self.old self.new (as_nanos left)) }
+        ensures counts { IfOk result (λ left. IsCounted C.Shows self.old self.new (as_nanos left)) }
         ensures waiter { self.new.waiter ≡ self.old.waiter }
         ensures unlooked { self.new.unlooked ≡ self.old.unlooked }
         ensures pairs { self.new.ports.pairs ≡ self.old.ports.pairs }
@@ -138,7 +138,7 @@ impl<S: Sock, C: Timepiece, P: Waiter> TimedPorts<S, C, P> {
     /// Waits for a datagram, so long at most, and receives what has come then.
     fn recv_later(&mut self, most: Duration, buf: &mut [u8; RECEIVE_ROOM]) -> Result<Got, WireFault>
         requires { self.old.ports.failures < 2 ^ 128 - 1 }
-        ensures later { IfOk result (IsReceivedLater C.Told P.Waited P.Quiet
+        ensures later { IfOk result (IsReceivedLater C.Shows P.Waited P.Quiet
             (WatchesNext S.look_count S.is_empty S.Answered) self.old self.new
             (as_nanos most) buf.new) }
         ensures unlooked { KeepsCount P.Waited self.old self.new }
@@ -170,7 +170,7 @@ impl<S: Sock, C: Timepiece, P: Waiter> TimedPorts<S, C, P> {
         ensures stays { is_idle came ≡ false → self.new ≡ self.old }
         ensures buffer { is_idle came ≡ false → buf.new ≡ buf.old }
         ensures later { is_idle came ≡ true →
-            IfOk result (IsReceivedLater C.Told P.Waited P.Quiet
+            IfOk result (IsReceivedLater C.Shows P.Waited P.Quiet
             (WatchesNext S.look_count S.is_empty S.Answered) self.old self.new
             (as_nanos most) buf.new) }
         ensures unlooked { KeepsCount P.Waited self.old self.new }
@@ -203,13 +203,13 @@ impl<S: Sock, C: Timepiece, P: Waiter> Wire for TimedPorts<S, C, P> {
 
     fn recv(&mut self, buf: &mut [u8; RECEIVE_ROOM]) -> Result<Got, WireFault>
         requires { self.old.ports.failures < 2 ^ 128 - 1 }
-        ensures received { IfOk result (IsReceived C.Told P.Waited P.Quiet
+        ensures received { IfOk result (IsReceived C.Shows P.Waited P.Quiet
             (WatchesNext S.look_count S.is_empty S.Answered) self.old self.new buf.new) }
         ensures looked { IsLookedInTime P.Waited self.old self.new }
         ensures ports { length self.new.ports.pairs ≡ length self.old.ports.pairs }
         ensures handed_in { IfOk result (IsHandedIn (length self.new.ports.pairs)) }
         ensures calls { let call = receive_call (receive_answer result buf.new) in
-            Tells None None (call ∷ []) }
+            Records None None (call ∷ []) }
         ensures failures { self.new.ports.failures
             ≡ self.old.ports.failures + failures_of result }
     {
@@ -231,7 +231,7 @@ impl<S: Sock, C: Timepiece, P: Waiter> Wire for TimedPorts<S, C, P> {
         ensures ports { length self.new.ports.pairs ≡ length self.old.ports.pairs }
         ensures calls { let call = send_call result
             (record { port = port; to = to; octets = octets.now }) in
-            Tells None None (call ∷ []) }
+            Records None None (call ∷ []) }
         ensures failures { self.new.ports.failures
             ≡ self.old.ports.failures + failures_of result }
     {

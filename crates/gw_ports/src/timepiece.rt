@@ -9,9 +9,9 @@ use std::time::Duration;
 /// What gives the time.
 pub trait Timepiece {
     /// What it may have given when it was last asked, in nanoseconds since a start of its own.
-    ghost Told: { Self → ℕ → Type 0 };
+    ghost Shows: { Self → ℕ → Type 0 };
 
     /// How long it is since a start of its own. An `Err` where the time isn't known.
     fn elapsed(&mut self) -> io::Result<Duration>
-        ensures { IfOk result (λ elapsed. Told self.new (as_nanos elapsed)) };
+        ensures { IfOk result (λ elapsed. Shows self.new (as_nanos elapsed)) };
 }

@@ -161,7 +161,7 @@ pub struct MemRequests {
 }
 
 impl Requests for MemRequests {
-    ghost told = { λ _. silent };
+    ghost recorded = { λ _. silent };
 
     fn take(
         &mut self,

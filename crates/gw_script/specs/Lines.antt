@@ -1,4 +1,4 @@
--- The texts for the lines of a text, each by itself: `Tells` says which text is made for a line, and `Refuses`
+-- The texts for the lines of a text, each by itself: `Translates` says which text is made for a line, and `Refuses`
 -- which lines are refused.
 use Rattle.std.specs.Prelude.{◌≡◌, ◌⊎◌, ℕ, ◌+◌, ◌<◌, ◌≤◌, Bool, true, false, List, [], ◌∷◌, ◌++◌, length, take, drop}
 use Rattle.std.specs.Prelude.{Option, Some, Result, Ok, Err, ⊤}
@@ -10,60 +10,60 @@ use Rattle.gw_script.specs.declared.lines.LinesFault.TheVariants.{Read, Line, Wr
 -- ---- a line
 
 -- a line of at most 4096 octets without its line feed, and the text for it
-pub record IsToldLine (Tells : List ℕ → List ℕ → Type 0) (line text : List ℕ) : Type 0 where
+pub record IsTranslatedLine (Translates : List ℕ → List ℕ → Type 0) (line text : List ℕ) : Type 0 where
   pub most : length line ≤ 4096
-  pub told : Tells line text
+  pub translated : Translates line text
 
 -- a line that ends the writing: it has more than 4096 octets without its line feed, or is refused
-abbrev pub IsUntold : (List ℕ → Type 0) → List ℕ → Type 0
-IsUntold Refuses line = (4096 < length line) ⊎ Refuses line
+abbrev pub IsUntranslated : (List ℕ → Type 0) → List ℕ → Type 0
+IsUntranslated Refuses line = (4096 < length line) ⊎ Refuses line
 
 -- ---- the lines of a text
 
 -- lines, and the text for each
-abbrev pub AreTold : (List ℕ → List ℕ → Type 0) → List (List ℕ) → List (List ℕ) → Type 0
-AreTold Tells [] [] = ⊤
-AreTold Tells [] (told ∷ texts) = ⊥
-AreTold Tells (line ∷ lines) [] = ⊥
-AreTold Tells (line ∷ lines) (told ∷ texts) = IsToldLine Tells line told × AreTold Tells lines texts
+abbrev pub AreTranslated : (List ℕ → List ℕ → Type 0) → List (List ℕ) → List (List ℕ) → Type 0
+AreTranslated Translates [] [] = ⊤
+AreTranslated Translates [] (translated ∷ texts) = ⊥
+AreTranslated Translates (line ∷ lines) [] = ⊥
+AreTranslated Translates (line ∷ lines) (translated ∷ texts) = IsTranslatedLine Translates line translated × AreTranslated Translates lines texts
 
 -- texts one after the other
 abbrev pub joined : List (List ℕ) → List ℕ
 joined texts = flat_map (λ text. text) texts
 
 -- the texts for the first lines of a text
-abbrev pub FirstTold : (List ℕ → List ℕ → Type 0) → List ℕ → List (List ℕ) → Type 0
-FirstTold Tells text texts = AreTold Tells (take (length texts) (lines_of text)) texts
+abbrev pub FirstTranslated : (List ℕ → List ℕ → Type 0) → List ℕ → List (List ℕ) → Type 0
+FirstTranslated Translates text texts = AreTranslated Translates (take (length texts) (lines_of text)) texts
 
 -- every line has a text, and these texts were written
-pub record TellsWhole (Tells : List ℕ → List ℕ → Type 0) (text before after : List ℕ) : Type 0 where
+pub record TranslatesWhole (Translates : List ℕ → List ℕ → Type 0) (text before after : List ℕ) : Type 0 where
   pub texts : List (List ℕ)
-  pub lines : AreTold Tells (lines_of text) texts
+  pub lines : AreTranslated Translates (lines_of text) texts
   pub written : after ≡ before ++ joined texts
 
 -- the lines before this one, which is counted from 1, have texts, this line ends the writing, and what was written is
 -- the texts for those before it
-pub record TellsToLine (Tells : List ℕ → List ℕ → Type 0) (Refuses : List ℕ → Type 0) (n : ℕ)
+pub record TranslatesToLine (Translates : List ℕ → List ℕ → Type 0) (Refuses : List ℕ → Type 0) (n : ℕ)
     (text before after : List ℕ) : Type 0 where
   pub texts : List (List ℕ)
   pub number : n ≡ length texts + 1
-  pub lines : FirstTold Tells text texts
+  pub lines : FirstTranslated Translates text texts
   pub line : List ℕ
   pub rest : List (List ℕ)
   pub stands : drop (length texts) (lines_of text) ≡ line ∷ rest
-  pub untold : IsUntold Refuses line
+  pub untranslated : IsUntranslated Refuses line
   pub written : after ≡ before ++ joined texts
 
 -- some first lines have texts, and these were written whole
-pub record TellsPart (Tells : List ℕ → List ℕ → Type 0) (text before after : List ℕ) : Type 0 where
+pub record TranslatesPart (Translates : List ℕ → List ℕ → Type 0) (text before after : List ℕ) : Type 0 where
   pub texts : List (List ℕ)
-  pub lines : FirstTold Tells text texts
+  pub lines : FirstTranslated Translates text texts
   pub written : after ≡ before ++ joined texts
 
 -- some first lines have texts, and a front of these was written
-pub record TellsFront (Tells : List ℕ → List ℕ → Type 0) (text before after : List ℕ) : Type 0 where
+pub record TranslatesFront (Translates : List ℕ → List ℕ → Type 0) (text before after : List ℕ) : Type 0 where
   pub texts : List (List ℕ)
-  pub lines : FirstTold Tells text texts
+  pub lines : FirstTranslated Translates text texts
   pub front : List ℕ
   pub unwritten : List ℕ
   pub parts : joined texts ≡ front ++ unwritten
@@ -72,58 +72,58 @@ pub record TellsFront (Tells : List ℕ → List ℕ → Type 0) (text before af
 -- what the writing leaves, by its outcome
 abbrev pub LeavesLines : (List ℕ → List ℕ → Type 0) → (List ℕ → Type 0) → Result (Unit {0}) LinesFault
     → (text before after : List ℕ) → Type 0
-LeavesLines Tells Refuses (Ok done) text before after = TellsWhole Tells text before after
-LeavesLines Tells Refuses (Err (Line n)) text before after = TellsToLine Tells Refuses n text before after
-LeavesLines Tells Refuses (Err Read) text before after = TellsPart Tells text before after
-LeavesLines Tells Refuses (Err Write) text before after = TellsFront Tells text before after
-LeavesLines Tells Refuses (Err Memory) text before after = TellsPart Tells text before after
+LeavesLines Translates Refuses (Ok done) text before after = TranslatesWhole Translates text before after
+LeavesLines Translates Refuses (Err (Line n)) text before after = TranslatesToLine Translates Refuses n text before after
+LeavesLines Translates Refuses (Err Read) text before after = TranslatesPart Translates text before after
+LeavesLines Translates Refuses (Err Write) text before after = TranslatesFront Translates text before after
+LeavesLines Translates Refuses (Err Memory) text before after = TranslatesPart Translates text before after
 
 -- ---- one line of a text
 
 -- the first line has a text, and that was appended
-pub record WholeLine (Tells : List ℕ → List ℕ → Type 0) (text : List ℕ) (left : Option (List ℕ)) (before : List ℕ)
+pub record WholeLine (Translates : List ℕ → List ℕ → Type 0) (text : List ℕ) (left : Option (List ℕ)) (before : List ℕ)
     (after : Option (List ℕ)) : Type 0 where
   pub line : List ℕ
-  pub told : List ℕ
-  pub tells : IsToldLine Tells line told
+  pub translated : List ℕ
+  pub translates : IsTranslatedLine Translates line translated
   pub rest : List ℕ
   pub remains : left ≡ Some rest
   pub lines : lines_of text ≡ line ∷ lines_of rest
-  pub appended : after ≡ Some (before ++ told)
+  pub appended : after ≡ Some (before ++ translated)
 
 -- the first line ends the writing
-pub record BeginsUntold (Refuses : List ℕ → Type 0) (text : List ℕ) : Type 0 where
+pub record BeginsUntranslated (Refuses : List ℕ → Type 0) (text : List ℕ) : Type 0 where
   pub line : List ℕ
   pub others : List (List ℕ)
   pub lines : lines_of text ≡ line ∷ others
-  pub untold : IsUntold Refuses line
+  pub untranslated : IsUntranslated Refuses line
 
 -- the first line has a text, and a front of that was appended
-pub record CutLine (Tells : List ℕ → List ℕ → Type 0) (text before : List ℕ) (after : Option (List ℕ)) : Type 0 where
+pub record CutLine (Translates : List ℕ → List ℕ → Type 0) (text before : List ℕ) (after : Option (List ℕ)) : Type 0 where
   pub line : List ℕ
-  pub told : List ℕ
+  pub translated : List ℕ
   pub others : List (List ℕ)
-  pub tells : IsToldLine Tells line told
+  pub translates : IsTranslatedLine Translates line translated
   pub lines : lines_of text ≡ line ∷ others
   pub front : List ℕ
   pub unwritten : List ℕ
-  pub parts : told ≡ front ++ unwritten
+  pub parts : translated ≡ front ++ unwritten
   pub appended : after ≡ Some (before ++ front)
 
 -- what comes of the first line, whose number this is
 abbrev pub LineOutcome : (List ℕ → List ℕ → Type 0) → (List ℕ → Type 0) → ℕ → List ℕ → Option (List ℕ) → List ℕ
     → Option (List ℕ) → Result Bool LinesFault → Type 0
-LineOutcome Tells Refuses n text left before after (Ok true) = WholeLine Tells text left before after
-LineOutcome Tells Refuses n text left before after (Ok false) = (lines_of text ≡ []) × (after ≡ Some before)
-LineOutcome Tells Refuses n text left before after (Err (Line m)) =
-    (m ≡ n) × BeginsUntold Refuses text × (after ≡ Some before)
-LineOutcome Tells Refuses n text left before after (Err Write) = CutLine Tells text before after
-LineOutcome Tells Refuses n text left before after (Err Read) = after ≡ Some before
-LineOutcome Tells Refuses n text left before after (Err Memory) = after ≡ Some before
+LineOutcome Translates Refuses n text left before after (Ok true) = WholeLine Translates text left before after
+LineOutcome Translates Refuses n text left before after (Ok false) = (lines_of text ≡ []) × (after ≡ Some before)
+LineOutcome Translates Refuses n text left before after (Err (Line m)) =
+    (m ≡ n) × BeginsUntranslated Refuses text × (after ≡ Some before)
+LineOutcome Translates Refuses n text left before after (Err Write) = CutLine Translates text before after
+LineOutcome Translates Refuses n text left before after (Err Read) = after ≡ Some before
+LineOutcome Translates Refuses n text left before after (Err Memory) = after ≡ Some before
 
 -- the same, where the text that is left and what was written are known
 abbrev pub OnKnownLine : (List ℕ → List ℕ → Type 0) → (List ℕ → Type 0) → ℕ → Option (List ℕ) → Option (List ℕ)
     → Option (List ℕ) → Option (List ℕ) → Result Bool LinesFault → Type 0
-OnKnownLine Tells Refuses n left leaves held holds result =
+OnKnownLine Translates Refuses n left leaves held holds result =
     (text before : List ℕ) → left ≡ Some text → held ≡ Some before
-    → LineOutcome Tells Refuses n text leaves before holds result
+    → LineOutcome Translates Refuses n text leaves before holds result

@@ -9,7 +9,7 @@ ghost use Rattle.gw_script.specs.Reader.{IsPaid};
 use crate::reader::{LineReader, NextLine};
 use crate::sink::{OctetSink, write_whole};
 use crate::source::OctetSource;
-use crate::teller::LineTeller;
+use crate::translator::LineTranslator;
 use std::alloc::Global;
 use thiserror::Error;
 
@@ -36,15 +36,15 @@ pub enum LinesFault {
 /// Writes the text for each line, in order, before it takes up the next line. The writer isn't flushed.
 ///
 /// A line ends with a line feed, which the last may lack. It has at most 4096 octets without it.
-pub fn tell_lines<T: LineTeller, R: OctetSource, W: OctetSink>(
+pub fn translate_lines<T: LineTranslator, R: OctetSource, W: OctetSink>(
     alloc: Global,
-    teller: &T,
+    translator: &T,
     reader: &mut R,
     writer: &mut W,
 ) -> Result<(), LinesFault>
     // What is written then, where the octets of the reader and the writer are known.
-    ensures told { OnKnown (R.left reader.old) (W.held writer.old) (W.held writer.new)
-        (LeavesLines (T.Tells teller.now) (T.Refuses teller.now) result) }
+    ensures translated { OnKnown (R.left reader.old) (W.held writer.old) (W.held writer.new)
+        (LeavesLines (T.Translates translator.now) (T.Refuses translator.now) result) }
     // What never fails doesn't end the writing: a reader, of a text of less than 2 GiB, and a writer.
     ensures sure_reader { R.NeverFails reader.old → (text : List ℕ) →
         R.left reader.old ≡ Some text → 2 * length text + 1 < 4294967295 →
@@ -54,40 +54,40 @@ pub fn tell_lines<T: LineTeller, R: OctetSource, W: OctetSink>(
     let Ok(text) = Vec::with_capacity(alloc, TEXT_ROOM) else {
         return Err(LinesFault::Memory);
     };
-    let mut telling = Telling {
+    let mut translating = Translating {
         lines: LineReader::new(),
         text,
     };
-    telling.tell_each(alloc, teller, reader, writer)
+    translating.translate_each(alloc, translator, reader, writer)
 }
 
 /// What is kept from line to line.
 #[derive(Drop)]
-struct Telling {
+struct Translating {
     lines: LineReader,
     text: Vec<u8>,
 }
 
-impl Telling {
+impl Translating {
     /// Writes the text for each line, in order.
-    fn tell_each<T: LineTeller, R: OctetSource, W: OctetSink>(
+    fn translate_each<T: LineTranslator, R: OctetSource, W: OctetSink>(
         &mut self,
         alloc: Global,
-        teller: &T,
+        translator: &T,
         reader: &mut R,
         writer: &mut W,
     ) -> Result<(), LinesFault>
         requires unread { self.old.lines.unread ≡ [] }
         requires calls { self.old.lines.calls ≡ 0 }
-        ensures told { OnKnown (R.left reader.old) (W.held writer.old) (W.held writer.new)
-            (LeavesLines (T.Tells teller.now) (T.Refuses teller.now) result) }
+        ensures translated { OnKnown (R.left reader.old) (W.held writer.old) (W.held writer.new)
+            (LeavesLines (T.Translates translator.now) (T.Refuses translator.now) result) }
         ensures sure_reader { R.NeverFails reader.old → (text : List ℕ) →
             R.left reader.old ≡ Some text → 2 * length text + 1 < 4294967295 →
             ¬ (IsErrOf result LinesFault.Read) }
         ensures sure_writer { W.NeverFails writer.old → ¬ (IsErrOf result LinesFault.Write) }
     {
         for number in 1..u64::MAX {
-            if !self.tell_next(alloc, teller, number, reader, writer)? {
+            if !self.translate_next(alloc, translator, number, reader, writer)? {
                 return Ok(());
             }
         }
@@ -95,15 +95,15 @@ impl Telling {
     }
 
     /// Writes the text for the line of this number. It answers whether there was one.
-    fn tell_next<T: LineTeller, R: OctetSource, W: OctetSink>(
+    fn translate_next<T: LineTranslator, R: OctetSource, W: OctetSink>(
         &mut self,
         alloc: Global,
-        teller: &T,
+        translator: &T,
         number: u64,
         reader: &mut R,
         writer: &mut W,
     ) -> Result<bool, LinesFault>
-        ensures outcome { OnKnownLine (T.Tells teller.now) (T.Refuses teller.now) number
+        ensures outcome { OnKnownLine (T.Translates translator.now) (T.Refuses translator.now) number
             (prepend_known self.old.lines.unread (R.left reader.old))
             (prepend_known self.new.lines.unread (R.left reader.new))
             (W.held writer.old) (W.held writer.new) result }
@@ -124,10 +124,10 @@ impl Telling {
             Ok(NextLine::End) => return Ok(false),
             Err(_) => return Err(LinesFault::Read),
         };
-        let Ok(is_told) = teller.tell(alloc, self.lines.front(len), &mut self.text) else {
+        let Ok(is_made) = translator.translate(alloc, self.lines.front(len), &mut self.text) else {
             return Err(LinesFault::Memory);
         };
-        if !is_told {
+        if !is_made {
             return Err(LinesFault::Line(number));
         }
         let Ok(()) = write_whole(writer, &self.text) else {

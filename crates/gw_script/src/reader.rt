@@ -194,7 +194,7 @@ impl LineReader {
         ensures sure { S.NeverFails source.old → OnErr result (self.new.calls ≡ 4294967295) }
         ensures lasts { S.NeverFails source.old → S.NeverFails source.new }
         // If what is unread shows it, it is returned: nothing is asked of the source, and nothing changes.
-        ensures told { IsAtHand self.old.unread → IsOk result }
+        ensures translated { IsAtHand self.old.unread → IsOk result }
         ensures same { IsAtHand self.old.unread → self.new ≡ self.old }
         ensures unasked { IsAtHand self.old.unread → source.new ≡ source.old }
     {

@@ -66,7 +66,7 @@ pub taken_so : {K : Type 0} (Adopts : K → Configuration → State → K → Ty
     → line ≡ made.line.items → then ≡ with_taken_over counts w.ticks → (Never → Appends held holds line)
     → Looks (IsLooked Adopts) o (standing w k first counts) made.origin (standing made.gateway l last then) Never held holds
 taken_so {K} Adopts o w k l (Ok (Some text)) made first middle last line counts then Never held holds is adopts asks answers is_line is_counts
-    tells = λ c is_origin.
+    records = λ c is_origin.
     let new = is.config in
     let same : saved_of o w ≡ saved c w = ap (λ (x : Origin). saved_of x w) is_origin in
     let is_text : line ≡ reload_line w new (saved c w) = is_line ∙ is.adopted.line ∙ ap (reload_line w new) same in (
@@ -83,11 +83,11 @@ taken_so {K} Adopts o w k l (Ok (Some text)) made first middle last line counts 
             (goes_two first middle last (asked (Ok (Some text))) (answered line) asks answers);
         counts = is_counts;
       },
-      λ never. subst (λ (t : List ℕ). Appends held holds t) is_text (tells never),
+      λ never. subst (λ (t : List ℕ). Appends held holds t) is_text (records never),
     )
-taken_so Adopts o w k l (Ok None) made first middle last line counts then Never held holds is adopts asks answers is_line is_counts tells =
+taken_so Adopts o w k l (Ok None) made first middle last line counts then Never held holds is adopts asks answers is_line is_counts records =
     absurd is
-taken_so Adopts o w k l (Err failure) made first middle last line counts then Never held holds is adopts asks answers is_line is_counts tells =
+taken_so Adopts o w k l (Err failure) made first middle last line counts then Never held holds is adopts asks answers is_line is_counts records =
     absurd is
 
 -- one that isn't
@@ -97,7 +97,7 @@ pub refused_so : {K : Type 0} (Adopts : K → Configuration → State → K → 
     → GoesOn first middle (asked read ∷ []) → GoesOn middle last (answered line ∷ []) → then ≡ with_refused counts
     → (Never → Appends held holds line)
     → Looks (IsLooked Adopts) o (standing w k first counts) o (standing w k last then) Never held holds
-refused_so Adopts o w k read fault first middle last line counts then Never held holds is says asks answers is_counts tells = λ c is_origin. (
+refused_so Adopts o w k read fault first middle last line counts then Never held holds is says asks answers is_counts records = λ c is_origin. (
   c,
   refused read fault line,
   is_origin,
@@ -108,7 +108,7 @@ refused_so Adopts o w k read fault first middle last line counts then Never held
     requests = goes_two first middle last (asked read) (answered line) asks answers;
     counts = is_counts;
   },
-  tells,
+  records,
 )
 
 -- the line without a place says why

@@ -12,7 +12,7 @@ use Rattle.gw_serving.specs.Wire.{Call}
 use Rattle.gw_serving.specs.declared.serving.ServeFault.{ServeFault}
 use Rattle.gw_serving.specs.declared.serving.Served.{Served}
 use Rattle.gw_serving.specs.declared.tally.Tally.{Tally}
-use Rattle.gw_system.specs.Requests.{Asking, told_by}
+use Rattle.gw_system.specs.Requests.{Asking, recorded_by}
 use Rattle.gw_service.specs.Chain.{Link, Manner, Runs, Stage, chain_text, stage}
 use Rattle.gw_service.specs.Keeping.{troubles_in, unkept_in}
 use Rattle.gw_service.specs.Watch.{more_of, troubles_of}
@@ -35,7 +35,7 @@ use Rattle.gw_service.proofs.ServingLemmas.{appends_nothing, appends_two}
 -- A run reports first what isn't kept or recorded, and last what was done.
 pub ran_from : {K : Type 0} (manner : Manner K) (report : K → ReloadCounts → State → Served → Tally → List ℕ) (count : ℕ) (at : Troubles → Stage K)
     (p : Origin) (was is troubles : Troubles) (last : Configuration → Stage K) (answer : Result (Unit {0}) ServeFault) (after : Ends)
-    (Never Then : Type 0) (held middle third holds : Option (List ℕ)) → was ≡ no_troubles → is ≡ troubles → ((t : Troubles) → (at t).told ≡ t)
+    (Never Then : Type 0) (held middle third holds : Option (List ℕ)) → was ≡ no_troubles → is ≡ troubles → ((t : Troubles) → (at t).said ≡ t)
     → ((d : Configuration) × (links : List Link) × (p ≡ origin_of d) × Runs manner count (at is) answer links (last d)
     × (Then → Appends middle third (chain_text links)))
     → ((d : Configuration) → (last d).now.scene.log ≡ after.log) → ((d : Configuration) → (last d).now.scene.calls ≡ after.calls)
@@ -43,7 +43,7 @@ pub ran_from : {K : Type 0} (manner : Manner K) (report : K → ReloadCounts →
     → ((d : Configuration) → Never → Appends third holds
     (report (last d).now.guard (last d).counts (last d).now.scene.gateway (last d).now.served (last d).now.tally))
     → (text : List ℕ) × RunsFrom manner report count (at troubles) answer after text × (Never → Appends held holds text)
-ran_from manner report count at p was is troubles last answer after Never Then held middle third holds untold failing tells led log calls noticed lasts
+ran_from manner report count at p was is troubles last answer after Never Then held middle third holds untold failing records led log calls noticed lasts
     reported =
     let notice = notice_of no_troubles troubles in
     let now = (last led.0).now in
@@ -57,7 +57,7 @@ ran_from manner report count at p was is troubles last answer after Never Then h
         runs = subst (λ (x : Troubles). Runs manner count (at x) answer led.1 (last led.0)) failing led.3;
         log = log led.0;
         calls = calls led.0;
-        told = ap (λ (x : Troubles). (notice_of no_troubles x ++ chain_text led.1) ++ final) (sym (tells troubles));
+        said = ap (λ (x : Troubles). (notice_of no_troubles x ++ chain_text led.1) ++ final) (sym (records troubles));
       },
       λ never. appends_two held third holds (notice ++ chain_text led.1) final
           (appends_two held middle third notice (chain_text led.1)
@@ -94,7 +94,7 @@ pub ran_kept : {S Q L : Type 0} (given : Given S Q L) (c : Configuration) (how :
     (s : Served) (t : Tally) (q : Asking) (u : ReloadCounts) (before after : Ends) (answer : Result (Unit {0}) ServeFault)
     (outcome : Result (Unit {0}) ServiceFault) (Never : Type 0) (held holds : Option (List ℕ)) → given.watcher ≡ None → start ≡ counts_of w
     → BeginsAs c given.saved given.line w → KeepsFirst given.held given.store c w k → s ≡ zero_counts → t ≡ no_tally
-    → q ≡ told_by given.told given.requests → u ≡ counts_since w.ticks → keeps ≡ (is_some given.requests || is_some given.store)
+    → q ≡ recorded_by given.said given.requests → u ≡ counts_since w.ticks → keeps ≡ (is_some given.requests || is_some given.store)
     → reloads ≡ is_some given.requests → outcome ≡ outcome_by answer
     → ((text : List ℕ) × RunsFrom (manner_of given.held (reporting how.stats start keeps reloads))
     (end_stats unkept_in no_more (reporting how.stats start keeps reloads)) how.turns
@@ -113,7 +113,7 @@ ran_kept {S} given c how start keeps reloads w k s t q u before after answer out
         keeps = is_kept;
         answer = answer;
         runs = from_start (manner_of given.held (reporting_of given how w)) (end_stats unkept_in no_more (reporting_of given how w)) how.turns c
-            (scene w before.log before.calls) k s zero_counts t no_tally q (told_by given.told given.requests) u (counts_since w.ticks) (troubles_in k)
+            (scene w before.log before.calls) k s zero_counts t no_tally q (recorded_by given.said given.requests) u (counts_since w.ticks) (troubles_in k)
             answer after ran.0 served tally requests is_counts
             (subst (λ (x : Reporting). RunsFrom (manner_of given.held x) (end_stats unkept_in no_more x) how.turns at answer after ran.0) same ran.1);
         answers = answers;
@@ -127,7 +127,7 @@ pub ran_watched : {S Q L : Type 0} (given : Given S Q L) (watcher : Watching L L
     (before after : Ends) (answer : Result (Unit {0}) ServeFault) (outcome : Result (Unit {0}) ServiceFault) (Never : Type 0)
     (held holds : Option (List ℕ)) → given.watcher ≡ Some watcher → start ≡ counts_of w
     → BeginsAs c given.saved given.line w → KeepsFirst given.held given.store c w k.first → k.second ≡ watcher → s ≡ zero_counts → t ≡ no_tally
-    → q ≡ told_by given.told given.requests → u ≡ counts_since w.ticks → keeps ≡ (is_some given.requests || is_some given.store)
+    → q ≡ recorded_by given.said given.requests → u ≡ counts_since w.ticks → keeps ≡ (is_some given.requests || is_some given.store)
     → reloads ≡ is_some given.requests → outcome ≡ outcome_by answer
     → ((text : List ℕ) × RunsFrom (watched_manner_of given.held given.log_held (reporting how.stats start keeps reloads))
     (end_stats unkept_of more_of (reporting how.stats start keeps reloads)) how.turns
@@ -147,7 +147,7 @@ ran_watched {S} given watcher c how start keeps reloads w k s t q u before after
         watches = watches;
         answer = answer;
         runs = from_start (watched_manner_of given.held given.log_held (reporting_of given how w)) (end_stats unkept_of more_of (reporting_of given how w))
-            how.turns c (scene w before.log before.calls) k s zero_counts t no_tally q (told_by given.told given.requests) u (counts_since w.ticks)
+            how.turns c (scene w before.log before.calls) k s zero_counts t no_tally q (recorded_by given.said given.requests) u (counts_since w.ticks)
             (troubles_of k) answer after ran.0 served tally requests is_counts
             (subst (λ (x : Reporting). RunsFrom (watched_manner_of given.held given.log_held x) (end_stats unkept_of more_of x) how.turns at answer after
             ran.0) same ran.1);

@@ -19,7 +19,7 @@ use Rattle.gw_serving.specs.Stretch.{AreGuarded, GuardsTurn}
 use Rattle.gw_serving.specs.Wire.{Call}
 use Rattle.gw_serving.specs.declared.serving.ServeFault.{ServeFault}
 use Rattle.gw_serving.specs.declared.serving.Served.{Served}
-use Rattle.gw_system.specs.Requests.{Asking, GoesOn, answered, asked, nobody, told_by, unasked}
+use Rattle.gw_system.specs.Requests.{Asking, GoesOn, answered, asked, nobody, recorded_by, unasked}
 use Rattle.gw_watching.specs.Watching.{Watching}
 use Rattle.gw_service.specs.Chain.{AreLinks, IsLink, IsLooked, IsUnrequested, Link, Look, Manner, Runs, Stage, Standing}
 use Rattle.gw_service.specs.Chain.{refused, served, taken_over, ticked, unrequested, withheld}
@@ -255,7 +255,7 @@ kept_serves given no_state no_line no_store no_requests c how before after text 
     subst (λ (x : Result (Unit {0}) ServiceFault). Serves c (service how.turns None) before after [] x) (sym runs.answers)
     (run_serves given.held (reporting_of given how runs.gateway) how.turns c before after
     (first_stage given c runs.gateway runs.keeper (troubles_in runs.keeper) before) runs.runs.last runs.answer runs.runs.links runs.runs.runs
-    (ap (told_by given.told) no_requests) (first_nowhere given.held given.store c runs.gateway runs.keeper no_store runs.keeps)
+    (ap (recorded_by given.said) no_requests) (first_nowhere given.held given.store c runs.gateway runs.keeper no_store runs.keeps)
     (ap (λ (w : State). scene w before.log before.calls) fresh) runs.runs.log runs.runs.calls)
 
 runs_serve : {S Q L : Type 0} (given : Given S Q L) → given.saved ≡ None → given.line ≡ None → given.store ≡ None → given.requests ≡ None

@@ -3,7 +3,7 @@ use Rattle.std.proofs.Common.{◌≡◌, ◌∙◌, sym, ◌++◌, ap, append_as
 use Rattle.std.specs.Io.KnownBytes.{Appends, append_known}
 use Rattle.gw_core.specs.History.{state_after}
 use Rattle.gw_core.specs.Replay.{no_counts}
-use Rattle.gw_serving.specs.Reports.{IsRunWith, told_of}
+use Rattle.gw_serving.specs.Reports.{IsRunWith, reported_of}
 use Rattle.gw_serving.specs.Serve.{Scene, ServesAll, Stops, counts_of_answer, scene}
 use Rattle.gw_core.specs.State.{State}
 use Rattle.gw_serving.specs.Wire.{Call}
@@ -80,16 +80,16 @@ from_silent turns before after (Err by) all stop = (stop, refl)
 -- serving of which reports are written, if they never fail
 pub from_told : (turns seconds : ℕ) (before after : Scene) (answer : Result Served ServeStop) (Never : Type 0) (held holds : Option (List ℕ))
     → IsRunWith turns before answer after
-    (λ run. Never → Appends held holds (told_of seconds before.gateway run after.gateway (counts_of_answer answer)))
+    (λ run. Never → Appends held holds (reported_of seconds before.gateway run after.gateway (counts_of_answer answer)))
     → (text : List ℕ) × IsRunWith turns before answer after
     (λ run. text ≡ reports_of (Some seconds) before.gateway run after.gateway (counts_of_answer answer)) × (Never → Appends held holds text)
 from_told turns seconds before after (Ok served) Never held holds run = (
-  told_of seconds before.gateway run.0.turns after.gateway served,
+  reported_of seconds before.gateway run.0.turns after.gateway served,
   (run.0, refl),
   run.1,
 )
 from_told turns seconds before after (Err stop) Never held holds run = (
-  told_of seconds before.gateway run.0.turns after.gateway stop.served,
+  reported_of seconds before.gateway run.0.turns after.gateway stop.served,
   (run.0, refl),
   run.1,
 )
@@ -135,13 +135,13 @@ appends_written (Err e) held holds text line is_line is appends = absurd (search
 pub by_reports : (turns seconds : ℕ) (stats : Option ℕ) (before after : Scene) (answer : Result Served ServeStop)
     (outcome : Result (Unit {0}) ServiceFault) (Never : Type 0) (held holds : Option (List ℕ)) → stats ≡ Some seconds → outcome ≡ outcome_of answer
     → IsRunWith turns before answer after
-    (λ run. Never → Appends held holds (told_of seconds before.gateway run after.gateway (counts_of_answer answer)))
+    (λ run. Never → Appends held holds (reported_of seconds before.gateway run after.gateway (counts_of_answer answer)))
     → (text : List ℕ) × ServesFrom (service turns stats) before after text outcome × (Never → Appends held holds text)
 by_reports turns seconds stats before after answer outcome Never held holds is_stats is_outcome run =
-    let told = from_told turns seconds before after answer Never held holds run in
+    let said = from_told turns seconds before after answer Never held holds run in
     let same = subst (λ (s : Option ℕ). IsRunWith turns before answer after
-    (λ run. told.0 ≡ reports_of s before.gateway run after.gateway (counts_of_answer answer))) (sym is_stats) told.1 in
-    (told.0, (answer, is_outcome, same), told.2)
+    (λ run. said.0 ≡ reports_of s before.gateway run after.gateway (counts_of_answer answer))) (sym is_stats) said.1 in
+    (said.0, (answer, is_outcome, same), said.2)
 
 -- serving by the answer of serving without reports
 pub by_silence : (turns : ℕ) (stats : Option ℕ) (before after : Scene) (answer : Result Served ServeStop) (outcome : Result (Unit {0}) ServiceFault)

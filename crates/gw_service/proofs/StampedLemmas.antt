@@ -10,24 +10,24 @@ use Rattle.gw_service.specs.declared.fault.ServiceFault.{ServiceFault}
 
 served_closes : {Log Sockets : Type 0} (m : Machine Log Sockets) (Closes : Sockets → Option Log → Type 0)
     → ((sockets : Sockets) (log : Option Log) → m.Closes sockets log → Closes sockets log) → (name held holds : Option (List ℕ)) (c : Configuration)
-    (how : Service) (is_verbose : Bool) (line told : List ℕ) (outcome : Result (Unit {0}) ServiceFault)
-    → LeavesServed m name held holds c how is_verbose line told outcome
-    → LeavesServed (record m { Closes = Closes }) name held holds c how is_verbose line told outcome
-served_closes m Closes so name held holds c how is_verbose line told outcome (shut failure opens is note) = shut failure opens is note
-served_closes m Closes so name held holds c how is_verbose line told outcome
+    (how : Service) (is_verbose : Bool) (line said : List ℕ) (outcome : Result (Unit {0}) ServiceFault)
+    → LeavesServed m name held holds c how is_verbose line said outcome
+    → LeavesServed (record m { Closes = Closes }) name held holds c how is_verbose line said outcome
+served_closes m Closes so name held holds c how is_verbose line said outcome (shut failure opens is note) = shut failure opens is note
+served_closes m Closes so name held holds c how is_verbose line said outcome
     (served log log_then sockets sockets_then output warning reports opens closes stays serves warns is) =
     served log log_then sockets sockets_then output warning reports opens (so sockets_then log_then closes) stays serves warns is
 
 kept_closes : {Log Sockets S Q : Type 0} (m : Machine Log Sockets) (states : StateMachine S Q) (Closes : Sockets → Option Log → Type 0)
     → ((sockets : Sockets) (log : Option Log) → m.Closes sockets log → Closes sockets log) → (names : Names) (held holds : Option (List ℕ))
-    (c : Configuration) (how : Service) (is_verbose : Bool) (line told : List ℕ) (outcome : Result (Unit {0}) ServiceFault)
-    → LeavesWithState m states names held holds c how is_verbose line told outcome
-    → LeavesWithState (record m { Closes = Closes }) states names held holds c how is_verbose line told outcome
-kept_closes m states Closes so names held holds c how is_verbose line told outcome (unprepared f why is stays none) =
+    (c : Configuration) (how : Service) (is_verbose : Bool) (line said : List ℕ) (outcome : Result (Unit {0}) ServiceFault)
+    → LeavesWithState m states names held holds c how is_verbose line said outcome
+    → LeavesWithState (record m { Closes = Closes }) states names held holds c how is_verbose line said outcome
+kept_closes m states Closes so names held holds c how is_verbose line said outcome (unprepared f why is stays none) =
     unprepared f why is stays none
-kept_closes m states Closes so names held holds c how is_verbose line told outcome (unopened failure opens is note) =
+kept_closes m states Closes so names held holds c how is_verbose line said outcome (unopened failure opens is note) =
     unopened failure opens is note
-kept_closes m states Closes so names held holds c how is_verbose line told outcome
+kept_closes m states Closes so names held holds c how is_verbose line said outcome
     (ran before log log_then sockets sockets_then output warning text prepared opens closes stays leaves warns is) =
     ran before log log_then sockets sockets_then output warning text prepared opens (so sockets_then log_then closes) stays leaves warns is
 
@@ -38,10 +38,10 @@ by_either false Plain Stated Other Another first second leaves = second leaves
 
 pub service_closes : {Log Sockets S Q : Type 0} (m : Machine Log Sockets) (states : StateMachine S Q) (Closes : Sockets → Option Log → Type 0)
     → ((sockets : Sockets) (log : Option Log) → m.Closes sockets log → Closes sockets log) → (options : RunOptions)
-    (held holds : Option (List ℕ)) (c : Configuration) (told : List ℕ) (outcome : Result (Unit {0}) ServiceFault)
-    → LeavesService (whole_machine m states) options held holds c told outcome
-    → LeavesService (whole_machine (record m { Closes = Closes }) states) options held holds c told outcome
-service_closes m states Closes so options held holds c told outcome leaves =
+    (held holds : Option (List ℕ)) (c : Configuration) (said : List ℕ) (outcome : Result (Unit {0}) ServiceFault)
+    → LeavesService (whole_machine m states) options held holds c said outcome
+    → LeavesService (whole_machine (record m { Closes = Closes }) states) options held holds c said outcome
+service_closes m states Closes so options held holds c said outcome leaves =
     let name = option_map string_bytes options.log in
     let line = startup_line options.verbose c name in
     let how = service options.turns options.stats in

@@ -43,5 +43,5 @@ told_one text a b c items place d line inside is first second =
 -- the lines of all rules
 pub told_all : {A : Type 0} (text : ℕ → A → List ℕ) (a b : Option (List ℕ)) (items : List A) (place : ℕ) → place ≡ length items
     → Appends a b (in_order text 1 (take place items)) → Appends a b (in_order text 1 items)
-told_all text a b items place ends told =
-    subst (λ (xs : List _). Appends a b (in_order text 1 xs)) (ap (λ (n : ℕ). take n items) ends ∙ take-length items) told
+told_all text a b items place ends said =
+    subst (λ (xs : List _). Appends a b (in_order text 1 xs)) (ap (λ (n : ℕ). take n items) ends ∙ take-length items) said

@@ -78,7 +78,7 @@ lets trial audit g h w event p = absurd (true≢false (sym p.0))
 -- ---- without what watches
 
 abbrev unwatched : {S L : Type 0} → Stage (Both (Kept S) (Watching L L)) → Stage (Kept S)
-unwatched s = stage s.config (first_moment s.now) s.requests s.counts (of_state s.told.state)
+unwatched s = stage s.config (first_moment s.now) s.requests s.counts (of_state s.said.state)
 
 abbrev standing_of : {S L : Type 0} → Standing (Both (Kept S) (Watching L L)) → Standing (Kept S)
 standing_of s = standing s.gateway s.keeper.first s.requests s.counts
@@ -118,14 +118,14 @@ linked held log_held how s t (served turns) is = (
     config = is.config;
     requests = is.requests;
     counts = is.counts;
-    told = ap (λ (x : Troubles). of_state x.state) is.told;
+    said = ap (λ (x : Troubles). of_state x.state) is.said;
   },
 )
 linked held log_held how s t (ticked turns look text) is =
     let then = first_moment is.then in
     let manner = manner_of held how in
     let other = (look_text s.config (standing then.scene.gateway then.guard s.requests s.counts) look
-    ++ notice_of (of_state s.told.state) (of_state t.told.state))
+    ++ notice_of (of_state s.said.state) (of_state t.said.state))
     ++ manner.report t.now.guard.first t.counts t.now.scene.gateway t.now.served t.now.tally in (
       ticked turns look other,
       record {
@@ -141,12 +141,12 @@ linked held log_held how s t (ticked turns look text) is =
           looked = looked held s.config t.config _ _ look is.done.looked;
         };
         rest = record { log = is.rest.log; calls = is.rest.calls; served = is.rest.served; tally = is.rest.tally };
-        told = ap (λ (x : Troubles). of_state x.state) is.told;
+        said = ap (λ (x : Troubles). of_state x.state) is.said;
         lines = refl;
       },
     )
 linked held log_held how s t (withheld turns event text) is = (
-  withheld turns event (notice_of (of_state s.told.state) (of_state t.told.state)),
+  withheld turns event (notice_of (of_state s.said.state) (of_state t.said.state)),
   record {
     then = first_moment is.then;
     went = first_goes (IsPassed held) (HasWatched log_held log_held) s.now is.then turns is.went;
@@ -160,7 +160,7 @@ linked held log_held how s t (withheld turns event text) is = (
     config = is.config;
     requests = is.requests;
     counts = is.counts;
-    told = ap (λ (x : Troubles). of_state x.state) is.told;
+    said = ap (λ (x : Troubles). of_state x.state) is.said;
     lines = refl;
   },
 )
@@ -196,7 +196,7 @@ ran held log_held how count s t (Err fault) links runs =
           config = runs.ends.config;
           requests = runs.ends.requests;
           counts = runs.ends.counts;
-          told = ap (λ (x : Troubles). of_state x.state) runs.ends.told;
+          said = ap (λ (x : Troubles). of_state x.state) runs.ends.said;
         };
       },
     )
@@ -221,7 +221,7 @@ as_unwatched given w c how before after text outcome runs =
           runs = other.1;
           log = runs.runs.log;
           calls = runs.runs.calls;
-          told = refl;
+          said = refl;
         };
         answers = runs.answers;
       },

@@ -132,11 +132,11 @@ pub record Stage (K : Type 0) : Type 0 where
   pub now : Moment K
   pub requests : Asking
   pub counts : ReloadCounts
-  pub told : Troubles
+  pub said : Troubles
 
 abbrev pub stage : {K : Type 0} → Configuration → Moment K → Asking → ReloadCounts → Troubles → Stage K
-stage config now requests counts told =
-    record { config = config; now = now; requests = requests; counts = counts; told = told }
+stage config now requests counts said =
+    record { config = config; now = now; requests = requests; counts = counts; said = said }
 
 abbrev pub standing_at : {K : Type 0} → Moment K → Asking → ReloadCounts → Standing K
 standing_at now requests counts = standing now.scene.gateway now.guard requests counts
@@ -161,7 +161,7 @@ pub record IsServed {K : Type 0} (manner : Manner K) (s : Stage K) (turns : List
   pub config : t.config ≡ s.config
   pub requests : t.requests ≡ s.requests
   pub counts : t.counts ≡ s.counts
-  pub told : t.told ≡ s.told
+  pub said : t.said ≡ s.said
 
 -- turns were served, the last of which took a tick, and what was due then was done and reported
 pub record IsTicked {K : Type 0} (manner : Manner K) (s : Stage K) (turns : List Turn) (look : Look) (text : List ℕ) (t : Stage K) : Type 0 where
@@ -174,8 +174,8 @@ pub record IsTicked {K : Type 0} (manner : Manner K) (s : Stage K) (turns : List
   pub done : AtTick manner.Ticks manner.Adopts s.config (standing_at then s.requests s.counts) look t.config
       (standing_at t.now t.requests t.counts)
   pub rest : IsIdle then t.now
-  pub told : t.told ≡ manner.troubles t.now.guard
-  pub lines : text ≡ (look_text s.config (standing_at then s.requests s.counts) look ++ notice_of s.told t.told)
+  pub said : t.said ≡ manner.troubles t.now.guard
+  pub lines : text ≡ (look_text s.config (standing_at then s.requests s.counts) look ++ notice_of s.said t.said)
       ++ manner.report t.now.guard t.counts t.now.scene.gateway t.now.served t.now.tally
 
 -- The keeper didn't let the datagrams of the last event go, and that was reported.
@@ -187,8 +187,8 @@ pub record IsHeldBack {K : Type 0} (manner : Manner K) (s : Stage K) (turns : Li
   pub config : t.config ≡ s.config
   pub requests : t.requests ≡ s.requests
   pub counts : t.counts ≡ s.counts
-  pub told : t.told ≡ manner.troubles t.now.guard
-  pub lines : text ≡ notice_of s.told t.told
+  pub said : t.said ≡ manner.troubles t.now.guard
+  pub lines : text ≡ notice_of s.said t.said
 
 abbrev pub IsLink : {K : Type 0} → Manner K → Stage K → Link → Stage K → Type 0
 IsLink manner s (served turns) t = IsServed manner s turns t
@@ -222,7 +222,7 @@ pub record EndsSo {K : Type 0} (manner : Manner K) (count : ℕ) (fault : ServeF
   pub config : last.config ≡ then.config
   pub requests : last.requests ≡ then.requests
   pub counts : last.counts ≡ then.counts
-  pub told : last.told ≡ then.told
+  pub said : last.said ≡ then.said
 
 -- it did so before so many turns were served
 pub record RunsUntil {K : Type 0} (manner : Manner K) (fault : ServeFault) (count : ℕ) (first : Stage K) (links : List Link) (last : Stage K)

@@ -17,7 +17,7 @@ use Rattle.gw_serving.specs.declared.tally.Tally.{Tally}
 use Rattle.gw_system.specs.Host.{LogOpening}
 use Rattle.gw_watching.specs.Watching.{HasWatched, Watching}
 use Rattle.gw_system.specs.Opening.{IsNote}
-use Rattle.gw_system.specs.Requests.{Asking, told_by}
+use Rattle.gw_system.specs.Requests.{Asking, recorded_by}
 use Rattle.gw_system.specs.declared.opening.OpenFailure.{OpenFailure}
 use Rattle.gw_system.specs.declared.reading.ReadFailure.{ReadFailure}
 use Rattle.gw_system.specs.declared.reading.ReadFailure.TheVariants as reading
@@ -115,7 +115,7 @@ KeepsFirst held _ c w _ = ⊥
 -- store, the requests and what watches, if there are some
 pub record Given (S Q L : Type 0) : Type 0 where
   pub held : S → Option (List ℕ)
-  pub told : Q → Asking
+  pub said : Q → Asking
   pub log_held : L → Option (List ℕ)
   pub saved : Option Saved
   pub line : Option (List ℕ)
@@ -124,9 +124,9 @@ pub record Given (S Q L : Type 0) : Type 0 where
   pub watcher : Option (Watching L L)
 
 abbrev pub given : {S Q L : Type 0} → (S → Option (List ℕ)) → (Q → Asking) → (L → Option (List ℕ)) → Before S Q L → Given S Q L
-given held told log_held before = record {
+given held said log_held before = record {
   held = held;
-  told = told;
+  said = said;
   log_held = log_held;
   saved = before.saved;
   line = option_map (λ line. line.items) before.line;
@@ -161,7 +161,7 @@ outcome_by (Err fault) = Err (fault_of_serving fault)
 -- the first stage: nothing was counted, and it was reported whether the state is kept
 abbrev pub first_stage : {S Q L K : Type 0} → Given S Q L → Configuration → State → K → Troubles → Ends → Stage K
 first_stage given c w keeper troubles ends =
-    stage c (moment (scene w ends.log ends.calls) keeper zero_counts no_tally) (told_by given.told given.requests) (counts_since w.ticks)
+    stage c (moment (scene w ends.log ends.calls) keeper zero_counts no_tally) (recorded_by given.said given.requests) (counts_since w.ticks)
     troubles
 
 -- What is reported of such a run, of which a gateway in this state begins: how often its state couldn't be kept, if it is or
@@ -178,7 +178,7 @@ pub record RunsFrom {K : Type 0} (manner : Manner K) (last_report : K → Reload
   pub runs : Runs manner turns first answer links last
   pub log : last.now.scene.log ≡ after.log
   pub calls : last.now.scene.calls ≡ after.calls
-  pub told : text ≡ (notice_of no_troubles first.told ++ chain_text links)
+  pub said : text ≡ (notice_of no_troubles first.said ++ chain_text links)
       ++ last_report last.now.guard last.counts last.now.scene.gateway last.now.served last.now.tally
 
 -- A gateway of this configuration begins with what was saved, its state is kept at once, and then it runs for so many turns, and
@@ -233,18 +233,18 @@ pub record StateMachine (S Q : Type 0) : Type 1 where
   pub StoreOpens : List ℕ → Result S StoreFault → Type 0
   pub ReloadsOpen : List ℕ → List ℕ → Q → Type 0
   pub held : S → Option (List ℕ)
-  pub told : Q → Asking
+  pub said : Q → Asking
 
 abbrev pub state_machine : {S Q : Type 0} → (List ℕ → Result (Option (List ℕ)) ReadFailure → Type 0)
     → (List ℕ → Result (Option (List ℕ)) ReadFailure → Type 0) → (List ℕ → Result S StoreFault → Type 0) → (List ℕ → List ℕ → Q → Type 0)
     → (S → Option (List ℕ)) → (Q → Asking) → StateMachine S Q
-state_machine FileReads LastLines StoreOpens ReloadsOpen held told = record {
+state_machine FileReads LastLines StoreOpens ReloadsOpen held said = record {
   FileReads = FileReads;
   LastLines = LastLines;
   StoreOpens = StoreOpens;
   ReloadsOpen = ReloadsOpen;
   held = held;
-  told = told;
+  said = said;
 }
 
 -- the names of the files of a run: its configuration, and if there are some, its log, its state, its metrics, its requests, and
@@ -290,21 +290,21 @@ IsUnprepared machine LogOpens names c f =
 -- be opened, and why may be written; or all was opened, this line, a warning of the machine and what is due of the state were
 -- written, and then it ran and was closed.
 pub data LeavesWithState {Log Sockets S Q : Type 0} (machine : Machine Log Sockets) (states : StateMachine S Q) (names : Names)
-    (held holds : Option (List ℕ)) (c : Configuration) (how : Service) (is_verbose : Bool) (line told : List ℕ)
+    (held holds : Option (List ℕ)) (c : Configuration) (how : Service) (is_verbose : Bool) (line said : List ℕ)
     (outcome : Result (Unit {0}) ServiceFault) : Type 0 where
-  unprepared : (f : ServiceFault) → IsUnprepared states machine.LogOpens names c f → outcome ≡ Err f → holds ≡ held → told ≡ [] →
-      LeavesWithState machine states names held holds c how is_verbose line told outcome
+  unprepared : (f : ServiceFault) → IsUnprepared states machine.LogOpens names c f → outcome ≡ Err f → holds ≡ held → said ≡ [] →
+      LeavesWithState machine states names held holds c how is_verbose line said outcome
   unopened : (failure : OpenFailure) → ArentOpen machine.LogOpens (machine.SocketsOpen c.ports) names.log held holds failure →
-      outcome ≡ Err (fault_of_opening failure) → IsNote is_verbose failure told →
-      LeavesWithState machine states names held holds c how is_verbose line told outcome
+      outcome ≡ Err (fault_of_opening failure) → IsNote is_verbose failure said →
+      LeavesWithState machine states names held holds c how is_verbose line said outcome
   ran : (before : Before S Q Log) (log log_then : Option Log) (sockets sockets_then : Sockets) (output : Option (List ℕ))
       (warning text : List ℕ) → IsPrepared states machine.LogOpens names c is_verbose before →
       AreOpen machine.LogOpens (machine.SocketsOpen c.ports) names.log held output log sockets →
       machine.Closes sockets_then log_then → LogStays log log_then output holds →
-      LeavesKept (given states.held states.told machine.held before) c how (ends (log_held machine.held log output) (machine.calls sockets))
+      LeavesKept (given states.held states.said machine.held before) c how (ends (log_held machine.held log output) (machine.calls sockets))
       (ends (log_held machine.held log_then holds) (machine.calls sockets_then)) text outcome →
-      IsWarning machine.RoutesIp is_verbose warning → told ≡ ((line ++ warning) ++ before.text.items) ++ text →
-      LeavesWithState machine states names held holds c how is_verbose line told outcome
+      IsWarning machine.RoutesIp is_verbose warning → said ≡ ((line ++ warning) ++ before.text.items) ++ text →
+      LeavesWithState machine states names held holds c how is_verbose line said outcome
 
 -- neither a state nor a request file is named, and nothing watches
 abbrev pub is_plain : RunOptions → Bool
@@ -327,16 +327,16 @@ whole_machine machine states = record { machine = machine; states = states }
 -- first state.
 abbrev pub LeavesChosen : {Log Sockets S Q : Type 0} → WholeMachine Log Sockets S Q → RunOptions → (held holds : Option (List ℕ))
     → Configuration → List ℕ → Result (Unit {0}) ServiceFault → Type 0
-LeavesChosen whole options held holds c told outcome =
+LeavesChosen whole options held holds c said outcome =
     let name = option_map string_bytes options.log in
     let line = startup_line options.verbose c name in
     LeavesBy (is_plain options)
-    (LeavesServed whole.machine name held holds c (service options.turns options.stats) options.verbose line told outcome)
-    (LeavesWithState whole.machine whole.states (names_of options) held holds c (service options.turns options.stats) options.verbose line told outcome)
+    (LeavesServed whole.machine name held holds c (service options.turns options.stats) options.verbose line said outcome)
+    (LeavesWithState whole.machine whole.states (names_of options) held holds c (service options.turns options.stats) options.verbose line said outcome)
 
 -- and before all it is said if rules say that they are audited, and no audit is named
 abbrev pub LeavesService : {Log Sockets S Q : Type 0} → WholeMachine Log Sockets S Q → RunOptions → (held holds : Option (List ℕ))
     → Configuration → List ℕ → Result (Unit {0}) ServiceFault → Type 0
-LeavesService whole options held holds c told outcome =
-    (rest : List ℕ) × (told ≡ unaudited_note c.audits (is_some options.audit) ++ rest)
+LeavesService whole options held holds c said outcome =
+    (rest : List ℕ) × (said ≡ unaudited_note c.audits (is_some options.audit) ++ rest)
     × LeavesChosen whole options held holds c rest outcome

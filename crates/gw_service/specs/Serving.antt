@@ -4,7 +4,7 @@ use Rattle.std.specs.Prelude.{◌≡◌, ◌⊎◌, ⊤, ℕ, Bool, List, [], �
 use Rattle.std.specs.Io.KnownBytes.{Keeps}
 use Rattle.gw_core.specs.History.{state_after}
 use Rattle.gw_core.specs.Replay.{no_counts}
-use Rattle.gw_serving.specs.Reports.{IsRunWith, told_of}
+use Rattle.gw_serving.specs.Reports.{IsRunWith, reported_of}
 use Rattle.gw_serving.specs.Serve.{Scene, ServesAll, Stops, Turn, counts_of_answer, scene}
 use Rattle.gw_core.specs.State.{State}
 use Rattle.gw_serving.specs.Wire.{Call}
@@ -49,7 +49,7 @@ service turns stats = record { turns = turns; stats = stats }
 -- what is said of a run from one state to another by these turns, in which so much was done
 abbrev pub reports_of : Option ℕ → State → List Turn → State → Served → List ℕ
 reports_of None before turns after served = []
-reports_of (Some seconds) before turns after served = told_of seconds before turns after served
+reports_of (Some seconds) before turns after served = reported_of seconds before turns after served
 
 -- All turns were served, the gateway is as they left it, and these are their reports.
 pub record ServesWhole (c : Configuration) (how : Service) (before after : Ends) (text : List ℕ) : Type 0 where
@@ -162,14 +162,14 @@ ArentOpen LogOpens SocketsOpen name held holds (opening.Sockets failure) =
 -- line was written and a warning of the machine, and then it was served, with its reports, and closed.
 pub data LeavesServed {Log Sockets : Type 0} (machine : Machine Log Sockets) (name : Option (List ℕ))
     (held holds : Option (List ℕ))
-    (c : Configuration) (how : Service) (is_verbose : Bool) (line told : List ℕ) (outcome : Result (Unit {0}) ServiceFault)
+    (c : Configuration) (how : Service) (is_verbose : Bool) (line said : List ℕ) (outcome : Result (Unit {0}) ServiceFault)
     : Type 0 where
   shut : (failure : OpenFailure) → ArentOpen machine.LogOpens (machine.SocketsOpen c.ports) name held holds failure →
-      outcome ≡ Err (fault_of_opening failure) → IsNote is_verbose failure told →
-      LeavesServed machine name held holds c how is_verbose line told outcome
+      outcome ≡ Err (fault_of_opening failure) → IsNote is_verbose failure said →
+      LeavesServed machine name held holds c how is_verbose line said outcome
   served : (log log_then : Option Log) (sockets sockets_then : Sockets) (output : Option (List ℕ)) (warning reports : List ℕ) →
       AreOpen machine.LogOpens (machine.SocketsOpen c.ports) name held output log sockets →
       machine.Closes sockets_then log_then → LogStays log log_then output holds →
       Serves c how (ends (log_held machine.held log output) (machine.calls sockets))
       (ends (log_held machine.held log_then holds) (machine.calls sockets_then)) reports outcome →
-      IsWarning machine.RoutesIp is_verbose warning → told ≡ line ++ warning ++ reports → LeavesServed machine name held holds c how is_verbose line told outcome
+      IsWarning machine.RoutesIp is_verbose warning → said ≡ line ++ warning ++ reports → LeavesServed machine name held holds c how is_verbose line said outcome

@@ -30,7 +30,7 @@ timed_machine whole = record { whole = whole }
 -- What a run leaves, by whether its options ask for stamps and notes: if they don't, what any run leaves.
 abbrev pub LeavesTimed : {C Log Sockets S Q : Type 0} → TimedMachine C Log Sockets S Q → RunOptions → (held holds : Option (List ℕ))
     → Configuration → List ℕ → Result (Unit {0}) ServiceFault → Type 0
-LeavesTimed {C = C} timed options held holds c told outcome =
+LeavesTimed {C = C} timed options held holds c said outcome =
     LeavesBy options.stamp
-    (LeavesService (whole_with_stamps {C = C} timed.whole) options held holds c told outcome)
-    (LeavesService timed.whole options held holds c told outcome)
+    (LeavesService (whole_with_stamps {C = C} timed.whole) options held holds c said outcome)
+    (LeavesService timed.whole options held holds c said outcome)

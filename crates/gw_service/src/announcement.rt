@@ -37,7 +37,7 @@ pub fn startup_line(
     is_asked: bool,
 ) -> Result<Vec<u8>, AllocError>
     ensures { let log = option_map string_bytes log.now in
-        IfOk result (λ told. told.items ≡ startup_line is_asked config.now log) }
+        IfOk result (λ said. said.items ≡ startup_line is_asked config.now log) }
 {
     if is_asked {
         announcement(alloc, config, log)

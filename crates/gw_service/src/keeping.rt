@@ -76,8 +76,8 @@ pub trait StateKeeper: Guard {
         ensures { result ≡ losses self.now };
 
     /// Reports more of itself.
-    fn tell_more<E: OctetSink>(&self, gateway: &Gateway, errors: &mut E)
-        ensures told { E.NeverFails errors.old →
+    fn report_more<E: OctetSink>(&self, gateway: &Gateway, errors: &mut E)
+        ensures said { E.NeverFails errors.old →
             Appends (E.held errors.old) (E.held errors.new) (more self.now gateway.now) }
         ensures lasts { E.NeverFails errors.old → E.NeverFails errors.new };
 }
@@ -174,7 +174,7 @@ impl<S: Store + Drop> StateKeeper for Kept<S> {
         }
     }
 
-    fn tell_more<E: OctetSink>(&self, _gateway: &Gateway, _errors: &mut E) {}
+    fn report_more<E: OctetSink>(&self, _gateway: &Gateway, _errors: &mut E) {}
 }
 
 impl<S: Store + Drop> Kept<S> {

@@ -22,12 +22,12 @@ use crate::announcement::warning_of;
 use crate::fault::ServiceFault;
 use crate::keeping::{Kept, StateKeeper};
 use crate::metrics::metrics_in;
+use crate::note::write_note;
 use crate::reload::ReloadCounts;
 use crate::running::Running;
 use crate::serving::{Opening, open};
 use crate::start::{MAX_STATE_OCTETS, begin_after, saved_in, start_text};
 use crate::stats::Schedule;
-use crate::telling::tell;
 use crate::troubles::Troubles;
 use crate::watch::watcher_under;
 use gw_command_line::RunOptions;
@@ -185,7 +185,7 @@ pub(crate) fn prepare<H: Host>(
         IfOk result (λ before. IsWatcherUnder (H.FileReads host.now) (H.LastLines host.now) LogOpens config.now
         (watch_names options.now) before.watcher) }
     ensures fault { IfErr result (IsUnprepared (state_machine (H.FileReads host.now) (H.LastLines host.now)
-        (H.StoreOpens host.now) (H.ReloadsOpen host.now) H.StateStore.held H.Reloads.told)
+        (H.StoreOpens host.now) (H.ReloadsOpen host.now) H.StateStore.held H.Reloads.recorded)
         (OpensAtLine (H.LogOpens host.now) (H.LogIsCut host.now) H.Log.held) (names_of options.now) config.now) }
 {
     let saved = match saved_under(alloc, &options.state, host) {
@@ -254,7 +254,7 @@ fn make_running<S: Store + Drop, Q: Requests + Drop, T: OctetSink + Drop>(
     ensures counts { IfOk result (λ r. r.counts ≡ counts_since r.gateway.ticks) }
     ensures served { IfOk result (λ r. r.state.served ≡ zero_counts) }
     ensures tally { IfOk result (λ r. r.state.tally ≡ no_tally) }
-    ensures told { IfOk result (λ r. r.told ≡ no_troubles) }
+    ensures said { IfOk result (λ r. r.said ≡ no_troubles) }
     ensures metrics { IfOk result (λ r. r.metrics ≡ option_map nothing_written before.metrics) }
     ensures ready { IfOk result (λ r. (failures turns : ℕ) → failures < 2 ^ 127 → turns < 2 ^ 63 →
         CanCount r.state.served r.state.tally failures turns) }
@@ -280,7 +280,7 @@ fn make_running<S: Store + Drop, Q: Requests + Drop, T: OctetSink + Drop>(
         requests,
         counts,
         state: ServeState::new(alloc),
-        told: Troubles::none(),
+        said: Troubles::none(),
         metrics: metrics_in(metrics),
     })
 }
@@ -321,7 +321,7 @@ fn run_on<
     options: &RunOptions,
 ) -> Result<(), ServiceFault>
     requires failures { X.failure_count sockets.old < 2 ^ 127 }
-    ensures ran { (text : List ℕ) × LeavesKept (given S.held Q.told T.held before) config (service options.now.turns options.now.stats)
+    ensures ran { (text : List ℕ) × LeavesKept (given S.held Q.recorded T.held before) config (service options.now.turns options.now.stats)
         (ends (L.held log.old) (X.calls sockets.old)) (ends (L.held log.new) (X.calls sockets.new)) text result
         × (E.NeverFails errors.old → Appends (E.held errors.old) (E.held errors.new) text) }
     ensures lasting { E.NeverFails errors.old → E.NeverFails errors.new }
@@ -368,7 +368,7 @@ fn run_open<
     requires unbuffered { log.old ≡ None → writer_buffer output.old ≡ [] }
     ensures ran { let held = writer_contents W.contents output.old in
         let holds = writer_contents W.contents output.new in
-        (text : List ℕ) × LeavesKept (given S.held Q.told L.held before) config (service options.now.turns options.now.stats)
+        (text : List ℕ) × LeavesKept (given S.held Q.recorded L.held before) config (service options.now.turns options.now.stats)
         (ends (log_held L.held log.old held) (X.calls sockets.old))
         (ends (log_held L.held log.new holds) (X.calls sockets.new)) text result
         × (E.NeverFails errors.old → Appends (E.held errors.old) (E.held errors.new) text) }
@@ -396,14 +396,14 @@ pub(crate) fn serve_kept<H: Host, W: Write + Drop, E: OctetSink>(
     output: &mut BufWriter<W>,
     errors: &mut E,
 ) -> Result<(), ServiceFault>
-    ensures served { (told : List ℕ) × LeavesWithState
+    ensures served { (said : List ℕ) × LeavesWithState
         (machine (OpensAtLine (H.LogOpens host.old) (H.LogIsCut host.old) H.Log.held)
         (H.SocketsOpen host.old) (H.RoutesIp host.old) (H.Closes host.new) H.Log.held H.Sockets.calls)
         (state_machine (H.FileReads host.old) (H.LastLines host.old) (H.StoreOpens host.old) (H.ReloadsOpen host.old)
-        H.StateStore.held H.Reloads.told) (names_of options.now)
+        H.StateStore.held H.Reloads.recorded) (names_of options.now)
         (writer_contents W.contents output.old) (writer_contents W.contents output.new) config
-        (service options.now.turns options.now.stats) options.now.verbose (startup_line options.now.verbose config (option_map string_bytes options.now.log)) told result
-        × (E.NeverFails errors.old → Appends (E.held errors.old) (E.held errors.new) told) }
+        (service options.now.turns options.now.stats) options.now.verbose (startup_line options.now.verbose config (option_map string_bytes options.now.log)) said result
+        × (E.NeverFails errors.old → Appends (E.held errors.old) (E.held errors.new) said) }
     ensures lasting { E.NeverFails errors.old → E.NeverFails errors.new }
     ensures flush { OnOk result (IsFlushedFor (option_map string_bytes options.now.log)
         (writer_buffer output.old) (writer_buffer output.new)) }
@@ -420,9 +420,9 @@ pub(crate) fn serve_kept<H: Host, W: Write + Drop, E: OctetSink>(
                 mut sockets,
             },
         ) => {
-            tell(&line, errors);
-            tell(warning_of(host, options.verbose), errors);
-            tell(&before.text, errors);
+            write_note(&line, errors);
+            write_note(warning_of(host, options.verbose), errors);
+            write_note(&before.text, errors);
             let outcome = run_open(
                 alloc,
                 config,
@@ -438,7 +438,7 @@ pub(crate) fn serve_kept<H: Host, W: Write + Drop, E: OctetSink>(
         }
         Err(failure) => {
             let note = note_of(alloc, options.verbose, failure);
-            tell(&note, errors);
+            write_note(&note, errors);
             Err(ServiceFault::from(failure))
         }
     }

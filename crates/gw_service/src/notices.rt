@@ -4,7 +4,7 @@ ghost use Rattle.std.specs.Prelude.{◌≡◌};
 ghost use Rattle.std.specs.Io.KnownBytes.{Appends};
 ghost use Rattle.gw_service.specs.Notices.{audit_notice, notice_of, state_notice, trial_notice, unkept_line};
 
-use crate::telling::tell;
+use crate::note::write_note;
 use crate::troubles::Troubles;
 use gw_script::OctetSink;
 use gw_serving::StoreFault;
@@ -56,11 +56,11 @@ fn audit_notice(was: bool, is: bool) -> &'static str
 }
 
 /// Reports what isn't kept or recorded, if that changed.
-pub(crate) fn tell_notices<E: OctetSink>(was: Troubles, is: Troubles, errors: &mut E)
-    ensures told { E.NeverFails errors.old → Appends (E.held errors.old) (E.held errors.new) (notice_of was is) }
+pub(crate) fn report_notices<E: OctetSink>(was: Troubles, is: Troubles, errors: &mut E)
+    ensures said { E.NeverFails errors.old → Appends (E.held errors.old) (E.held errors.new) (notice_of was is) }
     ensures lasts { E.NeverFails errors.old → E.NeverFails errors.new }
 {
-    tell(state_notice(was.state, is.state).as_bytes(), errors);
-    tell(trial_notice(was.trial, is.trial).as_bytes(), errors);
-    tell(audit_notice(was.audit, is.audit).as_bytes(), errors);
+    write_note(state_notice(was.state, is.state).as_bytes(), errors);
+    write_note(trial_notice(was.trial, is.trial).as_bytes(), errors);
+    write_note(audit_notice(was.audit, is.audit).as_bytes(), errors);
 }

@@ -20,10 +20,10 @@ ghost use Rattle.gw_service.specs.Stats.{due_stats, end_stats};
 use crate::keeping::StateKeeper;
 use crate::line::{line_with_place, refusal_line};
 use crate::metrics::put_due;
-use crate::notices::tell_notices;
+use crate::note::write_note;
+use crate::notices::report_notices;
 use crate::reload::{Adopted, ReloadCounts, ReloadFault, reloaded};
 use crate::stats::Schedule;
-use crate::telling::tell;
 use crate::troubles::Troubles;
 use gw_core::Gateway;
 use gw_metrics_file::Metrics;
@@ -50,7 +50,7 @@ pub struct Running<K, Q, M: Store + Drop> {
     /// What is kept from turn to turn, and what was counted.
     pub state: ServeState,
     /// What was reported last of what isn't kept or recorded.
-    pub told: Troubles,
+    pub said: Troubles,
     /// What puts its metrics into a store, if something does.
     pub metrics: Option<Metrics<M>>,
 }
@@ -65,7 +65,7 @@ impl<K: Drop, Q: Drop, M: Store + Drop> Drop for Running<K, Q, M> {
             requests: _,
             counts: _,
             state: _,
-            told: _,
+            said: _,
             metrics: _,
         } = self;
     }
@@ -89,14 +89,14 @@ impl<K: StateKeeper, Q: Requests, M: Store + Drop> Running<K, Q, M> {
         read: &Result<Option<Vec<u8>>, ReadFailure>,
         errors: &mut E,
     )
-        requires { IsAsking (Q.told self.old.requests) }
+        requires { IsAsking (Q.recorded self.old.requests) }
         ensures looked { (first : Asking) →
-            GoesOn first (Q.told self.old.requests) (asked (text_found read.now) ∷ []) →
+            GoesOn first (Q.recorded self.old.requests) (asked (text_found read.now) ∷ []) →
             Looks (IsLooked K.Adopts) self.old.origin (standing self.old.gateway self.old.keeper first self.old.counts)
-            self.new.origin (standing self.new.gateway self.new.keeper (Q.told self.new.requests) self.new.counts)
+            self.new.origin (standing self.new.gateway self.new.keeper (Q.recorded self.new.requests) self.new.counts)
             (E.NeverFails errors.old) (E.held errors.old) (E.held errors.new) }
         ensures state { self.new.state ≡ self.old.state }
-        ensures told { self.new.told ≡ self.old.told }
+        ensures said { self.new.said ≡ self.old.said }
         ensures lasts { E.NeverFails errors.old → E.NeverFails errors.new }
     {
         match reloaded(alloc, &self.gateway, &self.origin, read) {
@@ -113,14 +113,14 @@ impl<K: StateKeeper, Q: Requests, M: Store + Drop> Running<K, Q, M> {
                 self.origin = origin;
                 self.keeper.adopt(alloc, successor, &self.gateway);
                 self.requests.answer(&line);
-                tell(&line, errors);
+                write_note(&line, errors);
             }
             Err(fault) => {
                 self.counts = self.counts.with_refused();
                 let located = line_with_place(alloc, read, fault);
                 let line = line_or(&located, fault);
                 self.requests.answer(line);
-                tell(line, errors);
+                write_note(line, errors);
             }
         }
     }
@@ -128,11 +128,11 @@ impl<K: StateKeeper, Q: Requests, M: Store + Drop> Running<K, Q, M> {
     /// Looks for a request, and if there is one reads the configuration again.
     fn look<E: OctetSink>(&mut self, alloc: Global, errors: &mut E)
         ensures looked { Looks (IsLooked K.Adopts) self.old.origin
-            (standing self.old.gateway self.old.keeper (Q.told self.old.requests) self.old.counts)
-            self.new.origin (standing self.new.gateway self.new.keeper (Q.told self.new.requests) self.new.counts)
+            (standing self.old.gateway self.old.keeper (Q.recorded self.old.requests) self.old.counts)
+            self.new.origin (standing self.new.gateway self.new.keeper (Q.recorded self.new.requests) self.new.counts)
             (E.NeverFails errors.old) (E.held errors.old) (E.held errors.new) }
         ensures state { self.new.state ≡ self.old.state }
-        ensures told { self.new.told ≡ self.old.told }
+        ensures said { self.new.said ≡ self.old.said }
         ensures lasts { E.NeverFails errors.old → E.NeverFails errors.new }
     {
         if let Some(read) = self.requests.take(alloc, MAX_OCTETS) {
@@ -144,22 +144,22 @@ impl<K: StateKeeper, Q: Requests, M: Store + Drop> Running<K, Q, M> {
     pub(crate) fn notice<E: OctetSink>(&self, errors: &mut E) -> Troubles
         ensures troubles { result ≡ K.troubles self.now.keeper }
         ensures text { E.NeverFails errors.old →
-            Appends (E.held errors.old) (E.held errors.new) (notice_of self.now.told result) }
+            Appends (E.held errors.old) (E.held errors.new) (notice_of self.now.said result) }
         ensures lasts { E.NeverFails errors.old → E.NeverFails errors.new }
     {
         let troubles = self.keeper.troubles();
-        tell_notices(self.told, troubles, errors);
+        report_notices(self.said, troubles, errors);
         troubles
     }
 
     /// Does what is due at a tick: does what is due of the state, and looks for a request.
     fn at_tick<E: OctetSink>(&mut self, alloc: Global, errors: &mut E)
         ensures done { Looks (AtTick K.Ticks K.Adopts) self.old.origin
-            (standing self.old.gateway self.old.keeper (Q.told self.old.requests) self.old.counts)
-            self.new.origin (standing self.new.gateway self.new.keeper (Q.told self.new.requests) self.new.counts)
+            (standing self.old.gateway self.old.keeper (Q.recorded self.old.requests) self.old.counts)
+            self.new.origin (standing self.new.gateway self.new.keeper (Q.recorded self.new.requests) self.new.counts)
             (E.NeverFails errors.old) (E.held errors.old) (E.held errors.new) }
         ensures state { self.new.state ≡ self.old.state }
-        ensures told { self.new.told ≡ self.old.told }
+        ensures said { self.new.said ≡ self.old.said }
         ensures lasts { E.NeverFails errors.old → E.NeverFails errors.new }
     {
         self.keeper.keep_at_tick(alloc, &self.gateway);
@@ -179,12 +179,12 @@ impl<K: StateKeeper, Q: Requests, M: Store + Drop> Running<K, Q, M> {
         requires count { CanCount self.old.state.served self.old.state.tally (W.failure_count wire.old) turns }
         ensures advances { (c : Configuration) → self.old.origin ≡ origin_of c →
             let before = stage c (moment (scene self.old.gateway (L.held log.old) (W.calls wire.old)) self.old.keeper
-            self.old.state.served self.old.state.tally) (Q.told self.old.requests) self.old.counts self.old.told in
+            self.old.state.served self.old.state.tally) (Q.recorded self.old.requests) self.old.counts self.old.said in
             (d : Configuration) × (text : List ℕ) × (self.new.origin ≡ origin_of d)
             × Advances (manner K.Passes K.Ticks K.Adopts K.troubles
             (due_stats K.unkept K.more (reporting_by schedule.now))) turns before result text
             (stage d (moment (scene self.new.gateway (L.held log.new) (W.calls wire.new)) self.new.keeper
-            self.new.state.served self.new.state.tally) (Q.told self.new.requests) self.new.counts self.new.told)
+            self.new.state.served self.new.state.tally) (Q.recorded self.new.requests) self.new.counts self.new.said)
             × (E.NeverFails errors.old → Appends (E.held errors.old) (E.held errors.new) text) }
         ensures rest { (rest : ℕ) → self.new.state.served.turns + rest ≤ self.old.state.served.turns + turns →
             CanCount self.new.state.served self.new.state.tally (W.failure_count wire.new) rest }
@@ -200,8 +200,8 @@ impl<K: StateKeeper, Q: Requests, M: Store + Drop> Running<K, Q, M> {
             Ok(Pause::Turns) => {}
             Ok(Pause::Tick) => {
                 self.at_tick(alloc, errors);
-                self.told = self.notice(errors);
-                schedule.tell_due(
+                self.said = self.notice(errors);
+                schedule.report_due(
                     &self.gateway,
                     &self.state,
                     &self.keeper,
@@ -222,7 +222,7 @@ impl<K: StateKeeper, Q: Requests, M: Store + Drop> Running<K, Q, M> {
                     &self.keeper,
                 );
             }
-            Ok(Pause::Withheld) => self.told = self.notice(errors),
+            Ok(Pause::Withheld) => self.said = self.notice(errors),
             Err(fault) => return Err(fault),
         }
         Ok(())
@@ -247,12 +247,12 @@ impl<K: StateKeeper, Q: Requests, M: Store + Drop> Running<K, Q, M> {
         requires count { CanCount self.old.state.served self.old.state.tally (W.failure_count wire.old) turns }
         ensures runs { (c : Configuration) → self.old.origin ≡ origin_of c →
             let before = stage c (moment (scene self.old.gateway (L.held log.old) (W.calls wire.old)) self.old.keeper
-            self.old.state.served self.old.state.tally) (Q.told self.old.requests) self.old.counts self.old.told in
+            self.old.state.served self.old.state.tally) (Q.recorded self.old.requests) self.old.counts self.old.said in
             (d : Configuration) × (links : List Link) × (self.new.origin ≡ origin_of d)
             × Runs (manner K.Passes K.Ticks K.Adopts K.troubles
             (due_stats K.unkept K.more (reporting_by schedule.now))) turns before result links
             (stage d (moment (scene self.new.gateway (L.held log.new) (W.calls wire.new)) self.new.keeper
-            self.new.state.served self.new.state.tally) (Q.told self.new.requests) self.new.counts self.new.told)
+            self.new.state.served self.new.state.tally) (Q.recorded self.new.requests) self.new.counts self.new.said)
             × (E.NeverFails errors.old → Appends (E.held errors.old) (E.held errors.new) (chain_text links)) }
         ensures lasts { E.NeverFails errors.old → E.NeverFails errors.new }
     {
@@ -284,10 +284,10 @@ impl<K: StateKeeper, Q: Requests, M: Store + Drop> Running<K, Q, M> {
         turns: u64,
     ) -> Result<(), ServeFault>
         requires count { CanCount self.old.state.served self.old.state.tally (W.failure_count wire.old) turns }
-        requires untold { self.old.told ≡ no_troubles }
+        requires untold { self.old.said ≡ no_troubles }
         ensures runs { (c : Configuration) → self.old.origin ≡ origin_of c →
             let before = stage c (moment (scene self.old.gateway (L.held log.old) (W.calls wire.old)) self.old.keeper
-            self.old.state.served self.old.state.tally) (Q.told self.old.requests) self.old.counts (K.troubles self.old.keeper) in
+            self.old.state.served self.old.state.tally) (Q.recorded self.old.requests) self.old.counts (K.troubles self.old.keeper) in
             let how = reporting_by schedule.now in
             let after = ends (L.held log.new) (W.calls wire.new) in
             (text : List ℕ) × RunsFrom (manner K.Passes K.Ticks K.Adopts K.troubles (due_stats K.unkept K.more how))
@@ -295,9 +295,9 @@ impl<K: StateKeeper, Q: Requests, M: Store + Drop> Running<K, Q, M> {
             × (E.NeverFails errors.old → Appends (E.held errors.old) (E.held errors.new) text) }
         ensures lasts { E.NeverFails errors.old → E.NeverFails errors.new }
     {
-        self.told = self.notice(errors);
+        self.said = self.notice(errors);
         let answer = self.serve(alloc, wire, log, errors, schedule, turns);
-        schedule.tell_last(
+        schedule.report_last(
             &self.gateway,
             &self.state,
             &self.keeper,
@@ -316,7 +316,7 @@ impl<K: StateKeeper, Q: Requests, M: Store + Drop> Running<K, Q, M> {
         ensures requests { result.requests ≡ self.requests }
         ensures counts { result.counts ≡ self.counts }
         ensures state { result.state ≡ self.state }
-        ensures told { result.told ≡ self.told }
+        ensures said { result.said ≡ self.said }
         ensures metrics { result.metrics ≡ self.metrics }
     {
         let Running {
@@ -326,7 +326,7 @@ impl<K: StateKeeper, Q: Requests, M: Store + Drop> Running<K, Q, M> {
             requests,
             counts,
             state,
-            told,
+            said,
             metrics,
         } = self;
         Running {
@@ -339,7 +339,7 @@ impl<K: StateKeeper, Q: Requests, M: Store + Drop> Running<K, Q, M> {
             requests,
             counts,
             state,
-            told,
+            said,
             metrics,
         }
     }

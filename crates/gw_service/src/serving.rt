@@ -20,7 +20,7 @@ ghost use Rattle.gw_service.specs.declared.fault.ServiceFault.TheVariants as fau
 use crate::announcement::{startup_line, warning_of};
 use crate::fault::ServiceFault;
 use crate::kept::serve_kept;
-use crate::telling::tell;
+use crate::note::write_note;
 use crate::watch::is_watched;
 use gw_command_line::RunOptions;
 use gw_configuration::Config;
@@ -237,12 +237,12 @@ fn serve_plain<H: Host, W: Write + Drop, E: OctetSink>(
     errors: &mut E,
 ) -> Result<(), ServiceFault>
     ensures served { let name = option_map string_bytes options.now.log in
-        (told : List ℕ)
+        (said : List ℕ)
         × LeavesServed (machine (OpensAtLine (H.LogOpens host.old) (H.LogIsCut host.old) H.Log.held)
         (H.SocketsOpen host.old) (H.RoutesIp host.old) (H.Closes host.new) H.Log.held H.Sockets.calls)
         name (writer_contents W.contents output.old) (writer_contents W.contents output.new) config
-        (service options.now.turns options.now.stats) options.now.verbose (startup_line options.now.verbose config name) told result
-        × (E.NeverFails errors.old → Appends (E.held errors.old) (E.held errors.new) told) }
+        (service options.now.turns options.now.stats) options.now.verbose (startup_line options.now.verbose config name) said result
+        × (E.NeverFails errors.old → Appends (E.held errors.old) (E.held errors.new) said) }
     ensures lasting { E.NeverFails errors.old → E.NeverFails errors.new }
     ensures flush { OnOk result (IsFlushedFor (option_map string_bytes options.now.log)
         (writer_buffer output.old) (writer_buffer output.new)) }
@@ -255,8 +255,8 @@ fn serve_plain<H: Host, W: Write + Drop, E: OctetSink>(
                 mut sockets,
             },
         ) => {
-            tell(&line, errors);
-            tell(warning_of(host, options.verbose), errors);
+            write_note(&line, errors);
+            write_note(warning_of(host, options.verbose), errors);
             let outcome = serve_open(
                 alloc,
                 config,
@@ -271,7 +271,7 @@ fn serve_plain<H: Host, W: Write + Drop, E: OctetSink>(
         }
         Err(failure) => {
             let note = note_of(alloc, options.verbose, failure);
-            tell(&note, errors);
+            write_note(&note, errors);
             Err(ServiceFault::from(failure))
         }
     }
@@ -293,13 +293,13 @@ fn serve_chosen<H: Host, W: Write + Drop, E: OctetSink>(
     output: &mut BufWriter<W>,
     errors: &mut E,
 ) -> Result<(), ServiceFault>
-    ensures served { (told : List ℕ)
+    ensures served { (said : List ℕ)
         × LeavesChosen (whole_machine (machine (OpensAtLine (H.LogOpens host.old) (H.LogIsCut host.old) H.Log.held)
         (H.SocketsOpen host.old) (H.RoutesIp host.old) (H.Closes host.new) H.Log.held H.Sockets.calls)
         (state_machine (H.FileReads host.old) (H.LastLines host.old) (H.StoreOpens host.old)
-        (H.ReloadsOpen host.old) H.StateStore.held H.Reloads.told)) options.now
-        (writer_contents W.contents output.old) (writer_contents W.contents output.new) config told result
-        × (E.NeverFails errors.old → Appends (E.held errors.old) (E.held errors.new) told) }
+        (H.ReloadsOpen host.old) H.StateStore.held H.Reloads.recorded)) options.now
+        (writer_contents W.contents output.old) (writer_contents W.contents output.new) config said result
+        × (E.NeverFails errors.old → Appends (E.held errors.old) (E.held errors.new) said) }
     ensures lasting { E.NeverFails errors.old → E.NeverFails errors.new }
     ensures flush { OnOk result (IsFlushedFor (option_map string_bytes options.now.log)
         (writer_buffer output.old) (writer_buffer output.new)) }
@@ -353,17 +353,17 @@ pub fn serve_ports<H: Host, W: Write + Drop, E: OctetSink>(
     output: &mut BufWriter<W>,
     errors: &mut E,
 ) -> Result<(), ServiceFault>
-    ensures served { (told : List ℕ)
+    ensures served { (said : List ℕ)
         × LeavesService (whole_machine (machine (OpensAtLine (H.LogOpens host.old) (H.LogIsCut host.old) H.Log.held)
         (H.SocketsOpen host.old) (H.RoutesIp host.old) (H.Closes host.new) H.Log.held H.Sockets.calls)
         (state_machine (H.FileReads host.old) (H.LastLines host.old) (H.StoreOpens host.old)
-        (H.ReloadsOpen host.old) H.StateStore.held H.Reloads.told)) options.now
-        (writer_contents W.contents output.old) (writer_contents W.contents output.new) config told result
-        × (E.NeverFails errors.old → Appends (E.held errors.old) (E.held errors.new) told) }
+        (H.ReloadsOpen host.old) H.StateStore.held H.Reloads.recorded)) options.now
+        (writer_contents W.contents output.old) (writer_contents W.contents output.new) config said result
+        × (E.NeverFails errors.old → Appends (E.held errors.old) (E.held errors.new) said) }
     ensures lasting { E.NeverFails errors.old → E.NeverFails errors.new }
     ensures flush { OnOk result (IsFlushedFor (option_map string_bytes options.now.log)
         (writer_buffer output.old) (writer_buffer output.new)) }
 {
-    tell(unaudited_note(&config, options).as_bytes(), errors);
+    write_note(unaudited_note(&config, options).as_bytes(), errors);
     serve_chosen(alloc, config, options, host, output, errors)
 }

@@ -45,14 +45,14 @@ fn serve_stamped<H: Host, W: Write + Drop, E: OctetSink>(
     output: &mut BufWriter<W>,
     errors: &mut E,
 ) -> Result<(), ServiceFault>
-    ensures served { (told : List ℕ)
+    ensures served { (said : List ℕ)
         × LeavesService (whole_with_stamps {C = H.Calendar}
         (whole_machine (machine (OpensAtLine (H.LogOpens host.old) (H.LogIsCut host.old) H.Log.held)
         (H.SocketsOpen host.old) (H.RoutesIp host.old) (H.Closes host.new) H.Log.held H.Sockets.calls)
         (state_machine (H.FileReads host.old) (H.LastLines host.old) (H.StoreOpens host.old)
-        (H.ReloadsOpen host.old) H.StateStore.held H.Reloads.told))) options.now
-        (writer_contents W.contents output.old) (writer_contents W.contents output.new) config told result
-        × (E.NeverFails errors.old → Appends (E.held errors.old) (E.held errors.new) told) }
+        (H.ReloadsOpen host.old) H.StateStore.held H.Reloads.recorded))) options.now
+        (writer_contents W.contents output.old) (writer_contents W.contents output.new) config said result
+        × (E.NeverFails errors.old → Appends (E.held errors.old) (E.held errors.new) said) }
     ensures lasting { E.NeverFails errors.old → E.NeverFails errors.new }
     ensures flush { OnOk result (IsFlushedFor (option_map string_bytes options.now.log)
         (writer_buffer output.old) (writer_buffer output.new)) }
@@ -79,14 +79,14 @@ pub fn serve_run<H: Host, W: Write + Drop, E: OctetSink>(
     output: &mut BufWriter<W>,
     errors: &mut E,
 ) -> Result<(), ServiceFault>
-    ensures served { (told : List ℕ)
+    ensures served { (said : List ℕ)
         × LeavesTimed (timed_machine {C = H.Calendar}
         (whole_machine (machine (OpensAtLine (H.LogOpens host.old) (H.LogIsCut host.old) H.Log.held)
         (H.SocketsOpen host.old) (H.RoutesIp host.old) (H.Closes host.new) H.Log.held H.Sockets.calls)
         (state_machine (H.FileReads host.old) (H.LastLines host.old) (H.StoreOpens host.old)
-        (H.ReloadsOpen host.old) H.StateStore.held H.Reloads.told))) options.now
-        (writer_contents W.contents output.old) (writer_contents W.contents output.new) config told result
-        × (E.NeverFails errors.old → Appends (E.held errors.old) (E.held errors.new) told) }
+        (H.ReloadsOpen host.old) H.StateStore.held H.Reloads.recorded))) options.now
+        (writer_contents W.contents output.old) (writer_contents W.contents output.new) config said result
+        × (E.NeverFails errors.old → Appends (E.held errors.old) (E.held errors.new) said) }
     ensures lasting { E.NeverFails errors.old → E.NeverFails errors.new }
     ensures flush { OnOk result (IsFlushedFor (option_map string_bytes options.now.log)
         (writer_buffer output.old) (writer_buffer output.new)) }

@@ -12,7 +12,7 @@ use crate::metrics::Measures;
 use crate::reload::ReloadCounts;
 use gw_core::{Counts, Gateway};
 use gw_script::{OctetSink, WriteFailed, write_whole};
-use gw_serving::{ServeState, Served, report_of, tell_report};
+use gw_serving::{ServeState, Served, report_of, try_report};
 use itoa::Buffer;
 
 /// When a report is due: the counts of the gateway at first, and the seconds from one to the next, if reports are asked for;
@@ -42,8 +42,8 @@ fn write_unkept<E: OctetSink>(unkept: u64, errors: &mut E) -> Result<(), WriteFa
 }
 
 /// Reports how often the state couldn't be kept, if it is.
-fn tell_unkept<E: OctetSink>(is_kept: bool, unkept: u64, errors: &mut E)
-    ensures told { E.NeverFails errors.old → Appends (E.held errors.old) (E.held errors.new) (unkept_text is_kept unkept) }
+fn report_unkept<E: OctetSink>(is_kept: bool, unkept: u64, errors: &mut E)
+    ensures said { E.NeverFails errors.old → Appends (E.held errors.old) (E.held errors.new) (unkept_text is_kept unkept) }
     ensures lasts { E.NeverFails errors.old → E.NeverFails errors.new }
 {
     if is_kept {
@@ -78,8 +78,8 @@ fn write_reloads<E: OctetSink>(counts: ReloadCounts, errors: &mut E) -> Result<(
 }
 
 /// Reports how often the configuration was read again, if it is.
-fn tell_reloads<E: OctetSink>(is_read: bool, counts: ReloadCounts, errors: &mut E)
-    ensures told { E.NeverFails errors.old → Appends (E.held errors.old) (E.held errors.new) (reloads_text is_read counts) }
+fn report_reloads<E: OctetSink>(is_read: bool, counts: ReloadCounts, errors: &mut E)
+    ensures said { E.NeverFails errors.old → Appends (E.held errors.old) (E.held errors.new) (reloads_text is_read counts) }
     ensures lasts { E.NeverFails errors.old → E.NeverFails errors.new }
 {
     if is_read {
@@ -109,25 +109,25 @@ fn is_due(start: Counts, gateway: &Gateway, seconds: u64) -> bool
 impl Schedule {
     /// Reports how often the state couldn't be kept, if it is, how often the configuration was read again, if it is, and
     /// what else the keeper reports.
-    fn tell_tries<K: StateKeeper, E: OctetSink>(
+    fn report_tries<K: StateKeeper, E: OctetSink>(
         &self,
         gateway: &Gateway,
         keeper: &K,
         counts: ReloadCounts,
         errors: &mut E,
     )
-        ensures told { let how = reporting self.now.seconds self.now.start self.now.keeps self.now.reloads in
+        ensures said { let how = reporting self.now.seconds self.now.start self.now.keeps self.now.reloads in
             E.NeverFails errors.old → Appends (E.held errors.old) (E.held errors.new)
             (tries_text K.unkept K.more how keeper.now counts gateway.now) }
         ensures lasts { E.NeverFails errors.old → E.NeverFails errors.new }
     {
-        tell_unkept(self.keeps, keeper.unkept(), errors);
-        tell_reloads(self.reloads, counts, errors);
-        keeper.tell_more(gateway, errors);
+        report_unkept(self.keeps, keeper.unkept(), errors);
+        report_reloads(self.reloads, counts, errors);
+        keeper.report_more(gateway, errors);
     }
 
     /// Reports what was done since a gateway began.
-    fn tell_stats<K: StateKeeper, E: OctetSink>(
+    fn report_stats<K: StateKeeper, E: OctetSink>(
         &self,
         gateway: &Gateway,
         state: &ServeState,
@@ -135,7 +135,7 @@ impl Schedule {
         counts: ReloadCounts,
         errors: &mut E,
     )
-        ensures told { let how = reporting self.now.seconds self.now.start self.now.keeps self.now.reloads in
+        ensures said { let how = reporting self.now.seconds self.now.start self.now.keeps self.now.reloads in
             E.NeverFails errors.old → Appends (E.held errors.old) (E.held errors.new)
             (stats_text how gateway.now state.now.served state.now.tally
             (tries_text K.unkept K.more how keeper.now counts gateway.now)) }
@@ -143,8 +143,8 @@ impl Schedule {
     {
         if has_gone_on(self.start, gateway, &state.served) {
             let report = report_of(self.start, gateway, &state.served, state.tally);
-            tell_report(&report, errors);
-            self.tell_tries(gateway, keeper, counts, errors);
+            try_report(&report, errors);
+            self.report_tries(gateway, keeper, counts, errors);
         }
     }
 
@@ -172,7 +172,7 @@ impl Schedule {
     }
 
     /// Writes a report at a tick, if one is due.
-    pub(crate) fn tell_due<K: StateKeeper, E: OctetSink>(
+    pub(crate) fn report_due<K: StateKeeper, E: OctetSink>(
         &self,
         gateway: &Gateway,
         state: &ServeState,
@@ -180,20 +180,20 @@ impl Schedule {
         counts: ReloadCounts,
         errors: &mut E,
     )
-        ensures told { let how = reporting self.now.seconds self.now.start self.now.keeps self.now.reloads in
+        ensures said { let how = reporting self.now.seconds self.now.start self.now.keeps self.now.reloads in
             E.NeverFails errors.old → Appends (E.held errors.old) (E.held errors.new)
             (due_stats K.unkept K.more how keeper.now counts gateway.now state.now.served state.now.tally) }
         ensures lasts { E.NeverFails errors.old → E.NeverFails errors.new }
     {
         if let Some(seconds) = self.seconds {
             if is_due(self.start, gateway, seconds) {
-                self.tell_stats(gateway, state, keeper, counts, errors);
+                self.report_stats(gateway, state, keeper, counts, errors);
             }
         }
     }
 
     /// Writes a report at the end, if reports are asked for.
-    pub(crate) fn tell_last<K: StateKeeper, E: OctetSink>(
+    pub(crate) fn report_last<K: StateKeeper, E: OctetSink>(
         &self,
         gateway: &Gateway,
         state: &ServeState,
@@ -201,13 +201,13 @@ impl Schedule {
         counts: ReloadCounts,
         errors: &mut E,
     )
-        ensures told { let how = reporting self.now.seconds self.now.start self.now.keeps self.now.reloads in
+        ensures said { let how = reporting self.now.seconds self.now.start self.now.keeps self.now.reloads in
             E.NeverFails errors.old → Appends (E.held errors.old) (E.held errors.new)
             (end_stats K.unkept K.more how keeper.now counts gateway.now state.now.served state.now.tally) }
         ensures lasts { E.NeverFails errors.old → E.NeverFails errors.new }
     {
         if self.seconds.is_some() {
-            self.tell_stats(gateway, state, keeper, counts, errors);
+            self.report_stats(gateway, state, keeper, counts, errors);
         }
     }
 }

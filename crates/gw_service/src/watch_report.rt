@@ -29,8 +29,8 @@ fn write_beside<E: OctetSink>(
 }
 
 /// Reports what a policy on trial recorded, if there is one.
-fn tell_trial<C, S, E: OctetSink>(trial: &Option<Beside<C, S>>, errors: &mut E)
-    ensures told { E.NeverFails errors.old → Appends (E.held errors.old) (E.held errors.new) (trial_text trial.now) }
+fn report_trial<C, S, E: OctetSink>(trial: &Option<Beside<C, S>>, errors: &mut E)
+    ensures said { E.NeverFails errors.old → Appends (E.held errors.old) (E.held errors.new) (trial_text trial.now) }
     ensures lasts { E.NeverFails errors.old → E.NeverFails errors.new }
 {
     if let Some(trial) = trial {
@@ -39,8 +39,8 @@ fn tell_trial<C, S, E: OctetSink>(trial: &Option<Beside<C, S>>, errors: &mut E)
 }
 
 /// Reports what an audit recorded, if there is one.
-fn tell_audit<C, S, E: OctetSink>(audit: &Option<Beside<C, S>>, errors: &mut E)
-    ensures told { E.NeverFails errors.old → Appends (E.held errors.old) (E.held errors.new) (audit_text audit.now) }
+fn report_audit<C, S, E: OctetSink>(audit: &Option<Beside<C, S>>, errors: &mut E)
+    ensures said { E.NeverFails errors.old → Appends (E.held errors.old) (E.held errors.new) (audit_text audit.now) }
     ensures lasts { E.NeverFails errors.old → E.NeverFails errors.new }
 {
     if let Some(audit) = audit {
@@ -59,8 +59,8 @@ fn write_unseen<E: OctetSink>(unseen: u64, errors: &mut E) -> Result<(), WriteFa
 }
 
 /// Reports how many events weren't watched.
-fn tell_unseen<E: OctetSink>(unseen: u64, errors: &mut E)
-    ensures told { E.NeverFails errors.old → Appends (E.held errors.old) (E.held errors.new) (unseen_text unseen) }
+fn report_unseen<E: OctetSink>(unseen: u64, errors: &mut E)
+    ensures said { E.NeverFails errors.old → Appends (E.held errors.old) (E.held errors.new) (unseen_text unseen) }
     ensures lasts { E.NeverFails errors.old → E.NeverFails errors.new }
 {
     let _ = write_unseen(unseen, errors);
@@ -85,22 +85,22 @@ fn write_rule<E: OctetSink>(
 }
 
 /// Reports how many asks the rule of this number decided.
-fn tell_rule<E: OctetSink>(number: u64, rule: &Rule, count: u64, errors: &mut E)
-    ensures told { E.NeverFails errors.old → Appends (E.held errors.old) (E.held errors.new) (rule_line number rule.now count) }
+fn report_rule<E: OctetSink>(number: u64, rule: &Rule, count: u64, errors: &mut E)
+    ensures said { E.NeverFails errors.old → Appends (E.held errors.old) (E.held errors.new) (rule_line number rule.now count) }
     ensures lasts { E.NeverFails errors.old → E.NeverFails errors.new }
 {
     let _ = write_rule(number, rule, count, errors);
 }
 
 /// Reports how many asks each rule decided, in order.
-fn tell_rules<E: OctetSink>(rules: &[Rule], counts: &Tally, errors: &mut E)
+fn report_rules<E: OctetSink>(rules: &[Rule], counts: &Tally, errors: &mut E)
     requires { length counts.now ≡ length rules.now + 1 }
-    ensures told { E.NeverFails errors.old →
+    ensures said { E.NeverFails errors.old →
         Appends (E.held errors.old) (E.held errors.new) (in_order (line_in counts.now) 1 rules.now) }
     ensures lasts { E.NeverFails errors.old → E.NeverFails errors.new }
 {
     for place in 0..rules.len() {
-        tell_rule(
+        report_rule(
             place as u64 + 1,
             &rules[place],
             counts.count(place + 1),
@@ -121,8 +121,8 @@ fn write_default<E: OctetSink>(count: u64, errors: &mut E) -> Result<(), WriteFa
 }
 
 /// Reports how many asks no rule decided.
-fn tell_default<E: OctetSink>(count: u64, errors: &mut E)
-    ensures told { E.NeverFails errors.old → Appends (E.held errors.old) (E.held errors.new)
+fn report_default<E: OctetSink>(count: u64, errors: &mut E)
+    ensures said { E.NeverFails errors.old → Appends (E.held errors.old) (E.held errors.new)
         (codes "default: " ++ decimal count ++ codes "\n") }
     ensures lasts { E.NeverFails errors.old → E.NeverFails errors.new }
 {
@@ -130,56 +130,56 @@ fn tell_default<E: OctetSink>(count: u64, errors: &mut E)
 }
 
 /// Reports how many asks each rule decided, and how many none did, if they are counts of these rules. They always are.
-fn tell_counts<E: OctetSink>(rules: &RuleList, counts: &Option<Tally>, errors: &mut E)
-    ensures told { E.NeverFails errors.old →
+fn report_counts<E: OctetSink>(rules: &RuleList, counts: &Option<Tally>, errors: &mut E)
+    ensures said { E.NeverFails errors.old →
         Appends (E.held errors.old) (E.held errors.new) (counts_text rules.now counts.now) }
     ensures lasts { E.NeverFails errors.old → E.NeverFails errors.new }
 {
     match counts {
         Some(counts) if counts.is_of(rules) => {
-            tell_rules(rules.rules(), counts, errors);
-            tell_default(counts.count(0), errors);
+            report_rules(rules.rules(), counts, errors);
+            report_default(counts.count(0), errors);
         }
         _ => {}
     }
 }
 
 /// Reports what the logs of a watcher have and lost.
-fn tell_logs<T: OctetSink + Drop, A: OctetSink + Drop, E: OctetSink>(
+fn report_logs<T: OctetSink + Drop, A: OctetSink + Drop, E: OctetSink>(
     watcher: &Watcher<T, A>,
     errors: &mut E,
 )
-    ensures told { E.NeverFails errors.old → Appends (E.held errors.old) (E.held errors.new) (logs_text watcher.now) }
+    ensures said { E.NeverFails errors.old → Appends (E.held errors.old) (E.held errors.new) (logs_text watcher.now) }
     ensures lasts { E.NeverFails errors.old → E.NeverFails errors.new }
 {
-    tell_trial(watcher.trial(), errors);
-    tell_audit(watcher.audit(), errors);
+    report_trial(watcher.trial(), errors);
+    report_audit(watcher.audit(), errors);
 }
 
 /// Reports how many events a watcher didn't see, and how many asks each of these rules decided.
-fn tell_asks<T: OctetSink + Drop, A: OctetSink + Drop, E: OctetSink>(
+fn report_asks<T: OctetSink + Drop, A: OctetSink + Drop, E: OctetSink>(
     rules: &RuleList,
     watcher: &Watcher<T, A>,
     errors: &mut E,
 )
-    ensures told { E.NeverFails errors.old →
+    ensures said { E.NeverFails errors.old →
         Appends (E.held errors.old) (E.held errors.new) (asks_text rules.now watcher.now) }
     ensures lasts { E.NeverFails errors.old → E.NeverFails errors.new }
 {
-    tell_unseen(watcher.unseen(), errors);
-    tell_counts(rules, watcher.counts(), errors);
+    report_unseen(watcher.unseen(), errors);
+    report_counts(rules, watcher.counts(), errors);
 }
 
 /// Reports what a watcher recorded and lost, and how many asks each of these rules decided.
-pub(crate) fn tell_watched<T: OctetSink + Drop, A: OctetSink + Drop, E: OctetSink>(
+pub(crate) fn report_watched<T: OctetSink + Drop, A: OctetSink + Drop, E: OctetSink>(
     rules: &RuleList,
     watcher: &Watcher<T, A>,
     errors: &mut E,
 )
-    ensures told { E.NeverFails errors.old →
+    ensures said { E.NeverFails errors.old →
         Appends (E.held errors.old) (E.held errors.new) (watch_text rules.now watcher.now) }
     ensures lasts { E.NeverFails errors.old → E.NeverFails errors.new }
 {
-    tell_logs(watcher, errors);
-    tell_asks(rules, watcher, errors);
+    report_logs(watcher, errors);
+    report_asks(rules, watcher, errors);
 }

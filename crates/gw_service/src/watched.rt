@@ -8,7 +8,7 @@ use crate::keeping::{Kept, StateKeeper};
 use crate::losses::Losses;
 use crate::successor::Successor;
 use crate::troubles::Troubles;
-use crate::watch_report::tell_watched;
+use crate::watch_report::report_watched;
 use gw_core::Gateway;
 use gw_metrics::StateTries;
 use gw_script::OctetSink;
@@ -108,7 +108,7 @@ impl<S: Store + Drop, T: OctetSink + Drop, A: OctetSink + Drop> StateKeeper
         }
     }
 
-    fn tell_more<E: OctetSink>(&self, gateway: &Gateway, errors: &mut E) {
-        tell_watched(gateway.rules(), &self.second, errors);
+    fn report_more<E: OctetSink>(&self, gateway: &Gateway, errors: &mut E) {
+        report_watched(gateway.rules(), &self.second, errors);
     }
 }

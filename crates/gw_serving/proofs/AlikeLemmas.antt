@@ -50,10 +50,10 @@ all_alike E same (x ∷ xs) = and_from (E x x) (pointwise E xs xs) (same x) (all
 -- whether they are alike can be seen from images that keep it
 same_of_images : {A : Type 0} (E : A → A → Bool) (f : A → A) → ((x y : A) → E (f x) (f y) ≡ E x y)
     → (xs ys : List A) → pointwise E (map f xs) (map f ys) ≡ pointwise E xs ys
-same_of_images E f tells [] [] = refl
-same_of_images E f tells [] (y ∷ ys) = refl
-same_of_images E f tells (x ∷ xs) [] = refl
-same_of_images E f tells (x ∷ xs) (y ∷ ys) = ap₂ (λ a b. a && b) (tells x y) (same_of_images E f tells xs ys)
+same_of_images E f records [] [] = refl
+same_of_images E f records [] (y ∷ ys) = refl
+same_of_images E f records (x ∷ xs) [] = refl
+same_of_images E f records (x ∷ xs) (y ∷ ys) = ap₂ (λ a b. a && b) (records x y) (same_of_images E f records xs ys)
 
 -- ---- the parts
 

@@ -62,16 +62,16 @@ guarded_without Passes g a m s t was turn none went counted = (
 )
 
 -- one was, and its datagrams were tried
-pub guarded_with : {G : Type 0} (Passes : G → State → Event → G → Bool → Type 0) (g h : G) (a m : Scene) (tells : Option (List Call))
+pub guarded_with : {G : Type 0} (Passes : G → State → Event → G → Bool → Type 0) (g h : G) (a m : Scene) (records : Option (List Call))
     (s u : Served) (was is : Tally) (n k : ℕ) (event : Event) (taken : Taken) → IsTaken a.gateway event m.gateway taken → IsLoggedLast a event m
     → is ≡ tally_from a.gateway was (event ∷ []) → Passes g a.gateway event h true
-    → AreTried taken.effects.sends m.calls tells (count_taken s) u n k
-    → GuardedEnd Passes (moment a g s was) (Ok true) (moment (scene m.gateway m.log tells) h u is)
-guarded_with Passes g h a m tells s u was is n k event taken was_taken logged counted passes tried =
+    → AreTried taken.effects.sends m.calls records (count_taken s) u n k
+    → GuardedEnd Passes (moment a g s was) (Ok true) (moment (scene m.gateway m.log records) h u is)
+guarded_with Passes g h a m records s u was is n k event taken was_taken logged counted passes tried =
     let turn = taken_event event tried.tries in (
       turn,
       record {
-        went = lead_with a (scene m.gateway m.log tells) m.calls event tried.tries taken.effects was_taken.effects was_taken.counts tried.are
+        went = lead_with a (scene m.gateway m.log records) m.calls event tried.tries taken.effects was_taken.effects was_taken.counts tried.are
             was_taken.gateway
             (subst (λ (x : Effects). Appends a.log m.log (lines_of x.denials)) (sym was_taken.effects) logged.log)
             logged.taken.calls tried.calls;

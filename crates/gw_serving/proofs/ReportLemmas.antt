@@ -16,7 +16,7 @@ use Rattle.gw_core.specs.Effects.{ticks_of}
 use Rattle.gw_core.specs.History.{next, state_from}
 use Rattle.gw_serving.specs.ReportTurn.{HasGoneOn}
 use Rattle.gw_serving.specs.Tally.{no_tally, tally_at, tally_from, with_tally}
-use Rattle.gw_serving.specs.Reports.{IsRunWith, counts_at, due_text, report_line, report_of, reports_from, tally_turn, told_of}
+use Rattle.gw_serving.specs.Reports.{IsRunWith, counts_at, due_text, report_line, report_of, reports_from, tally_turn, reported_of}
 use Rattle.gw_serving.specs.Serve.{Scene, ServesAll, Stops, Turn, count_fault, count_turn, counts_after, counts_of_answer, events_of, turn_events, zero_counts}
 use Rattle.gw_serving.specs.Serve.{empty_turn, failed_turn, lost_event, taken_event}
 use Rattle.gw_serving.specs.ServeTurn.{TurnEnd}
@@ -157,7 +157,7 @@ pub reported_more : (seconds : ℕ) (start : Counts) (n : ℕ) (a m b : Scene) (
     (held between holds : Option (List ℕ)) → Reported seconds start n a s k m Never held between → TurnEnd m s k b t l (Ok tt)
     → (Never → Appends between holds (due_text seconds start m.gateway b.gateway t l))
     → Reported seconds start (n + 1) a t l b Never held holds
-reported_more seconds start n a m b s t k l Never held between holds p ended told =
+reported_more seconds start n a m b s t k l Never held between holds p ended recorded =
     let run = p.0 in
     let turn = ended.0 in
     let w = state_from a.gateway (events_of run.turns) in
@@ -186,7 +186,7 @@ reported_more seconds start n a m b s t k l Never held between holds p ended tol
       },
       (
         is_tally ∙ sym (tally_more a.gateway no_tally run.turns turn),
-        λ never. subst (Appends held holds) text (Appends-trans held between holds _ _ (p.1.1 never) (told never)),
+        λ never. subst (Appends held holds) text (Appends-trans held between holds _ _ (p.1.1 never) (recorded never)),
       ),
     )
 
@@ -213,7 +213,7 @@ last_told : (seconds : ℕ) (start : Counts) (a b : Scene) (k : Tally) (served :
     → start ≡ counts_at a.gateway → k ≡ tally_from a.gateway no_tally (events_of turns)
     → Appends held between (reports_from seconds start a.gateway zero_counts no_tally turns)
     → Appends between holds (report_line (report_of start b.gateway served k))
-    → Appends held holds (told_of seconds a.gateway turns b.gateway served)
+    → Appends held holds (reported_of seconds a.gateway turns b.gateway served)
 last_told seconds start a b k served turns held between holds is tallied first last =
     subst (λ (x : Counts). Appends held holds (reports_from seconds x a.gateway zero_counts no_tally turns
     ++ report_line (report_of x b.gateway served (tally_from a.gateway no_tally (events_of turns))))) is
@@ -227,7 +227,7 @@ pub run_told : (seconds : ℕ) (start : Counts) (count : ℕ) (a b : Scene) (k :
     → IsRunWith count a answer b (λ run. (k ≡ tally_from a.gateway no_tally (events_of run))
     × (Never → Appends held between (reports_from seconds start a.gateway zero_counts no_tally run)))
     → (Never → Appends between holds (report_line (report_of start b.gateway (counts_of_answer answer) k)))
-    → IsRunWith count a answer b (λ run. Never → Appends held holds (told_of seconds a.gateway run b.gateway (counts_of_answer answer)))
+    → IsRunWith count a answer b (λ run. Never → Appends held holds (reported_of seconds a.gateway run b.gateway (counts_of_answer answer)))
 run_told seconds start count a b k (Ok served) Never held between holds is run last = (
   run.0,
   λ never. last_told seconds start a b k served run.0.turns held between holds is run.1.0 (run.1.1 never) (last never),

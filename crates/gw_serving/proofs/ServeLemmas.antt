@@ -34,15 +34,15 @@ use Rattle.gw_serving.specs.Serve.{empty_turn, failed_turn, lost_event, taken_ev
 use Rattle.gw_serving.specs.ServeTurn.{AreTried, HasRoom, LogEnd, TurnEnd, event_answer}
 use Rattle.gw_serving.specs.Stretch.{wire_counts}
 use Rattle.gw_core.specs.State.{State}
-use Rattle.gw_serving.specs.Wire.{Call, Tells, arrival, arrival_of, receive_call}
+use Rattle.gw_serving.specs.Wire.{Call, Records, arrival, arrival_of, receive_call}
 
 -- ---- what a wire reports
 
-pub tells_none : (told : Option (List Call)) → Tells told told []
+pub tells_none : (recorded : Option (List Call)) → Records recorded recorded []
 tells_none None = refl
-tells_none (Some told) = sym (append-nil told)
+tells_none (Some recorded) = sym (append-nil recorded)
 
-pub tells_more : (a b c : Option (List Call)) (calls more : List Call) → Tells a b calls → Tells b c more → Tells a c (calls ++ more)
+pub tells_more : (a b c : Option (List Call)) (calls more : List Call) → Records a b calls → Records b c more → Records a c (calls ++ more)
 tells_more None None c calls more p q = q
 tells_more None (Some y) c calls more p q = absurd cc
 tells_more (Some x) None None calls more p q = tt
@@ -104,7 +104,7 @@ lead_along a m b turns more p q =
       gateway = q.gateway ∙ ap (λ (w : State). state_from w later) p.gateway ∙ sym (state_along a.gateway first later)
           ∙ ap (state_from a.gateway) (sym both);
       log = subst (Appends a.log b.log) runs (Appends-trans a.log m.log b.log _ _ p.log q.log);
-      calls = subst (Tells a.calls b.calls) (sym (flat_map-append turn_calls turns more))
+      calls = subst (Records a.calls b.calls) (sym (flat_map-append turn_calls turns more))
           (tells_more a.calls m.calls b.calls _ _ p.calls q.calls);
     }
 
@@ -122,31 +122,31 @@ lead_nowhere a = record {
 
 lead_by_one : (a b : Scene) (turn : Turn) → IsTurn a.gateway turn → b.gateway ≡ state_from a.gateway (turn_events turn)
     → Appends a.log b.log (log_of (run_from a.gateway (turn_events turn)))
-    → Tells a.calls b.calls (turn_calls turn) → LeadTo a (turn ∷ []) b
+    → Records a.calls b.calls (turn_calls turn) → LeadTo a (turn ∷ []) b
 unfolding AreTurns
-lead_by_one a b turn is moved logged told = record {
+lead_by_one a b turn is moved logged recorded = record {
   each = (is, tt);
   gateway = moved ∙ ap (state_from a.gateway) (sym (single turn_events turn));
   log = subst (λ (l : List Event). Appends a.log b.log (log_of (run_from a.gateway l))) (sym (single turn_events turn)) logged;
-  calls = subst (Tells a.calls b.calls) (sym (single turn_calls turn)) told;
+  calls = subst (Records a.calls b.calls) (sym (single turn_calls turn)) recorded;
 }
 
 -- a turn in which no event is taken
 pub lead_without : (a b : Scene) (turn : Turn) → turn_events turn ≡ [] → IsTurn a.gateway turn → b.gateway ≡ a.gateway → b.log ≡ a.log
-    → Tells a.calls b.calls (turn_calls turn) → LeadTo a (turn ∷ []) b
+    → Records a.calls b.calls (turn_calls turn) → LeadTo a (turn ∷ []) b
 unfolding state_from run_from
-lead_without a b turn none is stays held told =
+lead_without a b turn none is stays held recorded =
     lead_by_one a b turn is
     (stays ∙ ap (state_from a.gateway) (sym none))
     (subst (λ (l : List Event). Appends a.log b.log (log_of (run_from a.gateway l))) (sym none)
     (subst (λ (o : Option (List ℕ)). Appends a.log o []) (sym held) (Appends-nil a.log)))
-    told
+    recorded
 
 -- a turn in which one is
 pub lead_with : (a b : Scene) (between : Option (List Call)) (event : Event) (tries : List Try) (x : Effects)
     → x ≡ effects_at a.gateway event → passes_end a.gateway event ≡ false
     → map (λ t. t.sending) tries ≡ x.sends → b.gateway ≡ next a.gateway event → Appends a.log b.log (lines_of x.denials)
-    → Tells a.calls between (arrival event ∷ []) → Tells between b.calls (map try_call tries) → LeadTo a (taken_event event tries ∷ []) b
+    → Records a.calls between (arrival event ∷ []) → Records between b.calls (map try_call tries) → LeadTo a (taken_event event tries ∷ []) b
 unfolding state_from run_from
 lead_with a b between event tries x does counts are moved logged came_in went_out =
     let one : log_of (effects_at a.gateway event ∷ []) ≡ lines_of x.denials =
@@ -178,21 +178,21 @@ tries_counted (t ∷ tries) =
     omega (arith, first, tries_counted tries, won, lost)
 
 -- no datagram was tried yet
-pub none_tried : (told : Option (List Call)) (s : Served) (n : ℕ) → AreTried [] told told s s n n
-none_tried told s n = record {
+pub none_tried : (recorded : Option (List Call)) (s : Served) (n : ℕ) → AreTried [] recorded recorded s s n n
+none_tried recorded s n = record {
   tries = [];
   are = refl;
-  calls = tells_none told;
+  calls = tells_none recorded;
   counts = same_counts s;
   failed = sym (add-zero n);
 }
 
 -- one datagram was tried
-pub tried_one : (told tells : Option (List Call)) (s t : Served) (n m : ℕ) (sending : Sending) (success : Bool)
-    → Tells told tells (try_call (record { sending = sending; success = success }) ∷ [])
+pub tried_one : (recorded records : Option (List Call)) (s t : Served) (n m : ℕ) (sending : Sending) (success : Bool)
+    → Records recorded records (try_call (record { sending = sending; success = success }) ∷ [])
     → t ≡ record s { sends = s.sends + cond success 1 0; send_failures = s.send_failures + cond (not success) 1 0 }
-    → m ≡ n + cond (not success) 1 0 → AreTried (sending ∷ []) told tells s t n m
-tried_one told tells s t n m sending success call counted rose =
+    → m ≡ n + cond (not success) 1 0 → AreTried (sending ∷ []) recorded records s t n m
+tried_one recorded records s t n m sending success call counted rose =
     let one : Try = record { sending = sending; success = success } in
     let wins = cond success 1 0 in
     let losses = cond (not success) 1 0 in
@@ -209,9 +209,9 @@ tried_one told tells s t n m sending success call counted rose =
     }
 
 -- some were tried, and then others
-pub tried_along : (sendings more : List Sending) (told between tells : Option (List Call)) (s t u : Served) (n m o : ℕ)
-    → AreTried sendings told between s t n m → AreTried more between tells t u m o → AreTried (sendings ++ more) told tells s u n o
-tried_along sendings more told between tells s t u n m o p q =
+pub tried_along : (sendings more : List Sending) (recorded between records : Option (List Call)) (s t u : Served) (n m o : ℕ)
+    → AreTried sendings recorded between s t n m → AreTried more between records t u m o → AreTried (sendings ++ more) recorded records s u n o
+tried_along sendings more recorded between records s t u n m o p q =
     let tries = p.tries ++ q.tries in
     let won : successes p.tries + successes q.tries ≡ successes tries = sym (sum_by-append (λ (x : Try). cond x.success 1 0) p.tries q.tries) in
     let lost : failures p.tries + failures q.tries ≡ failures tries =
@@ -223,7 +223,7 @@ tried_along sendings more told between tells s t u n m o p q =
     record {
       tries = tries;
       are = map-append (λ x. x.sending) p.tries q.tries ∙ ap₂ (λ (l k : List Sending). l ++ k) p.are q.are;
-      calls = subst (Tells told tells) (sym (map-append try_call p.tries q.tries)) (tells_more told between tells _ _ p.calls q.calls);
+      calls = subst (Records recorded records) (sym (map-append try_call p.tries q.tries)) (tells_more recorded between records _ _ p.calls q.calls);
       counts = q.counts
           ∙ ap (λ (x : Served). record x { sends = x.sends + successes q.tries; send_failures = x.send_failures + failures q.tries }) p.counts
           ∙ ap (λ (x : ℕ). record s { sends = x; send_failures = s.send_failures + failures p.tries + failures q.tries }) sends
@@ -233,35 +233,35 @@ tried_along sendings more told between tells s t u n m o p q =
     }
 
 -- one more was tried
-pub tried_more : (sendings more : List Sending) (told between tells : Option (List Call)) (s t u : Served) (n m o : ℕ)
+pub tried_more : (sendings more : List Sending) (recorded between records : Option (List Call)) (s t u : Served) (n m o : ℕ)
     (sending : Sending) (success : Bool)
-    → AreTried sendings told between s t n m → more ≡ sendings ++ sending ∷ []
-    → Tells between tells (try_call (record { sending = sending; success = success }) ∷ [])
+    → AreTried sendings recorded between s t n m → more ≡ sendings ++ sending ∷ []
+    → Records between records (try_call (record { sending = sending; success = success }) ∷ [])
     → u ≡ record t { sends = t.sends + cond success 1 0; send_failures = t.send_failures + cond (not success) 1 0 }
-    → o ≡ m + cond (not success) 1 0 → AreTried more told tells s u n o
-tried_more sendings more told between tells s t u n m o sending success p split call counted rose =
-    subst (λ (l : List Sending). AreTried l told tells s u n o) (sym split)
-    (tried_along sendings (sending ∷ []) told between tells s t u n m o p (tried_one between tells t u m o sending success call counted rose))
+    → o ≡ m + cond (not success) 1 0 → AreTried more recorded records s u n o
+tried_more sendings more recorded between records s t u n m o sending success p split call counted rose =
+    subst (λ (l : List Sending). AreTried l recorded records s u n o) (sym split)
+    (tried_along sendings (sending ∷ []) recorded between records s t u n m o p (tried_one between records t u m o sending success call counted rose))
 
 -- each that was tried is counted once
-pub tried_counted : (sendings : List Sending) (told tells : Option (List Call)) (s t : Served) (n m : ℕ)
-    → AreTried sendings told tells s t n m → wire_counts t ≡ wire_counts s + length sendings
-tried_counted sendings told tells s t n m p =
+pub tried_counted : (sendings : List Sending) (recorded records : Option (List Call)) (s t : Served) (n m : ℕ)
+    → AreTried sendings recorded records s t n m → wire_counts t ≡ wire_counts s + length sendings
+tried_counted sendings recorded records s t n m p =
     omega (arith, ap wire_counts p.counts, tries_counted p.tries, length-map p.tries (λ x. x.sending), ap length p.are)
 
 -- and at most so many failed
-pub tried_failures : (sendings : List Sending) (told tells : Option (List Call)) (s t : Served) (n m : ℕ)
-    → AreTried sendings told tells s t n m → m ≤ n + length sendings
-tried_failures sendings told tells s t n m p =
+pub tried_failures : (sendings : List Sending) (recorded records : Option (List Call)) (s t : Served) (n m : ℕ)
+    → AreTried sendings recorded records s t n m → m ≤ n + length sendings
+tried_failures sendings recorded records s t n m p =
     omega (arith, p.failed, tries_counted p.tries, length-map p.tries (λ x. x.sending), ap length p.are)
 
 -- ---- the end of a turn
 
 -- a receive whose event is known
-pub arrives : (told tells : Option (List Call)) (event known : Option LentEvent) → event ≡ known
-    → Tells told tells (receive_call (event_answer (Ok event)) ∷ []) → Tells told tells (arrival_of (option_map event_view known) ∷ [])
-arrives told tells event known is calls =
-    subst (λ (x : Option LentEvent). Tells told tells (arrival_of (option_map event_view x) ∷ [])) is calls
+pub arrives : (recorded records : Option (List Call)) (event known : Option LentEvent) → event ≡ known
+    → Records recorded records (receive_call (event_answer (Ok event)) ∷ []) → Records recorded records (arrival_of (option_map event_view known) ∷ [])
+arrives recorded records event known is calls =
+    subst (λ (x : Option LentEvent). Records recorded records (arrival_of (option_map event_view x) ∷ [])) is calls
 
 -- the last event of a stop, and the counts then
 pub ends_by : (fault : ServeFault) (a b : Scene) (event : Event) (x : Effects) (s : Served) → x ≡ effects_at a.gateway event

@@ -304,7 +304,7 @@ done before after turns served went counts =
     record {
       calls = calls_of turns;
       lost = marks_of turns;
-      told = went.calls;
+      recorded = went.calls;
       gateway = went.gateway ∙ ap (state_from before.gateway) (sym taken);
       taken = omega (arith, count (λ s. s.taken), taken_are zero_counts turns, ap length taken);
       all = omega (arith, count (λ s. s.taken), count (λ s. s.memory_drops), arrived_are zero_counts turns);
@@ -369,7 +369,7 @@ ends_taken before moment after turns event served fault went last counts but non
     record {
       calls = with_arrival turns event;
       lost = marks_of turns ++ false ∷ [];
-      told = tells_more before.calls moment.calls after.calls (calls_of turns) (arrival event ∷ []) went.calls last.calls;
+      recorded = tells_more before.calls moment.calls after.calls (calls_of turns) (arrival event ∷ []) went.calls last.calls;
       gateway = last.gateway ∙ ap (λ (w : State). next w event) went.gateway
           ∙ sym (state_from-append before.gateway (events_of turns) event) ∙ ap (state_from before.gateway) (sym taken);
       taken = omega (arith, count (λ s. s.taken), taken_are zero_counts turns, ap length taken, each);
@@ -395,7 +395,7 @@ ends_at_count before moment after turns event served went last counts =
     record {
       calls = with_arrival turns event;
       lost = marks_of turns ++ true ∷ [];
-      told = tells_more before.calls moment.calls after.calls (calls_of turns) (arrival event ∷ []) went.calls last.calls;
+      recorded = tells_more before.calls moment.calls after.calls (calls_of turns) (arrival event ∷ []) went.calls last.calls;
       gateway = last.gateway ∙ went.gateway ∙ ap (state_from before.gateway) (sym taken);
       taken = omega (arith, count (λ s. s.taken), taken_are zero_counts turns, ap length taken);
       all = omega (arith, count (λ s. s.taken), count (λ s. s.memory_drops), arrived_are zero_counts turns, handed, one);

@@ -110,8 +110,8 @@ reports_from seconds start w s tally (turn ∷ turns) =
 
 -- What is reported of a run from one state to another by these turns: the reports, and at the end,
 -- whatever it is, one more of all that was done.
-abbrev pub told_of : (seconds : ℕ) → State → List Turn → State → Served → List ℕ
-told_of seconds before turns after served =
+abbrev pub reported_of : (seconds : ℕ) → State → List Turn → State → Served → List ℕ
+reported_of seconds before turns after served =
     reports_from seconds (counts_at before) before zero_counts no_tally turns
     ++ report_line (report_of (counts_at before) after served (tally_from before no_tally (events_of turns)))
 

@@ -17,7 +17,7 @@ use Rattle.gw_core.specs.Effects.{effects_at, passes_end, NeedsNoMemory}
 use Rattle.gw_core.specs.History.{next, run_from, state_from}
 use Rattle.gw_core.specs.Laws.{log as denials_of_run}
 use Rattle.gw_core.specs.State.{State}
-use Rattle.gw_serving.specs.Wire.{Call, empty_receive, failed_receive, arrival, departure, failed_send, Tells}
+use Rattle.gw_serving.specs.Wire.{Call, empty_receive, failed_receive, arrival, departure, failed_send, Records}
 
 -- ---- a turn
 
@@ -143,7 +143,7 @@ pub record LeadTo (before : Scene) (turns : List Turn) (after : Scene) : Type 0 
   pub each : AreTurns before.gateway turns
   pub gateway : after.gateway ≡ state_from before.gateway (events_of turns)
   pub log : Appends before.log after.log (log_of (run_from before.gateway (events_of turns)))
-  pub calls : Tells before.calls after.calls (calls_of turns)
+  pub calls : Records before.calls after.calls (calls_of turns)
 
 -- ---- the end
 
@@ -158,7 +158,7 @@ pub record ServesAll (count : ℕ) (before : Scene) (served : Served) (after : S
 pub record IsTakenLast (before : Scene) (event : Event) (after : Scene) : Type 0 where
   pub counts : passes_end before.gateway event ≡ false
   pub gateway : after.gateway ≡ next before.gateway event
-  pub calls : Tells before.calls after.calls (arrival event ∷ [])
+  pub calls : Records before.calls after.calls (arrival event ∷ [])
 
 -- The log failed at the lines of the last event, of which it has a front.
 pub record EndsAtLog (before : Scene) (event : Event) (after : Scene) : Type 0 where
@@ -180,7 +180,7 @@ pub record EndsAtCount (before : Scene) (event : Event) (after : Scene) : Type 0
   pub passes : passes_end before.gateway event ≡ true
   pub gateway : after.gateway ≡ before.gateway
   pub log : after.log ≡ before.log
-  pub calls : Tells before.calls after.calls (arrival event ∷ [])
+  pub calls : Records before.calls after.calls (arrival event ∷ [])
 
 -- what the last event left, by the fault
 abbrev pub EndsBy : ServeFault → Scene → Event → Scene → Type 0

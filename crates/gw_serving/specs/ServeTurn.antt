@@ -14,7 +14,7 @@ use Rattle.gw_core.specs.State.{State}
 use Rattle.gw_serving.specs.Stretch.{GoOn, IsFaulty, IsWithheld, Moment, wire_counts}
 use Rattle.gw_serving.specs.Tally.{tally_from}
 use Rattle.gw_serving.specs.declared.tally.Tally.{Tally}
-use Rattle.gw_serving.specs.Wire.{Call, Tells}
+use Rattle.gw_serving.specs.Wire.{Call, Records}
 use Rattle.gw_serving.specs.Serve.{Scene, Try, Turn, LeadTo, EndsBy, count_turn, count_fault, failures, lines_of}
 use Rattle.gw_serving.specs.Serve.{successes, try_call, turn_events}
 
@@ -55,10 +55,10 @@ LogEnd denials before after (Err Memory) = ¬ (denials ≡ []) × (after ≡ bef
 LogEnd denials before after (Err CountEnd) = ⊥
 
 -- these datagrams were tried to be sent, once and in order, and what came of each is counted
-pub record AreTried (sendings : List Sending) (told tells : Option (List Call)) (s t : Served) (wire_failures then : ℕ)
+pub record AreTried (sendings : List Sending) (recorded records : Option (List Call)) (s t : Served) (wire_failures then : ℕ)
     : Type 0 where
   pub tries : List Try
   pub are : map (λ x. x.sending) tries ≡ sendings
-  pub calls : Tells told tells (map try_call tries)
+  pub calls : Records recorded records (map try_call tries)
   pub counts : t ≡ record s { sends = s.sends + successes tries; send_failures = s.send_failures + failures tries }
   pub failed : then ≡ wire_failures + failures tries

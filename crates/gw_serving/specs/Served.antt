@@ -12,7 +12,7 @@ use Rattle.gw_serving.specs.declared.serving.ServeStop.{ServeStop}
 use Rattle.gw_core.specs.History.{run_from, state_from}
 use Rattle.gw_core.specs.NoLeak.{kept}
 use Rattle.gw_serving.specs.Serve.{Scene, ServesAll, Stops}
-use Rattle.gw_serving.specs.Wire.{Call, Tells, arrival, departure, empty_receive, failed_receive, failed_send}
+use Rattle.gw_serving.specs.Wire.{Call, Records, arrival, departure, empty_receive, failed_receive, failed_send}
 
 -- ---- calls
 
@@ -89,7 +89,7 @@ answered other events = events
 pub record IsServed (before : Scene) (served : Served) (fault : Option ServeFault) (after : Scene) : Type 0 where
   pub calls : List Call
   pub lost : List Bool
-  pub told : Tells before.calls after.calls calls
+  pub recorded : Records before.calls after.calls calls
   -- the gateway took the others, in order
   pub gateway : after.gateway ≡ state_from before.gateway (kept lost (handed_in calls))
   pub taken : served.taken ≡ length (kept lost (handed_in calls))

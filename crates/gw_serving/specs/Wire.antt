@@ -16,10 +16,10 @@ pub data Call : Type 0 where
   failed_send : (sending : Sending) → Call
 
 -- What a wire reports goes on by these calls. A wire may stop reporting; one that reports nothing never reports again.
-abbrev pub Tells : Option (List Call) → Option (List Call) → List Call → Type 0
-Tells None now calls = now ≡ None
-Tells (Some told) None calls = ⊤
-Tells (Some told) (Some now) calls = now ≡ told ++ calls
+abbrev pub Records : Option (List Call) → Option (List Call) → List Call → Type 0
+Records None now calls = now ≡ None
+Records (Some recorded) None calls = ⊤
+Records (Some recorded) (Some now) calls = now ≡ recorded ++ calls
 
 -- the event that a receive handed in, if it did: a datagram is at the buffer's front
 abbrev pub event_of : Got → List ℕ → Option Event

@@ -17,7 +17,7 @@ mod wire;
 pub use alike::Part;
 pub use guard::{Both, Guard, Unguarded};
 pub use keeper::Keeper;
-pub use report::{Report, report_of, tell_report};
+pub use report::{Report, report_of, try_report};
 pub use reporting::serve_with_reports;
 pub use serving::{ServeFault, ServeState, ServeStop, Served, serve};
 pub use store::{Store, StoreFault};

@@ -192,8 +192,8 @@ fn write_report<S: OctetSink>(report: &Report, sink: &mut S) -> Result<(), Write
 }
 
 /// Writes a report. If it can't be written it is left out, and serving goes on all the same.
-pub fn tell_report<S: OctetSink>(report: &Report, sink: &mut S)
-    ensures told { S.NeverFails sink.old →
+pub fn try_report<S: OctetSink>(report: &Report, sink: &mut S)
+    ensures recorded { S.NeverFails sink.old →
         Appends (S.held sink.old) (S.held sink.new) (report_line report.now) }
     ensures lasts { S.NeverFails sink.old → S.NeverFails sink.new }
 {

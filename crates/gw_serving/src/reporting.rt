@@ -3,12 +3,12 @@
 ghost use Rattle.std.specs.Prelude.{◌≡◌, ◌+◌, ◌<◌, ◌^◌, ℕ, List, IfErr};
 ghost use Rattle.std.specs.Io.KnownBytes.{Appends};
 ghost use Rattle.gw_serving.specs.ReportTurn.{HasGoneOn};
-ghost use Rattle.gw_serving.specs.Reports.{IsRunWith, counts_at, due_text, reports_from, told_of};
+ghost use Rattle.gw_serving.specs.Reports.{IsRunWith, counts_at, due_text, reports_from, reported_of};
 ghost use Rattle.gw_serving.specs.Tally.{no_tally, tally_from};
 ghost use Rattle.gw_serving.specs.Serve.{counts_of_answer, events_of, scene, zero_counts};
 ghost use Rattle.gw_core.specs.State.{State};
 
-use crate::report::{report_of, tell_report};
+use crate::report::{report_of, try_report};
 use crate::serving::{ServeFault, ServeState, ServeStop, Served};
 use crate::tally::Tally;
 use crate::wire::Wire;
@@ -40,7 +40,7 @@ pub fn serve_with_reports<W: Wire, L: OctetSink, R: OctetSink>(
         let after = scene gateway.new (L.held log.new) (W.calls wire.new) in
         IsRunWith turns before result after (λ run. R.NeverFails reports.old →
         Appends (R.held reports.old) (R.held reports.new)
-        (told_of seconds gateway.old run gateway.new (counts_of_answer result))) }
+        (reported_of seconds gateway.old run gateway.new (counts_of_answer result))) }
     ensures failures { let served = counts_of_answer result in
         W.failure_count wire.new
         ≡ W.failure_count wire.old + served.recv_failures + served.send_failures }
@@ -56,7 +56,7 @@ pub fn serve_with_reports<W: Wire, L: OctetSink, R: OctetSink>(
     let Ran { answer, tally } = schedule.serve_turns(alloc, gateway, wire, log, reports, turns);
     let served = served_of(&answer);
     let report = report_of(schedule.start, gateway, &served, tally);
-    tell_report(&report, reports);
+    try_report(&report, reports);
     answer
 }
 
@@ -95,7 +95,7 @@ impl Schedule {
     )
         requires seconds { 0 < self.now.seconds }
         requires since { HasGoneOn self.now.start gateway.now state.now.served }
-        ensures told { (before : State) → before.ticks ≡ ticks → R.NeverFails reports.old →
+        ensures recorded { (before : State) → before.ticks ≡ ticks → R.NeverFails reports.old →
             Appends (R.held reports.old) (R.held reports.new)
             (due_text self.now.seconds self.now.start before gateway.now state.now.served state.now.tally) }
         ensures lasts { R.NeverFails reports.old → R.NeverFails reports.new }
@@ -103,7 +103,7 @@ impl Schedule {
         let now = gateway.counts().ticks;
         if ticks < now && (now - self.start.ticks) % self.seconds == 0 {
             let report = report_of(self.start, gateway, &state.served, state.tally);
-            tell_report(&report, reports);
+            try_report(&report, reports);
         }
     }
 

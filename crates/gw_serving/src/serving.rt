@@ -7,7 +7,7 @@ ghost use Rattle.gw_serving.specs.ServeTurn.{AreTried, GuardedEnd, HasRoom, LogE
 ghost use Rattle.gw_serving.specs.Serve.{ServesAll, Stops, counts_of_answer, lines_of, scene, zero_counts};
 ghost use Rattle.gw_serving.specs.Served.{IsServing};
 ghost use Rattle.gw_serving.specs.Stretch.{CanCount, moment, wire_counts};
-ghost use Rattle.gw_serving.specs.Wire.{Tells, failures_of, receive_call};
+ghost use Rattle.gw_serving.specs.Wire.{Records, failures_of, receive_call};
 ghost use Rattle.gw_relay.specs.Sends.{sendings_of};
 
 use crate::guard::{Guard, Unguarded};
@@ -239,7 +239,7 @@ fn receive<'a, W: Wire>(
     requires { W.failure_count wire.old < 2 ^ 128 - 1 }
     ensures ports { W.port_count wire.new ≡ W.port_count wire.old }
     ensures calls { let call = receive_call (event_answer result) in
-        Tells (W.calls wire.old) (W.calls wire.new) (call ∷ []) }
+        Records (W.calls wire.old) (W.calls wire.new) (call ∷ []) }
     ensures failures { W.failure_count wire.new ≡ W.failure_count wire.old + failures_of result }
 {
     match wire.recv(datagram)? {

@@ -1,7 +1,7 @@
 //! The wire: where datagrams and ticks come from, and where datagrams go.
 
 ghost use Rattle.std.specs.Prelude.{◌≡◌, ◌+◌, ◌-◌, ◌<◌, ◌^◌, ◌∷◌, [], ℕ, List, Option, IfOk};
-ghost use Rattle.gw_serving.specs.Wire.{Call, IsHandedIn, Tells, failures_of, receive_call, receive_answer, send_call};
+ghost use Rattle.gw_serving.specs.Wire.{Call, IsHandedIn, Records, failures_of, receive_call, receive_answer, send_call};
 
 use gw_addr::BipAddr;
 use thiserror::Error;
@@ -65,7 +65,7 @@ pub trait Wire {
         ensures ports { port_count self.new ≡ port_count self.old }
         ensures handed_in { IfOk result (IsHandedIn (port_count self.new)) }
         ensures calls { let call = receive_call (receive_answer result buf.new) in
-            Tells (calls self.old) (calls self.new) (call ∷ []) }
+            Records (calls self.old) (calls self.new) (call ∷ []) }
         ensures failures { failure_count self.new ≡ failure_count self.old + failures_of result };
 
     /// Sends a datagram on the port of this number. A fault is answered only where the count of
@@ -75,6 +75,6 @@ pub trait Wire {
         ensures ports { port_count self.new ≡ port_count self.old }
         ensures calls { let call = send_call result
             (record { port = port; to = to; octets = octets.now }) in
-            Tells (calls self.old) (calls self.new) (call ∷ []) }
+            Records (calls self.old) (calls self.new) (call ∷ []) }
         ensures failures { failure_count self.new ≡ failure_count self.old + failures_of result };
 }

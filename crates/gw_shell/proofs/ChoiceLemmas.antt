@@ -10,7 +10,7 @@ pub followed : (Leaves : List ℕ → Result Choice Fault → Result (Unit {0}) 
     → choice ≡ chosen → IsQuiet chosen [] → Leaves [] chosen outcome → Adds [] → IsFollowed Leaves Adds choice outcome
 followed Leaves Adds choice chosen outcome is quiet leaves adds =
     subst (λ (c : Result Choice Fault). IsFollowed Leaves Adds c outcome) (sym is) (record {
-      told = [];
+      said = [];
       output = leaves;
       quiet = quiet;
       errors = adds;
@@ -18,11 +18,11 @@ followed Leaves Adds choice chosen outcome is quiet leaves adds =
 
 -- the same by a choice that may report something
 pub reported : (Leaves : List ℕ → Result Choice Fault → Result (Unit {0}) Fault → Type 0) (Adds : List ℕ → Type 0)
-    (choice chosen : Result Choice Fault) (outcome : Result (Unit {0}) Fault) (told : List ℕ)
-    → choice ≡ chosen → IsQuiet chosen told → Leaves told chosen outcome → Adds told → IsFollowed Leaves Adds choice outcome
-reported Leaves Adds choice chosen outcome told is quiet leaves adds =
+    (choice chosen : Result Choice Fault) (outcome : Result (Unit {0}) Fault) (said : List ℕ)
+    → choice ≡ chosen → IsQuiet chosen said → Leaves said chosen outcome → Adds said → IsFollowed Leaves Adds choice outcome
+reported Leaves Adds choice chosen outcome said is quiet leaves adds =
     subst (λ (c : Result Choice Fault). IsFollowed Leaves Adds c outcome) (sym is) (record {
-      told = told;
+      said = said;
       output = leaves;
       quiet = quiet;
       errors = adds;

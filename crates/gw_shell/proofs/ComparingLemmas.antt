@@ -51,14 +51,14 @@ module _ (Is : Compared → List ℕ → Type 0) (held holds : Option (List ℕ)
       subst (λ (o : Result (Unit {0}) Fault). LeavesSome Is held holds o) (sym leaves.0) leaves.1
 
 -- some lines of progress are reported, if it is sure that no write fails
-abbrev pub Tells : Type 0 → Option (List ℕ) → Option (List ℕ) → Type 0
-Tells Sure held holds = (told : List ℕ) × AreProgress told × (Sure → Appends held holds told)
+abbrev pub Translates : Type 0 → Option (List ℕ) → Option (List ℕ) → Type 0
+Translates Sure held holds = (said : List ℕ) × AreProgress said × (Sure → Appends held holds said)
 
-pub tells_none : (Sure : Type 0) (held : Option (List ℕ)) → Tells Sure held held
+pub tells_none : (Sure : Type 0) (held : Option (List ℕ)) → Translates Sure held held
 tells_none Sure held = ([], ([], refl), λ sure. appends_nothing held)
 
 pub tells_one : (Sure : Type 0) (held holds : Option (List ℕ)) (steps found : ℕ)
-    → (Sure → Appends held holds (progress_line (steps, found))) → Tells Sure held holds
+    → (Sure → Appends held holds (progress_line (steps, found))) → Translates Sure held holds
 tells_one Sure held holds steps found appends =
     (progress_line (steps, found), ((steps, found) ∷ [], sym (nothing_behind (progress_line (steps, found)))), appends)
 
@@ -70,8 +70,8 @@ progress_both x y first second = (
       ∙ sym (flat_map-append progress_line first.0 second.0),
 )
 
-pub tells_both : (Sure Still : Type 0) (a b c : Option (List ℕ)) → (Sure → Still) → Tells Sure a b → Tells Still b c
-    → Tells Sure a c
+pub tells_both : (Sure Still : Type 0) (a b c : Option (List ℕ)) → (Sure → Still) → Translates Sure a b → Translates Still b c
+    → Translates Sure a c
 tells_both Sure Still a b c lasts first second = (
   first.0 ++ second.0,
   progress_both first.0 second.0 first.1 second.1,

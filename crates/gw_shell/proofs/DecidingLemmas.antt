@@ -3,13 +3,13 @@ use Rattle.std.proofs.Common.{◌≡◌, ◌∙◌, ◌++◌, inl, inr, refl, sy
 use Rattle.std.proofs.lemmas.List.{append-nil}
 use Rattle.std.specs.Io.KnownBytes.{IsAtEnd, Keeps, prepend_known}
 use Rattle.gw_configuration.specs.Configuration.{Configuration}
-use Rattle.gw_core.specs.Replay.{RunsPart, RunsToMemory, Telling, text_after}
+use Rattle.gw_core.specs.Replay.{RunsPart, RunsToMemory, EventText, text_after}
 use Rattle.gw_script.proofs.KnownTexts.{holds_known}
 use Rattle.gw_script.specs.Script.{AreLines, lines_of}
 use Rattle.gw_shell.specs.Configured.{IsConfigurationOf}
 use Rattle.gw_shell.specs.Deciding.{IsDecidedAt, IsUnread, ReportsAsks}
 use Rattle.gw_shell.specs.Program.{LeavesCounted}
-use Rattle.gw_shell.specs.Replay.{Plays, telling}
+use Rattle.gw_shell.specs.Replay.{Plays, translating}
 use Rattle.gw_shell.specs.declared.fault.Fault.{Fault}
 use Rattle.gw_shell.specs.declared.fault.Fault.TheVariants as fault
 
@@ -23,17 +23,17 @@ no_lines_yet : (ports : ℕ) (lines : List (List ℕ)) → AreLines ports (take 
 no_lines_yet ports [] = tt
 no_lines_yet ports (line ∷ lines) = tt
 
-none_read : (told : Telling) (c : Configuration) (script before : List ℕ) → RunsPart told c script before before
+none_read : (said : EventText) (c : Configuration) (script before : List ℕ) → RunsPart said c script before before
 unfolding text_after
-none_read told c script before = record {
+none_read said c script before = record {
   events = [];
   lines = no_lines_yet (length c.ports) (lines_of script);
   text = sym (append-nil before);
 }
 
-none_held : (told : Telling) (c : Configuration) (script before : List ℕ) → RunsToMemory told c script before before
+none_held : (said : EventText) (c : Configuration) (script before : List ℕ) → RunsToMemory said c script before before
 unfolding text_after
-none_held told c script before = record {
+none_held said c script before = record {
   events = [];
   lines = no_lines_yet (length c.ports) (lines_of script);
   cause = inl refl;
@@ -44,9 +44,9 @@ none_held told c script before = record {
 pub unread_plays : (explains : Bool) (c : Configuration) (script before : List ℕ) (f : Fault) → IsUnread f
     → Plays explains c script before (Err f) before
 unread_plays explains c script before f (inl is) =
-    subst (λ (x : Fault). Plays explains c script before (Err x) before) (sym is) (none_read (telling explains) c script before)
+    subst (λ (x : Fault). Plays explains c script before (Err x) before) (sym is) (none_read (translating explains) c script before)
 unread_plays explains c script before f (inr is) =
-    subst (λ (x : Fault). Plays explains c script before (Err x) before) (sym is) (none_held (telling explains) c script before)
+    subst (λ (x : Fault). Plays explains c script before (Err x) before) (sym is) (none_held (translating explains) c script before)
 
 -- what is known stays known
 pub known_on : (old new : Option (List ℕ)) (text : List ℕ) → Keeps old new → old ≡ Some text → new ≡ Some text
@@ -69,9 +69,9 @@ unread_decided c script f (inl is) = subst (λ (x : Fault). IsDecidedAt c script
 unread_decided c script f (inr is) = subst (λ (x : Fault). IsDecidedAt c script (Err x) []) (sym is) refl
 
 -- what a replay with counts leaves if its script isn't read
-pub unread_leaves : (explains : Bool) (text : Result (List ℕ) Fault) (c : Configuration) (input held : Option (List ℕ)) (f : Fault) (told : List ℕ)
-    → IsConfigurationOf text (Ok c) → IsUnread f → told ≡ [] → LeavesCounted explains text input held held (Err f) told
-unread_leaves explains text c input held f told is unread silent = (
+pub unread_leaves : (explains : Bool) (text : Result (List ℕ) Fault) (c : Configuration) (input held : Option (List ℕ)) (f : Fault) (said : List ℕ)
+    → IsConfigurationOf text (Ok c) → IsUnread f → said ≡ [] → LeavesCounted explains text input held held (Err f) said
+unread_leaves explains text c input held f said is unread silent = (
   Ok c,
   is,
   λ script before known written.

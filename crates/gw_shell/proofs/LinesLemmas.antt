@@ -7,12 +7,12 @@ use Rattle.gw_script.specs.declared.lines.LinesFault.TheVariants as lines
 use Rattle.gw_shell.specs.Lines.{Leaves, first_lines_fault}
 
 -- the flush changes nothing of what is left written, and its failure is reported after a report without a fault
-pub flushed_lines : (Tells : List ℕ → List ℕ → Type 0) (Refuses : List ℕ → Type 0) (text before after : List ℕ)
-    (r : Result (Unit {0}) LinesFault) (is_flushed : Bool) → LeavesLines Tells Refuses r text before after
-    → Leaves Tells Refuses text before (first_lines_fault r is_flushed) after
-flushed_lines Tells Refuses text before after (Ok done) true leaves = leaves
-flushed_lines Tells Refuses text before after (Ok done) false leaves = whole_is_front Tells text before after leaves
-flushed_lines Tells Refuses text before after (Err (lines.Line n)) flushed leaves = leaves
-flushed_lines Tells Refuses text before after (Err lines.Read) flushed leaves = leaves
-flushed_lines Tells Refuses text before after (Err lines.Write) flushed leaves = leaves
-flushed_lines Tells Refuses text before after (Err lines.Memory) flushed leaves = leaves
+pub flushed_lines : (Translates : List ℕ → List ℕ → Type 0) (Refuses : List ℕ → Type 0) (text before after : List ℕ)
+    (r : Result (Unit {0}) LinesFault) (is_flushed : Bool) → LeavesLines Translates Refuses r text before after
+    → Leaves Translates Refuses text before (first_lines_fault r is_flushed) after
+flushed_lines Translates Refuses text before after (Ok done) true leaves = leaves
+flushed_lines Translates Refuses text before after (Ok done) false leaves = whole_is_front Translates text before after leaves
+flushed_lines Translates Refuses text before after (Err (lines.Line n)) flushed leaves = leaves
+flushed_lines Translates Refuses text before after (Err lines.Read) flushed leaves = leaves
+flushed_lines Translates Refuses text before after (Err lines.Write) flushed leaves = leaves
+flushed_lines Translates Refuses text before after (Err lines.Memory) flushed leaves = leaves

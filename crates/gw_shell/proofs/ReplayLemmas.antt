@@ -4,7 +4,7 @@ use Rattle.std.specs.Io.KnownBytes.{Keeps}
 use Rattle.gw_core.specs.declared.replaying.RunFault.{RunFault}
 use Rattle.gw_core.specs.declared.replaying.RunFault.TheVariants as run
 use Rattle.gw_script.specs.Event.{Event}
-use Rattle.gw_core.specs.Replay.{Replays, RunsFront, RunsToLine, RunsWhole, Telling, run_text}
+use Rattle.gw_core.specs.Replay.{Replays, RunsFront, RunsToLine, RunsWhole, EventText, run_text}
 use Rattle.gw_script.specs.Known.{OnKnown}
 use Rattle.gw_script.specs.Script.{AreLines, lines_of}
 use Rattle.gw_configuration.specs.Configuration.{Configuration}
@@ -14,7 +14,7 @@ use Rattle.gw_core.specs.Shown.{event_text}
 use Rattle.gw_script.specs.declared.flaw.LineFlaw.{LineFlaw}
 use Rattle.gw_shell.specs.declared.fault.Fault.{Fault}
 use Rattle.gw_shell.specs.declared.fault.Fault.TheVariants as fault
-use Rattle.gw_shell.specs.Replay.{Plays, telling}
+use Rattle.gw_shell.specs.Replay.{Plays, translating}
 use Rattle.gw_shell.specs.Ending.{first_fault, outcome_of}
 
 -- what always holds, beside a fact of known bytes
@@ -77,13 +77,13 @@ nothing_more : (xs : List ℕ) → xs ++ [] ≡ xs
 nothing_more xs = search rules
 
 -- a whole run that isn't flushed leaves a front of its text
-whole_is_front : (told : Telling) (c : Configuration) (script before after : List ℕ) → RunsWhole told c script before after → RunsFront told c script before after
-whole_is_front told c script before after whole = record {
+whole_is_front : (said : EventText) (c : Configuration) (script before after : List ℕ) → RunsWhole said c script before after → RunsFront said c script before after
+whole_is_front said c script before after whole = record {
   events = whole.events;
   lines = all_are_first (length c.ports) (lines_of script) whole.events whole.lines;
-  front = run_text told c whole.events;
+  front = run_text said c whole.events;
   unwritten = [];
-  parts = sym (nothing_more (run_text told c whole.events));
+  parts = sym (nothing_more (run_text said c whole.events));
   text = whole.text;
 }
 
@@ -91,5 +91,5 @@ whole_is_front told c script before after whole = record {
 pub flushed_plays : (explains : Bool) (c : Configuration) (script before after : List ℕ) (r : Result (Unit {0}) Fault) (is_flushed : Bool)
     → Plays explains c script before r after → Plays explains c script before (first_fault r is_flushed) after
 flushed_plays explains c script before after (Ok done) true plays = plays
-flushed_plays explains c script before after (Ok done) false plays = whole_is_front (telling explains) c script before after plays
+flushed_plays explains c script before after (Ok done) false plays = whole_is_front (translating explains) c script before after plays
 flushed_plays explains c script before after (Err f) flushed plays = plays

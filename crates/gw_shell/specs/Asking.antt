@@ -1,7 +1,7 @@
 -- What `why` leaves written, at each outcome: over the definitions of `gw_verdicts`.
 use Rattle.std.specs.Prelude.{◌≡◌, ◌==◌, ⊤, ℕ, Bool, true, false, List, [], ◌++◌, Option, Result, Ok, Err, codes, decimal, if◌then◌else◌, option_map}
 use Rattle.gw_asks.specs.Asks.{ask_lines}
-use Rattle.gw_verdicts.specs.Why.{IsAnswered, TellsNoAsk}
+use Rattle.gw_verdicts.specs.Why.{IsAnswered, ShowsNoAsk}
 use Rattle.gw_rules.specs.declared.rule.Rule.{Rule}
 use Rattle.gw_shell.specs.Lines.{Leaves}
 use Rattle.gw_tally.specs.Counting.{CountsAll, EndsAtLine}
@@ -12,7 +12,7 @@ use Rattle.gw_shell.specs.declared.fault.Fault.TheVariants as fault
 -- `before` was written before the asks of this text were answered by these rules, with these notes and this outcome,
 -- and `after` when that ended
 abbrev pub Answers : List Rule → (notes : List (List ℕ)) → List ℕ → List ℕ → Result (Unit {0}) Fault → List ℕ → Type 0
-Answers rules notes = Leaves (IsAnswered rules notes) TellsNoAsk
+Answers rules notes = Leaves (IsAnswered rules notes) ShowsNoAsk
 
 -- how many of the asks of a text each of these rules decides, in lines; or the first line that says none
 abbrev pub Counts : List Rule → List ℕ → Result (List ℕ) Fault → Type 0
@@ -42,6 +42,6 @@ unread_after n (Ok done) = unread_text n
 unread_after n (Err f) = []
 
 -- What is reported of the lines that show no ask: strictly nothing, since one is a fault then.
-abbrev pub ReportsUnread : (strict : Bool) → Result (Unit {0}) Fault → (told : List ℕ) → Type 0
-ReportsUnread true outcome told = told ≡ []
-ReportsUnread false outcome told = (n : ℕ) × (told ≡ unread_after n outcome)
+abbrev pub ReportsUnread : (strict : Bool) → Result (Unit {0}) Fault → (said : List ℕ) → Type 0
+ReportsUnread true outcome said = said ≡ []
+ReportsUnread false outcome said = (n : ℕ) × (said ≡ unread_after n outcome)

@@ -14,7 +14,7 @@ progress_line p =
 
 -- some of these lines, one after the other
 abbrev pub AreProgress : List ℕ → Type 0
-AreProgress told = (lines : List (ℕ × ℕ)) × (told ≡ flat_map progress_line lines)
+AreProgress said = (lines : List (ℕ × ℕ)) × (said ≡ flat_map progress_line lines)
 
 -- a comparison, and after it how many steps it took if that is asked for
 abbrev pub IsWithSteps : (steps : Bool) → (lines text : List ℕ) → Type 0

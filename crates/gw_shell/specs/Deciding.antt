@@ -20,23 +20,23 @@ IsUnread f = (f ≡ fault.Read) ⊎ (f ≡ fault.Memory)
 
 -- what is reported of the asks of a script: how many of them each rule decides, or that memory was refused for it
 abbrev pub IsDecided : Configuration → List ℕ → List ℕ → Type 0
-IsDecided c script told = IsReport c script told ⊎ (told ≡ codes "bacgw: asks aren't counted: out of memory\n")
+IsDecided c script said = IsReport c script said ⊎ (said ≡ codes "bacgw: asks aren't counted: out of memory\n")
 
 -- The same after a replay with this outcome: nothing if it ended before the script's last event, at another fault than
 -- that of a line.
 abbrev pub IsDecidedAt : Configuration → List ℕ → Result (Unit {0}) Fault → List ℕ → Type 0
-IsDecidedAt c script (Ok done) told = IsDecided c script told
-IsDecidedAt c script (Err (fault.Line n)) told = IsDecided c script told
-IsDecidedAt c script (Err (fault.FlawedLine n f)) told = IsDecided c script told
-IsDecidedAt c script (Err _) told = told ≡ []
+IsDecidedAt c script (Ok done) said = IsDecided c script said
+IsDecidedAt c script (Err (fault.Line n)) said = IsDecided c script said
+IsDecidedAt c script (Err (fault.FlawedLine n f)) said = IsDecided c script said
+IsDecidedAt c script (Err _) said = said ≡ []
 
 -- What `replay` reports under the configuration that was read: with `--stats` that, if there is a configuration, and
 -- without it nothing.
 abbrev pub ReportsAsks : (counts : Bool) → (input : Option (List ℕ)) → Result Configuration Fault → Result (Unit {0}) Fault
-    → (told : List ℕ) → Type 0
-ReportsAsks false input c outcome told = told ≡ []
-ReportsAsks true input (Ok c) outcome told = (script : List ℕ) → input ≡ Some script → IsDecidedAt c script outcome told
-ReportsAsks true input (Err f) outcome told = told ≡ []
+    → (said : List ℕ) → Type 0
+ReportsAsks false input c outcome said = said ≡ []
+ReportsAsks true input (Ok c) outcome said = (script : List ℕ) → input ≡ Some script → IsDecidedAt c script outcome said
+ReportsAsks true input (Err f) outcome said = said ≡ []
 
 -- the text of the file of this name, or the built-in one if no file is named
 abbrev pub IsTextFor : (Reads : List ℕ → Result (List ℕ) Fault → Type 0) → Option (List ℕ) → Result (List ℕ) Fault → Type 0

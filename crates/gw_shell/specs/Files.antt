@@ -9,15 +9,15 @@ result_map f (Ok x) = Ok (f x)
 result_map f (Err e) = Err e
 
 -- Nothing is known of what a file of the system holds. Where it can't be read, that is reported, or memory ran out.
-abbrev pub IsTold : Result (List ℕ) Fault → Type 0
-IsTold (Ok octets) = ⊤
-IsTold (Err fault.Unreadable) = ⊤
-IsTold (Err fault.Memory) = ⊤
-IsTold (Err _) = ⊥
+abbrev pub IsFaultShown : Result (List ℕ) Fault → Type 0
+IsFaultShown (Ok octets) = ⊤
+IsFaultShown (Err fault.Unreadable) = ⊤
+IsFaultShown (Err fault.Memory) = ⊤
+IsFaultShown (Err _) = ⊥
 
 -- Nor of what a state's file holds.
-abbrev pub IsStateTold : Result (List ℕ) Fault → Type 0
-IsStateTold (Ok octets) = ⊤
-IsStateTold (Err fault.StateUnreadable) = ⊤
-IsStateTold (Err fault.Memory) = ⊤
-IsStateTold (Err _) = ⊥
+abbrev pub IsStateFaultShown : Result (List ℕ) Fault → Type 0
+IsStateFaultShown (Ok octets) = ⊤
+IsStateFaultShown (Err fault.StateUnreadable) = ⊤
+IsStateFaultShown (Err fault.Memory) = ⊤
+IsStateFaultShown (Err _) = ⊥

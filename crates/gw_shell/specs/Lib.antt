@@ -14,4 +14,4 @@ pub mod Replay
 pub mod Reporting
 pub mod Serving
 pub mod Suggesting
-pub mod Telling
+pub mod Translating

@@ -40,7 +40,7 @@ use Rattle.gw_service.specs.StampedRun.{TimedMachine}
 use Rattle.gw_shell.specs.Serving.{LeavesRun}
 use Rattle.gw_shell.specs.Suggesting.{Suggests}
 use Rattle.gw_suggest.specs.declared.suggestion.Manner.{Manner}
-use Rattle.gw_shell.specs.Telling.{Tells}
+use Rattle.gw_shell.specs.Translating.{Translates}
 
 -- what the words of a call choose, or why they choose nothing
 abbrev pub IsChoiceOf : List (List ℕ) → Result Choice Fault → Type 0
@@ -109,17 +109,17 @@ LeavesPlayed explains input held holds (Err f) outcome = (outcome ≡ Err f) × 
 
 -- What `replay --stats` leaves and reports under the configuration of a text that was read.
 abbrev pub LeavesCounted : Bool → Result (List ℕ) Fault → Option (List ℕ) → Option (List ℕ) → Option (List ℕ)
-    → Result (Unit {0}) Fault → (told : List ℕ) → Type 0
-LeavesCounted explains text input held holds outcome told =
+    → Result (Unit {0}) Fault → (said : List ℕ) → Type 0
+LeavesCounted explains text input held holds outcome said =
     (c : Result Configuration Fault) × IsConfigurationOf text c × LeavesPlayed explains input held holds c outcome
-    × ReportsAsks true input c outcome told
+    × ReportsAsks true input c outcome said
 
 -- What `replay` leaves and reports under that of the file of this name, or the built-in one.
 abbrev pub LeavesPlayedIn : (Reads : List ℕ → Result (List ℕ) Fault → Type 0) → Option (List ℕ) → Playing → Option (List ℕ)
-    → Option (List ℕ) → Option (List ℕ) → (told : List ℕ) → Result (Unit {0}) Fault → Type 0
-LeavesPlayedIn Reads file how input held holds told outcome =
+    → Option (List ℕ) → Option (List ℕ) → (said : List ℕ) → Result (Unit {0}) Fault → Type 0
+LeavesPlayedIn Reads file how input held holds said outcome =
     (c : Result Configuration Fault) × IsConfigured Reads file c × LeavesPlayed how.explains input held holds c outcome
-    × ReportsAsks how.counts input c outcome told
+    × ReportsAsks how.counts input c outcome said
 
 -- What printing leaves of a comparison that was made, of which a failed write may leave a front: if the two aren't alike,
 -- that is the outcome. Nothing if memory was refused for it.
@@ -274,15 +274,15 @@ LeavesReloadShown Answers request most held holds old (Err f) outcome = (outcome
 
 -- What it leaves if that is the file of this name, and the old configuration that of another, if one is named.
 abbrev pub LeavesReloadIn : (Reads : List ℕ → Result (List ℕ) Fault → Type 0) → (Answers : List ℕ → List ℕ → Type 0)
-    → (file request : List ℕ) → Option Shown → Option (List ℕ) → Option (List ℕ) → (told : List ℕ)
+    → (file request : List ℕ) → Option Shown → Option (List ℕ) → Option (List ℕ) → (said : List ℕ)
     → Result (Unit {0}) Fault → Type 0
-LeavesReloadIn Reads Answers file request None held holds told outcome =
+LeavesReloadIn Reads Answers file request None held holds said outcome =
     (c : Result Configuration Fault) × IsConfigured Reads (Some file) c × LeavesReload Answers request held holds c outcome
-    × (told ≡ [])
-LeavesReloadIn Reads Answers file request (Some shown) held holds told outcome =
+    × (said ≡ [])
+LeavesReloadIn Reads Answers file request (Some shown) held holds said outcome =
     (c : Result Configuration Fault) × IsConfigured Reads (Some file) c
     × (old : Result Configuration Fault) × IsConfigured Reads (Some (string_bytes shown.old)) old
-    × LeavesReloadShown Answers request shown.most held holds old c outcome × AreProgress told
+    × LeavesReloadShown Answers request shown.most held holds old c outcome × AreProgress said
 
 -- What `why --count` leaves of a text: how many of its asks each of these rules decides, or the first line that says none.
 abbrev pub LeavesCounts : List Rule → List ℕ → Option (List ℕ) → Option (List ℕ) → Result (Unit {0}) Fault → Type 0
@@ -301,10 +301,10 @@ LeavesAnswered counts input held holds (Err f) outcome = (outcome ≡ Err f) × 
 
 -- What it leaves by those of the file of this name, and reports of the lines that show no ask.
 abbrev pub LeavesAnsweredIn : (Reads : List ℕ → Result (List ℕ) Fault → Type 0) → List ℕ → Answering → Option (List ℕ)
-    → Option (List ℕ) → Option (List ℕ) → (told : List ℕ) → Result (Unit {0}) Fault → Type 0
-LeavesAnsweredIn Reads file how input held holds told outcome =
+    → Option (List ℕ) → Option (List ℕ) → (said : List ℕ) → Result (Unit {0}) Fault → Type 0
+LeavesAnsweredIn Reads file how input held holds said outcome =
     (c : Result Configuration Fault) × IsConfigured Reads (Some file) c
-    × LeavesAnswered how.counts (asks_in how.strict input) held holds c outcome × ReportsUnread how.strict outcome told
+    × LeavesAnswered how.counts (asks_in how.strict input) held holds c outcome × ReportsUnread how.strict outcome said
 
 -- What is on standard output, which held `held` before, if files give what `Reads` and `ReadsState` say, `run`
 -- opens what the machine says, and `reload` is answered what `Answers` says: at `check`, `replay` and `why` what they leave of some configuration that is the one they name,
@@ -313,65 +313,65 @@ LeavesAnsweredIn Reads file how input held holds told outcome =
 abbrev pub LeavesOutput : {C Log Sockets S Q : Type 0} → (Reads ReadsState : List ℕ → Result (List ℕ) Fault → Type 0)
     → (Answers : List ℕ → List ℕ → Type 0) → TimedMachine C Log Sockets S Q → Option (List ℕ) → Option (List ℕ) → Option (List ℕ) → List ℕ
     → Result Choice Fault → Result (Unit {0}) Fault → Type 0
-LeavesOutput Reads ReadsState Answers machine input held holds told (Ok (choice.Check file explains lints)) outcome =
+LeavesOutput Reads ReadsState Answers machine input held holds said (Ok (choice.Check file explains lints)) outcome =
     (text : Result (List ℕ) Fault) × Reads (string_bytes file) text
     × LeavesOfText explains lints text held holds outcome
-LeavesOutput Reads ReadsState Answers machine input held holds told (Ok (choice.CheckJson file)) outcome =
+LeavesOutput Reads ReadsState Answers machine input held holds said (Ok (choice.CheckJson file)) outcome =
     (text : Result (List ℕ) Fault) × Reads (string_bytes file) text × LeavesCheckedJson text held holds outcome
-LeavesOutput Reads ReadsState Answers machine input held holds told (Ok (choice.Migrate file)) outcome =
+LeavesOutput Reads ReadsState Answers machine input held holds said (Ok (choice.Migrate file)) outcome =
     (c : Result Configuration Fault) × IsConfigured Reads (Some (string_bytes file)) c
     × LeavesMigrated held holds c outcome
-LeavesOutput Reads ReadsState Answers machine input held holds told (Ok (choice.Replay file explains counts)) outcome =
-    LeavesPlayedIn Reads (option_map string_bytes file) (record { explains = explains; counts = counts }) input held holds told outcome
-LeavesOutput Reads ReadsState Answers machine input held holds told (Ok (choice.Run options)) outcome =
+LeavesOutput Reads ReadsState Answers machine input held holds said (Ok (choice.Replay file explains counts)) outcome =
+    LeavesPlayedIn Reads (option_map string_bytes file) (record { explains = explains; counts = counts }) input held holds said outcome
+LeavesOutput Reads ReadsState Answers machine input held holds said (Ok (choice.Run options)) outcome =
     (text : Result (List ℕ) Fault) × Reads (string_bytes options.config) text
     × (c : Result Configuration Fault) × IsConfigurationOf text c
-    × LeavesRun machine text held holds options c told outcome
-LeavesOutput Reads ReadsState Answers machine input held holds told (Ok (choice.Why file counts strict)) outcome =
-    LeavesAnsweredIn Reads (string_bytes file) (record { counts = counts; strict = strict }) input held holds told outcome
-LeavesOutput Reads ReadsState Answers machine input held holds told (Ok (choice.Reload config request was)) outcome =
-    LeavesReloadIn Reads Answers (string_bytes config) (string_bytes request) was held holds told outcome
-LeavesOutput Reads ReadsState Answers machine input held holds told (Ok (choice.Compare old new most steps)) outcome =
+    × LeavesRun machine text held holds options c said outcome
+LeavesOutput Reads ReadsState Answers machine input held holds said (Ok (choice.Why file counts strict)) outcome =
+    LeavesAnsweredIn Reads (string_bytes file) (record { counts = counts; strict = strict }) input held holds said outcome
+LeavesOutput Reads ReadsState Answers machine input held holds said (Ok (choice.Reload config request was)) outcome =
+    LeavesReloadIn Reads Answers (string_bytes config) (string_bytes request) was held holds said outcome
+LeavesOutput Reads ReadsState Answers machine input held holds said (Ok (choice.Compare old new most steps)) outcome =
     (a : Result Configuration Fault) × IsConfigured Reads (Some (string_bytes old)) a
     × (b : Result Configuration Fault) × IsConfigured Reads (Some (string_bytes new)) b
-    × LeavesComparison (record { most = most; steps = steps }) held holds a b outcome × AreProgress told
-LeavesOutput Reads ReadsState Answers machine input held holds told (Ok (choice.CompareJson old new most)) outcome =
+    × LeavesComparison (record { most = most; steps = steps }) held holds a b outcome × AreProgress said
+LeavesOutput Reads ReadsState Answers machine input held holds said (Ok (choice.CompareJson old new most)) outcome =
     (a : Result Configuration Fault) × IsConfigured Reads (Some (string_bytes old)) a
     × (b : Result Configuration Fault) × IsConfigured Reads (Some (string_bytes new)) b
     × LeavesComparisonJson most held holds a b outcome
-LeavesOutput Reads ReadsState Answers machine input held holds told (Ok (choice.Points file)) outcome =
+LeavesOutput Reads ReadsState Answers machine input held holds said (Ok (choice.Points file)) outcome =
     (c : Result Configuration Fault) × IsConfigured Reads (Some (string_bytes file)) c × LeavesPoints held holds c outcome
-LeavesOutput Reads ReadsState Answers machine input held holds told (Ok (choice.State config state)) outcome =
+LeavesOutput Reads ReadsState Answers machine input held holds said (Ok (choice.State config state)) outcome =
     LeavesStateIn Reads ReadsState (string_bytes config) (string_bytes state) held holds outcome
-LeavesOutput Reads ReadsState Answers machine input held holds told (Ok (choice.Suggest file fills exact)) outcome =
+LeavesOutput Reads ReadsState Answers machine input held holds said (Ok (choice.Suggest file fills exact)) outcome =
     LeavesSuggestedIn Reads (string_bytes file) (record { keeps_services = exact; fills = fills }) (asks_in false input) held holds outcome
-    × ReportsUnread false outcome told
-LeavesOutput Reads ReadsState Answers machine input held holds told (Ok (choice.Log start)) outcome =
-    OnKnown input held holds (λ log before. Tells start log before outcome)
-LeavesOutput Reads ReadsState Answers machine input held holds told (Ok choice.Objects) outcome =
+    × ReportsUnread false outcome said
+LeavesOutput Reads ReadsState Answers machine input held holds said (Ok (choice.Log start)) outcome =
+    OnKnown input held holds (λ log before. Translates start log before outcome)
+LeavesOutput Reads ReadsState Answers machine input held holds said (Ok choice.Objects) outcome =
     OnKnown input held holds (λ log before. Lists log before outcome)
-LeavesOutput Reads ReadsState Answers machine input held holds told (Ok (choice.Judge file strict)) outcome =
-    LeavesJudgedIn Reads (string_bytes file) (asks_in strict input) held holds outcome × ReportsUnread strict outcome told
-LeavesOutput Reads ReadsState Answers machine input held holds told (Ok (choice.Report file log)) outcome =
+LeavesOutput Reads ReadsState Answers machine input held holds said (Ok (choice.Judge file strict)) outcome =
+    LeavesJudgedIn Reads (string_bytes file) (asks_in strict input) held holds outcome × ReportsUnread strict outcome said
+LeavesOutput Reads ReadsState Answers machine input held holds said (Ok (choice.Report file log)) outcome =
     LeavesReportIn Reads (string_bytes file) held holds outcome
-LeavesOutput Reads ReadsState Answers machine input held holds told (Ok (choice.Help text)) (Ok done) =
+LeavesOutput Reads ReadsState Answers machine input held holds said (Ok (choice.Help text)) (Ok done) =
     Appends held holds (string_bytes text)
-LeavesOutput Reads ReadsState Answers machine input held holds told (Ok (choice.Help text)) (Err f) =
+LeavesOutput Reads ReadsState Answers machine input held holds said (Ok (choice.Help text)) (Err f) =
     (f ≡ fault.Write) × AppendsFront held holds (string_bytes text)
-LeavesOutput Reads ReadsState Answers machine input held holds told (Ok (choice.Usage text)) outcome =
+LeavesOutput Reads ReadsState Answers machine input held holds said (Ok (choice.Usage text)) outcome =
     (outcome ≡ Err fault.CommandLine) × (holds ≡ held)
-LeavesOutput Reads ReadsState Answers machine input held holds told (Err f) outcome = (outcome ≡ Err f) × (holds ≡ held)
+LeavesOutput Reads ReadsState Answers machine input held holds said (Err f) outcome = (outcome ≡ Err f) × (holds ≡ held)
 
 -- Only `run`, `replay`, `why`, `suggest`, `compare` and `reload` report something before a fault's line.
 abbrev pub IsQuiet : Result Choice Fault → List ℕ → Type 0
-IsQuiet (Ok (choice.Run options)) told = ⊤
-IsQuiet (Ok (choice.Replay file explains counts)) told = ⊤
-IsQuiet (Ok (choice.Why file counts strict)) told = ⊤
-IsQuiet (Ok (choice.Judge file strict)) told = ⊤
-IsQuiet (Ok (choice.Suggest file fills exact)) told = ⊤
-IsQuiet (Ok (choice.Compare old new most steps)) told = ⊤
-IsQuiet (Ok (choice.Reload config request was)) told = ⊤
-IsQuiet _ told = told ≡ []
+IsQuiet (Ok (choice.Run options)) said = ⊤
+IsQuiet (Ok (choice.Replay file explains counts)) said = ⊤
+IsQuiet (Ok (choice.Why file counts strict)) said = ⊤
+IsQuiet (Ok (choice.Judge file strict)) said = ⊤
+IsQuiet (Ok (choice.Suggest file fills exact)) said = ⊤
+IsQuiet (Ok (choice.Compare old new most steps)) said = ⊤
+IsQuiet (Ok (choice.Reload config request was)) said = ⊤
+IsQuiet _ said = said ≡ []
 
 -- What of standard output isn't flushed after a choice that was done: nothing, but that `run` leaves what was so
 -- before where its log is in a file.
@@ -383,10 +383,10 @@ IsFlushed _ was is = is ≡ []
 -- what standard error is given.
 pub record IsFollowed (Leaves : List ℕ → Result Choice Fault → Result (Unit {0}) Fault → Type 0)
     (Adds : List ℕ → Type 0) (choice : Result Choice Fault) (outcome : Result (Unit {0}) Fault) : Type 0 where
-  pub told : List ℕ
-  pub output : Leaves told choice outcome
-  pub quiet : IsQuiet choice told
-  pub errors : Adds told
+  pub said : List ℕ
+  pub output : Leaves said choice outcome
+  pub quiet : IsQuiet choice said
+  pub errors : Adds said
 
 -- One run of the program. `Chooses` is what the words ask for, `Leaves` what is on standard output at a choice
 -- and an outcome, with what was reported at the start, `was` and `is` what of it wasn't flushed before and isn't then,
@@ -397,10 +397,10 @@ pub record IsRun (Chooses : Result Choice Fault → Type 0)
     (exit : ℕ) : Type 0 where
   pub choice : Result Choice Fault
   pub outcome : Result (Unit {0}) Fault
-  pub told : List ℕ
+  pub said : List ℕ
   pub words : Chooses choice
-  pub output : Leaves told choice outcome
-  pub quiet : IsQuiet choice told
+  pub output : Leaves said choice outcome
+  pub quiet : IsQuiet choice said
   pub flush : OnOk outcome (IsFlushed choice was is)
-  pub errors : Adds (told ++ error_text outcome ++ usage_of choice)
+  pub errors : Adds (said ++ error_text outcome ++ usage_of choice)
   pub status : exit ≡ status_by choice outcome

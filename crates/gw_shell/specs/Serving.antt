@@ -11,9 +11,9 @@ use Rattle.gw_shell.specs.declared.fault.Fault.{Fault}
 -- is opened, the outcome is why, and it may be written where its fault is.
 abbrev pub LeavesRun : {C Log Sockets S Q : Type 0} → TimedMachine C Log Sockets S Q → Result (List ℕ) Fault
     → (held holds : Option (List ℕ)) → RunOptions
-    → Result Configuration Fault → (told : List ℕ) → Result (Unit {0}) Fault → Type 0
-LeavesRun machine text held holds options (Ok c) told outcome =
-    (done : Result (Unit {0}) ServiceFault) × LeavesTimed machine options held holds c told done
+    → Result Configuration Fault → (said : List ℕ) → Result (Unit {0}) Fault → Type 0
+LeavesRun machine text held holds options (Ok c) said outcome =
+    (done : Result (Unit {0}) ServiceFault) × LeavesTimed machine options held holds c said done
     × (outcome ≡ served done)
-LeavesRun machine text held holds options (Err f) told outcome =
-    (outcome ≡ Err f) × (holds ≡ held) × FaultNote options.verbose text f told
+LeavesRun machine text held holds options (Err f) said outcome =
+    (outcome ≡ Err f) × (holds ≡ held) × FaultNote options.verbose text f said

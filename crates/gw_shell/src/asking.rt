@@ -14,7 +14,7 @@ use crate::fault::Fault;
 use crate::files::ConfigFiles;
 use crate::lines::first_lines_fault;
 use crate::program::print_made;
-use crate::unread::tell_unread;
+use crate::unread::report_unread;
 use gw_asks::{AskLines, Lent};
 use gw_configuration::Config;
 use gw_rules::RuleList;
@@ -109,16 +109,16 @@ fn answer_shown<R: OctetSource, W: Write + Drop, E: OctetSink>(
     output: &mut BufWriter<W>,
     errors: &mut E,
 ) -> Result<(), Fault>
-    ensures shown { (told : List ℕ) × LeavesAnswered counts (asks_in false (R.left input.old))
+    ensures shown { (said : List ℕ) × LeavesAnswered counts (asks_in false (R.left input.old))
         (writer_contents W.contents output.old) (writer_contents W.contents output.new) config result
-        × ReportsUnread false result told
-        × (E.NeverFails errors.old → Appends (E.held errors.old) (E.held errors.new) told) }
+        × ReportsUnread false result said
+        × (E.NeverFails errors.old → Appends (E.held errors.old) (E.held errors.new) said) }
     ensures lasting { E.NeverFails errors.old → E.NeverFails errors.new }
     ensures flush { OnOk result (writer_buffer output.new ≡ []) }
 {
     let mut asks = AskLines::new(Lent::new(input));
     let outcome = answer(alloc, counts, config, &mut asks, output);
-    tell_unread(outcome, asks.unread(), errors);
+    report_unread(outcome, asks.unread(), errors);
     outcome
 }
 
@@ -141,9 +141,9 @@ pub fn answer_in<F: ConfigFiles, R: OctetSource, W: Write + Drop, E: OctetSink>(
     output: &mut BufWriter<W>,
     errors: &mut E,
 ) -> Result<(), Fault>
-    ensures answered { (told : List ℕ) × LeavesAnsweredIn (F.Reads files.now) file.now how (R.left input.old)
-        (writer_contents W.contents output.old) (writer_contents W.contents output.new) told result
-        × (E.NeverFails errors.old → Appends (E.held errors.old) (E.held errors.new) told) }
+    ensures answered { (said : List ℕ) × LeavesAnsweredIn (F.Reads files.now) file.now how (R.left input.old)
+        (writer_contents W.contents output.old) (writer_contents W.contents output.new) said result
+        × (E.NeverFails errors.old → Appends (E.held errors.old) (E.held errors.new) said) }
     ensures lasting { E.NeverFails errors.old → E.NeverFails errors.new }
     ensures flush { OnOk result (writer_buffer output.new ≡ []) }
 {

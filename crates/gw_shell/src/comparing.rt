@@ -106,8 +106,8 @@ fn write_progress<E: OctetSink>(steps: u32, found: usize, errors: &mut E) -> Res
 }
 
 /// Reports how far a comparison is.
-fn tell_progress<E: OctetSink>(steps: u32, found: usize, errors: &mut E)
-    ensures told { E.NeverFails errors.old →
+fn report_progress<E: OctetSink>(steps: u32, found: usize, errors: &mut E)
+    ensures said { E.NeverFails errors.old →
         Appends (E.held errors.old) (E.held errors.new) (progress_line (steps, found)) }
     ensures lasts { E.NeverFails errors.old → E.NeverFails errors.new }
 {
@@ -115,17 +115,17 @@ fn tell_progress<E: OctetSink>(steps: u32, found: usize, errors: &mut E)
 }
 
 /// Reports how far a comparison is if a second has passed.
-fn tell_second<C: Calendar, E: OctetSink>(
+fn report_second<C: Calendar, E: OctetSink>(
     comparing: &Comparing<'_>,
     seconds: &mut Seconds<C>,
     errors: &mut E,
 )
-    ensures told { (told : List ℕ) × AreProgress told
-        × (E.NeverFails errors.old → Appends (E.held errors.old) (E.held errors.new) told) }
+    ensures said { (said : List ℕ) × AreProgress said
+        × (E.NeverFails errors.old → Appends (E.held errors.old) (E.held errors.new) said) }
     ensures lasts { E.NeverFails errors.old → E.NeverFails errors.new }
 {
     if seconds.has_passed() {
-        tell_progress(comparing.steps(), comparing.found(), errors);
+        report_progress(comparing.steps(), comparing.found(), errors);
     }
 }
 
@@ -139,8 +139,8 @@ fn finish<C: Calendar, E: OctetSink>(
     ensures old { OnOk result (comparing.new.old_one ≡ comparing.old.old_one) }
     ensures new { OnOk result (comparing.new.new_one ≡ comparing.old.new_one) }
     ensures is_right { OnOk result (IsUnderWay comparing.old → IsUnderWay comparing.new) }
-    ensures told { (told : List ℕ) × AreProgress told
-        × (E.NeverFails errors.old → Appends (E.held errors.old) (E.held errors.new) told) }
+    ensures said { (said : List ℕ) × AreProgress said
+        × (E.NeverFails errors.old → Appends (E.held errors.old) (E.held errors.new) said) }
     ensures lasts { E.NeverFails errors.old → E.NeverFails errors.new }
 {
     for _portion in 0..PORTIONS {
@@ -148,7 +148,7 @@ fn finish<C: Calendar, E: OctetSink>(
         if comparing.is_finished() {
             return Ok(());
         }
-        tell_second(comparing, seconds, errors);
+        report_second(comparing, seconds, errors);
     }
     Ok(())
 }
@@ -177,8 +177,8 @@ fn compared<C: Calendar, E: OctetSink>(
     errors: &mut E,
 ) -> Result<Lines, AllocError>
     ensures compared { IfOk result (λ lines. IsCompared limits old.now new.now lines.made lines.text.items) }
-    ensures told { (told : List ℕ) × AreProgress told
-        × (E.NeverFails errors.old → Appends (E.held errors.old) (E.held errors.new) told) }
+    ensures said { (said : List ℕ) × AreProgress said
+        × (E.NeverFails errors.old → Appends (E.held errors.old) (E.held errors.new) said) }
     ensures lasts { E.NeverFails errors.old → E.NeverFails errors.new }
 {
     let mut comparing = Comparing::new(alloc, old, new)?;
@@ -223,8 +223,8 @@ pub fn print_compared<C: Calendar, W: Write + Drop, E: OctetSink>(
     ensures output { let held = writer_contents W.contents output.old in
         let holds = writer_contents W.contents output.new in
         LeavesCompared limits held holds old.now new.now result }
-    ensures told { (told : List ℕ) × AreProgress told
-        × (E.NeverFails errors.old → Appends (E.held errors.old) (E.held errors.new) told) }
+    ensures said { (said : List ℕ) × AreProgress said
+        × (E.NeverFails errors.old → Appends (E.held errors.old) (E.held errors.new) said) }
     ensures lasts { E.NeverFails errors.old → E.NeverFails errors.new }
     ensures flush { OnOk result (writer_buffer output.new ≡ []) }
 {
@@ -243,8 +243,8 @@ pub fn compare<C: Calendar, W: Write + Drop, E: OctetSink>(
 ) -> Result<(), Fault>
     ensures output { LeavesComparison limits (writer_contents W.contents output.old)
         (writer_contents W.contents output.new) both.old both.new result }
-    ensures told { (told : List ℕ) × AreProgress told
-        × (E.NeverFails errors.old → Appends (E.held errors.old) (E.held errors.new) told) }
+    ensures said { (said : List ℕ) × AreProgress said
+        × (E.NeverFails errors.old → Appends (E.held errors.old) (E.held errors.new) said) }
     ensures lasts { E.NeverFails errors.old → E.NeverFails errors.new }
     ensures flush { OnOk result (writer_buffer output.new ≡ []) }
 {

@@ -14,12 +14,12 @@ ghost use Rattle.gw_shell.specs.Replay.{Plays};
 use crate::configured::{configuration, configuration_of};
 use crate::fault::Fault;
 use crate::files::ConfigFiles;
-use crate::script::replay;
+use crate::replaying::replay;
 use gw_configuration::Config;
 use gw_decisions::count_script;
 use gw_policy_text::SETTING;
 use gw_script::{OctetSink, OctetSource};
-use gw_service::tell;
+use gw_service::write_note;
 use std::alloc::Global;
 use std::io::{BufWriter, Write};
 
@@ -224,14 +224,14 @@ fn play_counting<R: OctetSource, W: Write + Drop, E: OctetSink>(
     output: &mut BufWriter<W>,
     errors: &mut E,
 ) -> Result<(), Fault>
-    ensures counted { (told : List ℕ) × LeavesCounted explains (result_map (λ octets. octets.items) text.now)
-        (R.left input.old) (writer_contents W.contents output.old) (writer_contents W.contents output.new) result told
-        × (E.NeverFails errors.old → Appends (E.held errors.old) (E.held errors.new) told) }
+    ensures counted { (said : List ℕ) × LeavesCounted explains (result_map (λ octets. octets.items) text.now)
+        (R.left input.old) (writer_contents W.contents output.old) (writer_contents W.contents output.new) result said
+        × (E.NeverFails errors.old → Appends (E.held errors.old) (E.held errors.new) said) }
     ensures lasting { E.NeverFails errors.old → E.NeverFails errors.new }
     ensures flush { OnOk result (writer_buffer output.new ≡ []) }
 {
     let counted = replay_counting(alloc, explains, text, input, output);
-    tell(counted.decisions.as_bytes(), errors);
+    write_note(counted.decisions.as_bytes(), errors);
     counted.outcome
 }
 
@@ -254,9 +254,9 @@ pub fn play_in<F: ConfigFiles, R: OctetSource, W: Write + Drop, E: OctetSink>(
     output: &mut BufWriter<W>,
     errors: &mut E,
 ) -> Result<(), Fault>
-    ensures played { (told : List ℕ) × LeavesPlayedIn (F.Reads files.now) (option_map string_bytes file.now) how
-        (R.left input.old) (writer_contents W.contents output.old) (writer_contents W.contents output.new) told result
-        × (E.NeverFails errors.old → Appends (E.held errors.old) (E.held errors.new) told) }
+    ensures played { (said : List ℕ) × LeavesPlayedIn (F.Reads files.now) (option_map string_bytes file.now) how
+        (R.left input.old) (writer_contents W.contents output.old) (writer_contents W.contents output.new) said result
+        × (E.NeverFails errors.old → Appends (E.held errors.old) (E.held errors.new) said) }
     ensures lasting { E.NeverFails errors.old → E.NeverFails errors.new }
     ensures flush { OnOk result (writer_buffer output.new ≡ []) }
 {

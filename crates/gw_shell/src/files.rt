@@ -1,7 +1,7 @@
 //! The files that configurations are read from.
 
 ghost use Rattle.std.specs.Prelude.{ℕ, List, Result};
-ghost use Rattle.gw_shell.specs.Files.{IsStateTold, IsTold, result_map};
+ghost use Rattle.gw_shell.specs.Files.{IsStateFaultShown, IsFaultShown, result_map};
 ghost use Rattle.gw_shell.specs.declared.fault.Fault.{Fault};
 
 use crate::fault::Fault;
@@ -54,7 +54,7 @@ impl<R: Files> ConfigFiles for SystemFiles<'_, R> {
         fs::open(self.rt, name).ok()
     }
 
-    ghost Reads = { λ _ _ octets. IsTold octets };
+    ghost Reads = { λ _ _ octets. IsFaultShown octets };
 
     fn read(&self, alloc: Global, name: &str) -> Result<Vec<u8>, Fault> {
         match read_front(self.rt, alloc, name, MAX_OCTETS as u64 + 1) {
@@ -66,7 +66,7 @@ impl<R: Files> ConfigFiles for SystemFiles<'_, R> {
         }
     }
 
-    ghost ReadsState = { λ _ _ octets. IsStateTold octets };
+    ghost ReadsState = { λ _ _ octets. IsStateFaultShown octets };
 
     fn read_state(&self, alloc: Global, name: &str) -> Result<Vec<u8>, Fault> {
         match read_front(self.rt, alloc, name, MAX_STATE) {

@@ -18,10 +18,10 @@ mod lines;
 mod objects;
 mod program;
 mod reloading;
+mod replaying;
 mod reporting;
-mod script;
 mod suggesting;
-mod telling;
+mod translating;
 mod unread;
 
 pub use ending::end;
@@ -33,4 +33,4 @@ pub use gw_system::{
     SystemClock, SystemHost, UdpSock,
 };
 pub use program::run;
-pub use script::replay;
+pub use replaying::replay;

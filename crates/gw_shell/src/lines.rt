@@ -7,10 +7,10 @@ use crate::fault::Fault;
 use gw_script::LinesFault;
 
 /// The first fault of the lines and of the flush after them.
-pub fn first_lines_fault(told: Result<(), LinesFault>, is_flushed: bool) -> Result<(), Fault>
-    ensures { result ≡ first_lines_fault told is_flushed }
+pub fn first_lines_fault(said: Result<(), LinesFault>, is_flushed: bool) -> Result<(), Fault>
+    ensures { result ≡ first_lines_fault said is_flushed }
 {
-    told?;
+    said?;
     if is_flushed {
         Ok(())
     } else {

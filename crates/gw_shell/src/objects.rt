@@ -11,7 +11,7 @@ use crate::configured::configuration_in;
 use crate::fault::Fault;
 use crate::files::ConfigFiles;
 use crate::lines::first_lines_fault;
-use crate::unread::tell_unread;
+use crate::unread::report_unread;
 use gw_asks::{AskLines, Lent};
 use gw_configuration::Config;
 use gw_json::{log_in_json, why_in_json};
@@ -92,16 +92,16 @@ fn judge_shown<F: ConfigFiles, R: OctetSource, W: Write + Drop, E: OctetSink>(
     output: &mut BufWriter<W>,
     errors: &mut E,
 ) -> Result<(), Fault>
-    ensures shown { (told : List ℕ) × LeavesJudgedIn (F.Reads files.now) file.now (asks_in false (R.left input.old))
+    ensures shown { (said : List ℕ) × LeavesJudgedIn (F.Reads files.now) file.now (asks_in false (R.left input.old))
         (writer_contents W.contents output.old) (writer_contents W.contents output.new) result
-        × ReportsUnread false result told
-        × (E.NeverFails errors.old → Appends (E.held errors.old) (E.held errors.new) told) }
+        × ReportsUnread false result said
+        × (E.NeverFails errors.old → Appends (E.held errors.old) (E.held errors.new) said) }
     ensures lasting { E.NeverFails errors.old → E.NeverFails errors.new }
     ensures flush { OnOk result (writer_buffer output.new ≡ []) }
 {
     let mut asks = AskLines::new(Lent::new(input));
     let outcome = judge_strictly(alloc, files, file, &mut asks, output);
-    tell_unread(outcome, asks.unread(), errors);
+    report_unread(outcome, asks.unread(), errors);
     outcome
 }
 
@@ -115,10 +115,10 @@ pub fn judge_in<F: ConfigFiles, R: OctetSource, W: Write + Drop, E: OctetSink>(
     output: &mut BufWriter<W>,
     errors: &mut E,
 ) -> Result<(), Fault>
-    ensures judged { (told : List ℕ) × LeavesJudgedIn (F.Reads files.now) file.now (asks_in strict (R.left input.old))
+    ensures judged { (said : List ℕ) × LeavesJudgedIn (F.Reads files.now) file.now (asks_in strict (R.left input.old))
         (writer_contents W.contents output.old) (writer_contents W.contents output.new) result
-        × ReportsUnread strict result told
-        × (E.NeverFails errors.old → Appends (E.held errors.old) (E.held errors.new) told) }
+        × ReportsUnread strict result said
+        × (E.NeverFails errors.old → Appends (E.held errors.old) (E.held errors.new) said) }
     ensures lasting { E.NeverFails errors.old → E.NeverFails errors.new }
     ensures flush { OnOk result (writer_buffer output.new ≡ []) }
 {

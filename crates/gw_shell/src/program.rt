@@ -33,13 +33,13 @@ use crate::kept::words_of_text;
 use crate::reloading::{Asking, reload_in};
 use crate::reporting::print_report_in;
 use crate::suggesting::suggest_shown;
-use crate::{objects, telling};
+use crate::{objects, translating};
 use gw_command_line::{Choice, RunOptions, choice_of};
 use gw_configuration::{Config, ConfigFault};
 use gw_explanation::{Explanation, explain};
 use gw_migration::migrate;
 use gw_script::{OctetSink, OctetSource, write_whole};
-use gw_service::{ServiceFault, serve_run, tell};
+use gw_service::{ServiceFault, serve_run, write_note};
 use gw_suggest::Manner;
 use gw_system::Host;
 use std::alloc::{AllocError, Global};
@@ -283,17 +283,17 @@ fn serve<H: Host, W: Write + Drop, E: OctetSink>(
     output: &mut BufWriter<W>,
     errors: &mut E,
 ) -> Result<(), Fault>
-    ensures served { (told : List ℕ) × (config : Result Configuration Fault)
+    ensures served { (said : List ℕ) × (config : Result Configuration Fault)
         × IsConfigurationOf (result_map (λ octets. octets.items) text.now) config
         × LeavesRun (timed_machine {C = H.Calendar}
         (whole_machine (machine (OpensAtLine (H.LogOpens host.old) (H.LogIsCut host.old) H.Log.held)
         (H.SocketsOpen host.old) (H.RoutesIp host.old) (H.Closes host.new) H.Log.held H.Sockets.calls)
         (state_machine (H.FileReads host.old) (H.LastLines host.old) (H.StoreOpens host.old)
-        (H.ReloadsOpen host.old) H.StateStore.held H.Reloads.told)))
+        (H.ReloadsOpen host.old) H.StateStore.held H.Reloads.recorded)))
         (result_map (λ octets. octets.items) text.now)
         (writer_contents W.contents output.old) (writer_contents W.contents output.new) options.now
-        config told result
-        × (E.NeverFails errors.old → Appends (E.held errors.old) (E.held errors.new) told) }
+        config said result
+        × (E.NeverFails errors.old → Appends (E.held errors.old) (E.held errors.new) said) }
     ensures lasting { E.NeverFails errors.old → E.NeverFails errors.new }
     ensures flush { OnOk result (IsFlushedFor (option_map string_bytes options.now.log)
         (writer_buffer output.old) (writer_buffer output.new)) }
@@ -301,7 +301,7 @@ fn serve<H: Host, W: Write + Drop, E: OctetSink>(
     match configuration_of(alloc, text) {
         Ok(config) => served(serve_run(alloc, config, options, host, output, errors)),
         Err(fault) => {
-            tell(&fault_note(alloc, options.verbose, text, fault), errors);
+            write_note(&fault_note(alloc, options.verbose, text, fault), errors);
             Err(fault)
         }
     }
@@ -323,9 +323,9 @@ fn follow<F: ConfigFiles, H: Host, R: OctetSource, W: Write + Drop, E: OctetSink
         (whole_machine (machine (OpensAtLine (H.LogOpens host.old) (H.LogIsCut host.old) H.Log.held)
         (H.SocketsOpen host.old) (H.RoutesIp host.old) (H.Closes host.new) H.Log.held H.Sockets.calls)
         (state_machine (H.FileReads host.old) (H.LastLines host.old) (H.StoreOpens host.old)
-        (H.ReloadsOpen host.old) H.StateStore.held H.Reloads.told))) (R.left input.old)
+        (H.ReloadsOpen host.old) H.StateStore.held H.Reloads.recorded))) (R.left input.old)
         (writer_contents W.contents output.old) (writer_contents W.contents output.new))
-        (λ told. E.NeverFails errors.old → Appends (E.held errors.old) (E.held errors.new) told)
+        (λ said. E.NeverFails errors.old → Appends (E.held errors.old) (E.held errors.new) said)
         choice.now result }
     ensures lasting { E.NeverFails errors.old → E.NeverFails errors.new }
     ensures flush { OnOk result
@@ -430,7 +430,7 @@ fn follow<F: ConfigFiles, H: Host, R: OctetSource, W: Write + Drop, E: OctetSink
             };
             suggest_shown(alloc, files, file, manner, input, output, errors)
         }
-        Ok(Choice::Log(start)) => telling::tell(alloc, *start, input, output),
+        Ok(Choice::Log(start)) => translating::translate(alloc, *start, input, output),
         Ok(Choice::Objects) => objects::list(alloc, input, output),
         Ok(Choice::Judge { file, strict }) => {
             objects::judge_in(alloc, files, file, *strict, input, output, errors)
@@ -467,7 +467,7 @@ pub fn run<F: ConfigFiles, H: Host, R: OctetSource, W: Write + Drop, E: OctetSin
         (whole_machine (machine (OpensAtLine (H.LogOpens host.old) (H.LogIsCut host.old) H.Log.held)
         (H.SocketsOpen host.old) (H.RoutesIp host.old) (H.Closes host.new) H.Log.held H.Sockets.calls)
         (state_machine (H.FileReads host.old) (H.LastLines host.old) (H.StoreOpens host.old)
-        (H.ReloadsOpen host.old) H.StateStore.held H.Reloads.told))) (R.left input.old)
+        (H.ReloadsOpen host.old) H.StateStore.held H.Reloads.recorded))) (R.left input.old)
         (writer_contents W.contents output.old) (writer_contents W.contents output.new))
         (writer_buffer output.old) (writer_buffer output.new)
         (λ line. E.NeverFails errors.old → Appends (E.held errors.old) (E.held errors.new) line)
@@ -476,6 +476,6 @@ pub fn run<F: ConfigFiles, H: Host, R: OctetSource, W: Write + Drop, E: OctetSin
     let choice = choice_from(alloc, words);
     let outcome = follow(alloc, &choice, files, host, input, output, errors);
     let exit = end_by(&choice, outcome, errors);
-    tell(usage_of(&choice), errors);
+    write_note(usage_of(&choice), errors);
     exit
 }

@@ -125,8 +125,8 @@ fn reload_shown<H: Host, W: Write + Drop, E: OctetSink>(
 ) -> Result<(), Fault>
     ensures output { LeavesReloadShown (answers_by (H.Asks host.now) H.Answers) asking.now.request.now most
         (writer_contents W.contents output.old) (writer_contents W.contents output.new) both.old both.new result }
-    ensures told { (told : List ℕ) × AreProgress told
-        × (E.NeverFails errors.old → Appends (E.held errors.old) (E.held errors.new) told) }
+    ensures said { (said : List ℕ) × AreProgress said
+        × (E.NeverFails errors.old → Appends (E.held errors.old) (E.held errors.new) said) }
     ensures lasts { E.NeverFails errors.old → E.NeverFails errors.new }
     ensures flush { OnOk result (writer_buffer output.new ≡ []) }
 {
@@ -157,10 +157,10 @@ pub fn reload_in<F: ConfigFiles, H: Host, W: Write + Drop, E: OctetSink>(
     output: &mut BufWriter<W>,
     errors: &mut E,
 ) -> Result<(), Fault>
-    ensures reloaded { (told : List ℕ) × LeavesReloadIn (F.Reads files.now) (answers_by (H.Asks host.now) H.Answers)
+    ensures reloaded { (said : List ℕ) × LeavesReloadIn (F.Reads files.now) (answers_by (H.Asks host.now) H.Answers)
         asking.now.config.now asking.now.request.now asking.now.was.now
-        (writer_contents W.contents output.old) (writer_contents W.contents output.new) told result
-        × (E.NeverFails errors.old → Appends (E.held errors.old) (E.held errors.new) told) }
+        (writer_contents W.contents output.old) (writer_contents W.contents output.new) said result
+        × (E.NeverFails errors.old → Appends (E.held errors.old) (E.held errors.new) said) }
     ensures lasts { E.NeverFails errors.old → E.NeverFails errors.new }
     ensures flush { OnOk result (writer_buffer output.new ≡ []) }
 {

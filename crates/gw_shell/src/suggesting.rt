@@ -11,7 +11,7 @@ ghost use Rattle.gw_shell.specs.Suggesting.{Suggests, first_suggestion_fault};
 
 use crate::fault::Fault;
 use crate::files::ConfigFiles;
-use crate::unread::tell_unread;
+use crate::unread::report_unread;
 use gw_asks::{AskLines, Lent};
 use gw_script::{OctetSink, OctetSource};
 use gw_suggest::{Manner, SuggestFault};
@@ -94,16 +94,16 @@ pub fn suggest_shown<F: ConfigFiles, R: OctetSource, W: Write + Drop, E: OctetSi
     output: &mut BufWriter<W>,
     errors: &mut E,
 ) -> Result<(), Fault>
-    ensures suggested { (told : List ℕ) × LeavesSuggestedIn (F.Reads files.now) file.now manner
+    ensures suggested { (said : List ℕ) × LeavesSuggestedIn (F.Reads files.now) file.now manner
         (asks_in false (R.left input.old))
         (writer_contents W.contents output.old) (writer_contents W.contents output.new) result
-        × ReportsUnread false result told
-        × (E.NeverFails errors.old → Appends (E.held errors.old) (E.held errors.new) told) }
+        × ReportsUnread false result said
+        × (E.NeverFails errors.old → Appends (E.held errors.old) (E.held errors.new) said) }
     ensures lasting { E.NeverFails errors.old → E.NeverFails errors.new }
     ensures flush { OnOk result (writer_buffer output.new ≡ []) }
 {
     let mut asks = AskLines::new(Lent::new(input));
     let outcome = suggest_in(alloc, files, file, manner, &mut asks, output);
-    tell_unread(outcome, asks.unread(), errors);
+    report_unread(outcome, asks.unread(), errors);
     outcome
 }

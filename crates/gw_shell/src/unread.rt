@@ -9,8 +9,8 @@ use crate::fault::Fault;
 use gw_script::{OctetSink, write_whole};
 
 /// Reports how many lines show no ask, if there are any.
-fn tell_count<E: OctetSink>(count: u64, errors: &mut E)
-    ensures told { E.NeverFails errors.old → Appends (E.held errors.old) (E.held errors.new) (unread_text count) }
+fn report_count<E: OctetSink>(count: u64, errors: &mut E)
+    ensures said { E.NeverFails errors.old → Appends (E.held errors.old) (E.held errors.new) (unread_text count) }
     ensures lasts { E.NeverFails errors.old → E.NeverFails errors.new }
 {
     if count == 0 {
@@ -24,13 +24,13 @@ fn tell_count<E: OctetSink>(count: u64, errors: &mut E)
 }
 
 /// Reports how many lines show no ask if there was no fault.
-pub fn tell_unread<E: OctetSink>(outcome: Result<(), Fault>, count: u64, errors: &mut E)
-    ensures told { E.NeverFails errors.old →
+pub fn report_unread<E: OctetSink>(outcome: Result<(), Fault>, count: u64, errors: &mut E)
+    ensures said { E.NeverFails errors.old →
         Appends (E.held errors.old) (E.held errors.new) (unread_after count outcome) }
     ensures lasts { E.NeverFails errors.old → E.NeverFails errors.new }
 {
     match outcome {
-        Ok(()) => tell_count(count, errors),
+        Ok(()) => report_count(count, errors),
         Err(_) => {}
     }
 }

@@ -3,25 +3,25 @@ use Rattle.std.proofs.Common.{◌≡◌, ◌∙◌, ◌<◌, ◌+◌, ◌-◌, �
 use Rattle.std.specs.Prelude.{◌==◌, ◌&&◌, is_some, slice_index, IfSome}
 use Rattle.std.specs.Option.{IsSomeAnd}
 use Rattle.std.proofs.lemmas.List.{drop_more, length-drop, take_all}
-use Rattle.gw_audit.specs.Entry.{IsLineOf, IsShowable, TellsAsk, denial_of}
+use Rattle.gw_audit.specs.Entry.{IsLineOf, IsShowable, ShowsAsk, denial_of}
 use Rattle.gw_audit.specs.Laws.{AreShownAlike}
 use Rattle.gw_audit.specs.declared.denial.Denial.{Denial}
 use Rattle.gw_audit.specs.declared.entry.Shown.{Shown}
 use Rattle.gw_audit.specs.declared.entry.ShownAsk.{ShownAsk}
-use Rattle.gw_audit.specs.internal.Reading.{line_in, told_by}
-use Rattle.gw_audit.proofs.TellingLemmas.{line_again, line_takes, told_again, told_takes}
+use Rattle.gw_audit.specs.internal.Reading.{line_in, shown_by}
+use Rattle.gw_audit.proofs.TranslatingLemmas.{line_again, line_takes, told_again, told_takes}
 use Rattle.gw_stamping.specs.Fields.{end_from, is_denial, shows_ask}
 
 none_is_some : {A : Type 0} (x : A) → None ≡ Some x → ⊥
 none_is_some x e = cc
 
 -- what shows an ask is what is read as one
-pub ask_read : (text : List ℕ) (r : Option ShownAsk) → IfSome r (TellsAsk text) → ((s : ShownAsk) → TellsAsk text s → r ≡ Some s)
+pub ask_read : (text : List ℕ) (r : Option ShownAsk) → IfSome r (ShowsAsk text) → ((s : ShownAsk) → ShowsAsk text s → r ≡ Some s)
     → is_some r ≡ shows_ask text
 ask_read text (Some s) found only = ap is_some (sym (told_again text s found))
-ask_read text None found only = by (told_by (line_in text) text) refl
+ask_read text None found only = by (shown_by (line_in text) text) refl
   where
-    by : (t : Option ShownAsk) → told_by (line_in text) text ≡ t → false ≡ is_some t
+    by : (t : Option ShownAsk) → shown_by (line_in text) text ≡ t → false ≡ is_some t
     by None e = refl
     by (Some s) e = absurd (none_is_some s (only s (told_takes text s e)))
 

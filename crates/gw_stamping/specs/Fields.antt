@@ -1,6 +1,6 @@
 -- A line's own fields, whatever is in front of them.
 use Rattle.std.specs.Prelude.{ℕ, ◌==◌, ◌&&◌, Bool, true, is_some, if◌then◌else◌, List, [], ◌∷◌, Option, Some, None}
-use Rattle.gw_audit.specs.internal.Reading.{line_in, told_by}
+use Rattle.gw_audit.specs.internal.Reading.{line_in, shown_by}
 
 -- a text is the line of a denial, without its line feed
 abbrev pub is_denial : List ℕ → Bool
@@ -8,7 +8,7 @@ is_denial text = is_some (line_in text)
 
 -- a text shows an ask: it is the line of a denial, or the eight words of one
 abbrev pub shows_ask : List ℕ → Bool
-shows_ask text = is_some (told_by (line_in text) text)
+shows_ask text = is_some (shown_by (line_in text) text)
 
 -- The first end of a text that passes a test, of those that come after a space, and of the text itself if it begins a word.
 unfoldable pub end_from : (List ℕ → Bool) → (begins : Bool) → List ℕ → Option (List ℕ)

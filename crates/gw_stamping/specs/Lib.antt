@@ -2,4 +2,4 @@ pub mod Fields
 pub mod Laws
 pub mod Noted
 pub mod Stamped
-pub mod Telling
+pub mod Translating

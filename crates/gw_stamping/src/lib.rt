@@ -8,10 +8,10 @@ mod form;
 pub mod laws;
 mod noted;
 mod stamped;
-mod telling;
+mod translating;
 
 pub use calendar::{Calendar, SystemCalendar, moment_after};
 pub use fields::{ask_front, denial_front};
 pub use noted::{Noted, Place};
 pub use stamped::Stamped;
-pub use telling::tell_log;
+pub use translating::translate_log;

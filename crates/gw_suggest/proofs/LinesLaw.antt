@@ -7,39 +7,39 @@ use Rattle.std.proofs.lemmas.Grind.{flat_map-append}
 use Rattle.std.proofs.lemmas.List.{append-nil}
 use Rattle.std.proofs.lemmas.List.Elements.{filter-append}
 use Rattle.std.proofs.lemmas.List.Folds.{list_any-append}
-use Rattle.gw_audit.specs.Entry.{TellsAsk}
+use Rattle.gw_audit.specs.Entry.{ShowsAsk}
 use Rattle.gw_audit.specs.declared.entry.ShownAsk.{ShownAsk}
 use Rattle.gw_rules.specs.Ask.{Ask}
 use Rattle.gw_rules.specs.RuleList.{allows}
 use Rattle.gw_rules.specs.declared.rule.Rule.{Rule}
 use Rattle.gw_script.specs.Script.{lines_of}
 use Rattle.gw_suggest.specs.Given.{AddsAll, denied}
-use Rattle.gw_suggest.specs.Lines.{AreSeen, AreTold, IsTaken, IsTold, TakesNext, asks_in, words_of}
+use Rattle.gw_suggest.specs.Lines.{AreSeen, HaveAsks, IsTaken, HasAsk, TakesNext, asks_in, words_of}
 
-told_more : (lines : List (List ℕ)) (told : List (Option Ask)) (line : List ℕ) (ask : Option Ask) → AreTold lines told → IsTold line ask
-    → AreTold (lines ++ line ∷ []) (told ++ ask ∷ [])
+told_more : (lines : List (List ℕ)) (shown_asks : List (Option Ask)) (line : List ℕ) (ask : Option Ask) → HaveAsks lines shown_asks → HasAsk line ask
+    → HaveAsks (lines ++ line ∷ []) (shown_asks ++ ask ∷ [])
 told_more [] [] line ask are is = (is, tt)
-told_more [] (x ∷ told) line ask are is = absurd are
+told_more [] (x ∷ shown_asks) line ask are is = absurd are
 told_more (l ∷ lines) [] line ask are is = absurd are
-told_more (l ∷ lines) (x ∷ told) line ask are is = (are.0, told_more lines told line ask are.1 is)
+told_more (l ∷ lines) (x ∷ shown_asks) line ask are is = (are.0, told_more lines shown_asks line ask are.1 is)
 
-asks_more : (told : List (Option Ask)) (ask : Option Ask) → asks_in (told ++ ask ∷ []) ≡ asks_in told ++ option_to_list ask
-asks_more told ask =
-    flat_map-append option_to_list told (ask ∷ [])
-    ∙ ap (λ (xs : List Ask). asks_in told ++ xs) (append-nil (option_to_list ask))
+asks_more : (shown_asks : List (Option Ask)) (ask : Option Ask) → asks_in (shown_asks ++ ask ∷ []) ≡ asks_in shown_asks ++ option_to_list ask
+asks_more shown_asks ask =
+    flat_map-append option_to_list shown_asks (ask ∷ [])
+    ∙ ap (λ (xs : List Ask). asks_in shown_asks ++ xs) (append-nil (option_to_list ask))
 
 seen_more : (rules : List Rule) (done : List (List ℕ)) (line : List ℕ) (before after : List Ask) → AreSeen rules done before
     → IsTaken rules line before after → AreSeen rules (done ++ line ∷ []) after
 seen_more rules done line before after seen taken = record {
-  told = seen.told ++ taken.ask ∷ [];
-  each = told_more done seen.told line taken.ask seen.each taken.told;
+  shown_asks = seen.shown_asks ++ taken.ask ∷ [];
+  each = told_more done seen.shown_asks line taken.ask seen.each taken.shown_asks;
   same = λ test.
       taken.added test
       ∙ ap (λ b. b || list_any test (denied rules (option_to_list taken.ask))) (seen.same test)
-      ∙ sym (list_any-append test (denied rules (asks_in seen.told)) (denied rules (option_to_list taken.ask)))
+      ∙ sym (list_any-append test (denied rules (asks_in seen.shown_asks)) (denied rules (option_to_list taken.ask)))
       ∙ ap (list_any test) (
-      sym (filter-append (λ ask. not (allows rules ask)) (asks_in seen.told) (option_to_list taken.ask))
-      ∙ ap (denied rules) (sym (asks_more seen.told taken.ask))
+      sym (filter-append (λ ask. not (allows rules ask)) (asks_in seen.shown_asks) (option_to_list taken.ask))
+      ∙ ap (denied rules) (sym (asks_more seen.shown_asks taken.ask))
       );
 }
 
@@ -58,7 +58,7 @@ begins rules log left given known none = record {
   rest = log;
   remains = known;
   lines = refl;
-  seen = record { told = []; each = tt; same = λ test. ap (list_any test) none };
+  seen = record { shown_asks = []; each = tt; same = λ test. ap (list_any test) none };
 }
 
 pub goes_on : (rules : List Rule) (log : List ℕ) (left new : Option (List ℕ)) (before after : List Ask) → Progress rules log left before
@@ -82,8 +82,8 @@ ends rules log left new before after so_far step =
     (sym (so_far.lines ∙ ap (λ (ls : List (List ℕ)). so_far.done ++ ls) last.0 ∙ append-nil so_far.done)) so_far.seen)
 
 -- what isn't read as an ask shows none
-pub tells_none : (line words : List ℕ) → words ≡ words_of line → ((ask : ShownAsk) → TellsAsk words ask → None ≡ Some ask) → IsTold line None
-tells_none line words is only shown tells = never (only shown (subst (λ (text : List ℕ). TellsAsk text shown) (sym is) tells))
+pub tells_none : (line words : List ℕ) → words ≡ words_of line → ((ask : ShownAsk) → ShowsAsk words ask → None ≡ Some ask) → HasAsk line None
+tells_none line words is only shown tells = never (only shown (subst (λ (text : List ℕ). ShowsAsk text shown) (sym is) tells))
   where
     never : ◌≡◌ {A = Option ShownAsk} None (Some shown) → ⊥
     never e = absurd (cc)

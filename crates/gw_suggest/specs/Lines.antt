@@ -3,7 +3,7 @@ use Rattle.std.specs.Prelude.{◌≡◌, ◌⊎◌, ℕ, nat_eq, Bool, true, fal
 use Rattle.std.specs.Prelude.{Option, None, Some, Result, Ok, Err}
 use Rattle.std.specs.List.{flat_map, starts_with}
 use Rattle.std.specs.Option.{option_to_list}
-use Rattle.gw_audit.specs.Entry.{TellsAsk, ask_shown}
+use Rattle.gw_audit.specs.Entry.{ShowsAsk, ask_shown}
 use Rattle.gw_audit.specs.declared.entry.ShownAsk.{ShownAsk}
 use Rattle.gw_rules.specs.Ask.{Ask}
 use Rattle.gw_rules.specs.declared.rule.Rule.{Rule}
@@ -18,33 +18,33 @@ abbrev pub words_of : List ℕ → List ℕ
 words_of line = if starts_with nat_eq line (codes "deny ") then drop 5 line else line
 
 -- the ask that a line shows: as a line of the log, or by its eight words; or that it shows none
-abbrev pub IsTold : List ℕ → Option Ask → Type 0
-IsTold line (Some ask) = (shown : ShownAsk) × TellsAsk (words_of line) shown × (ask ≡ ask_shown shown)
-IsTold line None = (shown : ShownAsk) → ¬ (TellsAsk (words_of line) shown)
+abbrev pub HasAsk : List ℕ → Option Ask → Type 0
+HasAsk line (Some ask) = (shown : ShownAsk) × ShowsAsk (words_of line) shown × (ask ≡ ask_shown shown)
+HasAsk line None = (shown : ShownAsk) → ¬ (ShowsAsk (words_of line) shown)
 
 -- a line is taken: the ask that it shows is there then, if these rules deny it
 pub record IsTaken (rules : List Rule) (line : List ℕ) (before after : List Ask) : Type 0 where
   pub ask : Option Ask
-  pub told : IsTold line ask
+  pub shown_asks : HasAsk line ask
   pub added : AddsAll before after (denied rules (option_to_list ask))
 
 -- ---- the lines of a text
 
 -- what each line shows
-abbrev pub AreTold : List (List ℕ) → List (Option Ask) → Type 0
-AreTold [] [] = ⊤
-AreTold [] (ask ∷ asks) = ⊥
-AreTold (line ∷ lines) [] = ⊥
-AreTold (line ∷ lines) (ask ∷ asks) = IsTold line ask × AreTold lines asks
+abbrev pub HaveAsks : List (List ℕ) → List (Option Ask) → Type 0
+HaveAsks [] [] = ⊤
+HaveAsks [] (ask ∷ asks) = ⊥
+HaveAsks (line ∷ lines) [] = ⊥
+HaveAsks (line ∷ lines) (ask ∷ asks) = HasAsk line ask × HaveAsks lines asks
 
 abbrev pub asks_in : List (Option Ask) → List Ask
-asks_in told = flat_map option_to_list told
+asks_in shown_asks = flat_map option_to_list shown_asks
 
 -- Of the asks that the lines of a text show, these are those that the rules deny.
 pub record AreSeen (rules : List Rule) (lines : List (List ℕ)) (asks : List Ask) : Type 0 where
-  pub told : List (Option Ask)
-  pub each : AreTold lines told
-  pub same : HaveSame asks (denied rules (asks_in told))
+  pub shown_asks : List (Option Ask)
+  pub each : HaveAsks lines shown_asks
+  pub same : HaveSame asks (denied rules (asks_in shown_asks))
 
 -- ---- one line of a text
 

@@ -3,7 +3,7 @@ ghost use Rattle.std.specs.Prelude.{◌≡◌, ◌∷◌, [], ℕ, List, Some, I
 ghost use Rattle.std.specs.Io.KnownBytes.{prepend_known};
 ghost use Rattle.gw_script.specs.Script.{lines_of};
 ghost use Rattle.gw_suggest.specs.Given.{AddsAll, denied};
-ghost use Rattle.gw_suggest.specs.Lines.{AreSeen, IsTaken, IsTold, TakesNext, words_of};
+ghost use Rattle.gw_suggest.specs.Lines.{AreSeen, IsTaken, HasAsk, TakesNext, words_of};
 
 use crate::fault::SuggestFault;
 use crate::given::Given;
@@ -35,8 +35,8 @@ fn words_of(line: &[u8]) -> &[u8]
 
 /// The ask that a line shows: a line of the log, with `deny ` in front or not, or the eight words in the
 /// middle of one.
-fn ask_told(line: &[u8]) -> Option<Ask>
-    ensures { IsTold line.now result }
+fn ask_in_line(line: &[u8]) -> Option<Ask>
+    ensures { HasAsk line.now result }
 {
     match read_ask(words_of(line)) {
         Some(shown) => Some(shown.ask()),
@@ -53,7 +53,7 @@ fn is_other(line: &[u8]) -> bool {
 fn take_line(rules: &RuleList, line: &[u8], seen: &mut Seen) -> Result<(), SuggestFault>
     ensures { OnOk result (IsTaken rules.now line.now seen.old.given seen.new.given) }
 {
-    match ask_told(line) {
+    match ask_in_line(line) {
         Some(ask) => take_ask(rules, &ask, &mut seen.given),
         None => {
             if !is_other(line) {

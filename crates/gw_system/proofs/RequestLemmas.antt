@@ -7,9 +7,9 @@ use Rattle.gw_system.specs.declared.reading.ReadFailure.{ReadFailure}
 pub asks_on : (a b : Asking) (read : Result (Option (List ℕ)) ReadFailure) → GoesOn a b (asked read ∷ []) → IsAsking b
 asks_on nobody b read goes = absurd goes.1.0
 asks_on silent b read goes = subst IsAsking (sym goes) tt
-asks_on (known told) nobody read goes = absurd goes
-asks_on (known told) silent read goes = tt
-asks_on (known told) (known now) read goes = tt
+asks_on (known recorded) nobody read goes = absurd goes
+asks_on (known recorded) silent read goes = tt
+asks_on (known recorded) (known now) read goes = tt
 
 -- what was asked and then answered
 pub goes_two : (a b c : Asking) (x y : Exchange) → GoesOn a b (x ∷ []) → GoesOn b c (y ∷ []) → GoesOn a c (x ∷ y ∷ [])

@@ -24,16 +24,16 @@ IsUnasked (answered text) = ⊥
 
 -- What was known goes on by these, or is no more known.
 abbrev pub GoesOnKnown : List Exchange → Asking → List Exchange → Type 0
-GoesOnKnown told nobody exchanges = ⊥
-GoesOnKnown told silent exchanges = ⊤
-GoesOnKnown told (known now) exchanges = now ≡ told ++ exchanges
+GoesOnKnown recorded nobody exchanges = ⊥
+GoesOnKnown recorded silent exchanges = ⊤
+GoesOnKnown recorded (known now) exchanges = now ≡ recorded ++ exchanges
 
 -- What is known goes on by these. If nobody asks, no request is ever there, and nothing is answered; and what says nothing never
 -- says anything.
 abbrev pub GoesOn : Asking → Asking → List Exchange → Type 0
 GoesOn nobody now exchanges = (now ≡ nobody) × AllByRecursion IsUnasked exchanges
 GoesOn silent now exchanges = now ≡ silent
-GoesOn (known told) now exchanges = GoesOnKnown told now exchanges
+GoesOn (known recorded) now exchanges = GoesOnKnown recorded now exchanges
 
 -- somebody may ask
 abbrev pub IsAsking : Asking → Type 0
@@ -53,6 +53,6 @@ asked_by None = unasked
 asked_by (Some text) = asked (text_found text)
 
 -- what is known of what asks, if something does
-abbrev pub told_by : {Q : Type 0} → (Q → Asking) → Option Q → Asking
-told_by told None = nobody
-told_by told (Some requests) = told requests
+abbrev pub recorded_by : {Q : Type 0} → (Q → Asking) → Option Q → Asking
+recorded_by recorded None = nobody
+recorded_by recorded (Some requests) = recorded requests

@@ -66,7 +66,7 @@ fn register_pair(
 }
 
 /// Whether some event names the socket of this number.
-fn tells_of(events: &Events, number: usize) -> bool
+fn names_socket(events: &Events, number: usize) -> bool
     ensures { result ≡ has_event_of number events.now }
 {
     events.iter().any(|event| event.token().0 == number)
@@ -82,6 +82,6 @@ impl Waiter for PollWaiter {
     }
 
     fn has_come(&self, number: usize) -> bool {
-        tells_of(&self.events, number)
+        names_socket(&self.events, number)
     }
 }

@@ -2,7 +2,7 @@
 
 ghost use Rattle.std.specs.Prelude.{◌≡◌, ◌≢◌, ◌++◌, ◌∷◌, [], ℕ, Some, None, true, codes, string_bytes, IfOk, IfSome};
 ghost use Rattle.gw_system.specs.Folder.{Holds, IsAnswer, IsTakenAway};
-ghost use Rattle.gw_system.specs.Requests.{Asking, GoesOn, IsAsking, answered, asked_by, silent, told_by};
+ghost use Rattle.gw_system.specs.Requests.{Asking, GoesOn, IsAsking, answered, asked_by, silent, recorded_by};
 
 use crate::folder::Folder;
 use crate::reading::ReadFailure;
@@ -17,23 +17,23 @@ use std::time::Duration;
 /// What asks a running gateway to read its configuration again, and is answered.
 pub trait Requests {
     /// What is known of it: that nobody asks, nothing, or what it asked and was answered so far, in order.
-    ghost told: { Self → Asking };
+    ghost recorded: { Self → Asking };
 
     /// Takes a request away. If there was one, it gives the text of the configuration, of which there are at
     /// most so many octets, or `Ok(None)` if its file isn't there, or why that can't be read; and `None` if there was
     /// no request.
     fn take(&mut self, alloc: Global, most: usize) -> Option<Result<Option<Vec<u8>>, ReadFailure>>
-        ensures { GoesOn (told self.old) (told self.new) (asked_by result ∷ []) };
+        ensures { GoesOn (recorded self.old) (recorded self.new) (asked_by result ∷ []) };
 
     /// Answers the request that was taken last. An answer that can't be given is left out.
     fn answer(&mut self, text: &[u8])
-        requires { IsAsking (told self.old) }
-        ensures { GoesOn (told self.old) (told self.new) (answered text.now ∷ []) };
+        requires { IsAsking (recorded self.old) }
+        ensures { GoesOn (recorded self.old) (recorded self.new) (answered text.now ∷ []) };
 }
 
 /// What asks nothing, or what asks.
 impl<Q: Requests> Requests for Option<Q> {
-    ghost told = { told_by Q.told };
+    ghost recorded = { recorded_by Q.recorded };
 
     fn take(&mut self, alloc: Global, most: usize) -> Option<Result<Option<Vec<u8>>, ReadFailure>> {
         match self {
@@ -109,7 +109,7 @@ impl<F: Folder + Drop> FileRequests<F> {
 }
 
 impl<F: Folder> Requests for FileRequests<F> {
-    ghost told = { λ _. silent };
+    ghost recorded = { λ _. silent };
 
     fn take(&mut self, alloc: Global, most: usize) -> Option<Result<Option<Vec<u8>>, ReadFailure>> {
         if take_request(&mut self.folder, &self.asked) {

@@ -14,7 +14,7 @@ pub struct SystemClock<'a, R> {
 impl<R: Clock> Timepiece for SystemClock<'_, R> {
     ghost use Rattle.std.specs.Prelude.{⊤};
 
-    ghost Told = { λ _ _. ⊤ };
+    ghost Shows = { λ _ _. ⊤ };
 
     fn elapsed(&mut self) -> io::Result<Duration> {
         self.rt.monotonic()

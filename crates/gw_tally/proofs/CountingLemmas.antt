@@ -96,7 +96,7 @@ module _ (rules : List Rule) (text : List ℕ) where
       line = said.1.line;
       others = said.1.others;
       lines = p.lines ∙ ap (λ (l : List (List ℕ)). p.done ++ l) said.1.lines;
-      untold = said.1.untold;
+      untranslated = said.1.untranslated;
     }
     ends_at Read said = tt
     ends_at Write said = absurd said

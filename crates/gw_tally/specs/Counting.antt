@@ -1,10 +1,10 @@
 -- The asks that a text says, line by line, counted.
 use Rattle.std.specs.Prelude.{◌≡◌, ⊤, ℕ, ◌+◌, ◌≤◌, Bool, true, false, List, [], ◌∷◌, ◌++◌, length, Option, Some, Result, Ok, Err}
-use Rattle.gw_audit.specs.Entry.{TellsAsk, ask_shown}
+use Rattle.gw_audit.specs.Entry.{ShowsAsk, ask_shown}
 use Rattle.gw_audit.specs.declared.entry.ShownAsk.{ShownAsk}
 use Rattle.gw_rules.specs.Ask.{Ask}
 use Rattle.gw_rules.specs.declared.rule.Rule.{Rule}
-use Rattle.gw_script.specs.Lines.{BeginsUntold, IsUntold}
+use Rattle.gw_script.specs.Lines.{BeginsUntranslated, IsUntranslated}
 use Rattle.gw_script.specs.Script.{lines_of}
 use Rattle.gw_script.specs.declared.lines.LinesFault.{LinesFault}
 use Rattle.gw_script.specs.declared.lines.LinesFault.TheVariants.{Line, Memory, Read, Write}
@@ -14,12 +14,12 @@ use Rattle.gw_tally.specs.Tally.{AddsOne, IsTally, place}
 pub record SaysAsk (line : List ℕ) (ask : Ask) : Type 0 where
   pub most : length line ≤ 4096
   pub shown : ShownAsk
-  pub tells : TellsAsk line shown
+  pub translates : ShowsAsk line shown
   pub is : ask ≡ ask_shown shown
 
 -- a line that says none
 abbrev pub SaysNone : List ℕ → Type 0
-SaysNone line = (shown : ShownAsk) → ¬ (TellsAsk line shown)
+SaysNone line = (shown : ShownAsk) → ¬ (ShowsAsk line shown)
 
 -- lines, and the ask that each says
 abbrev pub SayAsks : List (List ℕ) → List Ask → Type 0
@@ -43,7 +43,7 @@ pub record EndsAtLine (n : ℕ) (text : List ℕ) : Type 0 where
   pub line : List ℕ
   pub others : List (List ℕ)
   pub lines : lines_of text ≡ done ++ line ∷ others
-  pub untold : IsUntold SaysNone line
+  pub untranslated : IsUntranslated SaysNone line
 
 -- what is counted of a text; a read may fail and memory may run out at any
 abbrev pub IsCounted : List Rule → List ℕ → Result (List ℕ) LinesFault → Type 0
@@ -67,7 +67,7 @@ pub record CountsOne (rules : List Rule) (text : List ℕ) (left : Option (List 
 abbrev pub IsNext : List Rule → ℕ → List ℕ → Option (List ℕ) → (before after : List ℕ) → Result Bool LinesFault → Type 0
 IsNext rules n text left before after (Ok true) = CountsOne rules text left before after
 IsNext rules n text left before after (Ok false) = (lines_of text ≡ []) × (after ≡ before)
-IsNext rules n text left before after (Err (Line m)) = (m ≡ n) × BeginsUntold SaysNone text
+IsNext rules n text left before after (Err (Line m)) = (m ≡ n) × BeginsUntranslated SaysNone text
 IsNext rules n text left before after (Err Read) = ⊤
 IsNext rules n text left before after (Err Memory) = ⊤
 IsNext rules n text left before after (Err Write) = ⊥

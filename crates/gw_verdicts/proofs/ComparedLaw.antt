@@ -25,15 +25,15 @@ raised old new Holds so = (
 )
 
 pub events_are_compared : EventsAreCompared
-events_are_compared old new most made text told finished =
-    raised old new _ (found_is_all old new most made text told finished)
+events_are_compared old new most made text translated finished =
+    raised old new _ (found_is_all old new most made text translated finished)
 
 pub events_are_alike : EventsAreAlike
-events_are_alike old new most text told = raised old new _ (alike_is_alike old new most text told)
+events_are_alike old new most text translated = raised old new _ (alike_is_alike old new most text translated)
 
 pub lines_are_true_of_events : LinesAreTrueOfEvents
-lines_are_true_of_events old new most made text told =
+lines_are_true_of_events old new most made text translated =
     raised old new _ (λ ask is. each_weaker
     (λ f. (other : Ask) → IsAskOf old new other → lies f.region other ≡ true → IsDecided old.rules new.rules f other)
     (λ f. lies f.region ask ≡ true → IsDecided old.rules new.rules f ask)
-    (λ f so within. so ask is within) told.found (lines_are_true old new most made text told))
+    (λ f so within. so ask is within) translated.found (lines_are_true old new most made text translated))

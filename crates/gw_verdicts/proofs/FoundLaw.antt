@@ -7,23 +7,23 @@ use Rattle.gw_shapes.specs.Search.{IsNeverFirst}
 use Rattle.gw_shapes.specs.Shape.{Shape}
 use Rattle.gw_shapes.specs.Shapes.{shapes}
 use Rattle.gw_shapes.proofs.Narrowing.{deciding_rule}
-use Rattle.gw_lint.specs.Finding.{Tells}
+use Rattle.gw_lint.specs.Finding.{Translates}
 use Rattle.gw_lint.specs.declared.finding.Finding.{Finding}
 use Rattle.gw_lint.specs.declared.finding.Finding.TheVariants as finding
 use Rattle.gw_verdicts.specs.Laws.{FoundNeverDecides, says_never}
 use Rattle.gw_verdicts.proofs.ShapeLaw.{never_first_never_decides}
 
 never_first : (boxes : List Shape) (rules : List Rule) (number : ℕ) (rule : Rule) (found : Finding) → HasNumber rules number rule
-    → says_never found ≡ true → Tells boxes rules number rule found → IsNeverFirst boxes rules number
+    → says_never found ≡ true → Translates boxes rules number rule found → IsNeverFirst boxes rules number
 never_first boxes rules number rule finding.MatchesNothing has never nothing ask lies is =
     nothing ask lies (deciding_rule rules number rule ask has.there is)
 never_first boxes rules number rule (finding.TakenBy by) has never (met, taken) ask lies is =
     let deciding = (first_iff rules ask number).0 is in
     deciding.least by taken.earlier taken.before taken.numbered (taken.takes ask lies (deciding_rule rules number rule ask has.there is))
 never_first boxes rules number rule finding.TakenTogether has never (met, none, unasked) ask lies is = unasked ask lies is
-never_first boxes rules number rule (finding.Decides other) has never tells ask lies is = absurd cc
-never_first boxes rules number rule finding.Unknown has never tells ask lies is = absurd cc
+never_first boxes rules number rule (finding.Decides other) has never translates ask lies is = absurd cc
+never_first boxes rules number rule finding.Unknown has never translates ask lies is = absurd cc
 
 pub found_never_decides : FoundNeverDecides
-found_never_decides c number rule found has never tells =
-    never_first_never_decides c number (never_first (shapes c) c.rules number rule found has never tells)
+found_never_decides c number rule found has never translates =
+    never_first_never_decides c number (never_first (shapes c) c.rules number rule found has never translates)

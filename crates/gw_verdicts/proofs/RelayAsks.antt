@@ -96,8 +96,8 @@ each_write P K route (Ok w) cases is known =
     (cases.named_write is w.object w.property (priority_of w.priority) both.0 both.1, tt)
 each_write P K route (Err fault) cases is known = (cases.unnamed_write is, tt)
 
-told : (route : Ask) (service choice : ℕ) → route.service ≡ Some service → (service == choice) ≡ true → route.service ≡ Some choice
-told route service choice is e = is ∙ ap (λ (n : ℕ). Some n) (eqb-true service choice e)
+translated : (route : Ask) (service choice : ℕ) → route.service ≡ Some service → (service == choice) ≡ true → route.service ≡ Some choice
+translated route service choice is e = is ∙ ap (λ (n : ℕ). Some n) (eqb-true service choice e)
 
 either_read : (service : ℕ) (b : Bool) → (service == 12) ≡ b → (b || service == 14) ≡ true → IsReading service
 either_read service true e t = inl (eqb-true service 12 e)
@@ -109,17 +109,17 @@ each_segment P K route service cases is =
     each_if P (service == read_property || service == read_property_multiple) _ _
     (λ t. (cases.unnamed_read service is (either_read service (service == 12) refl t), tt))
     (λ t. each_if P (service == write_property) _ []
-    (λ e. (cases.unnamed_write (told route service 15 is e), tt)) (λ e. tt))
+    (λ e. (cases.unnamed_write (translated route service 15 is e), tt)) (λ e. tt))
 
 each_body : (P : Ask → Type 0) (K : Known) (route : Ask) (service : ℕ) (body : List ℕ) → NamedCases P K route → route.service ≡ Some service
     → K.IsText body → AllByRecursion P (body_asks route service body)
 each_body P K route service body cases is fits =
     each_if P (service == read_property) _ _
-    (λ e. each_read P K route (read_at body) cases (told route service 12 is e) (λ r at. K.read body r fits at))
+    (λ e. each_read P K route (read_at body) cases (translated route service 12 is e) (λ r at. K.read body r fits at))
     (λ e. each_if P (service == read_property_multiple) _ _
-    (λ e. each_multi P K route (multi_at body) cases (told route service 14 is e) (λ rs at. K.multi body rs fits at))
+    (λ e. each_multi P K route (multi_at body) cases (translated route service 14 is e) (λ rs at. K.multi body rs fits at))
     (λ e. each_if P (service == write_property) _ []
-    (λ e. each_write P K route (write_at body) cases (told route service 15 is e) (λ w at. K.write body w fits at)) (λ e. tt)))
+    (λ e. each_write P K route (write_at body) cases (translated route service 15 is e) (λ w at. K.write body w fits at)) (λ e. tt)))
 
 each_request : (P : Ask → Type 0) (K : Known) (route : Ask) (request : Request) (body : List ℕ) → NamedCases P K route
     → route.service ≡ Some request.service → K.IsText body → AllByRecursion P (request_asks route request body)

@@ -8,12 +8,12 @@ use Rattle.std.proofs.lemmas.Bool.{eq-eqb, eqb-true}
 use Rattle.gw_addr.specs.declared.bip.BipAddr.{BipAddr}
 use Rattle.gw_addr.specs.Address.{IsAddress, big_endian, octets_of}
 use Rattle.gw_addr.specs.Station.{key_of}
-use Rattle.gw_audit.specs.Entry.{IsLineOf, IsShowable, TellsAsk, ask_shown, shown_ask}
+use Rattle.gw_audit.specs.Entry.{IsLineOf, IsShowable, ShowsAsk, ask_shown, shown_ask}
 use Rattle.gw_audit.specs.declared.denial.Denial.{Denial}
 use Rattle.gw_audit.specs.declared.entry.ShownAsk.{ShownAsk}
 use Rattle.gw_audit.specs.declared.entry.Stations.{Stations}
-use Rattle.gw_audit.specs.internal.Reading.{told_by}
-use Rattle.gw_audit.proofs.TellingLemmas.{line_again, shown_again, told_again}
+use Rattle.gw_audit.specs.internal.Reading.{shown_by}
+use Rattle.gw_audit.proofs.TranslatingLemmas.{line_again, shown_again, told_again}
 use Rattle.gw_bvll.specs.declared.fault.BvllFault.{BvllFault}
 use Rattle.gw_bvll.specs.Bvll.{Message as Frame}
 use Rattle.gw_bvll.specs.Bvll as bvll
@@ -362,10 +362,10 @@ denied_so w e sent = received_so w (receive w e) (sent_at w e sent)
 -- ---- the answer
 
 -- a line shows one ask
-one_ask : (line : List ℕ) (d : Denial) (shown : ShownAsk) → IsShowable d → IsLineOf line d → TellsAsk line shown → shown ≡ shown_ask d
-one_ask line d shown is spelled tells =
-    let told : Some shown ≡ Some (shown_ask d) =
-    sym (told_again line shown tells) ∙ ap (λ (found : Option Denial). told_by found line) (line_again line d is spelled)
+one_ask : (line : List ℕ) (d : Denial) (shown : ShownAsk) → IsShowable d → IsLineOf line d → ShowsAsk line shown → shown ≡ shown_ask d
+one_ask line d shown is spelled translates =
+    let translated : Some shown ≡ Some (shown_ask d) =
+    sym (told_again line shown translates) ∙ ap (λ (found : Option Denial). shown_by found line) (line_again line d is spelled)
     ∙ ap (λ (s : ShownAsk). Some s) (shown_again d.number d.tick d.rule (shown_ask d)) in
     cc
 
@@ -411,6 +411,6 @@ pub why_names_the_rule : WhyNamesTheRule
 why_names_the_rule c k h e sent =
     let w = state_after c k h in
     each_weaker (IsDeniedSo c.rules)
-    (λ d. (line : List ℕ) (shown : ShownAsk) → IsShowable d → IsLineOf line d → TellsAsk line shown → NamesTheRule c.rules c.notes d shown)
-    (λ d denied line shown is spelled tells. named_so_by c.rules c.notes d shown denied (one_ask line d shown is spelled tells))
+    (λ d. (line : List ℕ) (shown : ShownAsk) → IsShowable d → IsLineOf line d → ShowsAsk line shown → NamesTheRule c.rules c.notes d shown)
+    (λ d denied line shown is spelled translates. named_so_by c.rules c.notes d shown denied (one_ask line d shown is spelled translates))
     (effects_at w e).denials (denied_so w e sent)

@@ -18,8 +18,8 @@ OfBoth old new Holds = OfEachAsk old Holds × OfEachAsk new Holds
 -- Unless the comparison isn't finished, it is decided otherwise exactly if it lies in a region that was found.
 abbrev pub EventsAreCompared : Type 0
 EventsAreCompared = (old new : Configuration) (most : ℕ) (made : Compared) (text : List ℕ)
-    (told : IsComparisonText old new most made text) → made ≢ compared.Unfinished
-    → OfBoth old new (λ ask. differs old.rules new.rules ask ≡ is_found told.found ask)
+    (translated : IsComparisonText old new most made text) → made ≢ compared.Unfinished
+    → OfBoth old new (λ ask. differs old.rules new.rules ask ≡ is_found translated.found ask)
 
 -- If the text says that no ask is decided otherwise, none is.
 abbrev pub EventsAreAlike : Type 0
@@ -29,5 +29,5 @@ EventsAreAlike = (old new : Configuration) (most : ℕ) (text : List ℕ) → Is
 -- Finished or not: it is decided as the line of each region says in which it lies.
 abbrev pub LinesAreTrueOfEvents : Type 0
 LinesAreTrueOfEvents = (old new : Configuration) (most : ℕ) (made : Compared) (text : List ℕ)
-    (told : IsComparisonText old new most made text)
-    → OfBoth old new (λ ask. AllByRecursion (λ f. lies f.region ask ≡ true → IsDecided old.rules new.rules f ask) told.found)
+    (translated : IsComparisonText old new most made text)
+    → OfBoth old new (λ ask. AllByRecursion (λ f. lies f.region ask ≡ true → IsDecided old.rules new.rules f ask) translated.found)

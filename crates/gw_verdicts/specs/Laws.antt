@@ -7,7 +7,7 @@ use Rattle.std.specs.List.{AllByRecursion}
 use Rattle.gw_addr.specs.Address.{IsAddress}
 use Rattle.gw_addr.specs.Reading.{AreOctets}
 use Rattle.gw_addr.specs.declared.bip.BipAddr.{BipAddr}
-use Rattle.gw_audit.specs.Entry.{IsLineOf, IsShowable, TellsAsk}
+use Rattle.gw_audit.specs.Entry.{IsLineOf, IsShowable, ShowsAsk}
 use Rattle.gw_audit.specs.declared.denial.Denial.{Denial}
 use Rattle.gw_audit.specs.declared.entry.ShownAsk.{ShownAsk}
 use Rattle.gw_rules.specs.Ask.{Ask}
@@ -25,7 +25,7 @@ use Rattle.gw_core.specs.Asks.{asks}
 use Rattle.gw_core.specs.Denials.{default_name}
 use Rattle.gw_core.specs.History.{effects, state_after}
 use Rattle.gw_core.specs.declared.event.Counts.{Counts}
-use Rattle.gw_lint.specs.Finding.{Tells}
+use Rattle.gw_lint.specs.Finding.{Translates}
 use Rattle.gw_lint.specs.declared.finding.Finding.{Finding}
 use Rattle.gw_lint.specs.declared.finding.Finding.TheVariants as finding
 use Rattle.gw_shapes.specs.Search.{IsNeverFirst}
@@ -83,7 +83,7 @@ says_never finding.Unknown = false
 -- A rule of which that is true over the shapes of a configuration decides no ask of any event, whatever came before.
 abbrev pub FoundNeverDecides : Type 0
 FoundNeverDecides = (c : Configuration) (number : ℕ) (rule : Rule) (found : Finding) → HasNumber c.rules number rule →
-    says_never found ≡ true → Tells (shapes c) c.rules number rule found → NeverDecides c number
+    says_never found ≡ true → Translates (shapes c) c.rules number rule found → NeverDecides c number
 
 -- ---- a peer that registers
 
@@ -115,5 +115,5 @@ NamesTheRule rules notes d shown =
 -- For each line that a run under a configuration wrote, the answer under the same configuration names that line's rule.
 abbrev pub WhyNamesTheRule : Type 0
 WhyNamesTheRule = (c : Configuration) (k : Counts) (h : List Event) (e : Event) → IsSent e →
-    AllByRecursion (λ d. (line : List ℕ) (shown : ShownAsk) → IsShowable d → IsLineOf line d → TellsAsk line shown
+    AllByRecursion (λ d. (line : List ℕ) (shown : ShownAsk) → IsShowable d → IsLineOf line d → ShowsAsk line shown
     → NamesTheRule c.rules c.notes d shown) (effects c k h e).denials

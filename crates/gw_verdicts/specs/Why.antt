@@ -1,7 +1,7 @@
 -- Which rule would decide the asks that a text shows, line by line.
 use Rattle.std.specs.Prelude.{◌≡◌, ℕ, ◌-◌, ◌==◌, List, [], ◌∷◌, ◌++◌, codes, if◌then◌else◌, length, map, Option, Some, None, Result, slice_get}
 use Rattle.std.specs.Option.{option_map_or}
-use Rattle.gw_audit.specs.Entry.{TellsAsk, ask_shown}
+use Rattle.gw_audit.specs.Entry.{ShowsAsk, ask_shown}
 use Rattle.gw_audit.specs.declared.entry.ShownAsk.{ShownAsk}
 use Rattle.gw_rules.specs.Ask.{Ask}
 use Rattle.gw_permissions.specs.Words.{shown}
@@ -35,14 +35,14 @@ answer_to rules notes ask = answer rules notes (ask_shown ask)
 -- a line that shows an ask, and the answer to it
 pub record IsAnswered (rules : List Rule) (notes : List (List ℕ)) (line text : List ℕ) : Type 0 where
   pub ask : ShownAsk
-  pub tells : TellsAsk line ask
+  pub translates : ShowsAsk line ask
   pub answers : text ≡ answer_to rules notes ask
 
 -- a line that shows no ask
-abbrev pub TellsNoAsk : List ℕ → Type 0
-TellsNoAsk line = (ask : ShownAsk) → ¬ (TellsAsk line ask)
+abbrev pub ShowsNoAsk : List ℕ → Type 0
+ShowsNoAsk line = (ask : ShownAsk) → ¬ (ShowsAsk line ask)
 
 -- what the answers by these rules leave written, by their outcome; a line that shows no ask ends them, or one of more
 -- than 4096 octets
 abbrev pub LeavesAnswers : List Rule → (notes : List (List ℕ)) → Result (Unit {0}) LinesFault → (text before after : List ℕ) → Type 0
-LeavesAnswers rules notes = LeavesLines (IsAnswered rules notes) TellsNoAsk
+LeavesAnswers rules notes = LeavesLines (IsAnswered rules notes) ShowsNoAsk

@@ -4,14 +4,14 @@ ghost use Rattle.std.specs.Prelude.{◌≡◌, ◌+◌, ◌*◌, ◌<◌, ◌++�
 ghost use Rattle.gw_addr.specs.Appending.{IsAppended};
 ghost use Rattle.gw_audit.specs.Entry.{ask_shown};
 ghost use Rattle.gw_script.specs.Known.{OnKnown};
-ghost use Rattle.gw_verdicts.specs.Why.{IsAnswered, LeavesAnswers, TellsNoAsk, answer, answer_to, note_text, noted};
+ghost use Rattle.gw_verdicts.specs.Why.{IsAnswered, LeavesAnswers, ShowsNoAsk, answer, answer_to, note_text, noted};
 
 use gw_audit::{ShownAsk, read_ask};
 use gw_configuration::{Config, Text};
 use gw_core::put_verdict;
 use gw_permissions::put_shown;
 use gw_rules::{Ask, RuleList};
-use gw_script::{LineTeller, LinesFault, OctetSink, OctetSource, tell_lines};
+use gw_script::{LineTranslator, LinesFault, OctetSink, OctetSource, translate_lines};
 use std::alloc::{AllocError, Global};
 
 /// Answers for each line, in order, which rule of the configuration is the first to match the ask that the
@@ -53,7 +53,7 @@ pub fn why<R: OctetSource, W: OctetSink>(
         rules: config.rules(),
         notes: config.notes(),
     };
-    tell_lines(alloc, &answerer, reader, writer)
+    translate_lines(alloc, &answerer, reader, writer)
 }
 
 /// Answers the asks of a log by these rules, with their notes.
@@ -63,12 +63,17 @@ struct Answerer<'a> {
     notes: &'a [Text],
 }
 
-impl<'a> LineTeller for Answerer<'a> {
-    ghost Tells = { λ answerer line text. IsAnswered answerer.rules.now answerer.notes.now line text };
+impl<'a> LineTranslator for Answerer<'a> {
+    ghost Translates = { λ answerer line text. IsAnswered answerer.rules.now answerer.notes.now line text };
 
-    ghost Refuses = { λ _ line. TellsNoAsk line };
+    ghost Refuses = { λ _ line. ShowsNoAsk line };
 
-    fn tell(&self, _alloc: Global, line: &[u8], text: &mut Vec<u8>) -> Result<bool, AllocError> {
+    fn translate(
+        &self,
+        _alloc: Global,
+        line: &[u8],
+        text: &mut Vec<u8>,
+    ) -> Result<bool, AllocError> {
         let Some(ask) = read_ask(line) else {
             return Ok(false);
         };

@@ -286,6 +286,6 @@ line_in text = do
   Some (denial_of_parts number.0 tick.0 ask rule.0)
 
 -- the ask of a line, or of its words alone
-abbrev pub told_by : Option Denial → List ℕ → Option ShownAsk
-told_by (Some d) text = Some (shown_ask d)
-told_by None text = ask_in text
+abbrev pub shown_by : Option Denial → List ℕ → Option ShownAsk
+shown_by (Some d) text = Some (shown_ask d)
+shown_by None text = ask_in text

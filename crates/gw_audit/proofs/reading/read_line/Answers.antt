@@ -1,7 +1,7 @@
 use Rattle.gw_audit.specs.Entry.{IsLineOf, IsShowable, denial_of, shown_ask}
 use Rattle.gw_audit.specs.Laws.{AreShownAlike}
 use Rattle.gw_audit.specs.internal.Reading.{denial_of_parts, line_in}
-use Rattle.gw_audit.proofs.TellingLemmas.{gives_found, gives_only, line_again, line_takes, shown_alike}
+use Rattle.gw_audit.proofs.TranslatingLemmas.{gives_found, gives_only, line_again, line_takes, shown_alike}
 use Rattle.gw_audit.proofs.reading.read_line.Goals as goal
 
 pub returns-clause-found : goal.returns-clause-found

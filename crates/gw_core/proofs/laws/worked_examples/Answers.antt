@@ -1,4 +1,4 @@
-use Rattle.gw_core.proofs.ExampleRuns.{read_is_answered, hidden_read_is_denied, local_read_is_unheard, hidden_object_is_untold, unknown_object_is_told, each_cut_is_dropped, wrong_lengths_are_dropped, routed_read_is_answered, counts_end, denials_are_counted_on, write_is_seen, relinquish_is_seen, denied_write_is_unseen, all_are_placed, denied_set_is_refused, denied_table_is_refused, who_is_is_answered, registration_ends, broadcast_is_distributed, learned_route_is_taken, unknown_network_is_sought, global_who_is_goes_on, hidden_write_is_unseen, hiding_is_seen}
+use Rattle.gw_core.proofs.ExampleRuns.{read_is_answered, hidden_read_is_denied, local_read_is_unheard, hidden_object_is_unnamed, unknown_object_is_named, each_cut_is_dropped, wrong_lengths_are_dropped, routed_read_is_answered, counts_end, denials_are_counted_on, write_is_seen, relinquish_is_seen, denied_write_is_unseen, all_are_placed, denied_set_is_refused, denied_table_is_refused, who_is_is_answered, registration_ends, broadcast_is_distributed, learned_route_is_taken, unknown_network_is_sought, global_who_is_goes_on, hidden_write_is_unseen, hiding_is_seen}
 use Rattle.gw_core.proofs.laws.worked_examples.Goals as goal
 
 pub returns-clause-read_is_answered : goal.returns-clause-read_is_answered
@@ -10,11 +10,11 @@ returns-clause-hidden_read_is_denied c = hidden_read_is_denied
 pub returns-clause-local_read_is_unheard : goal.returns-clause-local_read_is_unheard
 returns-clause-local_read_is_unheard c = local_read_is_unheard
 
-pub returns-clause-hidden_object_is_untold : goal.returns-clause-hidden_object_is_untold
-returns-clause-hidden_object_is_untold c = hidden_object_is_untold
+pub returns-clause-hidden_object_is_unnamed : goal.returns-clause-hidden_object_is_unnamed
+returns-clause-hidden_object_is_unnamed c = hidden_object_is_unnamed
 
-pub returns-clause-unknown_object_is_told : goal.returns-clause-unknown_object_is_told
-returns-clause-unknown_object_is_told c = unknown_object_is_told
+pub returns-clause-unknown_object_is_named : goal.returns-clause-unknown_object_is_named
+returns-clause-unknown_object_is_named c = unknown_object_is_named
 
 pub returns-clause-each_cut_is_dropped : goal.returns-clause-each_cut_is_dropped
 returns-clause-each_cut_is_dropped c = each_cut_is_dropped

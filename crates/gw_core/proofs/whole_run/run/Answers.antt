@@ -52,7 +52,7 @@ returns-clause-effects c =
     let p = c.loop-rest.invariant in
     let done = none_left c.loop-rest.rest.now (omega (arith, c.in_default.len_below)) in
     sym (append-nil c.loop-rest.given.items) ∙ ap (λ (l : List Event). c.loop-rest.given.items ++ run_from c.loop-rest.gateway l) (sym done)
-    ∙ p.told
+    ∙ p.wording
 
 pub returns-clause-state : goal.returns-clause-state
 returns-clause-state c =

@@ -24,7 +24,7 @@ pub returns-in-Err : goal.returns-in-Err
 returns-in-Err c =
     let text = c.args.text.now in
     let short : nat_lt 1048576 (length text) ≡ false = search rules in
-    let other : c.in-Err.told ≢ Memory = search rules in
-    let is : document text ≡ Err c.in-Err.told = search rules in
-    no_tables text c.in-Err.told c.args.fault c.of_text-in-Err.result (of_document text (Err c.in-Err.told) short is)
-    (c.of_text-in-Err.ensures (located_configuration text) (tables_or (Err c.in-Err.told)) (no_document text c.in-Err.told short is))
+    let other : c.in-Err.fault_named ≢ Memory = search rules in
+    let is : document text ≡ Err c.in-Err.fault_named = search rules in
+    no_tables text c.in-Err.fault_named c.args.fault c.of_text-in-Err.result (of_document text (Err c.in-Err.fault_named) short is)
+    (c.of_text-in-Err.ensures (located_configuration text) (tables_or (Err c.in-Err.fault_named)) (no_document text c.in-Err.fault_named short is))

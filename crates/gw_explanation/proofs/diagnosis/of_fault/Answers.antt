@@ -3,7 +3,7 @@ use Rattle.toml.specs.View.{table_view}
 use Rattle.gw_configuration.specs.declared.fault.ConfigFault.TheVariants.{Memory}
 use Rattle.gw_explanation.specs.Explanation.{shown}
 use Rattle.gw_explanation.specs.Place.{place_words, value_at}
-use Rattle.gw_explanation.specs.Told.{fault_words}
+use Rattle.gw_explanation.specs.FaultWords.{fault_words}
 use Rattle.gw_explanation.specs.Wanted.{wanted_words}
 use Rattle.gw_configuration.specs.Located.{Located, located_view}
 use Rattle.gw_explanation.proofs.Explanations.{explained}
@@ -16,7 +16,7 @@ returns c found is =
     let other : c.args.located.now.fault ≢ Memory = search rules in
     let same : c.args.located.now.fault ≡ c.args.fault = search rules in
     let place : c.put_place.new.line.items ≡ place_words located top = search rules in
-    let told : c.put_told.new.line.items ≡ place_words located top ++ fault_words c.args.fault (value_at located top) = search rules in
+    let fault_named : c.put_fault.new.line.items ≡ place_words located top ++ fault_words c.args.fault (value_at located top) = search rules in
     let whole : c.put_wanted.new.line.items ≡ place_words located top ++ fault_words c.args.fault (value_at located top) ++ wanted_words located top = search rules in
     let words : c.in_ok-of_words.field-0 ≡ map shown (place_words located top ++ fault_words c.args.fault (value_at located top) ++ wanted_words located top) = search rules in
     explained located top (λ (at : Located) (w : List ℕ). w ≡ wanted_words at top) c.args.fault c.in_ok-of_words.field-0 (wanted_words located top) found

@@ -6,7 +6,7 @@ use Rattle.gw_service.specs.Start.{BeginsAs, counts_of}
 use Rattle.gw_service.specs.declared.keeping.Kept.{Kept}
 use Rattle.std.specs.Io.KnownBytes.{Appends}
 use Rattle.gw_script.proofs.Passing.{passes_on}
-use Rattle.gw_system.specs.Requests.{told_by}
+use Rattle.gw_system.specs.Requests.{recorded_by}
 use Rattle.gw_service.specs.Kept.{KeepsFirst, LeavesKept, given}
 use Rattle.gw_service.specs.Serving.{ends, service}
 use Rattle.gw_service.specs.declared.fault.ServiceFault.{ServiceFault}
@@ -16,7 +16,7 @@ use Rattle.gw_service.proofs.kept.run_on.Goals as goal
 
 pub returns-in_err-running-clause-ran : goal.returns-in_err-running-clause-ran
 returns-in_err-running-clause-ran g c =
-    let from = given g.S.Store.held g.Q.Requests.told g.T.OctetSink.held c.args.before in
+    let from = given g.S.Store.held g.Q.Requests.said g.T.OctetSink.held c.args.before in
     let how = service c.args.options.now.turns c.args.options.now.stats in
     let at = ends (g.L.OctetSink.held c.args.log.now) (g.X.Wire.calls c.args.sockets.now) in
     let never = g.E.OctetSink.NeverFails c.args.errors.now in
@@ -30,16 +30,16 @@ returns-in-None-clause-ran g c =
     let run = c.in_ok-running.running in
     let is = c.in_ok-running.ensures in
     let held = g.E.OctetSink.held in
-    let told = told_by g.Q.Requests.told in
-    ran_kept (given g.S.Store.held g.Q.Requests.told g.T.OctetSink.held c.args.before) c.args.config
+    let said = recorded_by g.Q.Requests.said in
+    ran_kept (given g.S.Store.held g.Q.Requests.said g.T.OctetSink.held c.args.before) c.args.config
     (service c.args.options.now.turns c.args.options.now.stats) c.counts.result c.is_kept-keeps.result c.is_some-reloads.result run.gateway run.keeper
-    run.state.served run.state.tally (told run.requests) run.counts
+    run.state.served run.state.tally (said run.requests) run.counts
     (ends (g.L.OctetSink.held c.args.log.now) (g.X.Wire.calls c.args.sockets.now))
     (ends (g.L.OctetSink.held c.run-in-None.new.log) (g.X.Wire.calls c.run-in-None.new.wire)) c.run-in-None.result c.outcome_of-in-None.result
     (g.E.OctetSink.NeverFails c.args.errors.now) (held c.args.errors.now) (held c.run-in-None.new.errors)
     (sym c.take-watcher.ensures.value ∙ c.in-None.is)
     (same_counts c.counts.result run.gateway c.counts.ensures.ticks c.counts.ensures.denials) is.begins is.keeps is.served is.tally
-    (ap told is.requests) is.counts c.is_kept-keeps.ensures c.is_some-reloads.ensures c.outcome_of-in-None.ensures (c.run-in-None.ensures.runs c.args.config is.origin)
+    (ap said is.requests) is.counts c.is_kept-keeps.ensures c.is_some-reloads.ensures c.outcome_of-in-None.ensures (c.run-in-None.ensures.runs c.args.config is.origin)
 
 pub returns-in-Some-clause-ran : goal.returns-in-Some-clause-ran
 returns-in-Some-clause-ran g c =
@@ -48,11 +48,11 @@ returns-in-Some-clause-ran g c =
     let watched = c.watched_by-watched.result in
     let by = c.watched_by-watched.ensures in
     let held = g.E.OctetSink.held in
-    let told = told_by g.Q.Requests.told in
-    let from = given g.S.Store.held g.Q.Requests.told g.T.OctetSink.held c.args.before in
+    let said = recorded_by g.Q.Requests.said in
+    let from = given g.S.Store.held g.Q.Requests.said g.T.OctetSink.held c.args.before in
     ran_watched from c.in-Some.watcher c.args.config
     (service c.args.options.now.turns c.args.options.now.stats) c.counts.result c.is_kept-keeps.result c.is_some-reloads.result watched.gateway watched.keeper
-    watched.state.served watched.state.tally (told watched.requests) watched.counts
+    watched.state.served watched.state.tally (said watched.requests) watched.counts
     (ends (g.L.OctetSink.held c.args.log.now) (g.X.Wire.calls c.args.sockets.now))
     (ends (g.L.OctetSink.held c.run.new.log) (g.X.Wire.calls c.run.new.wire)) c.run.result c.outcome_of.result
     (g.E.OctetSink.NeverFails c.args.errors.now) (held c.args.errors.now) (held c.run.new.errors)
@@ -62,5 +62,5 @@ returns-in-Some-clause-ran g c =
     (subst (λ (k : Kept _). KeepsFirst from.held from.store c.args.config watched.gateway k) (sym by.first)
     (subst (λ (w : State). KeepsFirst from.held from.store c.args.config w run.keeper) (sym by.gateway) is.keeps))
     by.second (ap (λ (x : ServeState). x.served) by.state ∙ is.served) (ap (λ (x : ServeState). x.tally) by.state ∙ is.tally)
-    (ap told by.requests ∙ ap told is.requests) (by.counts ∙ is.counts ∙ ap (λ (w : State). counts_since w.ticks) (sym by.gateway))
+    (ap said by.requests ∙ ap said is.requests) (by.counts ∙ is.counts ∙ ap (λ (w : State). counts_since w.ticks) (sym by.gateway))
     c.is_kept-keeps.ensures c.is_some-reloads.ensures c.outcome_of.ensures (c.run.ensures.runs c.args.config (by.origin ∙ is.origin))

@@ -15,9 +15,9 @@ returns-in-Ok-open-clause-served g c =
     let done = c.run_open-outcome.ensures.ran in
     let held = g.E.OctetSink.held in
     let first = held c.args.errors.now in
-    let second = held c.tell.new.errors in
-    let third = held c.tell-in-Ok-open.new.errors in
-    let fourth = held c.tell-in-Ok-open-2.new.errors in (
+    let second = held c.write_note.new.errors in
+    let third = held c.write_note-in-Ok-open.new.errors in
+    let fourth = held c.write_note-in-Ok-open-2.new.errors in (
       ((line ++ warning) ++ text) ++ done.0,
       ran before c.in-Ok-open.field-0.log c.run_open-outcome.new.log c.in-Ok-open.field-0.sockets c.run_open-outcome.new.sockets
           (writer_contents g.W.Write.contents c.open.new.output) warning done.0
@@ -25,14 +25,14 @@ returns-in-Ok-open-clause-served g c =
           c.in-Ok-open.ensures.open c.close.ensures c.run_open-outcome.ensures.log done.1 c.warning_of.ensures
           (ap (λ (l : List ℕ). ((l ++ warning) ++ text) ++ done.0) c.in-Ok-open.ensures.line),
       λ never.
-          let one = c.tell.ensures.lasts never in
-          let two = c.tell-in-Ok-open.ensures.lasts one in
+          let one = c.write_note.ensures.lasts never in
+          let two = c.write_note-in-Ok-open.ensures.lasts one in
           appends_two first fourth (held c.run_open-outcome.new.errors) ((line ++ warning) ++ text) done.0
           (appends_two first third fourth (line ++ warning) text
           (appends_two first second third line warning
-          (subst (λ (t : List ℕ). Appends first second t) c.deref.ensures.value (c.tell.ensures.told never)) (c.tell-in-Ok-open.ensures.told one))
-          (subst (λ (t : List ℕ). Appends third fourth t) c.deref-in-Ok-open.ensures.value (c.tell-in-Ok-open-2.ensures.told two)))
-          (done.2 (c.tell-in-Ok-open-2.ensures.lasts two)),
+          (subst (λ (t : List ℕ). Appends first second t) c.deref.ensures.value (c.write_note.ensures.said never)) (c.write_note-in-Ok-open.ensures.said one))
+          (subst (λ (t : List ℕ). Appends third fourth t) c.deref-in-Ok-open.ensures.value (c.write_note-in-Ok-open-2.ensures.said two)))
+          (done.2 (c.write_note-in-Ok-open-2.ensures.lasts two)),
     )
 
 pub returns-in-Err-clause-served : goal.returns-in-Err-clause-served
@@ -46,6 +46,6 @@ pub returns-in-Err-open-clause-served : goal.returns-in-Err-open-clause-served
 returns-in-Err-open-clause-served g c = (
   c.note_of-note.result.items,
   unopened c.in-Err-open.failure c.in-Err-open.ensures.open (ap Err c.from.ensures) c.note_of-note.ensures,
-  λ never. subst (λ (text : List ℕ). Appends (g.E.OctetSink.held c.args.errors.now) (g.E.OctetSink.held c.tell-in-Err-open.new.errors) text)
-      c.deref-in-Err-open.ensures.value (c.tell-in-Err-open.ensures.told never),
+  λ never. subst (λ (text : List ℕ). Appends (g.E.OctetSink.held c.args.errors.now) (g.E.OctetSink.held c.write_note-in-Err-open.new.errors) text)
+      c.deref-in-Err-open.ensures.value (c.write_note-in-Err-open.ensures.said never),
 )

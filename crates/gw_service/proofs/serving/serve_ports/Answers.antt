@@ -11,7 +11,7 @@ returns-clause-served g c =
     let held = g.E.OctetSink.held in (
       note ++ done.0,
       (done.0, ap (λ (t : List ℕ). t ++ done.0) c.unaudited_note.ensures, done.1),
-      λ never. appends_two (held c.args.errors.now) (held c.tell.new.errors) (held c.serve_chosen.new.errors) note done.0
-          (subst (λ (t : List ℕ). Appends (held c.args.errors.now) (held c.tell.new.errors) t) same (c.tell.ensures.told never))
-          (done.2 (c.tell.ensures.lasts never)),
+      λ never. appends_two (held c.args.errors.now) (held c.write_note.new.errors) (held c.serve_chosen.new.errors) note done.0
+          (subst (λ (t : List ℕ). Appends (held c.args.errors.now) (held c.write_note.new.errors) t) same (c.write_note.ensures.said never))
+          (done.2 (c.write_note.ensures.lasts never)),
     )

@@ -20,6 +20,6 @@ returns-clause-run g c =
     let is_report : c.report_of-report.result ≡ report_of c.counts.result last (counts_of_answer answer) tally =
     c.report_of-report.ensures ∙ ap (λ (s : Served). report_of c.counts.result last s tally) c.served_of-served.ensures in
     run_told c.args.seconds c.counts.result c.args.turns before after tally answer (g.R.OctetSink.NeverFails c.args.reports.now)
-    (held c.args.reports.now) (held c.serve_turns-answer.new.reports) (held c.tell_report.new.sink) is_start c.serve_turns-answer.ensures.run
-    (λ never. subst (λ (r : Report). Appends (held c.serve_turns-answer.new.reports) (held c.tell_report.new.sink) (report_line r)) is_report
-    (c.tell_report.ensures.told (c.serve_turns-answer.ensures.lasting_reports never)))
+    (held c.args.reports.now) (held c.serve_turns-answer.new.reports) (held c.try_report.new.sink) is_start c.serve_turns-answer.ensures.run
+    (λ never. subst (λ (r : Report). Appends (held c.serve_turns-answer.new.reports) (held c.try_report.new.sink) (report_line r)) is_report
+    (c.try_report.ensures.recorded (c.serve_turns-answer.ensures.lasting_reports never)))

@@ -14,5 +14,5 @@ returns-clause-shown g c =
       subst (λ (input : Option (List ℕ)). LeavesAnswered c.args.counts input (contents c.args.output.now) (contents c.answer-outcome.new.output)
           c.args.config outcome) left c.answer-outcome.ensures.output,
       (c.unread.result, refl),
-      c.tell_unread.ensures.told,
+      c.report_unread.ensures.said,
     )

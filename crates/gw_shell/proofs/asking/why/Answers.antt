@@ -1,7 +1,7 @@
 use Rattle.std.proofs.Common.{sym, subst, Result, IsSomeAnd}
 use Rattle.std.specs.Io.Buffered.{writer_contents}
 use Rattle.gw_shell.specs.declared.fault.Fault.{Fault}
-use Rattle.gw_verdicts.specs.Why.{IsAnswered, LeavesAnswers, TellsNoAsk}
+use Rattle.gw_verdicts.specs.Why.{IsAnswered, LeavesAnswers, ShowsNoAsk}
 use Rattle.gw_shell.specs.Asking.{Answers}
 use Rattle.gw_shell.specs.Lines.{first_lines_fault}
 use Rattle.gw_shell.proofs.LinesLemmas.{flushed_lines}
@@ -18,6 +18,6 @@ returns-clause-answers g c = λ text before reads holds.
     let leaves : IsSomeAnd (contents done.new.writer) (LeavesAnswers list notes done.result text before) = done.ensures.answers text before reads holds in
     let answered : IsSomeAnd (contents done.new.writer) (Answers list notes text before ends) =
     weaker (LeavesAnswers list notes done.result text before) (Answers list notes text before ends) (contents done.new.writer)
-    (λ bytes is. flushed_lines (IsAnswered list notes) TellsNoAsk text before bytes done.result c.is_ok-is_flushed.result is) leaves in
+    (λ bytes is. flushed_lines (IsAnswered list notes) ShowsNoAsk text before bytes done.result c.is_ok-is_flushed.result is) leaves in
     subst (λ (r : Result (Unit {0}) Fault). IsSomeAnd (contents c.flush.new.self) (Answers list notes text before r)) (sym c.first_lines_fault.ensures)
     (kept (Answers list notes text before ends) (contents done.new.writer) (contents c.flush.new.self) c.flush.ensures.bytes answered)

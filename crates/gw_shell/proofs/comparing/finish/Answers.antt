@@ -12,6 +12,6 @@ loop-portion-preserved g c =
       goes.new ∙ before.1,
       λ right. goes.is_right (before.2 right),
       tells_both (sure c.args.errors.now) (sure c.loop-portion.errors) (held c.args.errors.now) (held c.loop-portion.errors)
-          (held c.tell_second.new.errors) before.4 before.3 c.tell_second.ensures.told,
-      λ never. c.tell_second.ensures.lasts (before.4 never),
+          (held c.report_second.new.errors) before.4 before.3 c.report_second.ensures.said,
+      λ never. c.report_second.ensures.lasts (before.4 never),
     )

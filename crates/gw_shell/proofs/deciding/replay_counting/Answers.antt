@@ -14,6 +14,6 @@ returns-in-Err-read_script-clause-output g c =
     let input = g.R.OctetSource.left c.args.input.now in
     let held = writer_contents g.W.Write.contents c.args.output.now in
     let failed = c.failed-in-Err-read_script in
-    let told = decisions_text failed.result.decisions in
-    subst (λ (outcome : Result (Unit {0}) Fault). LeavesCounted c.args.explains text input held held outcome told) (sym failed.ensures.outcome)
-    (unread_leaves c.args.explains text c.in-Ok.config input held c.in-Err-read_script.fault told c.in-Ok.ensures c.in-Err-read_script.ensures.fault failed.ensures.silent)
+    let said = decisions_text failed.result.decisions in
+    subst (λ (outcome : Result (Unit {0}) Fault). LeavesCounted c.args.explains text input held held outcome said) (sym failed.ensures.outcome)
+    (unread_leaves c.args.explains text c.in-Ok.config input held c.in-Err-read_script.fault said c.in-Ok.ensures c.in-Err-read_script.ensures.fault failed.ensures.silent)

@@ -14,5 +14,5 @@ returns-clause-shown g c =
       subst (λ (input : Option (List ℕ)). LeavesJudgedIn (g.F.ConfigFiles.Reads c.args.files.now) c.args.file.now input
           (contents c.args.output.now) (contents c.judge_strictly-outcome.new.output) outcome) left c.judge_strictly-outcome.ensures.output,
       (c.unread.result, refl),
-      c.tell_unread.ensures.told,
+      c.report_unread.ensures.said,
     )

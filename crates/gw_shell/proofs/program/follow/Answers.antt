@@ -37,7 +37,7 @@ returns-in-Ok-Migrate-clause-followed g c =
 pub returns-in-Ok-Log-clause-followed : goal.returns-in-Ok-Log-clause-followed
 returns-in-Ok-Log-clause-followed g c =
     let is : c.args.choice.now ≡ Ok (choice.Log c.in-Ok-Log.start) = search rules in
-    followed _ _ c.args.choice.now (Ok (choice.Log c.in-Ok-Log.start)) c.tell.result is refl c.tell.ensures.tells
+    followed _ _ c.args.choice.now (Ok (choice.Log c.in-Ok-Log.start)) c.translate.result is refl c.translate.ensures.translates
     (λ never. appends_nothing (g.E.OctetSink.held c.args.errors.now))
 
 pub returns-in-Ok-State-clause-followed : goal.returns-in-Ok-State-clause-followed
@@ -163,7 +163,7 @@ returns-in-Ok-Compare-clause-followed g c =
     c.deref-in-Ok-Compare.ensures c.configuration_in.ensures in
     let second = subst (λ (name : List ℕ). IsConfigured (g.F.ConfigFiles.Reads c.args.files.now) (Some name) new)
     c.deref-in-Ok-Compare-2.ensures c.configuration_in-in-Ok-Compare.ensures in
-    let done = c.compare.ensures.told in
+    let done = c.compare.ensures.said in
     reported _ _ c.args.choice.now (Ok chosen) c.compare.result done.0 is tt (old, first, new, second, c.compare.ensures.output, done.1) done.2
 
 pub returns-in-Ok-Reload-clause-followed : goal.returns-in-Ok-Reload-clause-followed

@@ -13,18 +13,18 @@ returns g c =
       run = record {
         choice = chosen;
         outcome = outcome;
-        told = done.told;
+        said = done.said;
         words = c.choice_from-choice.ensures;
         output = done.output;
         quiet = done.quiet;
         flush = c.follow-outcome.ensures.flush;
         errors = λ never.
             let lasting = c.follow-outcome.ensures.lasting never in
-            appends_two (held c.args.errors.now) (held c.end_by-exit.new.errors) (held c.tell.new.errors) (done.told ++ error_text outcome) (usage_of chosen)
-            (appends_two (held c.args.errors.now) (held c.follow-outcome.new.errors) (held c.end_by-exit.new.errors) done.told (error_text outcome)
+            appends_two (held c.args.errors.now) (held c.end_by-exit.new.errors) (held c.write_note.new.errors) (done.said ++ error_text outcome) (usage_of chosen)
+            (appends_two (held c.args.errors.now) (held c.follow-outcome.new.errors) (held c.end_by-exit.new.errors) done.said (error_text outcome)
             (done.errors never) (c.end_by-exit.ensures.line lasting))
-            (subst (λ (text : List ℕ). Appends (held c.end_by-exit.new.errors) (held c.tell.new.errors) text) c.usage_of.ensures
-            (c.tell.ensures.told (c.end_by-exit.ensures.lasts lasting)));
+            (subst (λ (text : List ℕ). Appends (held c.end_by-exit.new.errors) (held c.write_note.new.errors) text) c.usage_of.ensures
+            (c.write_note.ensures.said (c.end_by-exit.ensures.lasts lasting)));
         status = c.end_by-exit.ensures.status;
       };
     }

@@ -13,20 +13,20 @@ returns-in-Some-clause-reloaded g c =
     let reads = g.F.ConfigFiles.Reads c.args.files.now in
     let answers = answers_by (g.H.Host.Asks c.args.host.now) g.H.Host.Answers in
     let contents = writer_contents g.W.Write.contents in
-    let told = c.reload_shown.ensures.told in
+    let said = c.reload_shown.ensures.said in
     let name : c.deref.result.now ≡ string_bytes c.in-Some.shown.old = search rules in
     let is : c.args.asking.now.was.now ≡ Some c.in-Some.shown = c.in-Some.is in (
-      told.0,
+      said.0,
       subst (λ (was : Option Shown). LeavesReloadIn reads answers c.args.asking.now.config.now c.args.asking.now.request.now was
-          (contents c.args.output.now) (contents c.reload_shown.new.output) told.0 c.reload_shown.result) (sym is) (
+          (contents c.args.output.now) (contents c.reload_shown.new.output) said.0 c.reload_shown.result) (sym is) (
             c.configuration_in-new.result,
             c.configuration_in-new.ensures,
             c.configuration_in-old.result,
             subst (λ (name : List ℕ). IsConfigured reads (Some name) c.configuration_in-old.result) name c.configuration_in-old.ensures,
             c.reload_shown.ensures.output,
-            told.1,
+            said.1,
           ),
-      told.2,
+      said.2,
     )
 
 pub returns-in-None-clause-reloaded : goal.returns-in-None-clause-reloaded

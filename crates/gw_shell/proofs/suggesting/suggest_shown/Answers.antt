@@ -14,5 +14,5 @@ returns-clause-suggested g c =
       subst (λ (input : Option (List ℕ)). LeavesSuggestedIn (g.F.ConfigFiles.Reads c.args.files.now) c.args.file.now c.args.manner input
           (contents c.args.output.now) (contents c.suggest_in-outcome.new.output) outcome) left c.suggest_in-outcome.ensures.output,
       (c.unread.result, refl),
-      c.tell_unread.ensures.told,
+      c.report_unread.ensures.said,
     )

@@ -12,14 +12,14 @@ returns-clause-ok c =
     let old = it.before.now.rules in
     let new = it.after.now.rules in
     let summary = c.in_ok-summary.summary in
-    let told = c.in_ok-told.told in
+    let written = c.in_ok-written.written in
     let same = c.deref.ensures.value ∙ c.self.invariant in
     subst
-    (λ (p : Progress). IsUnderWay p → AppendsComparison p.old_one p.new_one c.args.most told.made c.args.out.now.items c.put_whole.new.out.items)
+    (λ (p : Progress). IsUnderWay p → AppendsComparison p.old_one p.new_one c.args.most written.made c.args.out.now.items c.put_whole.new.out.items)
     c.self.view_is
     (λ was. (
-      told.text.items,
-      c.in_ok-told.ensures
+      written.text.items,
+      c.in_ok-written.ensures
           (subst
           (λ (asks : List Region).
           IsComparison asks old new it.comparison.found.items it.comparison.left.items → IsSummary asks old new summary.found.items summary.left.items)

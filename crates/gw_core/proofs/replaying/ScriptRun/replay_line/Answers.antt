@@ -64,9 +64,9 @@ returns-in_err-make_text-clause-outcome g c = λ text before known written.
     let moved = c.make_text.new.gateway in
     let unread = prepend_known front (g.R.OctetSource.left c.find_line.new.source) in
     let after = g.W.OctetSink.held c.args.writer.now in
-    passes_on (LineOutcome g.T.Telling.told c.args.number c.args.self.now.gateway moved text unread before after)
+    passes_on (LineOutcome g.T.EventText.wording c.args.number c.args.self.now.gateway moved text unread before after)
     c.in_err-make_text.field-0.0 c.from_residual.result c.from_residual.ensures
-    (not_taken g.T.Telling.told c.args.number c.args.self.now.gateway moved text unread before after
+    (not_taken g.T.EventText.wording c.args.number c.args.self.now.gateway moved text unread before after
     c.in_err-make_text.field-0.0 _ _ c.in_err-make_text.ensures.fault
     (λ wants. record {
       line = take len front;

@@ -11,7 +11,7 @@ use Rattle.gw_core.proofs.replaying.ScriptRun.replay_script.Goals as goal
 pub loop-number-init : goal.loop-number-init
 loop-number-init g c = record {
   progress = λ configuration stands script before known written.
-      begins g.T.Telling.told _ _ _ _ _ _ (nothing_held _ _ script c.requires.unread known) written stands;
+      begins g.T.EventText.wording _ _ _ _ _ _ (nothing_held _ _ script c.requires.unread known) written stands;
   calls = λ script known. bound_at_first script _ _ _ c.requires.calls known (nothing_held _ _ script c.requires.unread known);
   lasting_reader = λ never. never;
   lasting_writer = λ never. never;
@@ -27,9 +27,9 @@ loop-number-preserved g c =
     let so_far = g.W.OctetSink.held c.loop-number.writer in
     let after = g.W.OctetSink.held c.replay_line.new.writer in record {
       progress = λ configuration stands script before known written.
-          goes_on g.T.Telling.told configuration script before n w moved text left so_far after
+          goes_on g.T.EventText.wording configuration script before n w moved text left so_far after
           (c.loop-number.invariant.progress configuration stands script before known written)
-          (subst (λ (b : Bool). Turns g.T.Telling.told n w moved text left so_far after (Ok b)) c.if-not-branch.false c.in_ok-replay_line.ensures.outcome);
+          (subst (λ (b : Bool). Turns g.T.EventText.wording n w moved text left so_far after (Ok b)) c.if-not-branch.false c.in_ok-replay_line.ensures.outcome);
       calls = λ script known.
           let bound = c.loop-number.invariant.calls script known in
           bound_goes_on script n _ _ _ _ _ _ bound
@@ -47,9 +47,9 @@ returns-then-not-branch-clause-run g c = λ configuration stands script before k
     let left = prepend_known c.replay_line.new.self.lines.unread (g.R.OctetSource.left c.replay_line.new.reader) in
     let so_far = g.W.OctetSink.held c.loop-number.writer in
     let after = g.W.OctetSink.held c.replay_line.new.writer in
-    ends_whole g.T.Telling.told configuration script before n w moved text left so_far after
+    ends_whole g.T.EventText.wording configuration script before n w moved text left so_far after
     (c.loop-number.invariant.progress configuration stands script before known written)
-    (subst (λ (b : Bool). Turns g.T.Telling.told n w moved text left so_far after (Ok b)) c.if-not-branch.true c.in_ok-replay_line.ensures.outcome)
+    (subst (λ (b : Bool). Turns g.T.EventText.wording n w moved text left so_far after (Ok b)) c.if-not-branch.true c.in_ok-replay_line.ensures.outcome)
 
 pub returns-in_err-replay_line-clause-run : goal.returns-in_err-replay_line-clause-run
 returns-in_err-replay_line-clause-run g c = λ configuration stands script before known written.
@@ -60,7 +60,7 @@ returns-in_err-replay_line-clause-run g c = λ configuration stands script befor
     let left = prepend_known c.replay_line.new.self.lines.unread (g.R.OctetSource.left c.replay_line.new.reader) in
     let so_far = g.W.OctetSink.held c.loop-number.writer in
     let after = g.W.OctetSink.held c.replay_line.new.writer in
-    ends_passed g.T.Telling.told configuration script before n w moved text left so_far after c.in_err-replay_line.field-0.0 c.from_residual.result
+    ends_passed g.T.EventText.wording configuration script before n w moved text left so_far after c.in_err-replay_line.field-0.0 c.from_residual.result
     c.from_residual.ensures (c.loop-number.invariant.progress configuration stands script before known written) c.in_err-replay_line.ensures.outcome
 
 pub returns-in_err-replay_line-clause-flaw : goal.returns-in_err-replay_line-clause-flaw
@@ -73,9 +73,9 @@ returns-in_err-replay_line-clause-flaw g c = λ configuration m stands e script 
     let so_far = g.W.OctetSink.held c.loop-number.writer in
     let after = g.W.OctetSink.held c.replay_line.new.writer in
     let is = passed_as c.in_err-replay_line.field-0.0 (Line m) c.from_residual.result c.from_residual.ensures e in
-    flaw_at_line g.T.Telling.told configuration script before n w moved text left so_far after m c.replay_line.new.self.flaw
+    flaw_at_line g.T.EventText.wording configuration script before n w moved text left so_far after m c.replay_line.new.self.flaw
     (c.loop-number.invariant.progress configuration stands script before known written)
-    (subst (λ (r : Result Bool RunFault). Turns g.T.Telling.told n w moved text left so_far after r) is c.in_err-replay_line.ensures.outcome)
+    (subst (λ (r : Result Bool RunFault). Turns g.T.EventText.wording n w moved text left so_far after r) is c.in_err-replay_line.ensures.outcome)
     (λ t is_text. c.in_err-replay_line.ensures.flaw m is t is_text)
 
 pub returns-clause-run : goal.returns-clause-run
@@ -83,7 +83,7 @@ returns-clause-run g c = λ configuration stands script before known written.
     let n = c.loop-number.number in
     let w = c.loop-number.self.gateway in
     let text = prepend_known c.loop-number.self.lines.unread (g.R.OctetSource.left c.loop-number.reader) in
-    ends_part g.T.Telling.told configuration script before n w text (g.W.OctetSink.held c.loop-number.writer)
+    ends_part g.T.EventText.wording configuration script before n w text (g.W.OctetSink.held c.loop-number.writer)
     (c.loop-number.invariant.progress configuration stands script before known written)
 
 pub returns-in_err-replay_line-clause-sure_reader : goal.returns-in_err-replay_line-clause-sure_reader

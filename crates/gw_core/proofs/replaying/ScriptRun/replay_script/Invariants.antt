@@ -13,7 +13,7 @@ invariant-loop-number g l =
     let held = g.W.OctetSink.held in record {
       progress : (c : Configuration) → IsStateAfter l.fn.self.gateway c no_counts [] → (script before : List ℕ)
           → left l.fn.reader ≡ Some script → held l.fn.writer ≡ Some before
-          → Progress g.T.Telling.told c script before l.number l.self.gateway (prepend_known l.self.lines.unread (left l.reader)) (held l.writer);
+          → Progress g.T.EventText.wording c script before l.number l.self.gateway (prepend_known l.self.lines.unread (left l.reader)) (held l.writer);
       calls : (script : List ℕ) → left l.fn.reader ≡ Some script
           → CallBound script l.number l.self.lines.calls (left l.reader) (prepend_known l.self.lines.unread (left l.reader));
       lasting_reader : g.R.OctetSource.NeverFails l.fn.reader → g.R.OctetSource.NeverFails l.reader;

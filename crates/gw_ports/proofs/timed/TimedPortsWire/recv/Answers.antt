@@ -7,14 +7,14 @@ use Rattle.gw_ports.proofs.timed.TimedPortsWire.recv.Goals as goal
 pub returns-clause-received : goal.returns-clause-received
 returns-clause-received g c =
     let behind = c.recv_behind.ensures in
-    received g.C.Timepiece.Told g.P.Waiter.Waited g.P.Waiter.Quiet g.S.Sock.look_count g.S.Sock.is_empty g.S.Sock.Answered c.args.self.now
+    received g.C.Timepiece.Shows g.P.Waiter.Waited g.P.Waiter.Quiet g.S.Sock.look_count g.S.Sock.is_empty g.S.Sock.Answered c.args.self.now
     c.count_seconds.new.self c.look.new.self _ c.recv_behind.new.self (as_nanos c.in-Ok.most) c.next-came.new.buf c.recv_behind.new.buf
     c.next-came.result c.recv_behind.result c.in-Ok.ensures.counts c.in-Ok-look.ensures.looks c.next-came.ensures.next refl
     behind.came behind.stays behind.buffer behind.later
 
 pub returns-clause-looked : goal.returns-clause-looked
 returns-clause-looked g c =
-    looked_in_time g.C.Timepiece.Told g.P.Waiter.Waited g.P.Waiter.Quiet c.args.self.now
+    looked_in_time g.C.Timepiece.Shows g.P.Waiter.Waited g.P.Waiter.Quiet c.args.self.now
     c.count_seconds.new.self c.look.new.self c.recv_behind.new.self (as_nanos c.in-Ok.most)
     c.in-Ok.ensures.counts c.in-Ok-look.ensures.looks c.recv_behind.ensures.unlooked
 

@@ -25,7 +25,7 @@ returns-in-Ok-Turns-clause-advances g c = λ config is_config.
       config,
       [],
       is_config,
-      (served end.turns, record { went = end.went; config = refl; requests = refl; counts = refl; told = refl }, refl),
+      (served end.turns, record { went = end.went; config = refl; requests = refl; counts = refl; said = refl }, refl),
       λ never. appends_nothing (g.E.OctetSink.held c.args.errors.now),
     )
 
@@ -57,8 +57,8 @@ returns-in-Ok-Tick-clause-advances g c = λ config is_config.
     let old = c.args.self.now in
     let stretch = c.serve_to_tick.new in
     let done = c.at_tick.ensures.done config is_config in
-    let look = look_text config (standing stretch.gateway stretch.guard (g.Q.Requests.told old.requests) old.counts) done.1 in
-    let notice = notice_of old.told c.notice-self.result in
+    let look = look_text config (standing stretch.gateway stretch.guard (g.Q.Requests.said old.requests) old.counts) done.1 in
+    let notice = notice_of old.said c.notice-self.result in
     let after = c.at_tick.new.self in
     let report = due_stats g.K.StateKeeper.unkept g.K.StateKeeper.more
     (reporting_by c.args.schedule.now) after.keeper after.counts after.gateway
@@ -84,18 +84,18 @@ returns-in-Ok-Tick-clause-advances g c = λ config is_config.
             served = ap (λ (s : ServeState). s.served) c.at_tick.ensures.state;
             tally = ap (λ (s : ServeState). s.tally) c.at_tick.ensures.state;
           };
-          told = c.notice-self.ensures.troubles;
+          said = c.notice-self.ensures.troubles;
           lines = refl;
         },
         refl,
       ),
       λ never.
           let one = c.at_tick.ensures.lasts never in
-          appends_two (held c.args.errors.now) (held c.notice-self.new.errors) (held c.tell_due.new.errors) (look ++ notice) report
+          appends_two (held c.args.errors.now) (held c.notice-self.new.errors) (held c.report_due.new.errors) (look ++ notice) report
           (appends_two (held c.args.errors.now) (held c.at_tick.new.errors) (held c.notice-self.new.errors) look notice (done.4 never)
           (subst (λ (f : Troubles). Appends (held c.at_tick.new.errors) (held c.notice-self.new.errors) (notice_of f c.notice-self.result))
-          c.at_tick.ensures.told (c.notice-self.ensures.text one)))
-          (c.tell_due.ensures.told (c.notice-self.ensures.lasts one)),
+          c.at_tick.ensures.said (c.notice-self.ensures.text one)))
+          (c.report_due.ensures.said (c.notice-self.ensures.lasts one)),
     )
 
 pub returns-in-Ok-Tick-clause-more : goal.returns-in-Ok-Tick-clause-more
@@ -123,7 +123,7 @@ returns-in-Ok-Withheld-clause-advances g c = λ config is_config.
     (moment (scene c.serve_to_tick.new.gateway (g.L.OctetSink.held c.serve_to_tick.new.log) (g.W.Wire.calls c.serve_to_tick.new.wire))
     c.serve_to_tick.new.guard c.serve_to_tick.new.self.served c.serve_to_tick.new.self.tally) c.serve_to_tick.result c.in-Ok-Withheld.field-0
     pause.Withheld c.in-Ok-Withheld.is c.in-Ok-Withheld.field-0-is c.serve_to_tick.ensures.end in
-    let notice = notice_of c.args.self.now.told c.notice-self-in-Ok-Withheld.result in (
+    let notice = notice_of c.args.self.now.said c.notice-self-in-Ok-Withheld.result in (
       config,
       notice,
       is_config,
@@ -136,7 +136,7 @@ returns-in-Ok-Withheld-clause-advances g c = λ config is_config.
           config = refl;
           requests = refl;
           counts = refl;
-          told = c.notice-self-in-Ok-Withheld.ensures.troubles;
+          said = c.notice-self-in-Ok-Withheld.ensures.troubles;
           lines = refl;
         },
         refl,

@@ -8,24 +8,24 @@ use Rattle.gw_service.proofs.running.Running.reload.Goals as goal
 pub returns-in-Ok-clause-looked : goal.returns-in-Ok-clause-looked
 returns-in-Ok-clause-looked g c = λ first goes.
     let old = c.args.self.now in
-    let told = g.Q.Requests.told in
+    let said = g.Q.Requests.said in
     let held = g.E.OctetSink.held in
     taken_so g.K.StateKeeper.Adopts old.origin old.gateway old.keeper c.adopt.new.self (text_found c.args.read.now) c.in-Ok.field-0 first
-    (told old.requests) (told c.answer.new.self) c.deref.result.now old.counts c.with_taken_over-self.result
-    (g.E.OctetSink.NeverFails c.args.errors.now) (held c.args.errors.now) (held c.tell.new.errors) c.in-Ok.ensures.adopted c.adopt.ensures goes
+    (said old.requests) (said c.answer.new.self) c.deref.result.now old.counts c.with_taken_over-self.result
+    (g.E.OctetSink.NeverFails c.args.errors.now) (held c.args.errors.now) (held c.write_note.new.errors) c.in-Ok.ensures.adopted c.adopt.ensures goes
     c.answer.ensures c.deref.ensures.value (c.with_taken_over-self.ensures ∙ ap (with_taken_over old.counts) c.counts.ensures.ticks)
-    (λ never. subst (λ (t : List ℕ). Appends (held c.args.errors.now) (held c.tell.new.errors) t)
-    (c.deref-in-Ok.ensures.value ∙ sym c.deref.ensures.value) (c.tell.ensures.told never))
+    (λ never. subst (λ (t : List ℕ). Appends (held c.args.errors.now) (held c.write_note.new.errors) t)
+    (c.deref-in-Ok.ensures.value ∙ sym c.deref.ensures.value) (c.write_note.ensures.said never))
 
 pub returns-in-Err-clause-looked : goal.returns-in-Err-clause-looked
 returns-in-Err-clause-looked g c = λ first goes.
     let old = c.args.self.now in
-    let told = g.Q.Requests.told in
+    let said = g.Q.Requests.said in
     let held = g.E.OctetSink.held in
     let read = text_found c.args.read.now in
     let fault = c.in-Err.fault in
-    refused_so g.K.StateKeeper.Adopts old.origin old.gateway old.keeper read fault first (told old.requests)
-    (told c.answer-in-Err.new.self) c.line_or-line.result.now old.counts c.with_refused-self.result (g.E.OctetSink.NeverFails c.args.errors.now)
-    (held c.args.errors.now) (held c.tell-in-Err.new.errors) c.in-Err.ensures.fault
+    refused_so g.K.StateKeeper.Adopts old.origin old.gateway old.keeper read fault first (said old.requests)
+    (said c.answer-in-Err.new.self) c.line_or-line.result.now old.counts c.with_refused-self.result (g.E.OctetSink.NeverFails c.args.errors.now)
+    (held c.args.errors.now) (held c.write_note-in-Err.new.errors) c.in-Err.ensures.fault
     (subst (λ (t : List ℕ). IsRefusalLine read fault t) (sym c.line_or-line.ensures) (says_why read fault c.line_with_place-located.result c.line_with_place-located.ensures))
-    goes c.answer-in-Err.ensures c.with_refused-self.ensures (λ never. c.tell-in-Err.ensures.told never)
+    goes c.answer-in-Err.ensures c.with_refused-self.ensures (λ never. c.write_note-in-Err.ensures.said never)

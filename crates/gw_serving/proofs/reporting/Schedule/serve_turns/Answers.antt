@@ -79,7 +79,7 @@ loop-preserved g c =
           c.loop.state.tally c.take_turn.new.self.tally
           (g.R.OctetSink.NeverFails c.args.reports.now) (g.R.OctetSink.held c.args.reports.now) (g.R.OctetSink.held c.loop.reports)
           (g.R.OctetSink.held c.report_due.new.reports) so_far.reported turn.end
-          (λ never. c.report_due.ensures.told c.loop.gateway (sym c.counts-ticks.ensures.ticks) (so_far.lasting_reports never));
+          (λ never. c.report_due.ensures.recorded c.loop.gateway (sym c.counts-ticks.ensures.ticks) (so_far.lasting_reports never));
       since = since_end schedule.start now then c.loop.state.served c.take_turn.new.self.served c.loop.state.tally c.take_turn.new.self.tally
           (Ok tt) turn.end so_far.since;
       below = turn.below;

@@ -13,9 +13,9 @@ use Rattle.gw_serving.proofs.serving.ServeState.take_guarded_turn.Goals as goal
 
 pub returns-in-Ok-None-clause-end : goal.returns-in-Ok-None-clause-end
 returns-in-Ok-None-clause-end g c =
-    let told = g.W.Wire.calls c.args.wire.now in
-    let tells = g.W.Wire.calls c.receive.new.wire in
-    let idled = arrives told tells c.in-Ok-None.field-0 None c.in-Ok-None.field-0-is c.in-Ok-None.ensures.calls in
+    let recorded = g.W.Wire.calls c.args.wire.now in
+    let records = g.W.Wire.calls c.receive.new.wire in
+    let idled = arrives recorded records c.in-Ok-None.field-0 None c.in-Ok-None.field-0-is c.in-Ok-None.ensures.calls in
     guarded_without g.G.Guard.Passes c.args.guard.now _ _ c.args.self.now.served _ c.args.self.now.tally empty_turn refl
     (lead_without _ _ empty_turn refl tt refl refl idled) refl
 
@@ -27,9 +27,9 @@ returns-in-Err-clause-end g c =
 pub returns-in-Err-Memory-clause-end : goal.returns-in-Err-Memory-clause-end
 returns-in-Err-Memory-clause-end g c =
     let event = event_view c.in-Ok-Some.event in
-    let told = g.W.Wire.calls c.args.wire.now in
-    let tells = g.W.Wire.calls c.receive.new.wire in
-    let came_in = arrives told tells c.in-Ok-Some.field-0 (Some c.in-Ok-Some.event) c.in-Ok-Some.field-0-is c.in-Ok-Some.ensures.calls in
+    let recorded = g.W.Wire.calls c.args.wire.now in
+    let records = g.W.Wire.calls c.receive.new.wire in
+    let came_in = arrives recorded records c.in-Ok-Some.field-0 (Some c.in-Ok-Some.event) c.in-Ok-Some.field-0-is c.in-Ok-Some.ensures.calls in
     let wants = c.in-Err-Memory.ensures.memory (ap Err c.in-Err-Memory.field-0-is) in
     guarded_without g.G.Guard.Passes c.args.guard.now _ _ c.args.self.now.served _ c.args.self.now.tally (lost_event event) refl
     (lead_without _ _ (lost_event event) refl wants c.in-Err-Memory.ensures.err refl came_in) refl
@@ -37,12 +37,12 @@ returns-in-Err-Memory-clause-end g c =
 pub returns-in_err-log_denials-clause-end : goal.returns-in_err-log_denials-clause-end
 returns-in_err-log_denials-clause-end g c =
     let event = event_view c.in-Ok-Some.event in
-    let told = g.W.Wire.calls c.args.wire.now in
-    let tells = g.W.Wire.calls c.receive.new.wire in
-    let came_in = arrives told tells c.in-Ok-Some.field-0 (Some c.in-Ok-Some.event) c.in-Ok-Some.field-0-is c.in-Ok-Some.ensures.calls in
+    let recorded = g.W.Wire.calls c.args.wire.now in
+    let records = g.W.Wire.calls c.receive.new.wire in
+    let came_in = arrives recorded records c.in-Ok-Some.field-0 (Some c.in-Ok-Some.event) c.in-Ok-Some.field-0-is c.in-Ok-Some.ensures.calls in
     let taken = c.in-Ok.ensures.taken in
-    let before = scene c.args.gateway.now (g.L.OctetSink.held c.args.log.now) told in
-    let after = scene c.take_seen.new.gateway (g.L.OctetSink.held c.log_denials.new.log) tells in
+    let before = scene c.args.gateway.now (g.L.OctetSink.held c.args.log.now) recorded in
+    let after = scene c.take_seen.new.gateway (g.L.OctetSink.held c.log_denials.new.log) records in
     let fault = c.in_err-log_denials.field-0.0 in
     let last = ends_by fault before after event c.in-Ok.taken.effects c.args.self.now.served taken.effects c.in_err-log_denials.ensures.end
     (record { counts = taken.counts; gateway = taken.gateway; calls = came_in }) in
@@ -54,11 +54,11 @@ returns-in_err-log_denials-clause-end g c =
 pub returns-then-not-pass-clause-end : goal.returns-then-not-pass-clause-end
 returns-then-not-pass-clause-end g c =
     let event = event_view c.in-Ok-Some.event in
-    let told = g.W.Wire.calls c.args.wire.now in
-    let tells = g.W.Wire.calls c.receive.new.wire in
-    let came_in = arrives told tells c.in-Ok-Some.field-0 (Some c.in-Ok-Some.event) c.in-Ok-Some.field-0-is c.in-Ok-Some.ensures.calls in
-    let before = scene c.args.gateway.now (g.L.OctetSink.held c.args.log.now) told in
-    let middle = scene c.take_seen.new.gateway (g.L.OctetSink.held c.log_denials.new.log) tells in
+    let recorded = g.W.Wire.calls c.args.wire.now in
+    let records = g.W.Wire.calls c.receive.new.wire in
+    let came_in = arrives recorded records c.in-Ok-Some.field-0 (Some c.in-Ok-Some.event) c.in-Ok-Some.field-0-is c.in-Ok-Some.ensures.calls in
+    let before = scene c.args.gateway.now (g.L.OctetSink.held c.args.log.now) recorded in
+    let middle = scene c.take_seen.new.gateway (g.L.OctetSink.held c.log_denials.new.log) records in
     let taken = c.in-Ok.ensures.taken in
     let logged : IsLoggedLast before event middle = record {
       taken = record { counts = taken.counts; gateway = taken.gateway; calls = came_in };
@@ -76,11 +76,11 @@ returns-then-not-pass-clause-end g c =
 pub returns-clause-end : goal.returns-clause-end
 returns-clause-end g c =
     let event = event_view c.in-Ok-Some.event in
-    let told = g.W.Wire.calls c.args.wire.now in
-    let tells = g.W.Wire.calls c.receive.new.wire in
-    let came_in = arrives told tells c.in-Ok-Some.field-0 (Some c.in-Ok-Some.event) c.in-Ok-Some.field-0-is c.in-Ok-Some.ensures.calls in
-    let before = scene c.args.gateway.now (g.L.OctetSink.held c.args.log.now) told in
-    let middle = scene c.take_seen.new.gateway (g.L.OctetSink.held c.log_denials.new.log) tells in
+    let recorded = g.W.Wire.calls c.args.wire.now in
+    let records = g.W.Wire.calls c.receive.new.wire in
+    let came_in = arrives recorded records c.in-Ok-Some.field-0 (Some c.in-Ok-Some.event) c.in-Ok-Some.field-0-is c.in-Ok-Some.ensures.calls in
+    let before = scene c.args.gateway.now (g.L.OctetSink.held c.args.log.now) recorded in
+    let middle = scene c.take_seen.new.gateway (g.L.OctetSink.held c.log_denials.new.log) records in
     let taken = c.in-Ok.ensures.taken in
     let logged : IsLoggedLast before event middle = record {
       taken = record { counts = taken.counts; gateway = taken.gateway; calls = came_in };

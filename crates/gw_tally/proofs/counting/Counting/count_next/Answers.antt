@@ -1,6 +1,6 @@
 use Rattle.std.proofs.Common.{◌++◌, inr, refl, rules, sym, take, drop, subst, Err, Result, Bool, List, ℕ}
 use Rattle.std.specs.Io.KnownBytes.{prepend_known}
-use Rattle.gw_audit.specs.Entry.{TellsAsk}
+use Rattle.gw_audit.specs.Entry.{ShowsAsk}
 use Rattle.gw_script.specs.Script.{lines_of}
 use Rattle.gw_script.specs.declared.lines.LinesFault.{LinesFault}
 use Rattle.gw_script.specs.declared.lines.LinesFault.TheVariants.{Read}
@@ -21,8 +21,8 @@ returns-in_default-clause-outcome g c = λ text known.
         line = take len front;
         others = lines_of (drop c.in-Ok-Line.span front ++ found.rest);
         lines = found.lines;
-        untold = inr (λ shown tells. none_is_none shown
-            (c.in_default.ensures.only shown (subst (λ (line : List ℕ). TellsAsk line shown) (sym c.front.ensures) tells)));
+        untranslated = inr (λ shown translates. none_is_none shown
+            (c.in_default.ensures.only shown (subst (λ (line : List ℕ). ShowsAsk line shown) (sym c.front.ensures) translates)));
       },
     )
 

@@ -1,0 +1,12 @@
+-- What `log` leaves written, at each outcome: over the definitions of `gw_audit`.
+use Rattle.std.specs.Prelude.{ℕ, List, Option, Result}
+use Rattle.gw_audit.specs.Translation.{RefusesNone}
+use Rattle.gw_audit.specs.declared.moment.Moment.{Moment}
+use Rattle.gw_stamping.specs.EventText.{IsTranslatedAfterFront}
+use Rattle.gw_shell.specs.Lines.{Leaves}
+use Rattle.gw_shell.specs.declared.fault.Fault.{Fault}
+
+-- `before` was written before this log, which began at a moment that may be known, was put into words with this
+-- outcome, and `after` when that ended
+abbrev pub Translates : Option Moment → List ℕ → List ℕ → Result (Unit {0}) Fault → List ℕ → Type 0
+Translates start = Leaves (IsTranslatedAfterFront start) RefusesNone
