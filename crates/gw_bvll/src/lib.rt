@@ -15,6 +15,6 @@ pub use entries::{BdtEntries, Entries, EntryIter, FdtEntries};
 pub use entry::{Entry, put_entries};
 pub use fault::{BvllFault, EncodeFault};
 pub use function::Function;
-pub use message::{Bvll, ResultCode};
+pub use message::{BVLC_TYPE, Bvll, ResultCode};
 pub use reading::decode;
-pub use writing::{MAX_LEN, encode};
+pub use writing::{HEADER_LEN, MAX_LEN, encode, set_length};

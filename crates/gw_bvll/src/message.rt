@@ -7,7 +7,7 @@ use crate::function::Function;
 use gw_addr::BipAddr;
 
 /// The first octet of each message: BVLL for BACnet/IP.
-pub(crate) const MARKER: u8 = 0x81;
+pub const BVLC_TYPE: u8 = 0x81;
 
 /// The code of a BVLC-Result (Annex J.2.1). Each number of two octets is one; the named ones are
 /// those of the standard.

@@ -12,7 +12,7 @@ use crate::entries::Entries;
 use crate::entry::Entry;
 use crate::fault::BvllFault;
 use crate::function::Function;
-use crate::message::{Bvll, MARKER, ResultCode};
+use crate::message::{BVLC_TYPE, Bvll, ResultCode};
 use gw_addr::{BipAddr, address, number};
 
 /// A body that is a number of two octets.
@@ -89,7 +89,7 @@ fn message_at(octets: &[u8]) -> Result<Bvll<'_>, BvllFault>
         return Err(BvllFault::Length);
     }
     let (header, body) = octets.split_at(4);
-    if header[0] != MARKER {
+    if header[0] != BVLC_TYPE {
         return Err(BvllFault::Marker);
     }
     if u16::from_be_bytes([header[2], header[3]]) as usize != octets.len() {

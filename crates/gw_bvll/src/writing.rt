@@ -1,6 +1,6 @@
 //! Writing a message into a datagram (Annex J.2).
 
-ghost use Rattle.std.specs.Prelude.{◌≡◌, ◌++◌, ◌+◌, ◌∷◌, ◌<◌, ◌≤◌, ◌↔◌, length, vec_len};
+ghost use Rattle.std.specs.Prelude.{◌≡◌, ◌++◌, ◌+◌, ◌∷◌, ◌<◌, ◌≤◌, ◌↔◌, ◌^◌, length, take, drop, vec_len};
 ghost use Rattle.std.specs.Prelude.{OnOk, OnErr};
 ghost use Rattle.std.specs.Vec.{vec_capacity};
 ghost use Rattle.std.specs.Int.{w16, to_be_bytes};
@@ -9,13 +9,27 @@ ghost use Rattle.gw_bvll.specs.Bvll.{view, body_of, octet_of, function_of, encod
 
 use crate::fault::EncodeFault;
 use crate::laws;
-use crate::message::{Bvll, MARKER};
+use crate::message::{BVLC_TYPE, Bvll};
 use gw_addr::{put_number, put_octet, put_slice};
 use std::alloc::AllocError;
 
 /// The most octets of a message, a rule of ours: an NPDU of 1497 octets after the ten of a
 /// Forwarded-NPDU.
 pub const MAX_LEN: usize = 1507;
+
+/// How many octets of a message come before its body: the type, the function and the length.
+pub const HEADER_LEN: usize = 4;
+
+/// Writes the length of a message into its header. The rest stays as it is.
+pub fn set_length(message: &mut [u8])
+    requires least { HEADER_LEN ≤ length message.old }
+    requires most { length message.old < 2 ^ 16 }
+    ensures { let len = to_be_bytes w16 (length message.old) in
+        message.new ≡ take 2 message.old ++ (len ++ drop 4 message.old) }
+{
+    let len = (message.len() as u16).to_be_bytes();
+    message[2..4].copy_from_slice(&len);
+}
 
 /// How many octets the body of the message has.
 fn body_len(message: &Bvll<'_>) -> usize
@@ -61,7 +75,7 @@ fn put_message(message: &Bvll<'_>, len: u16, out: &mut Vec<u8>) -> Result<(), Al
         let header = 0x81 ∷ octet_of (function_of m) ∷ to_be_bytes w16 len in
         IsAppended (header ++ body_of m) out.old out.new result }
 {
-    put_octet(out, MARKER)?;
+    put_octet(out, BVLC_TYPE)?;
     put_octet(out, message.function().octet())?;
     put_number(out, len)?;
     put_body(message, out)

@@ -16,9 +16,7 @@ use Rattle.gw_rules.specs.Operation.{operation_name, operation_number}
 use Rattle.gw_rules.specs.Range.{holds}
 use Rattle.gw_configuration.specs.declared.fault.ConfigFault.TheVariants.{Kind, Range}
 use Rattle.gw_configuration.specs.declared.object.ObjectKind.{ObjectKind}
-use Rattle.gw_configuration.specs.declared.object.ObjectKind.TheVariants.{BinaryValue, MultiStateValue}
-use Rattle.gw_configuration.specs.declared.object.ObjectKind.TheVariants.{CharacterStringValue, IntegerValue}
-use Rattle.gw_configuration.specs.declared.object.ObjectKind.TheVariants.{PositiveIntegerValue}
+use Rattle.gw_configuration.specs.Kinds.{kind_numbered}
 use Rattle.gw_configuration.specs.Located.{Read}
 use Rattle.gw_configuration.specs.Subnet.{Subnet}
 use Rattle.gw_configuration.specs.Text.{text_of_length}
@@ -48,15 +46,6 @@ abbrev pub signed_in : Data → Read ℤ
 signed_in value = reading signed_of (as_integer value)
 
 -- the type of an object by its number
-abbrev pub kind_numbered : ℕ → Option ObjectKind
-kind_numbered n =
-    if n == 5 then Some BinaryValue
-    else if n == 19 then Some MultiStateValue
-    else if n == 40 then Some CharacterStringValue
-    else if n == 45 then Some IntegerValue
-    else if n == 48 then Some PositiveIntegerValue
-    else None
-
 abbrev pub kind_of : ℤ → Option ObjectKind
 kind_of (pos n) = kind_numbered n
 kind_of (negsuc n) = None

@@ -10,7 +10,7 @@ ghost use Rattle.toml.specs.View.{table_view, view};
 ghost use Rattle.gw_config_tables.specs.Items.{list_of};
 ghost use Rattle.gw_config_tables.specs.Written.{address_written, mask_written, subnet_written};
 ghost use Rattle.gw_configuration.specs.Subnet.{IsSubnet};
-ghost use Rattle.gw_config_tables.specs.Value.{address_in, boolean_in, if_of_format, is_of_format, is_rule_name, kind_in, kind_numbered, list_in, mask_in, number_in, operation_in, operation_named, operation_of, rule_name_in, signed_in, subnet_in, table_in, text_in};
+ghost use Rattle.gw_config_tables.specs.Value.{address_in, boolean_in, if_of_format, is_of_format, is_rule_name, kind_in, list_in, mask_in, number_in, operation_in, operation_named, operation_of, rule_name_in, signed_in, subnet_in, table_in, text_in};
 
 use gw_addr::{BipAddr, Mask};
 use gw_configuration::{ConfigFault, MAX_TEXT, ObjectKind, Subnet, laws};
@@ -52,20 +52,6 @@ pub fn signed(value: &Value) -> Result<i32, ConfigFault>
     }
 }
 
-/// The type of that number.
-fn kind_of_number(number: u64) -> Option<ObjectKind>
-    ensures { result ≡ kind_numbered number }
-{
-    match number {
-        5 => Some(ObjectKind::BinaryValue),
-        19 => Some(ObjectKind::MultiStateValue),
-        40 => Some(ObjectKind::CharacterStringValue),
-        45 => Some(ObjectKind::IntegerValue),
-        48 => Some(ObjectKind::PositiveIntegerValue),
-        _ => None,
-    }
-}
-
 /// The type of an object by its number. `Kind` where it is no number, `Range` where it is none of a
 /// type.
 pub fn kind(value: &Value) -> Result<ObjectKind, ConfigFault>
@@ -75,7 +61,7 @@ pub fn kind(value: &Value) -> Result<ObjectKind, ConfigFault>
         return Err(ConfigFault::Kind);
     };
     match u64::try_from(number) {
-        Ok(number) => kind_of_number(number).ok_or(ConfigFault::Range),
+        Ok(number) => ObjectKind::from_number(number).ok_or(ConfigFault::Range),
         Err(_) => Err(ConfigFault::Range),
     }
 }

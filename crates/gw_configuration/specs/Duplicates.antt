@@ -43,14 +43,6 @@ port_addresses ports = flat_map (λ port. key port.address ∷ key port.broadcas
 abbrev pub peer_addresses : List BdtEntry → List ℕ
 peer_addresses peers = map (λ peer. key peer.address) peers
 
--- the number of an object's type
-abbrev pub type_number : ObjectValue → ℕ
-type_number (BinaryValue default active inactive) = 5
-type_number (MultiStateValue value) = 19
-type_number (CharacterStringValue default) = 40
-type_number (IntegerValue default units) = 45
-type_number (PositiveIntegerValue default units) = 48
-
 -- type and instance as one number of 32 bits (clause 20.2.14)
 abbrev pub identifier : ObjectEntry → ℕ
 identifier object = type_number object.value * 2 ^ 22 + object.instance

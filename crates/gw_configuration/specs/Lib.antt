@@ -1,5 +1,6 @@
 pub mod Configuration
 pub mod Duplicates
+pub mod Kinds
 pub mod Located
 pub mod Reading
 pub mod States

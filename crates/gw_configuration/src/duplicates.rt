@@ -3,7 +3,7 @@ ghost use Rattle.std.specs.Prelude.{◌≡◌, ◌++◌, ◌∷◌, codes, lengt
 ghost use Rattle.std.specs.Cmp.Lexicographic.{pointwise};
 ghost use Rattle.gw_configuration.specs.Duplicates as spec;
 ghost use Rattle.gw_configuration.specs.Located.{located_view};
-ghost use Rattle.gw_configuration.specs.Duplicates.{identifier, identifiers, names, peer_addresses, peers_twice, port_addresses, repetition, rule_names, second, set_names, twice, type_number};
+ghost use Rattle.gw_configuration.specs.Duplicates.{identifier, identifiers, names, peer_addresses, peers_twice, port_addresses, repetition, rule_names, second, set_names, twice};
 
 use crate::{ConfigFault, Device, Located, Object, ObjectValue, Parts, Place, Port, Route, Set};
 use gw_addr::BdtEntry;
@@ -179,19 +179,7 @@ fn identifier_twice<'a>(
 fn identifier(object: &Object) -> u64
     ensures { result ≡ identifier object.now }
 {
-    type_number(&object.value) * (1 << 22) + u64::from(object.instance.get())
-}
-
-fn type_number(value: &ObjectValue) -> u64
-    ensures { result ≡ type_number value.now }
-{
-    match value {
-        ObjectValue::BinaryValue { .. } => 5,
-        ObjectValue::MultiStateValue(_) => 19,
-        ObjectValue::CharacterStringValue { .. } => 40,
-        ObjectValue::IntegerValue { .. } => 45,
-        ObjectValue::PositiveIntegerValue { .. } => 48,
-    }
+    object.value.type_number() * (1 << 22) + u64::from(object.instance.get())
 }
 
 /// The name of the device comes before those of the objects.

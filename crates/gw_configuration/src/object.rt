@@ -1,5 +1,6 @@
 //! The objects of a device.
 ghost use Rattle.std.specs.Prelude.{◌≡◌, ◌≤◌, length};
+ghost use Rattle.gw_configuration.specs.Kinds.{kind_numbered, type_number};
 ghost use Rattle.gw_configuration.specs.States.{states_of};
 
 use crate::{Instance, Text};
@@ -22,6 +23,22 @@ pub enum ObjectKind {
     IntegerValue = 45,
     /// Positive Integer Value (clause 12.44).
     PositiveIntegerValue = 48,
+}
+
+impl ObjectKind {
+    /// The type of this number, if it is one of these.
+    pub fn from_number(number: u64) -> Option<Self>
+        ensures { result ≡ kind_numbered number }
+    {
+        match number {
+            5 => Some(ObjectKind::BinaryValue),
+            19 => Some(ObjectKind::MultiStateValue),
+            40 => Some(ObjectKind::CharacterStringValue),
+            45 => Some(ObjectKind::IntegerValue),
+            48 => Some(ObjectKind::PositiveIntegerValue),
+            _ => None,
+        }
+    }
 }
 
 /// An object as it is configured.
@@ -74,6 +91,21 @@ pub enum ObjectValue {
         default: u32,
         units: u16,
     },
+}
+
+impl ObjectValue {
+    /// The number of its type.
+    pub fn type_number(&self) -> u64
+        ensures { result ≡ type_number self.now }
+    {
+        match self {
+            ObjectValue::BinaryValue { .. } => 5,
+            ObjectValue::MultiStateValue(_) => 19,
+            ObjectValue::CharacterStringValue { .. } => 40,
+            ObjectValue::IntegerValue { .. } => 45,
+            ObjectValue::PositiveIntegerValue { .. } => 48,
+        }
+    }
 }
 
 /// The states of a Multi-state Value, 1 to 64 of them, and which is the default, counted from 1.

@@ -16,6 +16,7 @@ ghost use Rattle.gw_core.specs.Reply.{apdu_for, apdu_of, context_of, goes_to_all
 ghost use Rattle.gw_relay.specs.Message.{message_view};
 
 use gw_addr::NetNum;
+use gw_bvll::{BVLC_TYPE, HEADER_LEN, set_length};
 use gw_device::{Answer, Context, HEADER_ROOM};
 use gw_npdu::{AddressRef, Control, Destination, Npdu, Payload, Priority};
 use gw_relay::{Batch, Message, Sends, sender_of};
@@ -24,16 +25,10 @@ use std::alloc::{AllocError, Global};
 
 /// The one station of the device's network.
 const DEVICE_STATION: u8 = 1;
-/// The hop count of a message that has passed no router yet.
-const WHOLE_COUNT: u8 = 255;
-/// How many octets of a frame come before its NPDU (Annex J.2.11, J.2.12).
-const FRAME_HEADER: usize = 4;
-/// The type of a BACnet/IP frame (Annex J.2).
-const BVLL_TYPE: u8 = 0x81;
 /// The function of an Original-Unicast-NPDU (Annex J.2.11).
 const ORIGINAL_UNICAST: u8 = 0x0A;
 /// An Original-Unicast-NPDU without an NPDU.
-const EMPTY_UNICAST: [u8; FRAME_HEADER] = [BVLL_TYPE, ORIGINAL_UNICAST, 0x00, 0x04];
+const EMPTY_UNICAST: [u8; HEADER_LEN] = [BVLC_TYPE, ORIGINAL_UNICAST, 0x00, 0x04];
 /// The version of the network layer (clause 6.2.1).
 const NPDU_VERSION: u8 = 1;
 /// How many octets the header of a reply has that names its source alone: the version, the control octet, and the
@@ -104,7 +99,7 @@ fn reply_destination<'a>(
         Some(address) => Some(Destination {
             network: address.network,
             mac: if broadcast { &[] } else { address.mac },
-            hops: WHOLE_COUNT,
+            hops: Destination::WHOLE_HOP_COUNT,
         }),
     }
 }
@@ -192,17 +187,6 @@ fn put_npdu(
     }
 }
 
-/// Writes the length of a frame into its header (Annex J.2).
-fn put_length(frame: &mut [u8])
-    requires least { FRAME_HEADER ≤ length frame.old }
-    requires most { length frame.old < 2 ^ 16 }
-    ensures { let len = to_be_bytes w16 (length frame.old) in
-        frame.new ≡ take 2 frame.old ++ (len ++ drop 4 frame.old) }
-{
-    let len = (frame.len() as u16).to_be_bytes();
-    frame[2..4].copy_from_slice(&len);
-}
-
 /// How many octets the buffer of an answer to a node behind a router has at first: the answer's, and
 /// those that most replies have before it.
 fn routed_room(answer: &Answer) -> usize
@@ -228,7 +212,7 @@ fn routed_octets(
     if !put_npdu(&mut octets, network, request, answer)? {
         return Ok(None);
     }
-    put_length(octets.as_mut_slice());
+    set_length(octets.as_mut_slice());
     Ok(Some(octets))
 }
 
@@ -244,7 +228,7 @@ fn set_local_headers(octets: &mut [u8], network: NetNum, priority: Priority)
     let [network_high, network_low] = network.get().to_be_bytes();
     let control = Control::SOURCE.0 + priority.number();
     octets[..HEADER_ROOM].copy_from_slice(&[
-        BVLL_TYPE,
+        BVLC_TYPE,
         ORIGINAL_UNICAST,
         len_high,
         len_low,
@@ -265,7 +249,7 @@ fn local_octets(network: NetNum, priority: Priority, answer: Answer) -> Option<V
         ≡ option_map (λ octets. bvll_encoding (original_unicast octets)) (npdu_octets npdu) }
 {
     let mut octets = answer.octets;
-    if octets.len() > FRAME_HEADER + gw_npdu::MAX_LEN {
+    if octets.len() > HEADER_LEN + gw_npdu::MAX_LEN {
         return None;
     }
     set_local_headers(octets.as_mut_slice(), network, priority);

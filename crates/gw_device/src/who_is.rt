@@ -11,15 +11,13 @@ use crate::Served;
 use crate::access::Access;
 use crate::short::begin_apdu;
 use gw_addr::put_slice;
-use gw_objects::{Configured, Property};
+use gw_objects::{Configured, MAX_APDU, Property};
 use gw_rules::{Ask, Asker, Operation, Service};
 use gw_services::{I_AM, IAm, Limits, Segmentation, WHO_IS, WhoIs, encode_i_am};
 use std::alloc::{AllocError, Global};
 
 /// The first octet of an unconfirmed request (clause 20.1.3).
 const UNCONFIRMED_REQUEST: u8 = 0x10;
-/// The longest APDU that the device takes, in octets.
-const LONGEST_APDU: u16 = 1476;
 /// How many octets an I-Am has at most.
 const MOST_OCTETS: usize = 16;
 
@@ -38,7 +36,7 @@ fn i_am_apdu(alloc: Global, configured: &Configured) -> Result<Vec<u8>, AllocErr
     put_unconfirmed(&mut octets, I_AM)?;
     let announced = IAm {
         device: configured.device_id(),
-        max_apdu: LONGEST_APDU,
+        max_apdu: MAX_APDU,
         segmentation: Segmentation::None,
         vendor: configured.device.vendor,
     };

@@ -73,7 +73,8 @@ fn sent(
     octets: &[u8],
     is_failed: bool,
 ) -> Result<Call, AllocError>
-    ensures { IfOk result (λ call. call_of call ≡ if is_failed then failed_send (sending port octets.now to) else departure (sending port octets.now to)) }
+    ensures { let sent = sending port octets.now to in
+        IfOk result (λ call. call_of call ≡ if is_failed then failed_send sent else departure sent) }
 {
     let octets = Vec::from_slice(alloc, octets)?;
     if is_failed {

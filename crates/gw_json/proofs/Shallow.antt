@@ -6,7 +6,7 @@ use Rattle.std.specs.Option.{option_map_or}
 use Rattle.std.proofs.lemmas.Bool.{cases_Bool}
 use Rattle.json.specs.Json.{Json, null, boolean, number, string, array, object, no_items, item, Members, no_members, member}
 use Rattle.json.specs.Tree.{depth}
-use Rattle.gw_json.specs.Comparison.{end_value, fields_members, found_value, has_operation, key_of, named_operation, operations_value, other_fields, range_value, range_values, ranges_value, rule_value, rules_value, station_end, summary_value, values_value, verdict_word}
+use Rattle.gw_json.specs.Comparison.{end_value, fields_members, found_value, has_operation, named_operation, operations_value, other_fields, range_value, range_values, ranges_value, rule_value, rules_value, station_end, summary_value, values_value, verdict_word}
 use Rattle.gw_json.specs.Laws.{ComparisonsRead, SummariesRead}
 use Rattle.gw_json.proofs.Documents.{AreShallow, IsShallow, array_shallow, boolean_shallow, chosen_shallow, line_read, member_shallow, none_shallow, null_shallow, number_shallow, object_shallow, or_shallow, string_shallow, wider}
 use Rattle.gw_json.proofs.Plain.{Each}
@@ -15,6 +15,7 @@ use Rattle.gw_regions.specs.Regions.{Region}
 use Rattle.gw_regions.specs.Values.{is_any}
 use Rattle.gw_regions.specs.declared.comparison.Found.{Found}
 use Rattle.gw_regions.specs.declared.values.Values.{Values}
+use Rattle.gw_rules.specs.Field.{field_key}
 use Rattle.gw_rules.specs.Bounds.{bounds}
 use Rattle.gw_rules.specs.Fields.{value_of}
 use Rattle.gw_rules.specs.Operation.{operation_name}
@@ -95,7 +96,7 @@ operations_shallow values =
 fields_shallow : (region : Region) (names : List FieldName) (rest : Members) → AreShallow 3 rest → AreShallow 3 (fields_members region names rest)
 fields_shallow region [] rest are = are
 fields_shallow region (field ∷ names) rest are =
-    member_shallow 3 (key_of field) (values_value field (value_of field region)) (fields_members region names rest)
+    member_shallow 3 (field_key field) (values_value field (value_of field region)) (fields_members region names rest)
     (values_shallow field (value_of field region)) (fields_shallow region names rest are)
 
 rule_shallow : (rules : List Rule) (place : ℕ) → IsShallow 0 (rule_value rules place)

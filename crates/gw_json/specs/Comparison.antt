@@ -11,6 +11,7 @@ use Rattle.gw_regions.specs.Regions.{Region}
 use Rattle.gw_regions.specs.Values.{has, is_any}
 use Rattle.gw_regions.specs.declared.comparison.Found.{Found}
 use Rattle.gw_regions.specs.declared.values.Values.{Values}
+use Rattle.gw_rules.specs.Field.{field_key}
 use Rattle.gw_rules.specs.Bounds.{bounds}
 use Rattle.gw_rules.specs.Fields.{value_of}
 use Rattle.gw_rules.specs.Operation.{operation_name, operation_number}
@@ -39,21 +40,6 @@ operations_value values =
     if list_all (has_operation values) ALL then null else array (items_of (flat_map (named_operation values) ALL))
 
 -- ---- other fields
-
--- the key of a field in a rule
-abbrev pub key_of : FieldName → List ℕ
-key_of Operation = codes "operation"
-key_of Port = codes "port"
-key_of SourceNetwork = codes "source_network"
-key_of SourceKey = codes "source"
-key_of DestinationNetwork = codes "destination"
-key_of Service = codes "service"
-key_of ObjectType = codes "object_type"
-key_of Instance = codes "instance"
-key_of Property = codes "property"
-key_of Priority = codes "priority"
-key_of Sender = codes "sender"
-key_of Station = codes "station"
 
 -- an end of a range: of stations as the log's objects show one, and else a number
 abbrev pub station_end : ℕ → Json
@@ -92,7 +78,7 @@ other_fields =
 abbrev pub fields_members : Region → List FieldName → Members → Members
 fields_members region [] rest = rest
 fields_members region (field ∷ fields) rest =
-    member (key_of field) (values_value field (value_of field region)) (fields_members region fields rest)
+    member (field_key field) (values_value field (value_of field region)) (fields_members region fields rest)
 
 -- ---- regions
 

@@ -10,7 +10,7 @@ ghost use Rattle.gw_regions.specs.Ranges.{both};
 ghost use Rattle.gw_rules.specs.Bounds.{bounds};
 ghost use Rattle.gw_rules.specs.declared.format.Format.TheVariants.{Three};
 ghost use Rattle.gw_rules.specs.declared.operation.TheConstants.Operation.{ALL};
-ghost use Rattle.gw_json.specs.Comparison.{end_value, found_value, has_operation, key_of, named_operation, operations_value, range_value, ranges_value, rule_value, rules_value, station_end, summary_value, values_value, verdict_word};
+ghost use Rattle.gw_json.specs.Comparison.{end_value, found_value, has_operation, named_operation, operations_value, range_value, ranges_value, rule_value, rules_value, station_end, summary_value, values_value, verdict_word};
 ghost use Rattle.gw_json.specs.Document.{IsLinePut, Writes, items_of};
 ghost use Rattle.gw_json.specs.internal.Tokens.{asks_tokens, deciders_tokens, extent_tokens, field_tokens, found_tokens, operation_tokens, range_tokens, rule_tokens, verdict_tokens};
 
@@ -261,7 +261,7 @@ fn write_field(
 ) -> Result<(), AllocError>
     ensures { Writes result writer.old writer.new (field_tokens region.now field) }
 {
-    writer.key(key_of(field))?;
+    writer.key(field.key())?;
     write_values(alloc, writer, field, region.get(field))
 }
 
@@ -385,26 +385,6 @@ fn write_station(alloc: Global, writer: &mut Writer, key: u64) -> Result<(), All
 {
     let word = station_word(alloc, &station_of(key))?;
     writer.string(word.as_str())
-}
-
-/// The key of a field in a rule.
-fn key_of(field: FieldName) -> &'static str
-    ensures { result.now ≡ key_of field }
-{
-    match field {
-        FieldName::Operation => "operation",
-        FieldName::Port => "port",
-        FieldName::SourceNetwork => "source_network",
-        FieldName::SourceKey => "source",
-        FieldName::DestinationNetwork => "destination",
-        FieldName::Service => "service",
-        FieldName::ObjectType => "object_type",
-        FieldName::Instance => "instance",
-        FieldName::Property => "property",
-        FieldName::Priority => "priority",
-        FieldName::Sender => "sender",
-        FieldName::Station => "station",
-    }
 }
 
 fn summary_text(

@@ -5,6 +5,7 @@ use Rattle.std.specs.List.{filter, flat_map, list_any}
 use Rattle.std.specs.Option.{is_some, option_map_or}
 use Rattle.gw_configuration.specs.Configuration.{Configuration}
 use Rattle.gw_configuration.specs.declared.port.Port.{Port}
+use Rattle.gw_rules.specs.Field.{field_key}
 use Rattle.gw_rules.specs.Format.{names_stations}
 use Rattle.gw_rules.specs.Rule.{ranges_of}
 use Rattle.gw_rules.specs.declared.field.FieldName.{FieldName}
@@ -15,7 +16,7 @@ use Rattle.gw_shapes.specs.Meeting.{overlaps}
 use Rattle.gw_script.specs.Order.{in_order}
 use Rattle.gw_lint.specs.Passage.{answers, is_cast, is_routed, is_unnamed, opener, opens_beyond, requests}
 use Rattle.gw_shapes.specs.Shape.{Shape}
-use Rattle.gw_lint.specs.Text.{key_of, rule_text}
+use Rattle.gw_lint.specs.Text.{rule_text}
 use Rattle.gw_lint.specs.Trust.{ending_words, is_open_end, is_open_for, is_source_alone, is_source_network_alone}
 use Rattle.gw_lint.specs.Trust.{port_words, reach_words, source_words}
 
@@ -55,7 +56,7 @@ abbrev pub has_overlap : List Range → Bool
 has_overlap ranges = list_any (λ range. nat_lt 1 (length (filter (overlaps range) ranges))) ranges
 
 abbrev pub overlap_words : FieldName → List ℕ
-overlap_words field = key_of field ++ codes ": two of its ranges overlap"
+overlap_words field = field_key field ++ codes ": two of its ranges overlap"
 
 -- for each field in which two ranges of the rule overlap
 abbrev pub overlap_note : List Rule → ℕ → Rule → FieldName → List ℕ

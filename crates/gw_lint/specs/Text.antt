@@ -6,6 +6,7 @@ use Rattle.std.specs.List.{flat_map}
 use Rattle.std.specs.Option.{is_some, option_map_or}
 use Rattle.gw_addr.specs.Address.{address_in, text_of}
 use Rattle.gw_audit.specs.Line.{absent, field_text, operation_text}
+use Rattle.gw_rules.specs.Field.{field_key}
 use Rattle.gw_rules.specs.Ask.{Ask}
 use Rattle.gw_rules.specs.Fields.{value_of}
 use Rattle.gw_rules.specs.RuleList.{allows_at}
@@ -19,21 +20,6 @@ use Rattle.gw_lint.specs.declared.finding.Finding.{Finding}
 use Rattle.gw_lint.specs.declared.finding.Finding.TheVariants as finding
 
 -- ---- an ask
-
--- the key that a configuration has for a field
-abbrev pub key_of : FieldName → List ℕ
-key_of Operation = codes "operation"
-key_of Port = codes "port"
-key_of SourceNetwork = codes "source_network"
-key_of SourceKey = codes "source"
-key_of DestinationNetwork = codes "destination"
-key_of Service = codes "service"
-key_of ObjectType = codes "object_type"
-key_of Instance = codes "instance"
-key_of Property = codes "property"
-key_of Priority = codes "priority"
-key_of Sender = codes "sender"
-key_of Station = codes "station"
 
 -- a source key as the address that it is, or as its number where it has more than the 48 bits of one
 abbrev pub source_text : ℕ → List ℕ
@@ -57,7 +43,7 @@ is_shown ask _ = true
 -- ` <key>=<value>`
 abbrev pub item_text : Ask → FieldName → List ℕ
 item_text ask field =
-    if is_shown ask field then codes " " ++ key_of field ++ codes "=" ++ value_text field (value_of field ask) else []
+    if is_shown ask field then codes " " ++ field_key field ++ codes "=" ++ value_text field (value_of field ask) else []
 
 -- the fields of an ask: twelve, or ten where it has no sender
 abbrev pub ask_fields_text : Ask → List ℕ

@@ -7,7 +7,7 @@ ghost use Rattle.gw_script.specs.Order.{in_order};
 ghost use Rattle.gw_lint.specs.Passage.{is_cast, is_routed, is_unnamed, opener, opens_beyond};
 
 use crate::passage::{answers, is_cast, is_routed, is_unnamed, opener, opens_beyond, requests};
-use crate::text::{key_of, put_rule};
+use crate::text::put_rule;
 use crate::trust_note::put_trust_notes;
 use gw_addr::{put_decimal, put_slice};
 use gw_configuration::{Config, Port, Route};
@@ -223,7 +223,7 @@ fn put_overlap_note(
 fn put_overlap_words(out: &mut Vec<u8>, field: FieldName) -> Result<(), AllocError>
     ensures { OnOk result (out.new.items ≡ out.old.items ++ overlap_words field) }
 {
-    out.extend_from_slice(key_of(field).as_bytes())?;
+    out.extend_from_slice(field.key().as_bytes())?;
     out.extend_from_slice(b": two of its ranges overlap")
 }
 

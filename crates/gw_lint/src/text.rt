@@ -4,7 +4,7 @@ ghost use Rattle.std.specs.List.{flat_map};
 ghost use Rattle.gw_audit.specs.Line.{operation_of, operation_text};
 ghost use Rattle.gw_rules.specs.RuleList.{allows_at};
 ghost use Rattle.gw_script.specs.Order.{in_order};
-ghost use Rattle.gw_lint.specs.Text.{found_text, is_shown, is_listed, item_text, key_of, likeness_text, line_text, rule_text, says_same, source_text, value_text};
+ghost use Rattle.gw_lint.specs.Text.{found_text, is_shown, is_listed, item_text, likeness_text, line_text, rule_text, says_same, source_text, value_text};
 
 use crate::Finding;
 use gw_addr::{BipAddr, put_decimal};
@@ -167,7 +167,7 @@ fn put_item(out: &mut Vec<u8>, ask: &Ask, field: FieldName) -> Result<(), AllocE
         return Ok(());
     }
     out.push(b' ')?;
-    out.extend_from_slice(key_of(field).as_bytes())?;
+    out.extend_from_slice(field.key().as_bytes())?;
     out.push(b'=')?;
     put_value(out, field, *ask.get(field))
 }
@@ -180,26 +180,6 @@ fn is_shown(ask: &Ask, field: FieldName) -> bool
     match field {
         FieldName::Sender | FieldName::Station => ask.sender.is_some(),
         _ => true,
-    }
-}
-
-/// The key that a configuration has for a field.
-pub(crate) fn key_of(field: FieldName) -> &'static str
-    ensures { result.now ≡ key_of field }
-{
-    match field {
-        FieldName::Operation => "operation",
-        FieldName::Port => "port",
-        FieldName::SourceNetwork => "source_network",
-        FieldName::SourceKey => "source",
-        FieldName::DestinationNetwork => "destination",
-        FieldName::Service => "service",
-        FieldName::ObjectType => "object_type",
-        FieldName::Instance => "instance",
-        FieldName::Property => "property",
-        FieldName::Priority => "priority",
-        FieldName::Sender => "sender",
-        FieldName::Station => "station",
     }
 }
 

@@ -25,7 +25,8 @@ pub record IsWritten {S : Type 0} (held : S → Option (List ℕ)) (m : Writing 
   pub lost : after.lost ≡ m.lost
 
 -- or it failed, and the store holds the text or what it held before
-pub record IsLost {S : Type 0} (held : S → Option (List ℕ)) (m : Writing S) (ticks : ℕ) (text : List ℕ) (after : Writing S) : Type 0 where
+pub record IsLost {S : Type 0} (held : S → Option (List ℕ)) (m : Writing S) (ticks : ℕ) (text : List ℕ)
+    (after : Writing S) : Type 0 where
   pub holds : (held after.store ≡ held m.store) ⊎ Holds (held after.store) text
   pub last : after.last ≡ Some ticks
   pub lost : after.lost ≡ one_more m.lost

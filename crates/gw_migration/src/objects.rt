@@ -43,22 +43,11 @@ pub(crate) fn put_objects(out: &mut Vec<u8>, objects: &[Object]) -> Result<(), A
 
 fn put_object(out: &mut Vec<u8>, object: &Object) -> Result<(), AllocError> {
     out.extend_from_slice(b"\n[[object]]\n")?;
-    put_number(out, "type", type_number(&object.value))?;
+    put_number(out, "type", object.value.type_number())?;
     put_number(out, "instance", u64::from(object.instance.get()))?;
     put_text(out, "name", object.name.as_str())?;
     put_description(out, &object.description)?;
     put_value(out, &object.value)
-}
-
-/// The number of the type of an object (clause 21).
-fn type_number(value: &ObjectValue) -> u64 {
-    match value {
-        ObjectValue::BinaryValue { .. } => 5,
-        ObjectValue::MultiStateValue(_) => 19,
-        ObjectValue::CharacterStringValue { .. } => 40,
-        ObjectValue::IntegerValue { .. } => 45,
-        ObjectValue::PositiveIntegerValue { .. } => 48,
-    }
 }
 
 /// Appends what is configured of a type alone.

@@ -35,31 +35,13 @@ fn put_rule(out: &mut Vec<u8>, config: &Config, rule: &Rule) -> Result<(), Alloc
     Ok(())
 }
 
-/// The key of a field.
-fn key_of(field: FieldName) -> &'static str {
-    match field {
-        FieldName::Operation => "operation",
-        FieldName::Port => "port",
-        FieldName::SourceNetwork => "source_network",
-        FieldName::SourceKey => "source",
-        FieldName::DestinationNetwork => "destination",
-        FieldName::Service => "service",
-        FieldName::ObjectType => "object_type",
-        FieldName::Instance => "instance",
-        FieldName::Property => "property",
-        FieldName::Priority => "priority",
-        FieldName::Sender => "sender",
-        FieldName::Station => "station",
-    }
-}
-
 /// Appends a line with the items for a field that a rule names, as format 3 writes them; for another field
 /// nothing. An `Err` if there is no memory.
 pub fn put_field(out: &mut Vec<u8>, field: FieldName, ranges: &[Range]) -> Result<(), AllocError> {
     if ranges.is_empty() {
         return Ok(());
     }
-    put_key(out, key_of(field))?;
+    put_key(out, field.key())?;
     out.extend_from_slice(b"[")?;
     for (place, range) in ranges.iter().enumerate() {
         if 0 < place {

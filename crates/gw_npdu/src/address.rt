@@ -33,6 +33,8 @@ pub struct Destination<'a> {
 impl Destination<'_> {
     /// The number that represents every network.
     pub const EVERY_NETWORK: u16 = 65535;
+    /// The hop count of a message that has passed no router yet (clause 6.2.3).
+    pub const WHOLE_HOP_COUNT: u8 = 255;
 
     /// The network, or None if the message is bound for every network.
     pub fn net(&self) -> Option<NetNum>

@@ -5,7 +5,7 @@ ghost use Rattle.gw_objects.specs.Laws.{OthersReadAlike, WritesAreInPlace, Write
 ghost use Rattle.gw_objects.specs.Values.{SameValuesAreEqual};
 
 use crate::table::MAX_APDU;
-use crate::write::MAX_TEXT;
+use gw_configuration::MAX_TEXT;
 
 /// The limits are 255 octets of a text that is written, and 1476 of an APDU that the device takes.
 pub fn limits()

@@ -19,5 +19,6 @@ pub use configured::{Configured, ConfiguredObject, Details, States, ValueObjects
 pub use database::ObjectDb;
 pub use fault::{ReadFault, WriteFault};
 pub use property::{ObjectType, Property, PropertySet, properties};
+pub use table::MAX_APDU;
 pub use value::PropertyValue;
 pub use write::Put;

@@ -13,7 +13,7 @@ use gw_priority::PriorityArray;
 /// The version of the protocol (clause 12.11).
 const PROTOCOL_VERSION: u32 = 1;
 /// The most octets of an APDU that the device takes.
-pub(crate) const MAX_APDU: u32 = 1476;
+pub const MAX_APDU: u16 = 1476;
 /// How long the device would wait for an answer, in milliseconds.
 const APDU_TIMEOUT: u32 = 3000;
 /// How often it would ask again.
@@ -48,7 +48,7 @@ pub(crate) fn device_line<'a>(configured: &'a Configured, property: Property) ->
             configured.device_id(),
             &configured.objects,
         )),
-        Property::MaxApduLengthAccepted => Contents::One(Item::Unsigned(MAX_APDU)),
+        Property::MaxApduLengthAccepted => Contents::One(Item::Unsigned(MAX_APDU as u32)),
         Property::SegmentationSupported => Contents::One(Item::Enumerated(NO_SEGMENTATION)),
         Property::ApduTimeout => Contents::One(Item::Unsigned(APDU_TIMEOUT)),
         Property::NumberOfApduRetries => Contents::One(Item::Unsigned(APDU_RETRIES)),

@@ -17,14 +17,11 @@ use crate::value::is_state;
 use crate::{
     Configured, ConfiguredObject, Details, ObjectType, Property, PropertyValue, WriteFault,
 };
-use gw_configuration::Text;
+use gw_configuration::{MAX_TEXT, Text};
 use gw_priority::RESERVED;
 use gw_tags::{AppValue, CharacterString, ObjectId, ValueFault, read_value};
 use std::alloc::Global;
 use std::marker::Model;
-
-/// How many octets a text has at most.
-pub(crate) const MAX_TEXT: usize = 255;
 
 /// A write that [`check`](crate::ObjectDb::check) found without a fault, for
 /// [`put`](crate::ObjectDb::put). Contracts see the place of its object and what it does there.

@@ -6,7 +6,7 @@ use Rattle.std.specs.List.{flat_map}
 use Rattle.std.specs.Option.{option_map_or}
 use Rattle.gw_addr.specs.Address.{text_of}
 use Rattle.gw_configuration.specs.Configuration.{Configuration}
-use Rattle.gw_configuration.specs.Duplicates.{type_number}
+use Rattle.gw_configuration.specs.Kinds.{type_number}
 use Rattle.gw_configuration.specs.Subnet.{Subnet, subnet_text}
 use Rattle.gw_configuration.specs.declared.device.Device.{Device}
 use Rattle.gw_configuration.specs.declared.object.Object.{Object}

@@ -1,14 +1,13 @@
 //! From whom objects are hidden, and what reveals them all the same.
 ghost use Rattle.std.specs.Prelude.{◌≡◌, ◌++◌, ◌≤◌, codes, length, OnOk};
 ghost use Rattle.std.specs.List.{flat_map};
-ghost use Rattle.gw_configuration.specs.Duplicates.{type_number};
 ghost use Rattle.gw_script.specs.Order.{in_order};
 ghost use Rattle.gw_permissions.specs.Permissions.{hidden_line, hidden_words, identifier_words, is_hidden, is_readable, list_line, name_words, network_may, object_lines, object_list, object_words, plain_lines, point_of, property_lines, property_words, reading_lines, listed_line, listed_lines};
 
 use crate::passing::may_pass;
 use crate::questions::{Point, reading};
 use crate::words::{put_number, put_shown};
-use gw_configuration::{Config, Device, Object, ObjectValue, Port};
+use gw_configuration::{Config, Device, Object, Port};
 use gw_rules::RuleList;
 use std::alloc::AllocError;
 
@@ -213,7 +212,7 @@ fn put_identifier(out: &mut Vec<u8>, number: usize, object: &Object) -> Result<(
     ensures { OnOk result (out.new.items ≡ out.old.items ++ identifier_words number object.now) }
 {
     put_number(out, "object ", number)?;
-    put_number(out, " (", type_number(&object.value))?;
+    put_number(out, " (", object.value.type_number())?;
     put_number(out, ",", object.instance.get())?;
     out.extend_from_slice(b") \"")
 }
@@ -239,7 +238,7 @@ fn point_of(object: &Object, property: u64) -> Point
     ensures { result ≡ point_of object.now property }
 {
     Point {
-        kind: type_number(&object.value),
+        kind: object.value.type_number(),
         instance: u64::from(object.instance.get()),
         property,
     }
@@ -260,23 +259,11 @@ fn object_list(device: &Device) -> Point
 fn is_hidden(rules: &RuleList, object: &Object, network: u16) -> bool
     ensures { result ≡ is_hidden rules.now object.now network }
 {
-    let kind = type_number(&object.value);
+    let kind = object.value.type_number();
     rules.hides_from_network(u64::from(network), kind, u64::from(object.instance.get()))
 }
 
 /// The number of an object's type.
-fn type_number(value: &ObjectValue) -> u64
-    ensures { result ≡ type_number value.now }
-{
-    match value {
-        ObjectValue::BinaryValue { .. } => 5,
-        ObjectValue::MultiStateValue(_) => 19,
-        ObjectValue::CharacterStringValue { .. } => 40,
-        ObjectValue::IntegerValue { .. } => 45,
-        ObjectValue::PositiveIntegerValue { .. } => 48,
-    }
-}
-
 // ---- formats 1 and 2
 
 /// Appends from which of these ports' networks the objects, at most 256, are hidden.

@@ -2,7 +2,6 @@
 
 ghost use Rattle.std.specs.Prelude.{◌≡◌, ◌++◌, ◌∷◌, [], codes, if◌then◌else◌, unwrap_or, IfOk, OnErr, OnOk};
 ghost use Rattle.std.specs.List.{flat_map};
-ghost use Rattle.gw_configuration.specs.Duplicates.{type_number};
 ghost use Rattle.gw_points.specs.Cells.{next_text, row_text};
 ghost use Rattle.gw_points.specs.internal.View.{point_view};
 ghost use Rattle.gw_names.specs.Names.{object_type_name};
@@ -10,7 +9,7 @@ ghost use Rattle.gw_points.specs.Points.{cells, column_row, default_cell, device
 
 use crate::cells::{guarded, put_cell, put_end, put_next, put_row};
 use gw_addr::{keep_whole, put_decimal, put_octet, put_slice};
-use gw_configuration::{Config, Device, Object, ObjectKind, ObjectValue};
+use gw_configuration::{Config, Device, Object, ObjectValue};
 use gw_names::object_type_name;
 use itoa::{Buffer, Integer};
 use std::alloc::{AllocError, Global};
@@ -156,7 +155,7 @@ fn put_object(
     let units = units_cell(alloc, &object.value)?;
     let point = Point {
         device,
-        kind: type_number(&object.value),
+        kind: object.value.type_number(),
         instance: object.instance.get(),
         name: object.name.as_str(),
         description: object.description.as_str(),
@@ -276,19 +275,6 @@ fn kind_name(kind: u64) -> &'static str
         Some(name) => name,
         None => "",
     }
-}
-
-fn type_number(value: &ObjectValue) -> u64
-    ensures { result ≡ type_number value.now }
-{
-    let kind = match value {
-        ObjectValue::BinaryValue { .. } => ObjectKind::BinaryValue,
-        ObjectValue::MultiStateValue(_) => ObjectKind::MultiStateValue,
-        ObjectValue::CharacterStringValue { .. } => ObjectKind::CharacterStringValue,
-        ObjectValue::IntegerValue { .. } => ObjectKind::IntegerValue,
-        ObjectValue::PositiveIntegerValue { .. } => ObjectKind::PositiveIntegerValue,
-    };
-    kind as u64
 }
 
 /// The cell of Relinquish_Default.

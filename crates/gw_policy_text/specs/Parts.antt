@@ -79,21 +79,6 @@ each_at read place [] = Ok []
 each_at read place (value ∷ later) =
     read place value >>= λ first. each_at read (place + 1) later >>= λ others. Ok (first ∷ others)
 
--- the key of a field in the table of a rule
-abbrev pub key_of : FieldName → List ℕ
-key_of fields.Operation = codes "operation"
-key_of fields.Port = codes "port"
-key_of fields.SourceNetwork = codes "source_network"
-key_of fields.SourceKey = codes "source"
-key_of fields.DestinationNetwork = codes "destination"
-key_of fields.Service = codes "service"
-key_of fields.ObjectType = codes "object_type"
-key_of fields.Instance = codes "instance"
-key_of fields.Property = codes "property"
-key_of fields.Priority = codes "priority"
-key_of fields.Sender = codes "sender"
-key_of fields.Station = codes "station"
-
 -- the device
 
 abbrev pub device_parts : Members → Read Device

@@ -6,6 +6,7 @@ use Rattle.std.specs.List.{list_any}
 use Rattle.std.specs.Option.{option_map, option_map_or}
 use Rattle.toml.specs.Data.{Data, Members, get_member}
 use Rattle.gw_addr.specs.Reading.{◌>>=◌}
+use Rattle.gw_rules.specs.Field.{field_key}
 use Rattle.gw_rules.specs.declared.field.FieldName.{FieldName}
 use Rattle.gw_rules.specs.declared.field.FieldName.TheVariants as fields
 use Rattle.gw_rules.specs.declared.field.TheConstants.FieldName.{ALL}
@@ -26,7 +27,7 @@ use Rattle.gw_config_tables.specs.Items.{each, ranges_in, set_name_in}
 use Rattle.gw_config_tables.specs.Range.{range_in}
 use Rattle.gw_config_tables.specs.Tables.{rule_fields, scalar_of, set_fields}
 use Rattle.gw_config_tables.specs.Value.{boolean_in, rule_name_in, table_in}
-use Rattle.gw_policy_text.specs.Parts.{at, each_at, key_of, list_at, list_or, optional_text, within}
+use Rattle.gw_policy_text.specs.Parts.{at, each_at, list_at, list_or, optional_text, within}
 
 -- sets
 
@@ -40,7 +41,7 @@ mentions_in name (Err fault) = false
 
 -- a rule names a set for a field
 abbrev pub mentions_for : List ℕ → Members → FieldName → Bool
-mentions_for name table field = mentions_in name (list_or (get_member (key_of field) table))
+mentions_for name table field = mentions_in name (list_or (get_member (field_key field) table))
 
 abbrev pub mentions : List ℕ → Read Members → Bool
 mentions name (Ok table) = list_any (mentions_for name table) ALL
@@ -72,12 +73,12 @@ boolean_at key table = at key table >>= boolean_in
 
 -- the ranges for a field: in formats 1 and 2 of at most 4 items
 abbrev pub short_ranges_at : Format → FieldName → Members → Read (List RuleRange)
-short_ranges_at format field table = list_at 0 4 (key_of field) table >>= each (range_in (scalar_of format field))
+short_ranges_at format field table = list_at 0 4 (field_key field) table >>= each (range_in (scalar_of format field))
 
 -- in format 3 of at most 64 items, and at most 256 of them
 abbrev pub long_ranges_at : Format → List Data → FieldName → Members → Read (List RuleRange)
 long_ranges_at format sets field table =
-    list_at 0 64 (key_of field) table >>= ranges_in sets (scalar_of format field) >>= within 0 256
+    list_at 0 64 (field_key field) table >>= ranges_in sets (scalar_of format field) >>= within 0 256
 
 abbrev pub ranges_at : Format → List Data → FieldName → Members → Read (List RuleRange)
 ranges_at format sets field table =
@@ -142,7 +143,7 @@ abbrev pub crowded_at : Format → ℕ → FieldName → Located
 crowded_at format rule field = record {
   fault = TooMany;
   place = places.Rule rule;
-  key = key_of field;
+  key = field_key field;
   item = None;
   wanted = Some (Items (scalar_of format field));
 }

@@ -4,6 +4,7 @@ use Rattle.std.specs.Prelude.{◌≡◌, ℕ, Bool, false, not, nat_lt, if◌the
 use Rattle.toml.specs.Data.{Data, Members}
 use Rattle.gw_addr.specs.Reading.{◌>>=◌}
 use Rattle.gw_addr.specs.declared.TheConstants.{MAX_PORTS}
+use Rattle.gw_rules.specs.Field.{field_key}
 use Rattle.gw_rules.specs.declared.field.FieldName.{FieldName}
 use Rattle.gw_rules.specs.declared.field.FieldName.TheVariants as fields
 use Rattle.gw_rules.specs.declared.fields.Fields.{Fields}
@@ -26,7 +27,7 @@ use Rattle.gw_config_tables.specs.Range.{range_in}
 use Rattle.gw_config_tables.specs.Tables.{common_port_fields, common_rule_fields, format_in, may, needs, number, scalar_of, tables}
 use Rattle.gw_config_tables.specs.Value.{table_in}
 use Rattle.gw_policy_text.specs.Document.{document, located_configuration}
-use Rattle.gw_policy_text.specs.Parts.{address_at, device_at, each_at, key_of, list_at, number_at, objects_at, peers_at, routes_at}
+use Rattle.gw_policy_text.specs.Parts.{address_at, device_at, each_at, list_at, number_at, objects_at, peers_at, routes_at}
 use Rattle.gw_policy_text.specs.Policy.{Policy, boolean_at, rule_name_at}
 
 abbrev pub top_fields : List Field
@@ -57,7 +58,7 @@ port_in port value =
 -- a rule of format 1 or 2, which names neither sender nor station
 
 abbrev pub ranges_at : Format → FieldName → Members → Read (List RuleRange)
-ranges_at format field table = list_at 0 4 (key_of field) table >>= each (range_in (scalar_of format field))
+ranges_at format field table = list_at 0 4 (field_key field) table >>= each (range_in (scalar_of format field))
 
 abbrev pub fields_of : Format → Members → Read (Fields (List RuleRange))
 fields_of format table = do

@@ -3,35 +3,14 @@ ghost use Rattle.std.specs.Prelude.{◌≡◌, ◌≤◌, [], length, map, IfOk}
 ghost use Rattle.gw_addr.specs.Reading as plain;
 ghost use Rattle.toml.specs.Data.{get_member};
 ghost use Rattle.toml.specs.View.{table_view, view};
-ghost use Rattle.gw_policy_text.specs.Parts.{address_at, at, key_of, list_at, list_or, mask_at, number_at, optional_text, text_at};
+ghost use Rattle.gw_policy_text.specs.Parts.{address_at, at, list_at, list_or, mask_at, number_at, optional_text, text_at};
 ghost use Rattle.gw_configuration.specs.Reading.{Gives, NamesFault};
 
 use gw_addr::{BipAddr, Mask, NetNum};
 use gw_config_tables::value::{self, member, string};
 use gw_configuration::{ConfigFault, Instance, Text};
-use gw_rules::FieldName;
 use std::alloc::Global;
 use toml::{Table, Value};
-
-/// The key of a field in the table of a rule.
-pub(crate) fn key_of(field: FieldName) -> &'static str
-    ensures { result.now ≡ key_of field }
-{
-    match field {
-        FieldName::Operation => "operation",
-        FieldName::Port => "port",
-        FieldName::SourceNetwork => "source_network",
-        FieldName::SourceKey => "source",
-        FieldName::DestinationNetwork => "destination",
-        FieldName::Service => "service",
-        FieldName::ObjectType => "object_type",
-        FieldName::Instance => "instance",
-        FieldName::Property => "property",
-        FieldName::Priority => "priority",
-        FieldName::Sender => "sender",
-        FieldName::Station => "station",
-    }
-}
 
 /// The value at a key. `Missing` where there is none.
 pub(crate) fn at<'a>(key: &str, table: &'a Table) -> Result<&'a Value, ConfigFault>

@@ -19,7 +19,7 @@ ghost use Rattle.gw_config_tables.specs.Tables.{rule_fields};
 ghost use Rattle.gw_policy_text.specs.Parts.{within};
 ghost use Rattle.gw_policy_text.specs.Policy.{crowd, crowded, crowded_at, fields_of, long_ranges_at, ranges_at, rule_in, rule_of, rule_parts, rules_behind, short_ranges_at, station_ranges_at};
 
-use crate::reading::{at, key_of, list_at};
+use crate::reading::{at, list_at};
 use gw_config_tables::range::range;
 use gw_config_tables::tables::{rule_located, scalar_of};
 use gw_config_tables::value::{self, table};
@@ -179,7 +179,7 @@ fn long_ranges_at(
     ensures ranges { Gives (λ rs. rs) result (long_ranges_at format (map view sets.now) field (table_view table.now)) }
     ensures within { IfOk result (λ rs. IsTrue (list_all (is_within (bounds format field)) rs)) }
 {
-    let list = list_at(0, MAX_ITEMS, key_of(field), table)?;
+    let list = list_at(0, MAX_ITEMS, field.key(), table)?;
     let ranges = items::ranges(alloc, sets, scalar_of(format, field), list)?;
     if MAX_LONG_RANGES < ranges.len() {
         return Err(ConfigFault::TooMany);
@@ -197,7 +197,7 @@ fn short_ranges_at(
     ensures ranges { Gives (λ rs. rs) result (short_ranges_at format field (table_view table.now)) }
     ensures within { IfOk result (λ rs. IsTrue (list_all (is_within (bounds format field)) rs)) }
 {
-    let items = list_at(0, MAX_RANGES, key_of(field), table)?;
+    let items = list_at(0, MAX_RANGES, field.key(), table)?;
     ranges(alloc, scalar_of(format, field), items)
 }
 
@@ -231,7 +231,7 @@ fn crowded_at<'a>(format: Format, rule: usize, field: FieldName) -> Located<'a>
     Located {
         fault: ConfigFault::TooMany,
         place: Place::Rule(rule),
-        key: key_of(field),
+        key: field.key(),
         item: None,
         wanted: Some(Shape::Items(scalar_of(format, field))),
     }

@@ -9,7 +9,7 @@ ghost use Rattle.gw_policy_text.specs.Policy.{is_mention, is_used, mentions, men
 ghost use Rattle.gw_config_tables.specs.Value.{table_in};
 ghost use Rattle.gw_rules.specs.declared.field.TheConstants.FieldName.{ALL};
 
-use crate::reading::{any_list, at, key_of};
+use crate::reading::{any_list, at};
 use gw_addr::Sequence;
 use gw_config_tables::items::set_name;
 use gw_config_tables::located_in;
@@ -105,7 +105,7 @@ fn mentions_for_any(name: &str, table: &Table) -> bool
 fn mentions_for(name: &str, table: &Table, field: FieldName) -> bool
     ensures { result ≡ mentions_for name.now (table_view table.now) field }
 {
-    match any_list(key_of(field), table) {
+    match any_list(field.key(), table) {
         Ok(items) => are_mentions(name, items),
         Err(_) => false,
     }

@@ -1,6 +1,7 @@
 -- Whose turn it is: due ticks first, then the ports after the last that answered, one after the
 -- other around to itself, and of each port its two sockets.
-use Rattle.std.specs.Prelude.{◌≡◌, ◌⊎◌, ℕ, ◌+◌, ◌-◌, ◌≤◌, ◌<◌, Bool, false, not, List, [], ◌∷◌, ◌++◌, length, slice_index_or, slice_set, Option, Some}
+use Rattle.std.specs.Prelude.{◌≡◌, ◌⊎◌, ℕ, ◌+◌, ◌-◌, ◌≤◌, ◌<◌, Bool, false, not, List, [], ◌∷◌, ◌++◌, length}
+use Rattle.std.specs.Prelude.{slice_index_or, slice_set, Option, Some}
 use Rattle.std.specs.Prelude.{Result, Ok, Err, unwrap_or}
 use Rattle.std.specs.List.{All, flat_map, range_with_len}
 use Rattle.gw_addr.specs.declared.bip.BipAddr.{BipAddr}
@@ -137,7 +138,8 @@ pub record Stay {S : Type 0} (from to : ℕ) (before after : List (SockPair S)) 
 -- ---- a send
 
 -- The own socket of the port of this number sent, or failed to; a send on a port that isn't there fails. All other sockets are as they were.
-pub data HasTried {S : Type 0} (Sent : S → S → BipAddr → List ℕ → Result Unit SockFault → Type 0) (port : ℕ) (to : BipAddr) (octets : List ℕ)
+pub data HasTried {S : Type 0} (Sent : S → S → BipAddr → List ℕ → Result Unit SockFault → Type 0) (port : ℕ)
+    (to : BipAddr) (octets : List ℕ)
     (before after : List (SockPair S)) (said : Result Unit SockFault) : Type 0 where
   there : 1 ≤ port → port ≤ length before → Stay (port - 1) port before after →
       AtPlace before after (port - 1) (HasSentOwn Sent to octets said) → HasTried Sent port to octets before after said
@@ -150,7 +152,8 @@ sent_of (Ok done) = Ok done
 sent_of (Err fault) = Err wire_fault.Failed
 
 -- A send on the port of this number: nothing else changes but the count of failures, where it failed.
-pub record HasSentOn {S : Type 0} (Sent : S → S → BipAddr → List ℕ → Result Unit SockFault → Type 0) (port : ℕ) (to : BipAddr) (octets : List ℕ)
+pub record HasSentOn {S : Type 0} (Sent : S → S → BipAddr → List ℕ → Result Unit SockFault → Type 0) (port : ℕ)
+    (to : BipAddr) (octets : List ℕ)
     (before after : Ports S) (given : Result Unit WireFault) : Type 0 where
   pub said : Result Unit SockFault
   pub tried : HasTried Sent port to octets before.pairs after.pairs said

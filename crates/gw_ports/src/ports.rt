@@ -5,8 +5,8 @@ ghost use Rattle.std.specs.Borrow.{sem};
 ghost use Rattle.gw_addr.specs.declared.TheConstants.{MAX_PORTS};
 ghost use Rattle.gw_ports.specs.declared.sock_pair.SockPair.{SockPair};
 ghost use Rattle.gw_serving.specs.Wire.{IsHandedIn, Records, failures_of, receive_answer, receive_call, send_call};
-ghost use Rattle.gw_ports.specs.Asking.{AreAsked, AreAskedInTurn, turn_of};
-ghost use Rattle.gw_ports.specs.Lending.{LendsPair};
+ghost use Rattle.gw_ports.specs.internal.Asking.{AreAsked, AreAskedInTurn, turn_of};
+ghost use Rattle.gw_ports.specs.internal.Lending.{LendsPair};
 ghost use Rattle.gw_ports.specs.Ports.{AtPlace, HasSentOn, HasTried, IsNext, asked, got_of, handed_in, last_number, sockets_in_turn};
 ghost use Rattle.gw_ports.specs.Socket.{FitsBuffer, some_answer};
 

@@ -10,13 +10,12 @@ ghost use Rattle.gw_bvll.specs.Entries.{lent};
 ghost use Rattle.gw_relay.specs.internal.Octets.{within};
 
 use gw_bdt_fdt::{Bdt, Fdt};
-use gw_bvll::{BdtEntries, Bvll, EncodeFault, FdtEntries, Function, ResultCode};
+use gw_bvll::{
+    BVLC_TYPE, BdtEntries, Bvll, EncodeFault, FdtEntries, Function, HEADER_LEN, ResultCode,
+    set_length,
+};
 use std::alloc::{AllocError, Global};
 
-/// The first octet of every message: BACnet/IP (Annex J.2).
-const BACNET_IP: u8 = 0x81;
-/// How many octets of a message come before its body (Annex J.2).
-pub(crate) const HEADER_LEN: usize = 4;
 /// How many octets the entry of a table has (Annex J.2.2, J.2.8).
 const ENTRY_LEN: usize = 10;
 /// How many octets a BVLC-Result has (Annex J.2.1).
@@ -50,25 +49,14 @@ fn put_empty(message: &Bvll<'_>, octets: &mut Vec<u8>) -> Result<(), AllocError>
 
 /// Writes the header of a message with this function over its first four octets (Annex J.2).
 pub(crate) fn set_header(message: &mut [u8], function: Function)
-    requires least { HEADER_LEN ≤ length message.old }
+    requires least { 4 ≤ length message.old }
     requires most { length message.old < 2 ^ 16 }
     ensures { let len = to_be_bytes w16 (length message.old) in
         message.new ≡ 0x81 ∷ octet_of function ∷ len ++ drop 4 message.old }
 {
     let [high, low] = (message.len() as u16).to_be_bytes();
-    let header = [BACNET_IP, function.octet(), high, low];
+    let header = [BVLC_TYPE, function.octet(), high, low];
     message[..HEADER_LEN].copy_from_slice(&header);
-}
-
-/// Writes the length of a message into its header (Annex J.2).
-fn set_length(message: &mut [u8])
-    requires least { HEADER_LEN ≤ length message.old }
-    requires most { length message.old < 2 ^ 16 }
-    ensures { let len = to_be_bytes w16 (length message.old) in
-        message.new ≡ take 2 message.old ++ (len ++ drop 4 message.old) }
-{
-    let len = (message.len() as u16).to_be_bytes();
-    message[2..4].copy_from_slice(&len);
 }
 
 /// The octets of a BVLC-Result (Annex J.2.1).

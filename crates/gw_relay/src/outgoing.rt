@@ -8,8 +8,8 @@ ghost use Rattle.gw_npdu.specs.Onward.{onward, onward_view};
 ghost use Rattle.gw_relay.specs.Steps.{npdu_octets};
 ghost use Rattle.gw_relay.specs.internal.Outgoing.{framed};
 
-use crate::octets::{HEADER_LEN, set_header};
-use gw_bvll::Function;
+use crate::octets::set_header;
+use gw_bvll::{Function, HEADER_LEN};
 use gw_npdu::{EncodeFault, Npdu, Onward};
 use std::alloc::{AllocError, Global};
 use std::marker::Model;

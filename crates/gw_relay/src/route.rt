@@ -24,8 +24,6 @@ use gw_routes::{Route, Way};
 use gw_rules::{Asker, Format, Operation};
 use std::alloc::{AllocError, Global};
 
-/// The hop count that a message begins with (clause 6.2.3).
-const MAX_HOPS: u8 = 255;
 /// Reason 1 of a Reject-Message-To-Network: no way to the network is known (clause 6.4.4).
 const UNREACHABLE: u8 = 1;
 
@@ -146,7 +144,7 @@ impl Message<'_> {
             Some(source) => Some(Destination {
                 network: source.network,
                 mac: source.mac,
-                hops: MAX_HOPS,
+                hops: Destination::WHOLE_HOP_COUNT,
             }),
             None => None,
         };

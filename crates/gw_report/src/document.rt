@@ -8,7 +8,7 @@ use crate::log::{Denials, read_log};
 use crate::plots::put_denials;
 use crate::rules::put_rules;
 use crate::site::put_site;
-use gw_configuration::{Config, Object, ObjectKind, ObjectValue, Text};
+use gw_configuration::{Config, Object, Text};
 use gw_names::object_type_name;
 use gw_page::{Element, Page};
 use gw_script::OctetSource;
@@ -108,21 +108,10 @@ fn put_object(page: &mut Page, object: &Object) -> Result<(), AllocError> {
     page.open(Element::Row)?;
     page.element(
         Element::Cell,
-        object_type_name(kind_of(&object.value) as u64).unwrap_or("object"),
+        object_type_name(object.value.type_number()).unwrap_or("object"),
     )?;
     page.number_cell(u64::from(object.instance.get()))?;
     page.element(Element::Cell, object.name.as_str())?;
     page.element(Element::Cell, object.description.as_str())?;
     page.close(Element::Row)
-}
-
-/// The type of an object.
-fn kind_of(value: &ObjectValue) -> ObjectKind {
-    match value {
-        ObjectValue::BinaryValue { .. } => ObjectKind::BinaryValue,
-        ObjectValue::MultiStateValue(_) => ObjectKind::MultiStateValue,
-        ObjectValue::CharacterStringValue { .. } => ObjectKind::CharacterStringValue,
-        ObjectValue::IntegerValue { .. } => ObjectKind::IntegerValue,
-        ObjectValue::PositiveIntegerValue { .. } => ObjectKind::PositiveIntegerValue,
-    }
 }

@@ -1,5 +1,5 @@
--- The numbers of the twelve fields, which are this project's own.
-use Rattle.std.specs.Prelude.{ℕ}
+-- The numbers of the twelve fields and their keys in the table of a rule, which are this project's own.
+use Rattle.std.specs.Prelude.{ℕ, List, codes}
 use Rattle.gw_rules.specs.declared.field.FieldName.{FieldName}
 use Rattle.gw_rules.specs.declared.field.FieldName.TheVariants.{Operation, Port, SourceNetwork, SourceKey}
 use Rattle.gw_rules.specs.declared.field.FieldName.TheVariants.{DestinationNetwork, Service, ObjectType, Instance}
@@ -19,3 +19,18 @@ field_number Property = 9
 field_number Priority = 10
 field_number Sender = 11
 field_number Station = 12
+
+-- the key of a field in the table of a rule
+abbrev pub field_key : FieldName → List ℕ
+field_key Operation = codes "operation"
+field_key Port = codes "port"
+field_key SourceNetwork = codes "source_network"
+field_key SourceKey = codes "source"
+field_key DestinationNetwork = codes "destination"
+field_key Service = codes "service"
+field_key ObjectType = codes "object_type"
+field_key Instance = codes "instance"
+field_key Property = codes "property"
+field_key Priority = codes "priority"
+field_key Sender = codes "sender"
+field_key Station = codes "station"

@@ -1,7 +1,7 @@
 //! The twelve fields by which a rule picks asks.
 ghost use Rattle.std.specs.Prelude.{◌≡◌};
 ghost use Rattle.gw_rules.specs.Bounds.{bounds, last_destination, last_operation};
-ghost use Rattle.gw_rules.specs.Field.{field_number};
+ghost use Rattle.gw_rules.specs.Field.{field_key, field_number};
 
 use crate::{Format, Operation, Range};
 use gw_addr::MAX_PORTS;
@@ -57,6 +57,26 @@ impl FieldName {
         ensures { result ≡ field_number self }
     {
         self as u64
+    }
+
+    /// The key of the field in the table of a rule.
+    pub fn key(self) -> &'static str
+        ensures { result.now ≡ field_key self }
+    {
+        match self {
+            FieldName::Operation => "operation",
+            FieldName::Port => "port",
+            FieldName::SourceNetwork => "source_network",
+            FieldName::SourceKey => "source",
+            FieldName::DestinationNetwork => "destination",
+            FieldName::Service => "service",
+            FieldName::ObjectType => "object_type",
+            FieldName::Instance => "instance",
+            FieldName::Property => "property",
+            FieldName::Priority => "priority",
+            FieldName::Sender => "sender",
+            FieldName::Station => "station",
+        }
     }
 
     /// The least and the greatest number that the field can have in a policy of this format: 1 to 11 of an

@@ -1,5 +1,6 @@
 -- A stretch of serving under a guard, which judges each event that was taken and logged before anything of it is sent.
-use Rattle.std.specs.Prelude.{◌≡◌, ⊤, ℕ, ◌+◌, ◌-◌, ◌*◌, ◌^◌, ◌<◌, ◌≤◌, Bool, true, false, List, [], ◌∷◌, ◌++◌, length, Option, Some, None}
+use Rattle.std.specs.Prelude.{◌≡◌, ⊤, ℕ, ◌+◌, ◌-◌, ◌*◌, ◌^◌, ◌<◌, ◌≤◌, Bool, true, false, List, [], ◌∷◌, ◌++◌, length}
+use Rattle.std.specs.Prelude.{Option, Some, None}
 use Rattle.std.specs.Prelude.{Result, Ok, Err}
 use Rattle.std.specs.Io.KnownBytes.{Appends}
 use Rattle.gw_script.specs.Event.{Event}
@@ -12,7 +13,8 @@ use Rattle.gw_core.specs.Lasting.{lasts}
 use Rattle.gw_core.specs.State.{State}
 use Rattle.gw_core.specs.declared.asked.Asked.{Asked}
 use Rattle.gw_core.specs.declared.gateway.Taken.{Taken}
-use Rattle.gw_serving.specs.Serve.{EndsBy, IsTakenLast, LeadTo, Scene, Try, Turn, count_fault, count_turn, counts_after, empty_turn, events_of}
+use Rattle.gw_serving.specs.Serve.{EndsBy, IsTakenLast, LeadTo, Scene, Try, Turn, count_fault, count_turn, counts_after}
+use Rattle.gw_serving.specs.Serve.{empty_turn, events_of}
 use Rattle.gw_serving.specs.Serve.{failed_turn, lines_of, lost_event, taken_event, turn_events}
 use Rattle.gw_serving.specs.Tally.{IsBelow, tally_from}
 use Rattle.gw_serving.specs.declared.serving.ServeFault.{ServeFault}
@@ -73,7 +75,8 @@ AreGuarded {G} Passes g w (turn ∷ turns) last =
 
 -- What these turns lead to: what `serve` says of them, each event passed the guard before its datagrams were tried, and
 -- all is counted on.
-pub record GoOn {G : Type 0} (Passes : G → State → Event → G → Bool → Type 0) (before : Moment G) (turns : List Turn) (after : Moment G)
+pub record GoOn {G : Type 0} (Passes : G → State → Event → G → Bool → Type 0) (before : Moment G) (turns : List Turn)
+    (after : Moment G)
     : Type 0 where
   pub went : LeadTo before.scene turns after.scene
   pub guarded : AreGuarded Passes before.guard before.scene.gateway turns after.guard
@@ -83,14 +86,16 @@ pub record GoOn {G : Type 0} (Passes : G → State → Event → G → Bool → 
 -- ---- the ends
 
 -- all turns were done, and no tick was taken
-pub record EndsAtTurns {G : Type 0} (Passes : G → State → Event → G → Bool → Type 0) (count : ℕ) (before after : Moment G) : Type 0 where
+pub record EndsAtTurns {G : Type 0} (Passes : G → State → Event → G → Bool → Type 0) (count : ℕ)
+    (before after : Moment G) : Type 0 where
   pub turns : List Turn
   pub all : length turns ≡ count
   pub went : GoOn Passes before turns after
   pub ticks : after.scene.gateway.ticks ≡ before.scene.gateway.ticks
 
 -- a tick was taken in the last turn, and none before
-pub record EndsAtTick {G : Type 0} (Passes : G → State → Event → G → Bool → Type 0) (count : ℕ) (before after : Moment G) : Type 0 where
+pub record EndsAtTick {G : Type 0} (Passes : G → State → Event → G → Bool → Type 0) (count : ℕ)
+    (before after : Moment G) : Type 0 where
   pub turns : List Turn
   pub fewer : length turns < count
   pub tries : List Try
@@ -99,14 +104,16 @@ pub record EndsAtTick {G : Type 0} (Passes : G → State → Event → G → Boo
 
 -- The guard didn't let the datagrams of the last event go: the event was taken and logged, and nothing of what it sends was
 -- tried.
-pub record IsWithheld {G : Type 0} (Passes : G → State → Event → G → Bool → Type 0) (before : Moment G) (event : Event) (after : Moment G)
+pub record IsWithheld {G : Type 0} (Passes : G → State → Event → G → Bool → Type 0) (before : Moment G) (event : Event)
+    (after : Moment G)
     : Type 0 where
   pub logged : IsLoggedLast before.scene event after.scene
   pub passes : Passes before.guard before.scene.gateway event after.guard false
   pub counts : after.served ≡ count_taken before.served
   pub tally : after.tally ≡ tally_from before.scene.gateway before.tally (event ∷ [])
 
-pub record EndsWithheld {G : Type 0} (Passes : G → State → Event → G → Bool → Type 0) (count : ℕ) (before after : Moment G) : Type 0 where
+pub record EndsWithheld {G : Type 0} (Passes : G → State → Event → G → Bool → Type 0) (count : ℕ)
+    (before after : Moment G) : Type 0 where
   pub turns : List Turn
   pub fewer : length turns < count
   pub then : Moment G
@@ -121,7 +128,8 @@ pub record IsFaulty {G : Type 0} (fault : ServeFault) (before : Moment G) (event
   pub counts : after.served ≡ count_fault before.served fault
   pub tally : after.tally ≡ before.tally
 
-pub record EndsFaulty {G : Type 0} (Passes : G → State → Event → G → Bool → Type 0) (count : ℕ) (before : Moment G) (fault : ServeFault)
+pub record EndsFaulty {G : Type 0} (Passes : G → State → Event → G → Bool → Type 0) (count : ℕ) (before : Moment G)
+    (fault : ServeFault)
     (after : Moment G) : Type 0 where
   pub turns : List Turn
   pub fewer : length turns < count
@@ -131,7 +139,8 @@ pub record EndsFaulty {G : Type 0} (Passes : G → State → Event → G → Boo
   pub last : IsFaulty fault then event after
 
 -- what a stretch of at most so many turns leads to, by its answer
-abbrev pub EndsStretch : {G : Type 0} → (Passes : G → State → Event → G → Bool → Type 0) → ℕ → Moment G → Result Pause ServeFault → Moment G → Type 0
+abbrev pub EndsStretch : {G : Type 0} → (Passes : G → State → Event → G → Bool → Type 0) → ℕ → Moment G
+    → Result Pause ServeFault → Moment G → Type 0
 EndsStretch Passes count before (Ok Turns) after = EndsAtTurns Passes count before after
 EndsStretch Passes count before (Ok Tick) after = EndsAtTick Passes count before after
 EndsStretch Passes count before (Ok Withheld) after = EndsWithheld Passes count before after

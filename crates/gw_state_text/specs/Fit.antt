@@ -12,6 +12,7 @@ use Rattle.gw_bdt_fdt.specs.Peers.{is_of}
 use Rattle.gw_bdt_fdt.specs.Registrations.{same}
 use Rattle.gw_configuration.specs.declared.object.ObjectKind.{ObjectKind}
 use Rattle.gw_configuration.specs.declared.object.ObjectKind.TheVariants as kinds
+use Rattle.gw_configuration.specs.Kinds.{kind_numbered}
 use Rattle.gw_objects.specs.declared.value.PropertyValue.{PropertyValue}
 use Rattle.gw_objects.specs.declared.value.PropertyValue.TheVariants.{Binary, State, Text, Integer, PositiveInteger}
 use Rattle.gw_routes.specs.declared.route.Route.{Route}
@@ -90,16 +91,6 @@ pub record FitsPorts (before : List SavedPort) (port : SavedPort) : Type 0 where
   pub entries : AreItems FitsEntries 64 port.entries
   pub devices : AreItems FitsDevices 128 port.devices
 
--- the type of an object that has slots (clause 21)
-abbrev pub kind_of : ℕ → Option ObjectKind
-kind_of number =
-    if number == 5 then Some kinds.BinaryValue
-    else if number == 19 then Some kinds.MultiStateValue
-    else if number == 40 then Some kinds.CharacterStringValue
-    else if number == 45 then Some kinds.IntegerValue
-    else if number == 48 then Some kinds.PositiveIntegerValue
-    else None
-
 -- the value of each slot that isn't empty is one of the type
 unfoldable pub AreOfKind : ObjectKind → List (Option PropertyValue) → Type 0
 AreOfKind kind [] = ⊤
@@ -114,7 +105,7 @@ is_object wanted object = nat_eq wanted.kind object.object.kind && nat_eq wanted
 pub record FitsObjects (before : List SavedObject) (object : SavedObject) : Type 0 where
   pub is : IsObject object.object
   pub kind : ObjectKind
-  pub known : kind_of object.object.kind ≡ Some kind
+  pub known : kind_numbered object.object.kind ≡ Some kind
   pub once : list_any (is_object object.object) before ≡ false
   pub configured : FitsKind kind object.configured
   pub default : FitsKind kind object.slots.default

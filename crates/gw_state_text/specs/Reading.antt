@@ -8,6 +8,7 @@ use Rattle.gw_bdt_fdt.specs.declared.kept.KeptDevice.{KeptDevice}
 use Rattle.gw_bdt_fdt.specs.Kept.{is_due, is_of_device}
 use Rattle.gw_bdt_fdt.specs.Peers.{is_of}
 use Rattle.gw_configuration.specs.declared.object.ObjectKind.{ObjectKind}
+use Rattle.gw_configuration.specs.Kinds.{kind_numbered}
 use Rattle.gw_objects.specs.declared.value.PropertyValue.{PropertyValue}
 use Rattle.gw_routes.specs.declared.route.Route.{Route}
 use Rattle.gw_saved.specs.declared.counts.SavedCounts.{SavedCounts}
@@ -18,7 +19,7 @@ use Rattle.gw_state_text.specs.declared.fault.FaultKind.{FaultKind}
 use Rattle.gw_state_text.specs.declared.fault.FaultKind.TheVariants.{Version, Line, Range, Twice, TooMany, Cut, Memory}
 use Rattle.gw_state_text.specs.declared.fault.StateFault.{StateFault}
 use Rattle.gw_state_text.specs.declared.fault.Stop.{Stop}
-use Rattle.gw_state_text.specs.Fit.{is_at, is_object, is_to, kind_of}
+use Rattle.gw_state_text.specs.Fit.{is_at, is_object, is_to}
 use Rattle.gw_state_text.specs.Lines.{counts_at, device_at, entry_at, port_at, priority_at, route_at}
 use Rattle.gw_state_text.specs.Place.{line_count}
 use Rattle.gw_state_text.specs.Text.{end_line, entry_word, first_line, peer_word}
@@ -139,7 +140,7 @@ value_to kind c text = do
 unfoldable pub object_at : List ℕ → Result (ObjectLine × List ℕ) FaultKind
 object_at text = do
   object ← identifier_at text
-  kind ← word_or Range (kind_of object.0.kind)
+  kind ← word_or Range (kind_numbered object.0.kind)
   configured ← value_to kind 32 object.1
   default ← value_to kind 10 configured.1
   Ok (record { object = object.0; kind = kind; configured = configured.0; default = default.0 }, default.1)

@@ -5,7 +5,7 @@ ghost use Rattle.std.specs.Fmt.{decimal};
 ghost use Rattle.std.specs.List.{list_any};
 ghost use Rattle.gw_priority.specs.declared.array.TheConstants.{PRIORITIES};
 ghost use Rattle.gw_tags.specs.Object.{IsObject, object_view};
-ghost use Rattle.gw_state_text.specs.Fit.{AreOfKind, FitsKind, FitsObjects, is_object, kind_of};
+ghost use Rattle.gw_state_text.specs.Fit.{AreOfKind, FitsKind, FitsObjects, is_object};
 ghost use Rattle.gw_state_text.specs.Text.{identifier_text, object_line, object_text, slot_text, slots_text, value_text};
 ghost use Rattle.gw_state_text.specs.Reading.{Reads, ReadsLines, identifier_at, object_after, object_at};
 ghost use Rattle.gw_state_text.specs.Reading.{slot_at, slot_fault, slots_after, value_to};
@@ -100,20 +100,6 @@ impl Lines for Objects {
 
     fn put(&self, out: &mut Vec<u8>, item: &SavedObject) -> Result<(), AllocError> {
         put_object(out, item)
-    }
-}
-
-/// The type of an object that has slots, by its number.
-fn kind_of(number: u16) -> Option<ObjectKind>
-    ensures { result ≡ kind_of number }
-{
-    match number {
-        5 => Some(ObjectKind::BinaryValue),
-        19 => Some(ObjectKind::MultiStateValue),
-        40 => Some(ObjectKind::CharacterStringValue),
-        45 => Some(ObjectKind::IntegerValue),
-        48 => Some(ObjectKind::PositiveIntegerValue),
-        _ => None,
     }
 }
 
@@ -267,7 +253,7 @@ fn head_at(alloc: Global, text: &[u8]) -> Result<(Head, &[u8]), FaultKind>
     ensures exact { Reads (λ x. (line_view x.0, x.1.now)) result (object_at text.now) }
 {
     let (object, words) = identifier_at(text)?;
-    let Some(kind) = kind_of(object.kind) else {
+    let Some(kind) = ObjectKind::from_number(u64::from(object.kind)) else {
         return Err(FaultKind::Range);
     };
     let (configured, words) = value_to(alloc, kind, b' ', words)?;

@@ -64,7 +64,8 @@ LeavesText text (Err fault) before after =
     (front : List ℕ) × (rest : List ℕ) × (fault ≡ Write) × (text ≡ front ++ rest) × (after ≡ before ++ front)
 
 -- such a text is written, whole or a front of it
-pub record LeavesMade (text : List ℕ) (manner : Manner) (result : Result (Unit {0}) SuggestFault) (log before after : List ℕ) : Type 0 where
+pub record LeavesMade (text : List ℕ) (manner : Manner) (result : Result (Unit {0}) SuggestFault)
+    (log before after : List ℕ) : Type 0 where
   pub made : List ℕ
   pub suggested : IsSuggested text manner log made
   pub written : LeavesText made result before after

@@ -101,30 +101,12 @@ fn put_ranges(
     put_plain(out, field, ranges)
 }
 
-/// The key of a field.
-fn key_of(field: FieldName) -> &'static str {
-    match field {
-        FieldName::Operation => "operation",
-        FieldName::Port => "port",
-        FieldName::SourceNetwork => "source_network",
-        FieldName::SourceKey => "source",
-        FieldName::DestinationNetwork => "destination",
-        FieldName::Service => "service",
-        FieldName::ObjectType => "object_type",
-        FieldName::Instance => "instance",
-        FieldName::Property => "property",
-        FieldName::Priority => "priority",
-        FieldName::Sender => "sender",
-        FieldName::Station => "station",
-    }
-}
-
 /// Appends the line of a field as formats 1 and 2 write it.
 fn put_plain(out: &mut Vec<u8>, field: FieldName, ranges: &[Range]) -> Result<(), AllocError> {
     if ranges.is_empty() {
         return Ok(());
     }
-    out.extend_from_slice(key_of(field).as_bytes())?;
+    out.extend_from_slice(field.key().as_bytes())?;
     out.extend_from_slice(b" = [")?;
     for (place, range) in ranges.iter().enumerate() {
         if 0 < place {

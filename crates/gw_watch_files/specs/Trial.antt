@@ -1,5 +1,6 @@
 -- A policy on trial and an audit, as their files are read and opened.
-use Rattle.std.specs.Prelude.{◌≡◌, ◌⊎◌, ⊤, ℕ, ◌&&◌, Bool, true, false, nat_eq, List, [], codes, Option, Some, None, Result, Ok, Err}
+use Rattle.std.specs.Prelude.{◌≡◌, ◌⊎◌, ⊤, ℕ, ◌&&◌, Bool, true, false, nat_eq, List, [], codes, Option, Some, None}
+use Rattle.std.specs.Prelude.{Result, Ok, Err}
 use Rattle.std.specs.Cmp.Lexicographic.{pointwise}
 use Rattle.gw_bdt_fdt.specs.Registrations.{same as same_address}
 use Rattle.gw_configuration.specs.Configuration.{Configuration}
@@ -41,7 +42,8 @@ IsRead FileReads name new = (text : List ℕ) × FileReads name (Ok (Some text))
 -- ---- a log beside the log
 
 -- The log of this name is open, and its lines, which have this front, are numbered on from its last whole line; none is lost.
-pub record IsOpened {C Log : Type 0} (LastLines : List ℕ → Result (Option (List ℕ)) ReadFailure → Type 0) (LogOpens : LogOpening Log)
+pub record IsOpened {C Log : Type 0} (LastLines : List ℕ → Result (Option (List ℕ)) ReadFailure → Type 0)
+    (LogOpens : LogOpening Log)
     (front name : List ℕ) (b : Beside C Log) : Type 0 where
   pub line : Option (List ℕ)
   pub last : LastLines name (Ok line)
@@ -51,14 +53,16 @@ pub record IsOpened {C Log : Type 0} (LastLines : List ℕ → Result (Option (L
   pub cut : b.is_cut ≡ false
 
 -- Its last line can't be read, or it can't be opened.
-abbrev pub IsUnopened : {Log : Type 0} → (LastLines : List ℕ → Result (Option (List ℕ)) ReadFailure → Type 0) → LogOpening Log → List ℕ
+abbrev pub IsUnopened : {Log : Type 0} → (LastLines : List ℕ → Result (Option (List ℕ)) ReadFailure → Type 0)
+    → LogOpening Log → List ℕ
     → Type 0
 IsUnopened LastLines LogOpens name = LastLines name (Err reading.Unreadable) ⊎ LogOpens name (Err log_failure.Failed)
 
 -- ---- a trial
 
 -- the rules of the file of this name are on trial beside this configuration, and their log has that name
-pub record IsOnTrial {Log : Type 0} (FileReads LastLines : List ℕ → Result (Option (List ℕ)) ReadFailure → Type 0) (LogOpens : LogOpening Log)
+pub record IsOnTrial {Log : Type 0} (FileReads LastLines : List ℕ → Result (Option (List ℕ)) ReadFailure → Type 0)
+    (LogOpens : LogOpening Log)
     (c : Configuration) (rules log : List ℕ) (b : Beside (List Rule) Log) : Type 0 where
   pub config : Configuration
   pub read : IsRead FileReads rules config
@@ -69,7 +73,8 @@ pub record IsOnTrial {Log : Type 0} (FileReads LastLines : List ℕ → Result (
 
 -- Why they aren't: the file isn't there or can't be read; it has no configuration; one of another format, or with other ports; or
 -- the log can't be had. Memory may run out at any.
-abbrev pub IsNoTrial : {Log : Type 0} → (FileReads LastLines : List ℕ → Result (Option (List ℕ)) ReadFailure → Type 0) → LogOpening Log
+abbrev pub IsNoTrial : {Log : Type 0} → (FileReads LastLines : List ℕ → Result (Option (List ℕ)) ReadFailure → Type 0)
+    → LogOpening Log
     → Configuration → (rules log : List ℕ) → WatchFault → Type 0
 IsNoTrial FileReads LastLines LogOpens c rules log fault.Memory = ⊤
 IsNoTrial FileReads LastLines LogOpens c rules log (fault.Trial trial.Unreadable) =
@@ -83,7 +88,8 @@ IsNoTrial FileReads LastLines LogOpens c rules log (fault.Trial trial.Ports) =
 IsNoTrial FileReads LastLines LogOpens c rules log (fault.Trial trial.Log) = IsUnopened LastLines LogOpens log
 IsNoTrial FileReads LastLines LogOpens c rules log fault.Audit = ⊥
 
-abbrev pub IsTrialBy : {Log : Type 0} → (FileReads LastLines : List ℕ → Result (Option (List ℕ)) ReadFailure → Type 0) → LogOpening Log
+abbrev pub IsTrialBy : {Log : Type 0} → (FileReads LastLines : List ℕ → Result (Option (List ℕ)) ReadFailure → Type 0)
+    → LogOpening Log
     → Configuration → (rules log : List ℕ) → Result (Beside (List Rule) Log) WatchFault → Type 0
 IsTrialBy FileReads LastLines LogOpens c rules log (Ok b) = IsOnTrial FileReads LastLines LogOpens c rules log b
 IsTrialBy FileReads LastLines LogOpens c rules log (Err f) = IsNoTrial FileReads LastLines LogOpens c rules log f
@@ -91,13 +97,15 @@ IsTrialBy FileReads LastLines LogOpens c rules log (Err f) = IsNoTrial FileReads
 -- ---- an audit
 
 -- the audit of this name is open, and the rules of this configuration are marked that are audited
-pub record IsAuditOf {Log : Type 0} (LastLines : List ℕ → Result (Option (List ℕ)) ReadFailure → Type 0) (LogOpens : LogOpening Log)
+pub record IsAuditOf {Log : Type 0} (LastLines : List ℕ → Result (Option (List ℕ)) ReadFailure → Type 0)
+    (LogOpens : LogOpening Log)
     (c : Configuration) (name : List ℕ) (b : Beside (List Bool) Log) : Type 0 where
   pub choice : b.choice ≡ c.audits
   pub opened : IsOpened LastLines LogOpens (codes "allow ") name b
 
 -- why it isn't: it can't be had; memory may run out
-abbrev pub IsNoAudit : {Log : Type 0} → (LastLines : List ℕ → Result (Option (List ℕ)) ReadFailure → Type 0) → LogOpening Log → List ℕ
+abbrev pub IsNoAudit : {Log : Type 0} → (LastLines : List ℕ → Result (Option (List ℕ)) ReadFailure → Type 0)
+    → LogOpening Log → List ℕ
     → WatchFault → Type 0
 IsNoAudit LastLines LogOpens name fault.Memory = ⊤
 IsNoAudit LastLines LogOpens name fault.Audit = IsUnopened LastLines LogOpens name

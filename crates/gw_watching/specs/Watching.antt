@@ -1,5 +1,6 @@
 -- What a watcher does about what an event asked.
-use Rattle.std.specs.Prelude.{◌≡◌, ◌⊎◌, ⊤, ℕ, ◌+◌, ◌-◌, ◌^◌, ◌<◌, ◌==◌, ◌||◌, Bool, true, false, min, is_some, List, [], ◌∷◌, length, codes, slice_index, if◌then◌else◌, Option, Some, None}
+use Rattle.std.specs.Prelude.{◌≡◌, ◌⊎◌, ⊤, ℕ, ◌+◌, ◌-◌, ◌^◌, ◌<◌, ◌==◌, ◌||◌, Bool, true, false, min, is_some, List, []}
+use Rattle.std.specs.Prelude.{◌∷◌, length, codes, slice_index, if◌then◌else◌, Option, Some, None}
 use Rattle.gw_core.specs.Asked.{asked_at}
 use Rattle.gw_core.specs.Effects.{NeedsNoMemory}
 use Rattle.gw_core.specs.History.{next}
@@ -31,14 +32,16 @@ is_watching w = is_some w.trial || (is_some w.audit || is_some w.counts)
 -- ---- each part
 
 -- the asks that the trial's rules deny are recorded, under its names
-abbrev pub IsTried : {T : Type 0} → (T → Option (List ℕ)) → State → List Asked → (before after : Option (Beside (List Rule) T)) → Type 0
+abbrev pub IsTried : {T : Type 0} → (T → Option (List ℕ)) → State → List Asked
+    → (before after : Option (Beside (List Rule) T)) → Type 0
 IsTried held w asked None None = ⊤
 IsTried held w asked (Some b) (Some c) =
     IsRecorded held [] (records (denied_by b.choice) b.choice b.number w.ticks asked) b c
 IsTried held w asked _ _ = ⊥
 
 -- the asks that a marked rule allowed are recorded, after the word `allow`
-abbrev pub IsAudited : {A : Type 0} → (A → Option (List ℕ)) → State → List Asked → (before after : Option (Beside (List Bool) A)) → Type 0
+abbrev pub IsAudited : {A : Type 0} → (A → Option (List ℕ)) → State → List Asked
+    → (before after : Option (Beside (List Bool) A)) → Type 0
 IsAudited held w asked None None = ⊤
 IsAudited held w asked (Some b) (Some c) =
     IsRecorded held (codes "allow ") (records (audited_by b.choice) w.rules b.number w.ticks asked) b c
@@ -77,7 +80,8 @@ Missed before after = after ≡ record before {
 }
 
 -- What an event asks is watched; or it isn't seen, if nothing is watched or memory was wanted. Nothing is withheld.
-abbrev pub HasWatched : {T A : Type 0} → (T → Option (List ℕ)) → (A → Option (List ℕ)) → Watching T A → State → Event → Watching T A → Bool
+abbrev pub HasWatched : {T A : Type 0} → (T → Option (List ℕ)) → (A → Option (List ℕ)) → Watching T A → State → Event
+    → Watching T A → Bool
     → Type 0
 HasWatched trial audit before w event after passes =
     (passes ≡ true)

@@ -8,10 +8,11 @@ use Rattle.json.specs.Tree.{json_tokens}
 use Rattle.gw_configuration.specs.declared.device.Device.{Device}
 use Rattle.gw_configuration.specs.declared.port.Port.{Port}
 use Rattle.gw_json.specs.Check.{device_value, format_number, networks_value}
-use Rattle.gw_json.specs.Comparison.{key_of, named_operation, operations_value, other_fields, range_values, rule_value, rules_value, values_value, verdict_word}
+use Rattle.gw_json.specs.Comparison.{named_operation, operations_value, other_fields, range_values, rule_value, rules_value, values_value, verdict_word}
 use Rattle.gw_regions.specs.Regions.{Region}
 use Rattle.gw_regions.specs.declared.comparison.Found.{Found}
 use Rattle.gw_regions.specs.declared.values.Values.{Values}
+use Rattle.gw_rules.specs.Field.{field_key}
 use Rattle.gw_rules.specs.Fields.{value_of}
 use Rattle.gw_rules.specs.declared.field.FieldName.{FieldName}
 use Rattle.gw_rules.specs.declared.format.Format.{Format}
@@ -26,7 +27,7 @@ abbrev pub range_tokens : FieldName → Range → List Token
 range_tokens field range = flat_map json_tokens (range_values field range)
 
 abbrev pub field_tokens : Region → FieldName → List Token
-field_tokens region field = key (key_of field) ∷ json_tokens (values_value field (value_of field region))
+field_tokens region field = key (field_key field) ∷ json_tokens (values_value field (value_of field region))
 
 abbrev pub rule_tokens : List Rule → ℕ → List Token
 rule_tokens rules place = flat_map json_tokens (rule_value rules place ∷ [])

@@ -2,10 +2,11 @@
 use Rattle.std.specs.Prelude.{◌≡◌, ℕ, List, ◌++◌, length, Option, Some}
 use Rattle.gw_objects.specs.declared.value.PropertyValue.{PropertyValue}
 use Rattle.gw_tags.specs.Object.{IsObject, object_view}
-use Rattle.gw_state_text.specs.Fit.{FitsKind, kind_of}
+use Rattle.gw_state_text.specs.Fit.{FitsKind}
 use Rattle.gw_state_text.specs.Reading.{ObjectLine}
 use Rattle.gw_state_text.specs.Text.{object_line, slots_text}
 use Rattle.gw_state_text.specs.declared.object.Head.{Head}
+use Rattle.gw_configuration.specs.Kinds.{kind_numbered}
 
 -- the line of an object
 abbrev pub head_text : Head → List ℕ
@@ -23,7 +24,7 @@ line_view head = record {
 -- an object of a known type, with values of that type
 pub record IsHead (head : Head) : Type 0 where
   pub object : IsObject (object_view head.object)
-  pub known : kind_of head.object.kind ≡ Some head.kind
+  pub known : kind_numbered head.object.kind ≡ Some head.kind
   pub configured : FitsKind head.kind head.configured
   pub default : FitsKind head.kind head.default
 

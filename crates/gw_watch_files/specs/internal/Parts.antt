@@ -39,7 +39,8 @@ IsNoFit c new (fault.Trial trial.Ports) = are_same_ports c.ports new.ports ≡ f
 IsNoFit c new _ = ⊥
 
 -- a log that goes on from its last whole line
-pub record GoesOnFromLine {Log : Type 0} (LastLines : List ℕ → Result (Option (List ℕ)) ReadFailure → Type 0) (LogOpens : LogOpening Log)
+pub record GoesOnFromLine {Log : Type 0} (LastLines : List ℕ → Result (Option (List ℕ)) ReadFailure → Type 0)
+    (LogOpens : LogOpening Log)
     (front name : List ℕ) (o : Opened Log) : Type 0 where
   pub line : Option (List ℕ)
   pub last : LastLines name (Ok line)

@@ -1,5 +1,5 @@
 use Rattle.std.proofs.Common.{◌≡◌, ◌∙◌, ℕ, None, ap}
-use Rattle.gw_configuration.specs.Duplicates.{type_number}
+use Rattle.gw_configuration.specs.Kinds.{type_number}
 use Rattle.gw_rules.specs.Hides.{hides_from_network, may_match_some, must_match_all, reading}
 use Rattle.gw_rules.proofs.Hiding.{hides_iff}
 use Rattle.gw_permissions.proofs.Truth.{same_truth}

@@ -1,7 +1,7 @@
 use Rattle.std.proofs.Common.{arith, get_or, length, ◌≡◌, ◌<◌, subst, ◌∙◌}
 use Rattle.std.proofs.lemmas.List.{get_or_default}
 use Rattle.gw_ports.specs.SockPair.{ArePassed}
-use Rattle.gw_ports.specs.Asking.{ArePassedFrom}
+use Rattle.gw_ports.specs.internal.Asking.{ArePassedFrom}
 use Rattle.gw_ports.specs.Ports.{Stay}
 use Rattle.gw_ports.proofs.PortLemmas.{each_set, stay_set}
 use Rattle.gw_ports.proofs.ports.Ports.ask_from.Goals as goal

@@ -1,5 +1,5 @@
 use Rattle.std.proofs.Common.{◌≡◌}
-use Rattle.gw_ports.specs.Asking.{ArePassedFrom}
+use Rattle.gw_ports.specs.internal.Asking.{ArePassedFrom}
 use Rattle.gw_ports.specs.Ports.{Stay}
 use Rattle.gw_ports.proofs.ports.Ports.ask_from.Given as goal
 

@@ -1,6 +1,6 @@
 use Rattle.std.proofs.Common.{ap, arith, length, refl, subst, sym, ◌∙◌, ◌≡◌, ◌≤◌}
 use Rattle.std.proofs.lemmas.Grind.{common_steps}
-use Rattle.gw_ports.specs.Asking.{AreAskedInTurn, turn_of}
+use Rattle.gw_ports.specs.internal.Asking.{AreAskedInTurn, turn_of}
 use Rattle.gw_ports.specs.Ports.{IsHeard, Ports, Turn, answered, asked, handed_in, idle, sockets_in_turn, tick, ticked}
 use Rattle.gw_ports.proofs.ports.Ports.next.Goals as goal
 
