@@ -9,7 +9,7 @@ from pathlib import Path
 DOCS = Path(__file__).resolve().parent
 BESIDE = "Beside the rows"
 TESTS = re.compile(r"gw_cases|gw_\w+_vectors")
-WIDTH, LINE, GAP = 1100, 15, 8
+WIDTH, WHOLE, LINE, GAP = 1100, 796, 15, 8
 
 # What the crates beside the rows are about.
 NOTES = {
@@ -29,7 +29,16 @@ NOTES = {
     "gw_continuity": "that nothing is lost",
     "gw_takeover": "what of a state is kept",
     "gw_state_words": "that in words",
+    "gw_keeping": "that what lasts is kept",
+    "gw_watching": "a trial, an audit, counts",
+    "gw_watch_files": "their files",
+    "gw_rule_changes": "rules new, gone, moved",
     "gw_suggest": "rules from what was seen",
+    "gw_tally": "how often rules decide",
+    "gw_stamping": "times in front of lines",
+    "gw_metrics": "counts for a collector",
+    "gw_metrics_file": "when they are written",
+    "gw_asks": "the asks of a text",
     "gw_json": "lines for programs",
     "gw_points": "objects for tools",
     "gw_page": "a page of HTML",
@@ -86,6 +95,14 @@ def wrapped(words, width):
     return lines
 
 
+def columns_of(crates):
+    """How many boxes are side by side: at most six, as many as their names leave room for, and no line much shorter than another."""
+    longest = max(len(crate) for crate in crates)
+    most = min(6, (WHOLE + GAP) // (10 * longest + GAP))
+    lines = -(-len(crates) // most)
+    return -(-len(crates) // lines)
+
+
 def text_of(crate, uses, letters):
     short = [other.removeprefix("gw_") for other in direct(crate, uses)]
     return wrapped(short or ["the kit alone"], letters)
@@ -115,8 +132,8 @@ class Picture:
 
     def row(self, title, crates, y, fill):
         """Draws a row, and answers where the next one begins."""
-        columns = len(crates) if len(crates) <= 6 and title != BESIDE else 4
-        width = min(250, (830 - 34 - GAP * (columns - 1)) // columns)
+        columns = 4 if title == BESIDE else columns_of(crates)
+        width = min(250, (WHOLE - GAP * (columns - 1)) // columns)
         lines = [crates[at : at + columns] for at in range(0, len(crates), columns)]
         heights = [max(self.height(crate, width) for crate in line) for line in lines]
         whole = 30 + sum(heights) + GAP * len(lines) + 4

@@ -52,7 +52,7 @@ def check_links(page, text):
             say(anchor in anchors(full), page, f"no section at the link {target}")
 
 
-def stands(path, page, crate):
+def is_there(path, page, crate):
     """Whether a path in backticks is there: from the top, beside the page, or in the crate that is spoken of."""
     bases = ["", os.path.dirname(page), f"crates/{crate or '*'}"]
     return any(glob.glob(os.path.join(base, path)) for base in bases)
@@ -88,7 +88,7 @@ def named_crate(name):
 def check_path(page, name, crate):
     first = name.split("/")[0]
     if first in ROOTS or first in FOLDERS:
-        say(stands(name, page, crate), page, f"no file {name}" + (f" in {crate}" if first in FOLDERS else ""))
+        say(is_there(name, page, crate), page, f"no file {name}" + (f" in {crate}" if first in FOLDERS else ""))
 
 
 def check_item(page, name):
@@ -125,7 +125,7 @@ def plain(signature):
 
 
 def signatures(file):
-    """The types of the definitions of a file by their names, as they stand and with what is renamed by its own name."""
+    """The types of the definitions of a file by their names, as written and with what is renamed by its own name."""
     text = re.sub(r"--.*$", "", open(file).read(), flags=re.M)
     renamed = text
     for original, other in re.findall(r"\b(\w+) as (\w+)\b", text):

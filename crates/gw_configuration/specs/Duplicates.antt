@@ -11,15 +11,12 @@ use Rattle.gw_rules.specs.declared.rule.Rule.{Rule as RuleEntry}
 use Rattle.gw_configuration.specs.declared.device.Device.{Device as DeviceEntry}
 use Rattle.gw_configuration.specs.declared.fault.ConfigFault.TheVariants.{Duplicate}
 use Rattle.gw_configuration.specs.declared.object.Object.{Object as ObjectEntry}
-use Rattle.gw_configuration.specs.declared.object.ObjectValue.{ObjectValue}
-use Rattle.gw_configuration.specs.declared.object.ObjectValue.TheVariants.{BinaryValue, MultiStateValue}
-use Rattle.gw_configuration.specs.declared.object.ObjectValue.TheVariants.{CharacterStringValue, IntegerValue}
-use Rattle.gw_configuration.specs.declared.object.ObjectValue.TheVariants.{PositiveIntegerValue}
 use Rattle.gw_configuration.specs.declared.located.Place.{Place}
 use Rattle.gw_configuration.specs.declared.located.Place.TheVariants.{Port, Peer, Device, Route, Object, Set, Rule}
 use Rattle.gw_configuration.specs.declared.port.Port.{Port as PortEntry}
 use Rattle.gw_configuration.specs.declared.set.Set.{Set as SetEntry}
 use Rattle.gw_configuration.specs.Configuration.{Configuration}
+use Rattle.gw_configuration.specs.Kinds.{type_number}
 use Rattle.gw_configuration.specs.Located.{Find, Located, at_key, unless}
 
 -- an element that appears twice

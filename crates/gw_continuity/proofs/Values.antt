@@ -5,7 +5,8 @@ use Rattle.std.specs.Cmp.{int_eq_equiv, nat_eq_equiv}
 use Rattle.std.specs.List.{AllByRecursion, list_any}
 use Rattle.std.proofs.lemmas.Bool.{and_from, and_parts, or_parts, eqb-true}
 use Rattle.std.proofs.lemmas.Cmp.{nat_list_eq_equiv}
-use Rattle.gw_configuration.specs.Duplicates.{has_twice, identifier, identifiers, type_number}
+use Rattle.gw_configuration.specs.Duplicates.{has_twice, identifier, identifiers}
+use Rattle.gw_configuration.specs.Kinds.{type_number}
 use Rattle.gw_configuration.specs.declared.object.Object.{Object as ConfiguredObject}
 use Rattle.gw_configuration.specs.declared.object.ObjectValue.{ObjectValue}
 use Rattle.gw_configuration.specs.declared.object.ObjectValue.TheVariants as policy

@@ -6,7 +6,7 @@ use Rattle.gw_rules.specs.declared.rule.Rule.{Rule}
 use Rattle.gw_shapes.specs.Shape.{Shape}
 use Rattle.gw_permissions.specs.Passing.{decides_all, may_allow, may_pass}
 use Rattle.gw_permissions.proofs.Allowing.{each_ask_is_allowed, no_ask_is_allowed}
-use Rattle.gw_report.specs.internal.Access.{AreDecided}
+use Rattle.gw_report.specs.Access.{AreDecided}
 
 -- if no rule may allow any, none is allowed
 pub nothing : (shape : Shape) (rules : List Rule) → may_pass shape rules ≡ false → AreDecided false shape rules

@@ -1,2 +1,1 @@
-
-pub mod internal
+pub mod Access

@@ -3,7 +3,7 @@ ghost use Rattle.std.specs.Prelude.{◌≡◌, ◌-◌, ◌≤◌, ◌<◌, fals
 ghost use Rattle.std.specs.List.{list_any};
 ghost use Rattle.gw_shapes.specs.Meeting.{meets};
 ghost use Rattle.gw_permissions.specs.Passing.{decides_all, matches_all, may_allow, may_pass, reached};
-ghost use Rattle.gw_report.specs.internal.Access.{AreDecided, IsExtent};
+ghost use Rattle.gw_report.specs.Access.{AreDecided, IsExtent};
 
 use gw_rules::{FieldName, Rule};
 use gw_shapes::{Shape, meets, takes_side};

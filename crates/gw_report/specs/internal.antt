@@ -1,2 +1,0 @@
--- What only private parts and proofs cite.
-pub mod Access
