@@ -1,6 +1,7 @@
 -- What is answered where the policy denies: a property of a ReadPropertyMultiple by the error in its place, a listing by
 -- silence, and a frame that manages a table by the negative code of its function.
-use Rattle.std.specs.Prelude.{◌≡◌, ℕ, ◌+◌, Bool, true, false, List, [], ◌∷◌, ◌++◌, length, take, drop, Option, Some, None, slice_get}
+use Rattle.std.specs.Prelude.{◌≡◌, ℕ, ◌+◌, Bool, true, false, List, [], ◌∷◌, ◌++◌, length, take, drop, Option, Some}
+use Rattle.std.specs.Prelude.{None, slice_get}
 use Rattle.std.specs.Prelude.{is_some, if◌then◌else◌}
 use Rattle.std.specs.List.{Contains, flat_map, list_all}
 use Rattle.gw_addr.specs.declared.bip.BipAddr.{BipAddr}

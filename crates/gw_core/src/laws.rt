@@ -1,11 +1,27 @@
 //! Laws of the definitions, and worked examples of them. The functions do nothing: their contracts are the laws.
 
 ghost use Rattle.std.specs.Prelude.{◌≡◌};
-ghost use Rattle.gw_core.specs.Examples.{AllArePlaced, BroadcastIsDistributed, CountsEnd, DeniedSetIsRefused, DeniedTableIsRefused, DeniedWriteIsUnseen, DenialsAreCountedOn, EachCutIsDropped, GlobalWhoIsGoesOn, HiddenObjectIsUnnamed, HiddenReadIsDenied, HiddenWriteIsUnseen, HidingIsSeen, LearnedRouteIsTaken, LocalReadIsUnheard, ReadIsAnswered, RegistrationEnds, RelinquishIsSeen, RoutedReadIsAnswered, UnknownNetworkIsSought, UnknownObjectIsNamed, WhoIsIsAnswered, WriteIsSeen, WrongLengthsAreDropped};
+ghost use Rattle.gw_core.specs.Examples.{AllArePlaced, BroadcastIsDistributed, CountsEnd, DeniedSetIsRefused};
+ghost use Rattle.gw_core.specs.Examples.{DeniedTableIsRefused, DeniedWriteIsUnseen, DenialsAreCountedOn};
+ghost use Rattle.gw_core.specs.Examples.{EachCutIsDropped, GlobalWhoIsGoesOn, HiddenObjectIsUnnamed};
+ghost use Rattle.gw_core.specs.Examples.{HiddenReadIsDenied, HiddenWriteIsUnseen, HidingIsSeen, LearnedRouteIsTaken};
+ghost use Rattle.gw_core.specs.Examples.{LocalReadIsUnheard, ReadIsAnswered, RegistrationEnds, RelinquishIsSeen};
+ghost use Rattle.gw_core.specs.Examples.{RoutedReadIsAnswered, UnknownNetworkIsSought, UnknownObjectIsNamed};
+ghost use Rattle.gw_core.specs.Examples.{WhoIsIsAnswered, WriteIsSeen, WrongLengthsAreDropped};
 ghost use Rattle.gw_core.specs.Drops.{DropsHaveReasons};
 ghost use Rattle.gw_core.specs.NoLeak.{AsksCarryTheirClaim, QuietIsUnseen, WritesAreHidden, WritesAreUnread};
-ghost use Rattle.gw_core.specs.Laws.{ActsLeaveTheTables, AllowedTrafficIsSent, ConfigurationStays, DeniedAsksAreLogged, DeniedBroadcastsAreKept, DeniedLinesAreLogged, DeniedReadsAreRefused, DeniedWritesAreRefused, DenialsAreCounted, DenialsHaveTheirTick, DroppedNeedsNoMemory, FormatOneIsAsBefore, FormatOneRunsAsBefore, FormatStays, FormatTwoIsAsBefore, FormatTwoRunsAsBefore, FormatWasUnread, NoDeliveryOutside, NoForgedClaim, NoStranger, LearningsLeaveTheRoutes, LogIsNumbered, NothingAskedIsChanged, NothingAskedIsLogged, NothingAskedIsWritten, PortsStay, RelayTicksAreCounted, RunsAreWritten, RunsExtendHistories, StepsExtendHistories, TicksAreCounted, TicksOnlyCount, WritesLeaveTheSlots};
-ghost use Rattle.gw_core.specs.Refused.{DeniedListingsAreSilent, DeniedManagementIsRefused, DeniedMembersAreRefused, DeniedPropertiesAreRefused, OthersAreAnswered, RepliesAreTheirParts};
+ghost use Rattle.gw_core.specs.Laws.{ActsLeaveTheTables, AllowedTrafficIsSent, ConfigurationStays};
+ghost use Rattle.gw_core.specs.Laws.{DeniedAsksAreLogged, DeniedBroadcastsAreKept, DeniedLinesAreLogged};
+ghost use Rattle.gw_core.specs.Laws.{DeniedReadsAreRefused, DeniedWritesAreRefused, DenialsAreCounted};
+ghost use Rattle.gw_core.specs.Laws.{DenialsHaveTheirTick, DroppedNeedsNoMemory, FormatOneIsAsBefore};
+ghost use Rattle.gw_core.specs.Laws.{FormatOneRunsAsBefore, FormatStays, FormatTwoIsAsBefore, FormatTwoRunsAsBefore};
+ghost use Rattle.gw_core.specs.Laws.{FormatWasUnread, NoDeliveryOutside, NoForgedClaim, NoStranger};
+ghost use Rattle.gw_core.specs.Laws.{LearningsLeaveTheRoutes, LogIsNumbered, NothingAskedIsChanged};
+ghost use Rattle.gw_core.specs.Laws.{NothingAskedIsLogged, NothingAskedIsWritten, PortsStay, RelayTicksAreCounted};
+ghost use Rattle.gw_core.specs.Laws.{RunsAreWritten, RunsExtendHistories, StepsExtendHistories, TicksAreCounted};
+ghost use Rattle.gw_core.specs.Laws.{TicksOnlyCount, WritesLeaveTheSlots};
+ghost use Rattle.gw_core.specs.Refused.{DeniedListingsAreSilent, DeniedManagementIsRefused, DeniedMembersAreRefused};
+ghost use Rattle.gw_core.specs.Refused.{DeniedPropertiesAreRefused, OthersAreAnswered, RepliesAreTheirParts};
 
 use gw_relay::laws::{delivery, entry};
 

@@ -6,13 +6,16 @@ ghost use Rattle.std.specs.Prelude.{IfOk, IsOk, OnOk, None, Ok, true, false, vec
 ghost use Rattle.std.specs.Int.{w16, to_be_bytes};
 ghost use Rattle.std.specs.Option.{option_map};
 ghost use Rattle.gw_device.specs.Response.{answer_view};
-ghost use Rattle.gw_npdu.specs.Npdu.{destination_part, destination_view, hops_part, payload_view, address_view, encoding, max_header_len, priority_of, view as npdu_view};
+ghost use Rattle.gw_npdu.specs.Npdu.{destination_part, destination_view, hops_part, payload_view, address_view};
+ghost use Rattle.gw_npdu.specs.Npdu.{encoding, max_header_len, priority_of, view as npdu_view};
 ghost use Rattle.gw_npdu.specs.Numbers.{max_len};
 ghost use Rattle.gw_core.specs.Effects.{answer_sends};
 ghost use Rattle.gw_bvll.specs.Bvll.{original_unicast};
 ghost use Rattle.gw_bvll.specs.Bvll.{encoding as bvll_encoding};
 ghost use Rattle.gw_relay.specs.Steps.{broadcast, npdu_octets, unicast};
-ghost use Rattle.gw_core.specs.Reply.{apdu_for, apdu_of, context_of, goes_to_all, is_broadcast, is_device, is_local_broadcast, local_reply, reply_npdu, reply_sends, max_reply_apdu, reply_destination};
+ghost use Rattle.gw_core.specs.Reply.{apdu_for, apdu_of, context_of, goes_to_all, is_broadcast, is_device};
+ghost use Rattle.gw_core.specs.Reply.{is_local_broadcast, local_reply, reply_npdu, reply_sends, max_reply_apdu};
+ghost use Rattle.gw_core.specs.Reply.{reply_destination};
 ghost use Rattle.gw_relay.specs.Message.{message_view};
 
 use gw_addr::NetNum;

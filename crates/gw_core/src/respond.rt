@@ -13,7 +13,8 @@ ghost use Rattle.gw_relay.specs.Turn.{IsWalked};
 ghost use Rattle.gw_core.specs.Asks.{asks_for, message_asks};
 ghost use Rattle.gw_core.specs.Effects.{message_change, message_sends, sends_for};
 ghost use Rattle.gw_core.specs.Receive.{admit};
-ghost use Rattle.gw_core.specs.Respond.{IsResponse, entered_response, is_taken, is_apdu, is_plain, message_response, passed_asks, passed_response};
+ghost use Rattle.gw_core.specs.Respond.{IsResponse, entered_response, is_taken, is_apdu, is_plain, message_response};
+ghost use Rattle.gw_core.specs.Respond.{passed_asks, passed_response};
 ghost use Rattle.gw_core.specs.State.{device_network};
 ghost use Rattle.gw_core.specs.View.{judged, received_view};
 

@@ -11,8 +11,8 @@ use gw_relay::{Batch, Sends};
 use gw_script::{SpelledAddr, append_end, append_sends_to};
 use std::alloc::AllocError;
 
-/// Appends the lines of what one event does. Refused only where the buffer had no room for them. The text of an address that is at
-/// hand is not made again.
+/// Appends the lines of what one event does. Refused only if the buffer had no room for them. The text of an address
+/// that is at hand is not made again.
 pub(crate) fn append_effects(
     out: &mut Vec<u8>,
     effects: &Effects,

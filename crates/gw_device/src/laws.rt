@@ -1,7 +1,8 @@
 //! What holds of everything that the device does. The functions do nothing: their contracts are the
 //! laws.
 
-ghost use Rattle.gw_device.specs.Laws.{AsksHaveTheirSender, AsksHaveTheirSource, ChangesAreAllowed, ChangesAreInPlace, ChangesCanBeMade, ChangesRestOnRequests, UnreadIsUnseen};
+ghost use Rattle.gw_device.specs.Laws.{AsksHaveTheirSender, AsksHaveTheirSource, ChangesAreAllowed};
+ghost use Rattle.gw_device.specs.Laws.{ChangesAreInPlace, ChangesCanBeMade, ChangesRestOnRequests, UnreadIsUnseen};
 
 /// What the device does about an APDU doesn't rest on the slots and the default of an object, where
 /// no ask of that APDU to read the object is allowed. Two standings that differ in that object

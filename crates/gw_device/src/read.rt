@@ -5,7 +5,8 @@ ghost use Rattle.gw_rules.specs.declared.rule.Rule.{Rule};
 ghost use Rattle.gw_services.specs.Read.{read_view};
 ghost use Rattle.gw_objects.specs.Table.{read_of};
 ghost use Rattle.gw_tags.specs.Object.{object_view};
-ghost use Rattle.gw_device.specs.Read.{named_read, or_error, plain_read_response, read_ack, read_answer, read_ask, read_response, read_value};
+ghost use Rattle.gw_device.specs.Read.{named_read, or_error, plain_read_response, read_ack, read_answer, read_ask};
+ghost use Rattle.gw_device.specs.Read.{read_response, read_value};
 ghost use Rattle.gw_device.specs.Response.{IsServed, with_room};
 
 use crate::access::Access;

@@ -1,6 +1,6 @@
 //! Short answers: errors, rejects and aborts, and the abort in the place of what is too long.
 
-ghost use Rattle.std.specs.Prelude.{◌≡◌, ◌+◌, ◌≤◌, ℕ, List, length, nat_le, vec_len, IfOk, OnOk};
+ghost use Rattle.std.specs.Prelude.{◌≡◌, ◌+◌, ◌≤◌, ℕ, List, [], length, nat_le, vec_capacity, vec_len, IfOk, OnOk};
 ghost use Rattle.gw_apdu.specs.Answers.{abort, error, reject, simple_ack};
 ghost use Rattle.gw_apdu.specs.Reasons.{segmentation_not_supported};
 ghost use Rattle.gw_device.specs.Response.{fits, fitted, header_room, with_room};
@@ -15,15 +15,17 @@ use std::alloc::{AllocError, Global};
 
 /// How many octets a short answer has at most.
 const MOST_OCTETS: usize = 9;
-/// How many octets an answer with values has room for at first, so that the allocator serves it quickly; it grows where it has more.
+/// How many octets an answer with values has room for at first, so that the allocator serves it quickly; it grows
+/// if it has more.
 const FIRST_ROOM: usize = 480;
 
-/// How many octets a buffer has for an APDU of so many.
-fn buffer_len(apdu_len: usize) -> usize
+/// An empty buffer with memory for the headers and an APDU of so many octets. `AllocError` if it was refused.
+fn empty_buffer(alloc: Global, apdu_len: usize) -> Result<Vec<u8>, AllocError>
     requires { apdu_len ≤ 480 }
-    ensures { result ≡ 10 + apdu_len }
+    ensures empty { IfOk result (λ octets. octets.items ≡ []) }
+    ensures room { IfOk result (λ octets. vec_capacity octets ≡ 10 + apdu_len) }
 {
-    HEADER_ROOM + apdu_len
+    Vec::with_capacity(alloc, HEADER_ROOM + apdu_len)
 }
 
 /// A buffer with the room for headers, and with memory for an APDU of so many octets. `AllocError` where it was
@@ -32,7 +34,7 @@ pub(crate) fn begin_apdu(alloc: Global, apdu_len: usize) -> Result<Vec<u8>, Allo
     requires { apdu_len ≤ 480 }
     ensures { IfOk result (λ octets. octets.items ≡ header_room) }
 {
-    let mut octets = Vec::with_capacity(alloc, buffer_len(apdu_len))?;
+    let mut octets = empty_buffer(alloc, apdu_len)?;
     put_slice(&mut octets, &[0; HEADER_ROOM])?;
     Ok(octets)
 }

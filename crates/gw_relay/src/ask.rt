@@ -4,7 +4,8 @@ ghost use Rattle.std.specs.Prelude.{◌≡◌};
 ghost use Rattle.std.specs.Option.{option_map};
 ghost use Rattle.gw_bvll.specs.Bvll.{view as frame_view};
 ghost use Rattle.gw_npdu.specs.Npdu.{view as npdu_view, payload_view};
-ghost use Rattle.gw_relay.specs.Asks.{bound_for, deleted_station, link_ask, management_of, message_ask, passing_ask, sender_of, service_of, station_key, station_of};
+ghost use Rattle.gw_relay.specs.Asks.{bound_for, deleted_station, link_ask, management_of, message_ask, passing_ask};
+ghost use Rattle.gw_relay.specs.Asks.{sender_of, service_of, station_key, station_of};
 ghost use Rattle.gw_relay.specs.Message.{message_view};
 
 use crate::message::{Message, key_of};

@@ -1,18 +1,20 @@
 //! Broadcasts, and whom they are distributed to (Annex J.4, J.5).
 
-ghost use Rattle.std.specs.Prelude.{◌≡◌, ◌++◌, [], false, true, List, map, IfOk, IsOk, OnErr, OnOk, None, ◌+◌, ◌≤◌, drop, length, vec_len};
+ghost use Rattle.std.specs.Prelude.{◌≡◌, ◌++◌, [], false, true, List, map, IfOk, IsOk, OnErr, OnOk, None, ◌+◌, ◌≤◌};
+ghost use Rattle.std.specs.Prelude.{drop, length, vec_capacity, vec_len};
 ghost use Rattle.std.specs.List.{list_any};
 ghost use Rattle.std.specs.Option.{option_map_or};
 ghost use Rattle.gw_bdt_fdt.specs.Peers.{is_of, peers};
 ghost use Rattle.gw_bvll.specs.Bvll.{forwarded};
 ghost use Rattle.gw_bvll.specs.Bvll.{view as frame_view};
 ghost use Rattle.gw_rules.specs.declared.rule.Rule.{Rule};
-ghost use Rattle.gw_relay.specs.Cast.{cast_asks, cast_response, devices, devices_but, directed, goes_on, is_broadcast, accepts, is_unregistered, managers, passed_on, spread, subnet, targets};
+ghost use Rattle.gw_relay.specs.Cast.{cast_asks, cast_response, devices, devices_but, directed, goes_on};
+ghost use Rattle.gw_relay.specs.Cast.{is_broadcast, accepts, is_unregistered, managers, passed_on, spread, subnet};
+ghost use Rattle.gw_relay.specs.Cast.{targets};
 ghost use Rattle.gw_relay.specs.Link.{answer_to, refused};
 ghost use Rattle.gw_relay.specs.Message.{message_view};
 ghost use Rattle.gw_relay.specs.Turn.{IsWalked};
 ghost use Rattle.gw_relay.specs.Sends.{sendings_of, sent};
-ghost use Rattle.gw_relay.specs.internal.Rooms.{broadcast_npdu};
 ghost use Rattle.gw_relay.specs.internal.Serving.{judged};
 
 use crate::message::Message;
@@ -27,8 +29,6 @@ use gw_bvll::Bvll;
 use gw_rules::Asker;
 use std::alloc::{AllocError, Global};
 
-/// How many octets of a Forwarded-NPDU come before its NPDU (Annex J.2.5).
-const FORWARDED_HEADER_LEN: usize = 10;
 /// The mask by which a broadcast goes to a broadcast manager itself (Annex J.4).
 const ALL_ONES: [u8; 4] = [255, 255, 255, 255];
 
@@ -68,23 +68,13 @@ fn passed_on<'a>(from: BipAddr, frame: &Bvll<'a>) -> Bvll<'a>
     }
 }
 
-/// How many octets the Forwarded-NPDU of an NPDU has.
-fn forwarded_npdu_len(npdu: &[u8]) -> usize
-    ensures { result ≡ 10 + length npdu.now }
+/// No address yet, with memory for so many: at most the port's broadcast address and all entries of its tables.
+fn no_targets(alloc: Global, count: usize) -> Result<Vec<BipAddr>, AllocError>
+    requires { count ≤ 193 }
+    ensures empty { IfOk result (λ targets. targets.items ≡ []) }
+    ensures room { IfOk result (λ targets. vec_capacity targets ≡ count) }
 {
-    FORWARDED_HEADER_LEN + npdu.len()
-}
-
-/// How many octets a broadcast has when it goes on.
-fn forwarded_len(frame: &Bvll<'_>) -> usize
-    ensures { result ≤ 10 + length (broadcast_npdu (frame_view frame.now)) }
-{
-    match frame {
-        Bvll::OriginalBroadcast(npdu) | Bvll::Distribute(npdu) | Bvll::Forwarded { npdu, .. } => {
-            forwarded_npdu_len(npdu)
-        }
-        _ => 0,
-    }
+    Vec::with_capacity(alloc, count)
 }
 
 impl PortState {
@@ -162,11 +152,10 @@ impl PortState {
             OnOk result (sends.new ≡ sends.old ++ sent self.now.port.number targets message) }
     {
         let alloc = sends.alloc();
-        let mut targets = Vec::with_capacity(alloc, self.most_targets(frame))?;
+        let mut targets = no_targets(alloc, self.most_targets(frame))?;
         self.add_targets(from, frame, &mut targets)?;
         let message = passed_on(from, frame);
-        let len = forwarded_len(frame);
-        match batch_of(alloc, self.port.number, targets, &message, len)? {
+        match batch_of(alloc, self.port.number, targets, &message)? {
             Some(batch) => sends.push(batch),
             None => Ok(()),
         }
@@ -182,7 +171,8 @@ impl PortState {
 
     /// How many addresses a broadcast goes to at most.
     fn most_targets(&self, frame: &Bvll<'_>) -> usize
-        ensures { result ≤ 1 + (length self.now.bdt + length self.now.fdt.rows) }
+        ensures most { result ≤ 1 + (length self.now.bdt + length self.now.fdt.rows) }
+        ensures few { result ≤ 193 }
     {
         let others = self.entry_count();
         match frame {
@@ -314,7 +304,7 @@ impl PortState {
             IfOk result (λ batch. option_map_or sendings_of batch []
             ≡ sent self.now.port.number all message) }
     {
-        let mut targets = Vec::with_capacity(alloc, self.entry_count())?;
+        let mut targets = no_targets(alloc, self.entry_count())?;
         self.add_all(&mut targets)?;
         if targets.is_empty() {
             return Ok(None);
@@ -323,8 +313,7 @@ impl PortState {
             originator: self.port.address,
             npdu,
         };
-        let len = forwarded_npdu_len(npdu);
-        batch_of(alloc, self.port.number, targets, &message, len)
+        batch_of(alloc, self.port.number, targets, &message)
     }
 }
 
@@ -391,14 +380,12 @@ impl Relay {
     }
 }
 
-/// A message, of about so many octets, to each of the addresses. None if it is too long, or if
-/// there is no address, which takes no memory.
+/// A message to each of the addresses. None if it is too long, or if there is no address, which takes no memory.
 fn batch_of(
     alloc: Global,
     port: u8,
     targets: Vec<BipAddr>,
     message: &Bvll<'_>,
-    len: usize,
 ) -> Result<Option<Batch>, AllocError>
     ensures { let all = sent port targets.items (frame_view message.now) in
         IfOk result (λ batch. option_map_or sendings_of batch [] ≡ all) }
@@ -406,7 +393,7 @@ fn batch_of(
     if targets.is_empty() {
         return Ok(None);
     }
-    match message_octets(alloc, message, len)? {
+    match message_octets(alloc, message)? {
         Some(octets) => Ok(Some(Batch::to_each(port, targets, octets))),
         None => Ok(None),
     }

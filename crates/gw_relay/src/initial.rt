@@ -23,7 +23,7 @@ pub(crate) fn links_of(
     requires once { AllByRecursion (λ p. IsFalse (has_twice p.peers)) ports.now }
     ensures { IfOk result (λ links. links.items ≡ links_from 1 ports.now) }
 {
-    let mut links = Vec::with_capacity(alloc, ports.len())?;
+    let mut links = Vec::new(alloc);
     for (place, port) in ports.iter().enumerate() {
         links.push(link_of(alloc, place as u8 + 1, port)?)?;
     }
@@ -51,7 +51,7 @@ pub(crate) fn links_with(
     requires { length ports.now ≤ MAX_PORTS }
     ensures { IfOk result (λ links. links.items ≡ links_with 1 ports.now tables.items) }
 {
-    let mut links = Vec::with_capacity(alloc, ports.len())?;
+    let mut links = Vec::new(alloc);
     for (port, tables) in ports.iter().zip(tables) {
         let number = links.len() as u8 + 1;
         links.push(link_with(alloc, number, port, tables)?)?;
@@ -102,7 +102,7 @@ fn direct_of(
 ) -> Result<Vec<NetNum>, AllocError>
     ensures { IfOk result (λ nets. nets.items ≡ map (λ p. p.network) ports.now ++ device ∷ []) }
 {
-    let mut nets = Vec::with_capacity(alloc, ports.len() + 1)?;
+    let mut nets = Vec::new(alloc);
     add_networks(ports, &mut nets)?;
     nets.push(device)?;
     Ok(nets)
@@ -122,7 +122,7 @@ fn add_networks(ports: &[ConfiguredPort], nets: &mut Vec<NetNum>) -> Result<(), 
 fn routed_of(alloc: Global, routes: &[ConfiguredRoute]) -> Result<Vec<(NetNum, Route)>, AllocError>
     ensures { IfOk result (λ routed. routed.items ≡ map routed_of routes.now) }
 {
-    let mut routed = Vec::with_capacity(alloc, routes.len())?;
+    let mut routed = Vec::new(alloc);
     for route in routes {
         let way = Route {
             port: route.port,

@@ -1,7 +1,15 @@
 //! What the words of the relay mean, proved of every change, every history and every table, for a
 //! reader of the definitions that contracts here and in the crates above cite. The functions do
 //! nothing.
-ghost use Rattle.gw_relay.specs.Laws.{AllOnesReachTheManager, BroadcastsAreAsBefore, BroadcastsCarryTheirClaim, ChangesExtendHistories, ClaimingCarriesTheClaim, ConfiguredLinksStand, EnteringCarriesTheLinkSource, EntryAsksReadNothing, EntryIsUnasked, ForgedClaimsAreKeptOut, NetworkMessagesAreAsBefore, NetworkMessagesCarryTheirClaim, NothingIsDeliveredOutside, OwnEntryIsLeftOut, OwnStationsEnterUnasked, RoutersEnterUnasked, RoutesAreKept, RoutingCarriesTheClaim, RoutingIsAsBefore, SenderIsLeftOut, StrangersAreKeptOut, TableAsksReadNothing, TablesAreAsBefore, TablesAreKept, TicksExtendHistories};
+ghost use Rattle.gw_relay.specs.Laws.{AllOnesReachTheManager, BroadcastsAreAsBefore, BroadcastsCarryTheirClaim};
+ghost use Rattle.gw_relay.specs.Laws.{ChangesExtendHistories, ClaimingCarriesTheClaim, ConfiguredLinksStand};
+ghost use Rattle.gw_relay.specs.Laws.{EnteringCarriesTheLinkSource, EntryAsksReadNothing, EntryIsUnasked};
+ghost use Rattle.gw_relay.specs.Laws.{ForgedClaimsAreKeptOut, NetworkMessagesAreAsBefore};
+ghost use Rattle.gw_relay.specs.Laws.{NetworkMessagesCarryTheirClaim, NothingIsDeliveredOutside, OwnEntryIsLeftOut};
+ghost use Rattle.gw_relay.specs.Laws.{OwnStationsEnterUnasked, RoutersEnterUnasked, RoutesAreKept};
+ghost use Rattle.gw_relay.specs.Laws.{RoutingCarriesTheClaim, RoutingIsAsBefore, SenderIsLeftOut};
+ghost use Rattle.gw_relay.specs.Laws.{StrangersAreKeptOut, TableAsksReadNothing, TablesAreAsBefore, TablesAreKept};
+ghost use Rattle.gw_relay.specs.Laws.{TicksExtendHistories};
 
 /// The ports' tables are those of the last granted entries, and of the granted registrations and
 /// deletions and the ticks: so they begin, and each change and each tick extends that.

@@ -226,7 +226,7 @@ impl PortState {
 fn copied(alloc: Global, entries: &BdtEntries<'_>) -> Result<Vec<BdtEntry>, AllocError>
     ensures { IfOk result (λ copy. copy.items ≡ lent bdt_entry entries.now) }
 {
-    let mut copy = Vec::with_capacity(alloc, entries.len())?;
+    let mut copy = Vec::new(alloc);
     for entry in entries.iter() {
         copy.push(entry)?;
     }

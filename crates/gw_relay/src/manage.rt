@@ -4,7 +4,10 @@
 ghost use Rattle.std.specs.Prelude.{◌≡◌, ◌++◌, ◌∷◌, [], List, map, nat_le, true, false, None, IfOk, IsOk, OnErr, OnOk};
 ghost use Rattle.gw_npdu.specs.Npdu.{view as npdu_view};
 ghost use Rattle.gw_rules.specs.declared.rule.Rule.{Rule};
-ghost use Rattle.gw_relay.specs.Manage.{answer_steps, answer_who_is_router, are_networks, is_for_all, is_i_am_router, is_what_is_network_number, is_who_is_router, i_am_router, keep_allowed, learn_ask, manage_asks, manage_response, network_number_is, network_octets, networks_in, number_step, question_of, question_of_all, question_steps};
+ghost use Rattle.gw_relay.specs.Manage.{answer_steps, answer_who_is_router, are_networks, is_for_all, is_i_am_router};
+ghost use Rattle.gw_relay.specs.Manage.{is_what_is_network_number, is_who_is_router, i_am_router, keep_allowed};
+ghost use Rattle.gw_relay.specs.Manage.{learn_ask, manage_asks, manage_response, network_number_is, network_octets};
+ghost use Rattle.gw_relay.specs.Manage.{networks_in, number_step, question_of, question_of_all, question_steps};
 ghost use Rattle.gw_relay.specs.Message.{message_view};
 ghost use Rattle.gw_relay.specs.Turn.{IsWalked};
 ghost use Rattle.gw_relay.specs.Route.{made};

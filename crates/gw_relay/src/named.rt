@@ -12,7 +12,8 @@ ghost use Rattle.gw_services.specs.Write.{write_at};
 ghost use Rattle.gw_tags.specs.Object.{object_view};
 ghost use Rattle.gw_relay.specs.Cast.{cast_ask, carried_asks};
 ghost use Rattle.gw_relay.specs.Message.{message_view};
-ghost use Rattle.gw_relay.specs.Named.{forward_asks, multi_asks, named_ask, named_asks, read_asks, reference_ask, request_asks, segment_asks, unnamed_ask, write_asks};
+ghost use Rattle.gw_relay.specs.Named.{forward_asks, multi_asks, named_ask, named_asks, read_asks, reference_ask};
+ghost use Rattle.gw_relay.specs.Named.{request_asks, segment_asks, unnamed_ask, write_asks};
 ghost use Rattle.gw_relay.specs.internal.Taken.{AreAsked};
 
 use crate::ask::bound_for;

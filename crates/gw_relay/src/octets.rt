@@ -1,6 +1,6 @@
 //! The octets of the messages that are sent, each in a buffer of its own.
 
-ghost use Rattle.std.specs.Prelude.{◌≡◌, ◌≤◌, ◌<◌, ◌^◌, ◌+◌, ◌*◌, ◌++◌, ◌∷◌, [], length, map, take, drop, IfOk, OnOk};
+ghost use Rattle.std.specs.Prelude.{◌≡◌, ◌≤◌, ◌<◌, ◌^◌, ◌+◌, ◌*◌, ◌++◌, ◌∷◌, [], length, map, drop, vec_capacity, IfOk, OnOk};
 ghost use Rattle.std.specs.Int.{w16, to_be_bytes};
 ghost use Rattle.std.specs.Option.{option_map};
 ghost use Rattle.gw_addr.specs.Entry.{bdt_entry, fdt_entry};
@@ -8,6 +8,7 @@ ghost use Rattle.gw_bdt_fdt.specs.Registrations.{shown};
 ghost use Rattle.gw_bvll.specs.Bvll.{encoding, octet_of, read_bdt_ack, read_fdt_ack, result_code, view};
 ghost use Rattle.gw_bvll.specs.Entries.{lent};
 ghost use Rattle.gw_relay.specs.internal.Octets.{within};
+ghost use Rattle.gw_relay.specs.internal.Rooms.{broadcast_npdu};
 
 use gw_bdt_fdt::{Bdt, Fdt};
 use gw_bvll::{
@@ -18,18 +19,32 @@ use std::alloc::{AllocError, Global};
 
 /// How many octets the entry of a table has (Annex J.2.2, J.2.8).
 const ENTRY_LEN: usize = 10;
-/// How many octets a BVLC-Result has (Annex J.2.1).
-const RESULT_LEN: usize = 6;
+/// How many octets of a Forwarded-NPDU come before its NPDU (Annex J.2.5).
+const FORWARDED_HEADER_LEN: usize = 10;
 
-/// The octets of a message, of which there are about so many. None if they would be over 1507.
+/// An empty buffer with memory for a Forwarded-NPDU, if the message is one.
+fn forwarded_buffer(alloc: Global, message: &Bvll<'_>) -> Result<Vec<u8>, AllocError>
+    ensures empty { IfOk result (λ octets. octets.items ≡ []) }
+    ensures room { let most = 10 + length (broadcast_npdu (view message.now)) in
+        IfOk result (λ octets. vec_capacity octets ≤ most) }
+{
+    match message {
+        Bvll::Forwarded { npdu, .. } => Vec::with_capacity(
+            alloc,
+            FORWARDED_HEADER_LEN + npdu.len(),
+        ),
+        _ => Ok(Vec::new(alloc)),
+    }
+}
+
+/// The octets of a message that is distributed. None if they would be over 1507.
 pub(crate) fn message_octets(
     alloc: Global,
     message: &Bvll<'_>,
-    len: usize,
 ) -> Result<Option<Vec<u8>>, AllocError>
     ensures { IfOk result (λ made. option_map (λ v. v.items) made ≡ within (view message.now)) }
 {
-    let mut octets = Vec::with_capacity(alloc, len)?;
+    let mut octets = forwarded_buffer(alloc, message)?;
     match gw_bvll::encode(message, &mut octets) {
         Ok(()) => Ok(Some(octets)),
         Err(EncodeFault::TooLong) => Ok(None),
@@ -64,18 +79,18 @@ pub(crate) fn result_octets(alloc: Global, code: ResultCode) -> Result<Vec<u8>, 
     ensures { IfOk result (λ octets. octets.items ≡ encoding (result_code code.0)) }
 {
     let [high, low] = code.0.to_be_bytes();
-    let mut octets = Vec::with_capacity(alloc, RESULT_LEN)?;
-    octets.extend_from_slice(&[0, 0, 0, 0, high, low])?;
+    let mut octets = Vec::from_slice(alloc, &[0, 0, 0, 0, high, low])?;
     set_header(octets.as_mut_slice(), Function::Result);
     Ok(octets)
 }
 
-/// How many octets an acknowledgement of so many entries has (Annex J.2.4, J.2.8).
-fn ack_len(count: usize) -> usize
+/// An empty buffer with memory for an acknowledgement of so many entries (Annex J.2.4, J.2.8).
+fn ack_buffer(alloc: Global, count: usize) -> Result<Vec<u8>, AllocError>
     requires { count ≤ 128 }
-    ensures { result ≡ 4 + 10 * count }
+    ensures empty { IfOk result (λ octets. octets.items ≡ []) }
+    ensures room { IfOk result (λ octets. vec_capacity octets ≡ 4 + 10 * count) }
 {
-    HEADER_LEN + ENTRY_LEN * count
+    Vec::with_capacity(alloc, HEADER_LEN + ENTRY_LEN * count)
 }
 
 /// No entry of a broadcast distribution table.
@@ -97,7 +112,7 @@ pub(crate) fn bdt_ack(alloc: Global, bdt: &Bdt) -> Result<Vec<u8>, AllocError>
     ensures { IfOk result (λ octets. octets.items ≡ encoding (read_bdt_ack bdt.now)) }
 {
     let entries = bdt.entries();
-    let mut octets = Vec::with_capacity(alloc, ack_len(entries.len()))?;
+    let mut octets = ack_buffer(alloc, entries.len())?;
     put_empty(&Bvll::ReadBdtAck(no_bdt_entries()), &mut octets)?;
     gw_bvll::put_entries(&mut octets, entries)?;
     set_length(octets.as_mut_slice());
@@ -109,7 +124,7 @@ pub(crate) fn fdt_ack(alloc: Global, fdt: &Fdt) -> Result<Vec<u8>, AllocError>
     ensures { IfOk result (λ octets.
         octets.items ≡ encoding (read_fdt_ack (map shown fdt.now.rows))) }
 {
-    let mut octets = Vec::with_capacity(alloc, ack_len(fdt.count()))?;
+    let mut octets = ack_buffer(alloc, fdt.count())?;
     put_empty(&Bvll::ReadFdtAck(no_fdt_entries()), &mut octets)?;
     gw_bvll::put_entries(&mut octets, &fdt.rows(alloc)?)?;
     set_length(octets.as_mut_slice());

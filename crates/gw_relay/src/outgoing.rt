@@ -1,6 +1,6 @@
 //! The messages that the gateway sends for an NPDU, each written once, into one buffer.
 
-ghost use Rattle.std.specs.Prelude.{◌≡◌, ◌+◌, ◌≤◌, ◌∷◌, [], drop, length, vec_len, IfOk};
+ghost use Rattle.std.specs.Prelude.{◌≡◌, ◌+◌, ◌≤◌, ◌∷◌, [], drop, length, vec_capacity, vec_len, IfOk};
 ghost use Rattle.gw_bvll.specs.Bvll.{encoding, original_broadcast, original_unicast};
 ghost use Rattle.gw_npdu.specs.Npdu.{view as npdu_view};
 ghost use Rattle.gw_npdu.specs.Numbers.{max_len};
@@ -126,11 +126,12 @@ impl Outgoing {
     }
 }
 
-/// How many octets a buffer has for a payload after any headers.
-fn buffer_len(payload: &[u8]) -> usize
-    ensures { result ≡ 526 + length payload.now }
+/// An empty buffer with memory for a payload after any headers.
+fn empty_buffer(alloc: Global, payload: &[u8]) -> Result<Vec<u8>, AllocError>
+    ensures empty { IfOk result (λ octets. octets.items ≡ []) }
+    ensures room { IfOk result (λ octets. vec_capacity octets ≡ 526 + length payload.now) }
 {
-    MOST_HEADERS + payload.len()
+    Vec::with_capacity(alloc, MOST_HEADERS + payload.len())
 }
 
 /// A buffer that keeps four octets for the BVLL header, and has room for any headers before this
@@ -138,7 +139,7 @@ fn buffer_len(payload: &[u8]) -> usize
 fn buffer(alloc: Global, payload: &[u8]) -> Result<Vec<u8>, AllocError>
     ensures { IfOk result (λ octets. octets.items ≡ 0 ∷ 0 ∷ 0 ∷ 0 ∷ []) }
 {
-    let mut octets = Vec::with_capacity(alloc, buffer_len(payload))?;
+    let mut octets = empty_buffer(alloc, payload)?;
     octets.extend_from_slice(&[0; HEADER_LEN])?;
     Ok(octets)
 }

@@ -7,7 +7,9 @@ ghost use Rattle.gw_npdu.specs.Npdu.{view as npdu_view, address_view, destinatio
 ghost use Rattle.gw_rules.specs.declared.rule.Rule.{Rule};
 ghost use Rattle.gw_relay.specs.Message.{message_view};
 ghost use Rattle.gw_relay.specs.Turn.{IsWalked};
-ghost use Rattle.gw_relay.specs.Route.{copy, copy_to_port, delivered, forward, has_hops, hop, is_local, last_hop, leaves, on_way, others, reject, reject_and_search, route_asks, route_response, routed, steps_by, who_is_router};
+ghost use Rattle.gw_relay.specs.Route.{copy, copy_to_port, delivered, forward, has_hops, hop, is_local, last_hop};
+ghost use Rattle.gw_relay.specs.Route.{leaves, on_way, others, reject, reject_and_search, route_asks, route_response};
+ghost use Rattle.gw_relay.specs.Route.{routed, steps_by, who_is_router};
 ghost use Rattle.gw_relay.specs.Steps.{asks_of, broadcast, npdu_octets, unicast};
 ghost use Rattle.gw_relay.specs.internal.Taken.{AreTaken};
 

@@ -113,23 +113,6 @@ impl Batches {
         }
     }
 
-    /// Adds a message after others. An `Err` if there is no memory for the list: they are as before.
-    #[inline(never)]
-    fn push(&mut self, alloc: Global, batch: Batch) -> Result<(), AllocError>
-        ensures ok { OnOk result (batches_of self.new ≡ batches_of self.old ++ batch ∷ []) }
-        ensures err { OnErr result (batches_of self.new ≡ batches_of self.old) }
-    {
-        if let Batches::Many(all) = self {
-            all.push(batch)?;
-            return Ok(());
-        }
-        let mut both = Vec::with_capacity(alloc, 2)?;
-        mem::replace(self, Batches::None).move_to(&mut both)?;
-        both.push(batch)?;
-        *self = Batches::Many(both);
-        Ok(())
-    }
-
     /// Adds others after them. An `Err` if there is no memory for the list: they are as before.
     #[inline(never)]
     fn append(&mut self, alloc: Global, others: Batches) -> Result<(), AllocError>
@@ -139,7 +122,7 @@ impl Batches {
         if let Batches::Many(all) = self {
             return others.move_to(all);
         }
-        let mut all = Vec::with_capacity(alloc, 1 + others.as_slice().len())?;
+        let mut all = empty_list(alloc, &others)?;
         mem::replace(self, Batches::None).move_to(&mut all)?;
         others.move_to(&mut all)?;
         *self = Batches::Many(all);
@@ -164,6 +147,14 @@ impl Batches {
             Batches::Many(mut batches) => all.append(&mut batches),
         }
     }
+}
+
+/// An empty list with memory for one message and others after it.
+fn empty_list(alloc: Global, others: &Batches) -> Result<Vec<Batch>, AllocError>
+    ensures empty { IfOk result (λ all. all.items ≡ []) }
+    ensures room { IfOk result (λ all. vec_capacity all ≡ 1 + length (batches_of others.now)) }
+{
+    Vec::with_capacity(alloc, 1 + others.as_slice().len())
 }
 
 /// Datagrams to send, in order, at most 2^64 - 1. Contracts see the list of them, each with its
@@ -234,7 +225,7 @@ impl Sends {
             return Ok(());
         }
         let count = sum(self.count, more)?;
-        self.batches.push(self.alloc, batch)?;
+        self.batches.append(self.alloc, Batches::One([batch]))?;
         self.count = count;
         Ok(())
     }

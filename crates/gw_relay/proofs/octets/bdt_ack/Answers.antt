@@ -13,4 +13,4 @@ set_length-requires-clause-most c =
     bdt_fits c.put_empty.new.octets.items c.as_mut_slice.result.now _ c.entries-entries.result.now c.no_bdt_entries.ensures
     c.in_ok-put_entries.ensures.fit few
     (c.in_ok-put_empty.ensures ∙ ap (λ (t : List ℕ). t ++ encoding (read_bdt_ack (lent bdt_entry c.no_bdt_entries.result)))
-    c.in_ok-octets.ensures.items) (c.as_mut_slice.ensures.value ∙ c.in_ok-put_entries.ensures.ok)
+    c.in_ok-octets.ensures.empty) (c.as_mut_slice.ensures.value ∙ c.in_ok-put_entries.ensures.ok)

@@ -21,4 +21,4 @@ set_length-requires-clause-most c =
     fdt_fits c.put_empty.new.octets.items c.as_mut_slice.result.now _ c.deref.result.now c.no_fdt_entries.ensures
     c.in_ok-put_entries.ensures.fit few
     (c.in_ok-put_empty.ensures ∙ ap (λ (t : List ℕ). t ++ encoding (read_fdt_ack (lent fdt_entry c.no_fdt_entries.result)))
-    c.in_ok-octets.ensures.items) (c.as_mut_slice.ensures.value ∙ c.in_ok-put_entries.ensures.ok)
+    c.in_ok-octets.ensures.empty) (c.as_mut_slice.ensures.value ∙ c.in_ok-put_entries.ensures.ok)

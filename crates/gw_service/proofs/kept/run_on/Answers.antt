@@ -16,7 +16,7 @@ use Rattle.gw_service.proofs.kept.run_on.Goals as goal
 
 pub returns-in_err-running-clause-ran : goal.returns-in_err-running-clause-ran
 returns-in_err-running-clause-ran g c =
-    let from = given g.S.Store.held g.Q.Requests.said g.T.OctetSink.held c.args.before in
+    let from = given g.S.Store.held g.Q.Requests.recorded g.T.OctetSink.held c.args.before in
     let how = service c.args.options.now.turns c.args.options.now.stats in
     let at = ends (g.L.OctetSink.held c.args.log.now) (g.X.Wire.calls c.args.sockets.now) in
     let never = g.E.OctetSink.NeverFails c.args.errors.now in
@@ -30,8 +30,8 @@ returns-in-None-clause-ran g c =
     let run = c.in_ok-running.running in
     let is = c.in_ok-running.ensures in
     let held = g.E.OctetSink.held in
-    let said = recorded_by g.Q.Requests.said in
-    ran_kept (given g.S.Store.held g.Q.Requests.said g.T.OctetSink.held c.args.before) c.args.config
+    let said = recorded_by g.Q.Requests.recorded in
+    ran_kept (given g.S.Store.held g.Q.Requests.recorded g.T.OctetSink.held c.args.before) c.args.config
     (service c.args.options.now.turns c.args.options.now.stats) c.counts.result c.is_kept-keeps.result c.is_some-reloads.result run.gateway run.keeper
     run.state.served run.state.tally (said run.requests) run.counts
     (ends (g.L.OctetSink.held c.args.log.now) (g.X.Wire.calls c.args.sockets.now))
@@ -48,8 +48,8 @@ returns-in-Some-clause-ran g c =
     let watched = c.watched_by-watched.result in
     let by = c.watched_by-watched.ensures in
     let held = g.E.OctetSink.held in
-    let said = recorded_by g.Q.Requests.said in
-    let from = given g.S.Store.held g.Q.Requests.said g.T.OctetSink.held c.args.before in
+    let said = recorded_by g.Q.Requests.recorded in
+    let from = given g.S.Store.held g.Q.Requests.recorded g.T.OctetSink.held c.args.before in
     ran_watched from c.in-Some.watcher c.args.config
     (service c.args.options.now.turns c.args.options.now.stats) c.counts.result c.is_kept-keeps.result c.is_some-reloads.result watched.gateway watched.keeper
     watched.state.served watched.state.tally (said watched.requests) watched.counts

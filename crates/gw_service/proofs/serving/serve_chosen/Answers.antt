@@ -16,7 +16,7 @@ returns-then-is_plain-clause-served g c =
     let given = machine (OpensAtLine (g.H.Host.LogOpens old) (g.H.Host.LogIsCut old) g.H.Log.OctetSink.held) (g.H.Host.SocketsOpen old)
     (g.H.Host.RoutesIp old) (g.H.Host.Closes c.serve_plain.new.host) g.H.Log.OctetSink.held g.H.Sockets.Wire.calls in
     let states = state_machine (g.H.Host.FileReads old) (g.H.Host.LastLines old) (g.H.Host.StoreOpens old) (g.H.Host.ReloadsOpen old)
-    g.H.StateStore.Store.held g.H.Reloads.Requests.said in
+    g.H.StateStore.Store.held g.H.Reloads.Requests.recorded in
     let held = writer_contents g.W.Write.contents c.args.output.now in
     let holds = writer_contents g.W.Write.contents c.serve_plain.new.output in
     let line = startup_line options.verbose c.args.config name in
@@ -39,7 +39,7 @@ returns-else-is_plain-clause-served g c =
     let given = machine (OpensAtLine (g.H.Host.LogOpens old) (g.H.Host.LogIsCut old) g.H.Log.OctetSink.held) (g.H.Host.SocketsOpen old)
     (g.H.Host.RoutesIp old) (g.H.Host.Closes c.serve_kept.new.host) g.H.Log.OctetSink.held g.H.Sockets.Wire.calls in
     let states = state_machine (g.H.Host.FileReads old) (g.H.Host.LastLines old) (g.H.Host.StoreOpens old) (g.H.Host.ReloadsOpen old)
-    g.H.StateStore.Store.held g.H.Reloads.Requests.said in
+    g.H.StateStore.Store.held g.H.Reloads.Requests.recorded in
     let held = writer_contents g.W.Write.contents c.args.output.now in
     let holds = writer_contents g.W.Write.contents c.serve_kept.new.output in
     let line = startup_line options.verbose c.args.config name in

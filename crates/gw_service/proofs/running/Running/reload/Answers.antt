@@ -8,7 +8,7 @@ use Rattle.gw_service.proofs.running.Running.reload.Goals as goal
 pub returns-in-Ok-clause-looked : goal.returns-in-Ok-clause-looked
 returns-in-Ok-clause-looked g c = λ first goes.
     let old = c.args.self.now in
-    let said = g.Q.Requests.said in
+    let said = g.Q.Requests.recorded in
     let held = g.E.OctetSink.held in
     taken_so g.K.StateKeeper.Adopts old.origin old.gateway old.keeper c.adopt.new.self (text_found c.args.read.now) c.in-Ok.field-0 first
     (said old.requests) (said c.answer.new.self) c.deref.result.now old.counts c.with_taken_over-self.result
@@ -20,7 +20,7 @@ returns-in-Ok-clause-looked g c = λ first goes.
 pub returns-in-Err-clause-looked : goal.returns-in-Err-clause-looked
 returns-in-Err-clause-looked g c = λ first goes.
     let old = c.args.self.now in
-    let said = g.Q.Requests.said in
+    let said = g.Q.Requests.recorded in
     let held = g.E.OctetSink.held in
     let read = text_found c.args.read.now in
     let fault = c.in-Err.fault in

@@ -1,7 +1,7 @@
 use Rattle.std.proofs.Common.{◌≡◌, ◌++◌, ◌∙◌, [], List, ℕ, ap, ap₂, arith, length}
 use Rattle.gw_script.specs.Event.{event_view}
 use Rattle.gw_core.proofs.ExplainedLemmas.{no_asks_text}
-use Rattle.gw_core.proofs.event_writer.ExplainingEventWriter.make_text.Goals as goal
+use Rattle.gw_core.proofs.event_writer.ExplainingEventText.make_text.Goals as goal
 
 pub append_taken-requires : goal.append_taken-requires
 append_taken-requires c = record {
