@@ -310,7 +310,7 @@ same 'what stood in the log before a run' "$(cat "$work/log"; echo .)" 'a line o
 same 'the status of a run that makes its log' "$?" 0
 "$program" run --config "$work/loopback.toml" --log "$work/stamped.log" --stamp --turns 1 < /dev/null 2> /dev/null
 same 'a log with stamps begins with a note' "$(sed -E 's/^[0-9]{4}(-[0-9]{2}){2}T[0-9]{2}(:[0-9]{2}){2}Z /TIME /' "$work/stamped.log")" \
-    'TIME # bacgw began'
+    "TIME # $("$program" --version | cut -d, -f1) began"
 same 'who may read a log that was made' "$(stat -c %a "$work/made.log")" 600
 ln -s "$work/made.log" "$work/link.log"
 ran 1 'bacgw: log failed' --config "$work/loopback.toml" --log "$work/link.log" --turns 1
@@ -364,6 +364,17 @@ same 'a log that was renamed, and one that was removed' "$(grep -o '^[0-9]* .*ru
     '3 . 1 1:7F030005BAC0 read dst=100 svc=12 obj=5,2 prop=85 prio=- rule=hide
 4 . 1 1:7F030005BAC0 read dst=100 svc=12 obj=5,2 prop=85 prio=- rule=hide'
 same 'the mode of a new log' "$(stat -c %a "$work/log")" 600
+
+# A log with stamps has a note of a reload, and a new file of it begins with one. Its denials are those of the run all the same.
+times='s/^[0-9]{4}(-[0-9]{2}){2}T[0-9]{2}(:[0-9]{2}){2}Z /TIME /; s/^TIME ([12]) [0-9]* /TIME \1 . /; s/(# reload: )[0-9]+ rules \(0 new.*kept$/\1SAME/'
+python3 "$here/loopback.py" noted "$program" "$work/served.toml" "$work/noted.log" "$work/noted.request" > "$work/out" 2>&1
+same 'a log with stamps has a note of a reload' "$(sed -E "$times" "$work/noted.log.1")" \
+    "TIME # $("$program" --version | cut -d, -f1) began
+TIME 1 . 1 1:7F030005BAC0 read dst=100 svc=12 obj=5,2 prop=85 prio=- rule=hide
+TIME # reload: SAME"
+same 'a new file of a log with stamps begins with a note' "$(sed -E "$times" "$work/noted.log")" \
+    'TIME # log began anew
+TIME 2 . 1 1:7F030005BAC0 read dst=100 svc=12 obj=5,2 prop=85 prio=- rule=hide'
 
 # A send of fewer octets than it was given is a failure. The system makes none of a datagram, so a library that is loaded before the
 # program does, and the counts tell of it.

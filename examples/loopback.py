@@ -13,6 +13,9 @@
                                              reads it after each start
     loopback.py reload PROGRAM FILE NEW REQUEST
                                              has a gateway take over another configuration, and then a faulty one, which it refuses
+    loopback.py noted PROGRAM FILE LOG REQUEST
+                                             lets a read be denied by a gateway whose log has stamps and notes, has it read its
+                                             configuration again, renames the log to LOG.1, and lets a read be denied again
     loopback.py watched PROGRAM FILE TRIAL LOG
                                              reads two points of a gateway beside which TRIAL is on trial, with the log LOG.trial, and
                                              which audits to LOG.audit; ends it by SIGTERM; and all that again
@@ -146,6 +149,22 @@ def reload(program, file, new, request):
         with open(request + ".answer", encoding="utf-8") as answer:
             print(answer.read(), end="", flush=True)
         read(line, 32, 2, PORT_1)
+    finally:
+        gateway.kill()
+        gateway.wait(timeout=10)
+
+
+def noted(program, file, log, request):
+    """Reads the door of a gateway whose log has stamps and notes, has it reload, renames the log, and reads the door again."""
+    line = open_line(CLIENT)
+    gateway = start(program, "--config", file, "--log", log, "--stamp", "--reload", request)
+    try:
+        read(line, 50, 2, PORT_1)
+        again = [program, "reload", "--config", file, "--reload", request]
+        print("status", subprocess.run(again, stdout=subprocess.DEVNULL, timeout=20).returncode, flush=True)
+        os.rename(log, log + ".1")
+        time.sleep(1.1)
+        read(line, 51, 2, PORT_1)
     finally:
         gateway.kill()
         gateway.wait(timeout=10)
@@ -289,5 +308,6 @@ def ports(program, file, count):
     "first": first,
     "kept": kept,
     "reload": reload,
+    "noted": noted,
     "watched": watched,
 }[sys.argv[1]](*sys.argv[2:])

@@ -15,7 +15,7 @@ use gw_script::{OctetSource, ReadFailed};
 /// A line ends with a line feed, which the last may lack. One of more than 4096 octets shows no ask.
 ///
 /// ```text
-/// 2026-11-27T08:00:00Z # bacgw 0.2.0 began
+/// 2026-11-27T08:00:00Z # bacgw 0.1.0 began
 /// Nov 27 08:00:17 gate bacgw[12]: 1 17 1 1:C0A80105BAC0 read dst=100 svc=12 obj=5,2 prop=85 prio=- rule=hide
 /// ```
 ///

@@ -1,6 +1,7 @@
 -- Links one after the other, and what they reported.
 use Rattle.std.proofs.Common.{◌≡◌, ◌∙◌, ℕ, ◌+◌, ◌<◌, List, [], ◌∷◌, ◌++◌, Option, Some, None, refl, ap, subst, append_assoc, length, arith, rules, inr}
-use Rattle.std.specs.Io.KnownBytes.{Appends}
+use Rattle.std.specs.Io.KnownBytes.{Appends, Keeps}
+use Rattle.std.proofs.KnownBytes.{Appends-kept}
 use Rattle.std.proofs.lemmas.List.{append-nil, flat_map_more, length-append}
 use Rattle.std.specs.Option.{option_map_or}
 use Rattle.std.specs.Prelude.{Result, Ok, Err, Bool, IfSome}
@@ -10,16 +11,19 @@ use Rattle.gw_core.specs.Resumed.{carried, saved, saved_of}
 use Rattle.gw_saved.specs.Saved.{Origin, origin_of}
 use Rattle.gw_script.specs.Event.{Event}
 use Rattle.gw_script.specs.Event as event
-use Rattle.gw_serving.specs.Stretch.{EndsAtTick, EndsAtTurns, EndsStretch, EndsWithheld, GoOn, Moment}
+use Rattle.gw_script.specs.declared.sink.WriteFailed.{WriteFailed}
+use Rattle.gw_serving.specs.Stretch.{EndsAtTick, EndsAtTurns, EndsStretch, EndsWithheld, GoOn, Moment, moment}
 use Rattle.gw_serving.specs.declared.stretch.Pause.{Pause}
 use Rattle.gw_serving.specs.declared.serving.ServeFault.{ServeFault}
 use Rattle.gw_core.specs.State.{State}
-use Rattle.gw_serving.specs.Serve.{Turn, count_turn, counts_after, empty_turn, failed_turn, lost_event, taken_event}
+use Rattle.gw_serving.specs.Serve.{Turn, count_turn, counts_after, empty_turn, failed_turn, lost_event, scene, taken_event}
+use Rattle.gw_serving.specs.Wire.{Call}
 use Rattle.gw_serving.specs.declared.serving.Served.{Served}
+use Rattle.gw_serving.specs.declared.tally.Tally.{Tally}
 use Rattle.gw_system.proofs.RequestLemmas.{goes_two}
 use Rattle.gw_system.specs.Requests.{Asking, GoesOn, answered, asked}
 use Rattle.gw_system.specs.declared.reading.ReadFailure.{ReadFailure}
-use Rattle.gw_service.specs.Chain.{Advances, AreLinks, IsLink, IsLooked, Link, Look, Looks, Manner, Runs, Stage, chain_text, link_text, look_text}
+use Rattle.gw_service.specs.Chain.{Advances, AreLinks, IsLink, IsLooked, IsNotedBy, Link, Look, Looks, Manner, Runs, Stage, chain_text, link_text, look_text}
 use Rattle.gw_service.specs.Chain.{refused, standing, taken_over, unrequested}
 use Rattle.gw_service.specs.Keeping.{IsSuccessor}
 use Rattle.gw_service.specs.Reload.{IsRefusalLine, IsRefused, IsReloaded, refusal_line, reload_line, with_refused, with_taken_over}
@@ -61,12 +65,15 @@ turns_counted s (taken_event e tries ∷ turns) =
 -- a configuration that is taken over, and what is answered and reported of it
 pub taken_so : {K : Type 0} (Adopts : K → Configuration → State → K → Type 0) (o : Origin) (w : State) (k l : K)
     (read : Result (Option (List ℕ)) ReadFailure) (made : Adopted) (first middle last : Asking) (line : List ℕ)
-    (counts then : ReloadCounts) (Never : Type 0) (held holds : Option (List ℕ)) → IsReloaded w o read made
+    (counts then : ReloadCounts) (Never : Type 0) (held holds : Option (List ℕ)) {L : Type 0}
+    (Takes : L → List ℕ → Result (Unit {0}) WriteFailed → L → Type 0) (log log_then : L) (written : Result (Unit {0}) WriteFailed)
+    → IsReloaded w o read made
     → ((c : Configuration) → IsSuccessor c made.successor → Adopts k c made.gateway l) → GoesOn first middle (asked read ∷ []) → GoesOn middle last (answered line ∷ [])
-    → line ≡ made.line.items → then ≡ with_taken_over counts w.ticks → (Never → Appends held holds line)
-    → Looks (IsLooked Adopts) o (standing w k first counts) made.origin (standing made.gateway l last then) Never held holds
-taken_so {K} Adopts o w k l (Ok (Some text)) made first middle last line counts then Never held holds is adopts asks answers is_line is_counts
-    records = λ c is_origin.
+    → line ≡ made.line.items → then ≡ with_taken_over counts w.ticks → (Never → Appends held holds line) → Takes log line written log_then
+    → Looks (IsLooked Adopts) (IsNotedBy Takes log log_then) o (standing w k first counts) made.origin (standing made.gateway l last then) Never
+    held holds
+taken_so {K} Adopts o w k l (Ok (Some text)) made first middle last line counts then Never held holds Takes log log_then written is adopts asks
+    answers is_line is_counts records noted = λ c is_origin.
     let new = is.config in
     let same : saved_of o w ≡ saved c w = ap (λ (x : Origin). saved_of x w) is_origin in
     let is_text : line ≡ reload_line w new (saved c w) = is_line ∙ is.adopted.line ∙ ap (reload_line w new) same in (
@@ -84,32 +91,39 @@ taken_so {K} Adopts o w k l (Ok (Some text)) made first middle last line counts 
         counts = is_counts;
       },
       λ never. subst (λ (t : List ℕ). Appends held holds t) is_text (records never),
+      (written, subst (λ (t : List ℕ). Takes log t written log_then) is_text noted),
     )
-taken_so Adopts o w k l (Ok None) made first middle last line counts then Never held holds is adopts asks answers is_line is_counts records =
+taken_so Adopts o w k l (Ok None) made first middle last line counts then Never held holds Takes log log_then written is adopts asks answers
+    is_line is_counts records noted =
     absurd is
-taken_so Adopts o w k l (Err failure) made first middle last line counts then Never held holds is adopts asks answers is_line is_counts records =
+taken_so Adopts o w k l (Err failure) made first middle last line counts then Never held holds Takes log log_then written is adopts asks answers
+    is_line is_counts records noted =
     absurd is
 
 -- one that isn't
 pub refused_so : {K : Type 0} (Adopts : K → Configuration → State → K → Type 0) (o : Origin) (w : State) (k : K)
     (read : Result (Option (List ℕ)) ReadFailure) (fault : ReloadFault) (first middle last : Asking) (line : List ℕ)
-    (counts then : ReloadCounts) (Never : Type 0) (held holds : Option (List ℕ)) → IsRefused w read fault → IsRefusalLine read fault line
+    (counts then : ReloadCounts) (Never : Type 0) (held holds : Option (List ℕ)) {L : Type 0}
+    (Takes : L → List ℕ → Result (Unit {0}) WriteFailed → L → Type 0) (log log_then : L) (written : Result (Unit {0}) WriteFailed)
+    → IsRefused w read fault → IsRefusalLine read fault line
     → GoesOn first middle (asked read ∷ []) → GoesOn middle last (answered line ∷ []) → then ≡ with_refused counts
-    → (Never → Appends held holds line)
-    → Looks (IsLooked Adopts) o (standing w k first counts) o (standing w k last then) Never held holds
-refused_so Adopts o w k read fault first middle last line counts then Never held holds is says asks answers is_counts records = λ c is_origin. (
-  c,
-  refused read fault line,
-  is_origin,
-  record {
-    why = is;
-    says = says;
-    stays = record { config = refl; gateway = refl; keeper = refl };
-    requests = goes_two first middle last (asked read) (answered line) asks answers;
-    counts = is_counts;
-  },
-  records,
-)
+    → (Never → Appends held holds line) → Takes log line written log_then
+    → Looks (IsLooked Adopts) (IsNotedBy Takes log log_then) o (standing w k first counts) o (standing w k last then) Never held holds
+refused_so Adopts o w k read fault first middle last line counts then Never held holds Takes log log_then written is says asks answers is_counts
+    records noted = λ c is_origin. (
+      c,
+      refused read fault line,
+      is_origin,
+      record {
+        why = is;
+        says = says;
+        stays = record { config = refl; gateway = refl; keeper = refl };
+        requests = goes_two first middle last (asked read) (answered line) asks answers;
+        counts = is_counts;
+      },
+      records,
+      (written, noted),
+    )
 
 -- the line without a place says why
 short_line : (read : Result (Option (List ℕ)) ReadFailure) (fault : ReloadFault) → IsRefusalLine read fault (refusal_line fault)
@@ -135,7 +149,32 @@ same_text c w k l q counts unrequested = refl
 same_text c w k l q counts (refused read f line) = refl
 same_text c w k l q counts (taken_over text new) = refl
 
+-- so is what is noted of it
+pub same_note : {K L : Type 0} (c : Configuration) (w : State) (k l : K) (q : Asking) (counts : ReloadCounts)
+    (Takes : L → List ℕ → Result (Unit {0}) WriteFailed → L → Type 0) (log log_then : L) (look : Look)
+    → IsNotedBy Takes log log_then look (look_text c (standing w k q counts) look)
+    → IsNotedBy Takes log log_then look (look_text c (standing w l q counts) look)
+same_note c w k l q counts Takes log log_then unrequested noted = noted
+same_note c w k l q counts Takes log log_then (refused read f line) noted = noted
+same_note c w k l q counts Takes log log_then (taken_over text new) noted = noted
+
 -- ---- how a stretch ended
+
+-- what keeps all that the log holds changes nothing of turns that were served
+pub went_kept : {G : Type 0} (Passes : G → State → Event → G → Bool → Type 0) (a : Moment G) (turns : List Turn) (w : State)
+    (held holds : Option (List ℕ)) (calls : Option (List Call)) (g : G) (s : Served) (t : Tally)
+    → GoOn Passes a turns (moment (scene w held calls) g s t) → Keeps held holds → GoOn Passes a turns (moment (scene w holds calls) g s t)
+went_kept Passes a turns w held holds calls g s t went kept = record {
+  went = record {
+    each = went.went.each;
+    gateway = went.went.gateway;
+    log = Appends-kept _ _ _ _ went.went.log kept;
+    calls = went.went.calls;
+  };
+  guarded = went.guarded;
+  counts = went.counts;
+  tally = went.tally;
+}
 
 -- by its answer
 pub ends_as : {K : Type 0} (Passes : K → State → Event → K → Bool → Type 0) (count : ℕ) (a b : Moment K) (answer : Result Pause ServeFault)
@@ -182,13 +221,13 @@ chained_none manner o first Never held =
     λ c is. (c, [], is, links_none manner (first c), λ never. appends_nothing held)
 
 -- what comes of a stretch, from each configuration of this origin
-abbrev pub Advanced : {K : Type 0} → Manner K → ℕ → Origin → (Configuration → Stage K) → Result (Unit {0}) ServeFault → Origin
+abbrev pub Advanced : {K : Type 0} → Manner K → ℕ → Origin → (Configuration → Stage K) → Result Pause ServeFault → Origin
     → (Configuration → Stage K) → (Never : Type 0) → (held holds : Option (List ℕ)) → Type 0
 Advanced manner count p now result q next Never held holds =
     (c : Configuration) → p ≡ origin_of c → (d : Configuration) × (text : List ℕ) × (q ≡ origin_of d)
     × Advances manner count (now c) result text (next d) × (Never → Appends held holds text)
 
-pub chained_more : {K : Type 0} (manner : Manner K) (count : ℕ) (o p q : Origin) (first now next : Configuration → Stage K) (done : Unit {0})
+pub chained_more : {K : Type 0} (manner : Manner K) (count : ℕ) (o p q : Origin) (first now next : Configuration → Stage K) (done : Pause)
     (Never Then : Type 0) (held middle holds : Option (List ℕ)) → Chained manner o first p now Never held middle
     → Advanced manner count p now (Ok done) q next Then middle holds → (Never → Then)
     → Chained manner o first q next Never held holds

@@ -10,10 +10,13 @@ use Rattle.gw_core.specs.State.{State}
 use Rattle.gw_saved.specs.Saved.{Origin, origin_of}
 use Rattle.gw_script.specs.Event.{Event}
 use Rattle.gw_script.specs.Event as event
+use Rattle.gw_script.specs.declared.sink.WriteFailed.{WriteFailed}
 use Rattle.gw_serving.specs.Serve.{Try, Turn, taken_event}
 use Rattle.gw_serving.specs.Stretch.{EndsFaulty, GoOn, IsWithheld, Moment}
 use Rattle.gw_serving.specs.declared.serving.ServeFault.{ServeFault}
 use Rattle.gw_serving.specs.declared.serving.Served.{Served}
+use Rattle.gw_serving.specs.declared.stretch.Pause.{Pause}
+use Rattle.gw_serving.specs.declared.stretch.Pause.TheVariants as pause
 use Rattle.gw_serving.specs.declared.tally.Tally.{Tally}
 use Rattle.gw_system.specs.Requests.{Asking, GoesOn, answered, asked, unasked}
 use Rattle.gw_system.specs.declared.reading.ReadFailure.{ReadFailure}
@@ -115,13 +118,20 @@ pub record AtTick {K : Type 0} (Ticks : K → State → K → Type 0) (Adopts : 
   pub ticks : Ticks s.keeper s.gateway keeper
   pub looked : IsLooked Adopts c (standing s.gateway keeper s.requests s.counts) look d t
 
+-- The log takes a note of the line of what came of looking for a request, written or not; if there was none it stays as it is.
+abbrev pub IsNotedBy : {L : Type 0} → (Takes : L → List ℕ → Result (Unit {0}) WriteFailed → L → Type 0) → (log log_then : L) → Look → List ℕ
+    → Type 0
+IsNotedBy Takes log log_then unrequested line = log_then ≡ log
+IsNotedBy Takes log log_then (refused read fault says) line = (written : Result (Unit {0}) WriteFailed) × Takes log line written log_then
+IsNotedBy Takes log log_then (taken_over text new) line = (written : Result (Unit {0}) WriteFailed) × Takes log line written log_then
+
 -- What is done about a request, whatever configuration this origin is of: one of these looks, which leads to one of a
--- configuration of that origin; and what is said of it is written, if that never fails.
-abbrev pub Looks : {K : Type 0} → (Done : Configuration → Standing K → Look → Configuration → Standing K → Type 0) → Origin → Standing K
-    → Origin → Standing K → (Never : Type 0) → (held holds : Option (List ℕ)) → Type 0
-Looks Done o s p t Never held holds =
+-- configuration of that origin; what is said of it is written, if that never fails; and the log takes a note of it.
+abbrev pub Looks : {K : Type 0} → (Done : Configuration → Standing K → Look → Configuration → Standing K → Type 0)
+    → (Noted : Look → List ℕ → Type 0) → Origin → Standing K → Origin → Standing K → (Never : Type 0) → (held holds : Option (List ℕ)) → Type 0
+Looks Done Noted o s p t Never held holds =
     (c : Configuration) → o ≡ origin_of c → (d : Configuration) × (look : Look) × (p ≡ origin_of d)
-    × Done c s look d t × (Never → Appends held holds (look_text c s look))
+    × Done c s look d t × (Never → Appends held holds (look_text c s look)) × Noted look (look_text c s look)
 
 -- ---- one stretch, and what is done after it
 
@@ -238,7 +248,13 @@ abbrev pub Runs : {K : Type 0} → Manner K → ℕ → Stage K → Result (Unit
 Runs manner count first (Ok done) links last = RunsWhole manner count first links last
 Runs manner count first (Err fault) links last = RunsUntil manner fault count first links last
 
--- what comes of a stretch of at most so many turns and of what is done after it, with what is reported then
-abbrev pub Advances : {K : Type 0} → Manner K → ℕ → Stage K → Result (Unit {0}) ServeFault → List ℕ → Stage K → Type 0
-Advances manner count s (Ok done) text t = (link : Link) × IsLink manner s link t × (text ≡ link_text link)
+-- where it ended
+abbrev pub pause_of : Link → Pause
+pause_of (served turns) = pause.Turns
+pause_of (ticked turns look text) = pause.Tick
+pause_of (withheld turns event text) = pause.Withheld
+
+-- What comes of a stretch of at most so many turns and of what is done after it, with what is reported then, and where it ended.
+abbrev pub Advances : {K : Type 0} → Manner K → ℕ → Stage K → Result Pause ServeFault → List ℕ → Stage K → Type 0
+Advances manner count s (Ok pause) text t = (link : Link) × IsLink manner s link t × (text ≡ link_text link) × (pause_of link ≡ pause)
 Advances manner count s (Err fault) text t = EndsSo manner count fault s t × (text ≡ [])

@@ -36,6 +36,7 @@ use gw_core::Gateway;
 use gw_saved::{Origin, Saved};
 use gw_script::OctetSink;
 use gw_serving::{Keeper, ServeFault, ServeState, Store, Wire};
+use gw_stamping::Notes;
 use gw_system::{Host, ReadFailure, Requests, note_of};
 use gw_watching::Watcher;
 use std::alloc::{AllocError, Global};
@@ -309,7 +310,7 @@ fn run_on<
     Q: Requests + Drop,
     T: OctetSink + Drop,
     X: Wire,
-    L: OctetSink,
+    L: Notes,
     E: OctetSink,
 >(
     alloc: Global,
@@ -351,7 +352,7 @@ fn run_open<
     S: Store + Drop,
     Q: Requests + Drop,
     X: Wire,
-    L: OctetSink + Drop,
+    L: Notes + Drop,
     W: Write + Drop,
     E: OctetSink,
 >(

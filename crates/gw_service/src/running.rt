@@ -3,13 +3,14 @@
 
 ghost use Rattle.std.specs.Prelude.{◌≡◌, ◌+◌, ◌≤◌, ◌<◌, ◌^◌, ◌∷◌, [], ℕ, List, IfOk, IsErrOf, Ok, OnOk};
 ghost use Rattle.std.specs.Option.{option_map_or};
-ghost use Rattle.std.specs.Io.KnownBytes.{Appends};
+ghost use Rattle.std.specs.Io.KnownBytes.{Appends, Keeps};
 ghost use Rattle.gw_configuration.specs.Configuration.{Configuration};
 ghost use Rattle.gw_saved.specs.Saved.{origin_of};
 ghost use Rattle.gw_serving.specs.Serve.{scene};
 ghost use Rattle.gw_serving.specs.Stretch.{CanCount, moment};
 ghost use Rattle.gw_system.specs.Requests.{Asking, GoesOn, IsAsking, asked, text_found};
-ghost use Rattle.gw_service.specs.Chain.{Advances, AtTick, IsLooked, Link, Looks, Runs, chain_text, manner, stage, standing};
+ghost use Rattle.gw_service.specs.Chain.{Advances, AtTick, IsLooked, IsNotedBy, Link, Looks, Runs, chain_text, manner, stage, standing};
+ghost use Rattle.gw_service.specs.Metrics.{PutsAt, PutsDue, measures_of};
 ghost use Rattle.gw_service.specs.Notices.{no_troubles, notice_of};
 ghost use Rattle.gw_service.specs.Reload.{refusal_line};
 ghost use Rattle.gw_service.specs.Kept.{RunsFrom};
@@ -31,6 +32,7 @@ use gw_policy_text::MAX_OCTETS;
 use gw_saved::Origin;
 use gw_script::OctetSink;
 use gw_serving::{Both, Pause, ServeFault, ServeState, Store, Wire};
+use gw_stamping::Notes;
 use gw_system::{ReadFailure, Requests};
 use std::alloc::Global;
 
@@ -82,21 +84,25 @@ fn line_or(line: &Option<Vec<u8>>, fault: ReloadFault) -> &[u8]
 }
 
 impl<K: StateKeeper, Q: Requests, M: Store + Drop> Running<K, Q, M> {
-    /// Takes the configuration of what was read over, or goes on as before; answers the request, and reports it.
-    fn reload<E: OctetSink>(
+    /// Takes the configuration of what was read over, or goes on as before; answers the request, and reports and notes it.
+    fn reload<L: Notes, E: OctetSink>(
         &mut self,
         alloc: Global,
         read: &Result<Option<Vec<u8>>, ReadFailure>,
+        log: &mut L,
         errors: &mut E,
     )
         requires { IsAsking (Q.recorded self.old.requests) }
         ensures looked { (first : Asking) →
             GoesOn first (Q.recorded self.old.requests) (asked (text_found read.now) ∷ []) →
-            Looks (IsLooked K.Adopts) self.old.origin (standing self.old.gateway self.old.keeper first self.old.counts)
+            Looks (IsLooked K.Adopts) (IsNotedBy L.Takes log.old log.new) self.old.origin
+            (standing self.old.gateway self.old.keeper first self.old.counts)
             self.new.origin (standing self.new.gateway self.new.keeper (Q.recorded self.new.requests) self.new.counts)
             (E.NeverFails errors.old) (E.held errors.old) (E.held errors.new) }
+        ensures log { Keeps (L.held log.old) (L.held log.new) }
         ensures state { self.new.state ≡ self.old.state }
         ensures said { self.new.said ≡ self.old.said }
+        ensures metrics { self.new.metrics ≡ self.old.metrics }
         ensures lasts { E.NeverFails errors.old → E.NeverFails errors.new }
     {
         match reloaded(alloc, &self.gateway, &self.origin, read) {
@@ -113,6 +119,7 @@ impl<K: StateKeeper, Q: Requests, M: Store + Drop> Running<K, Q, M> {
                 self.origin = origin;
                 self.keeper.adopt(alloc, successor, &self.gateway);
                 self.requests.answer(&line);
+                let _ = log.take_note(&line);
                 write_note(&line, errors);
             }
             Err(fault) => {
@@ -120,23 +127,26 @@ impl<K: StateKeeper, Q: Requests, M: Store + Drop> Running<K, Q, M> {
                 let located = line_with_place(alloc, read, fault);
                 let line = line_or(&located, fault);
                 self.requests.answer(line);
+                let _ = log.take_note(line);
                 write_note(line, errors);
             }
         }
     }
 
     /// Looks for a request, and if there is one reads the configuration again.
-    fn look<E: OctetSink>(&mut self, alloc: Global, errors: &mut E)
-        ensures looked { Looks (IsLooked K.Adopts) self.old.origin
+    fn look<L: Notes, E: OctetSink>(&mut self, alloc: Global, log: &mut L, errors: &mut E)
+        ensures looked { Looks (IsLooked K.Adopts) (IsNotedBy L.Takes log.old log.new) self.old.origin
             (standing self.old.gateway self.old.keeper (Q.recorded self.old.requests) self.old.counts)
             self.new.origin (standing self.new.gateway self.new.keeper (Q.recorded self.new.requests) self.new.counts)
             (E.NeverFails errors.old) (E.held errors.old) (E.held errors.new) }
+        ensures log { Keeps (L.held log.old) (L.held log.new) }
         ensures state { self.new.state ≡ self.old.state }
         ensures said { self.new.said ≡ self.old.said }
+        ensures metrics { self.new.metrics ≡ self.old.metrics }
         ensures lasts { E.NeverFails errors.old → E.NeverFails errors.new }
     {
         if let Some(read) = self.requests.take(alloc, MAX_OCTETS) {
-            self.reload(alloc, &read, errors);
+            self.reload(alloc, &read, log, errors);
         }
     }
 
@@ -153,21 +163,23 @@ impl<K: StateKeeper, Q: Requests, M: Store + Drop> Running<K, Q, M> {
     }
 
     /// Does what is due at a tick: does what is due of the state, and looks for a request.
-    fn at_tick<E: OctetSink>(&mut self, alloc: Global, errors: &mut E)
-        ensures done { Looks (AtTick K.Ticks K.Adopts) self.old.origin
+    fn at_tick<L: Notes, E: OctetSink>(&mut self, alloc: Global, log: &mut L, errors: &mut E)
+        ensures done { Looks (AtTick K.Ticks K.Adopts) (IsNotedBy L.Takes log.old log.new) self.old.origin
             (standing self.old.gateway self.old.keeper (Q.recorded self.old.requests) self.old.counts)
             self.new.origin (standing self.new.gateway self.new.keeper (Q.recorded self.new.requests) self.new.counts)
             (E.NeverFails errors.old) (E.held errors.old) (E.held errors.new) }
+        ensures log { Keeps (L.held log.old) (L.held log.new) }
         ensures state { self.new.state ≡ self.old.state }
         ensures said { self.new.said ≡ self.old.said }
+        ensures metrics { self.new.metrics ≡ self.old.metrics }
         ensures lasts { E.NeverFails errors.old → E.NeverFails errors.new }
     {
         self.keeper.keep_at_tick(alloc, &self.gateway);
-        self.look(alloc, errors);
+        self.look(alloc, log, errors);
     }
 
-    /// Serves a stretch of at most so many turns, and does what is due after it. Faults: those of serving.
-    fn advance<W: Wire, L: OctetSink, E: OctetSink>(
+    /// Serves a stretch of at most so many turns, does what is due after it, and answers where it ended. Faults: those of serving.
+    fn advance<W: Wire, L: Notes, E: OctetSink>(
         &mut self,
         alloc: Global,
         wire: &mut W,
@@ -175,7 +187,7 @@ impl<K: StateKeeper, Q: Requests, M: Store + Drop> Running<K, Q, M> {
         errors: &mut E,
         schedule: &Schedule,
         turns: u64,
-    ) -> Result<(), ServeFault>
+    ) -> Result<Pause, ServeFault>
         requires count { CanCount self.old.state.served self.old.state.tally (W.failure_count wire.old) turns }
         ensures advances { (c : Configuration) → self.old.origin ≡ origin_of c →
             let before = stage c (moment (scene self.old.gateway (L.held log.old) (W.calls wire.old)) self.old.keeper
@@ -186,6 +198,10 @@ impl<K: StateKeeper, Q: Requests, M: Store + Drop> Running<K, Q, M> {
             (stage d (moment (scene self.new.gateway (L.held log.new) (W.calls wire.new)) self.new.keeper
             self.new.state.served self.new.state.tally) (Q.recorded self.new.requests) self.new.counts self.new.said)
             × (E.NeverFails errors.old → Appends (E.held errors.old) (E.held errors.new) text) }
+        ensures metrics { IfOk result (λ pause. PutsAt pause (PutsDue M.held self.old.metrics
+            (measures_of schedule.now.start self.new.gateway self.new.state.served self.new.state.tally self.new.counts
+            (K.losses self.new.keeper) (K.tries self.new.keeper)) self.new.gateway (K.decisions self.new.keeper) self.new.metrics)
+            (self.new.metrics ≡ self.old.metrics)) }
         ensures rest { (rest : ℕ) → self.new.state.served.turns + rest ≤ self.old.state.served.turns + turns →
             CanCount self.new.state.served self.new.state.tally (W.failure_count wire.new) rest }
         ensures more { 0 < turns → OnOk result (self.old.state.served.turns < self.new.state.served.turns) }
@@ -197,9 +213,9 @@ impl<K: StateKeeper, Q: Requests, M: Store + Drop> Running<K, Q, M> {
             .state
             .serve_to_tick(alloc, &mut self.gateway, wire, log, keeper, turns)
         {
-            Ok(Pause::Turns) => {}
+            Ok(Pause::Turns) => Ok(Pause::Turns),
             Ok(Pause::Tick) => {
-                self.at_tick(alloc, errors);
+                self.at_tick(alloc, log, errors);
                 self.said = self.notice(errors);
                 schedule.report_due(
                     &self.gateway,
@@ -221,11 +237,14 @@ impl<K: StateKeeper, Q: Requests, M: Store + Drop> Running<K, Q, M> {
                     &self.gateway,
                     &self.keeper,
                 );
+                Ok(Pause::Tick)
             }
-            Ok(Pause::Withheld) => self.said = self.notice(errors),
-            Err(fault) => return Err(fault),
+            Ok(Pause::Withheld) => {
+                self.said = self.notice(errors);
+                Ok(Pause::Withheld)
+            }
+            Err(fault) => Err(fault),
         }
-        Ok(())
     }
 
     /// Serves a wire for so many turns, by stretches. After each tick the keeper does what is due, and a request is looked
@@ -235,7 +254,7 @@ impl<K: StateKeeper, Q: Requests, M: Store + Drop> Running<K, Q, M> {
     /// # Errors
     ///
     /// Those of [`serve`](gw_serving::serve).
-    pub fn serve<W: Wire, L: OctetSink, E: OctetSink>(
+    pub fn serve<W: Wire, L: Notes, E: OctetSink>(
         &mut self,
         alloc: Global,
         wire: &mut W,
@@ -274,7 +293,7 @@ impl<K: StateKeeper, Q: Requests, M: Store + Drop> Running<K, Q, M> {
     /// # Errors
     ///
     /// Those of [`serve`](gw_serving::serve).
-    pub(crate) fn run<W: Wire, L: OctetSink, E: OctetSink>(
+    pub(crate) fn run<W: Wire, L: Notes, E: OctetSink>(
         &mut self,
         alloc: Global,
         wire: &mut W,

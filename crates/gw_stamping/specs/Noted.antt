@@ -1,5 +1,6 @@
 -- A log with notes between its lines: a note is a line that begins with `#`, as no line of a denial does.
-use Rattle.std.specs.Prelude.{◌≡◌, ℕ, ◌<◌, ◌==◌, Bool, true, false, if◌then◌else◌, List, [], ◌∷◌, ◌++◌, length, take, slice_index, Option, Some, None}
+use Rattle.std.specs.Prelude.{◌≡◌, ℕ, ◌<◌, ◌==◌, Bool, true, false, if◌then◌else◌, List, [], ◌∷◌, ◌++◌, length, take, slice_index, codes, Option, Some, None}
+use Rattle.std.specs.Io.KnownBytes.{Appends, Keeps}
 use Rattle.gw_addr.specs.Text.{Lacks}
 use Rattle.gw_stamping.specs.declared.noted.Place.{Place}
 use Rattle.gw_stamping.specs.declared.noted.Place.TheVariants.{Begin, Note, Line}
@@ -56,6 +57,26 @@ abbrev pub ending : Place → List ℕ
 ending Begin = []
 ending Note = 10 ∷ []
 ending Line = []
+
+-- A note of a text is written at this place, after the end of one that was written in part: it is one line, which begins with `# `.
+abbrev pub IsNoted : Place → (held : Option (List ℕ)) → List ℕ → (holds : Option (List ℕ)) → Type 0
+IsNoted place held text holds = (part : List ℕ) × IsBeforeLineFeed text part × Appends held holds (ending place ++ note_line part)
+
+-- ---- a new file
+
+-- the note of a log that goes on in a new file, if it does
+abbrev pub IsNotedAnew : (anew : Bool) → (held holds : Option (List ℕ)) → Type 0
+IsNotedAnew true held holds = IsNoted Begin held (codes "log began anew") holds
+IsNotedAnew false held holds = Keeps held holds
+
+-- Before a line the log is asked whether it began anew, and if it did it gets that note.
+pub record IsAskedAnew {S : Type 0} (held : S → Option (List ℕ)) (BeginsAnew : S → Bool → S → Type 0) (before after : S) : Type 0 where
+  pub asked : S
+  pub anew : Bool
+  pub begins : BeginsAnew before anew asked
+  pub noted : IsNotedAnew anew (held asked) (held after)
+
+-- ---- a place
 
 -- an octet at this place begins a note
 abbrev pub begins_note : Place → ℕ → Bool

@@ -56,6 +56,13 @@ pub record IsWrittenStamped (Shows : Option Moment → Type 0) (begins : Bool) (
   pub is : IsStamp Shows begins stamp
   pub written : Appends held holds (stamp ++ piece)
 
+-- ---- a new file
+
+-- its log is asked whether it began anew only where a line begins
+abbrev pub BeginsIf : (Begins : Bool → Type 0) → (in_stamp anew : Bool) → Type 0
+BeginsIf Begins true anew = Begins anew
+BeginsIf Begins false anew = anew ≡ false
+
 -- ---- the moment of the stamp
 
 -- the moment so many seconds after 1970-01-01T00:00:00Z, by a clock of UTC

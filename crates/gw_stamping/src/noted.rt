@@ -1,15 +1,19 @@
 //! A log with notes between its lines.
 
-ghost use Rattle.std.specs.Prelude.{◌≡◌, ◌≢◌, ◌<◌, ◌≤◌, ◌++◌, ◌∷◌, [], ℕ, List, length, take, IfOk, IsErr, OnErr, OnOk};
+ghost use Rattle.std.specs.Prelude.{◌≡◌, ◌≢◌, ◌<◌, ◌≤◌, ◌++◌, ◌∷◌, [], ℕ, Bool, false, List, length, take, IfOk, IsErr, OnErr, OnOk};
 ghost use Rattle.std.specs.Io.KnownBytes.{Appends, Keeps, WriteAppends};
 ghost use Rattle.gw_addr.specs.Text.{Lacks};
-ghost use Rattle.gw_stamping.specs.Noted.{IsBeforeLineFeed, begins_note, ending, held_without_notes, note_line, place_after};
+ghost use Rattle.gw_stamping.specs.Noted.{IsAskedAnew, IsBeforeLineFeed, IsNoted, begins_note, ending, held_without_notes, place_after};
 ghost use Rattle.gw_stamping.specs.Stamped.{EndsAtMost};
 ghost use Rattle.gw_stamping.specs.declared.noted.Place.TheVariants as place;
 
+use crate::notes::Notes;
 use crate::stamped::first_line;
 use gw_script::{OctetSink, WriteFailed, write_whole};
 use memchr::memchr;
+
+/// The note of a log that goes on in a new file.
+const ANEW: &[u8] = b"log began anew";
 
 /// Where the next octet of a log comes.
 #[derive(Clone, Copy, Drop)]
@@ -26,7 +30,7 @@ pub enum Place {
 /// seen without the notes.
 ///
 /// ```text
-/// # bacgw 0.2.0 began
+/// # bacgw 0.1.0 began
 /// 1 0 1 1:C0A80105BAC0 read dst=100 svc=12 obj=5,2 prop=85 prio=- rule=hide
 /// ```
 #[derive(Drop)]
@@ -123,8 +127,7 @@ impl<S: OctetSink> Noted<S> {
     /// Writes a note: `# `, what of the text is before its first line feed, and a line feed. What is held stays, also if that
     /// fails. `WriteFailed` if a line has begun, and nothing is written then; or if a write failed.
     pub fn note(&mut self, text: &[u8]) -> Result<(), WriteFailed>
-        ensures note { OnOk result ((part : List ℕ) × IsBeforeLineFeed text.now part
-            × Appends (S.held self.old.sink) (S.held self.new.sink) (ending self.old.place ++ note_line part)) }
+        ensures note { OnOk result (IsNoted self.old.place (S.held self.old.sink) text.now (S.held self.new.sink)) }
         ensures begins { OnOk result (self.new.place ≡ place.Begin) }
         ensures keeps { Keeps (held_without_notes self.old.place (S.held self.old.sink))
             (held_without_notes self.new.place (S.held self.new.sink)) }
@@ -156,6 +159,7 @@ impl<S: OctetSink> Noted<S> {
         ensures some { IfOk result (λ n. 0 < n) }
         ensures octets { WriteAppends (held_without_notes self.old.place (S.held self.old.sink))
             (held_without_notes self.new.place (S.held self.new.sink)) result piece.now }
+        ensures written { IfOk result (λ n. Appends (S.held self.old.sink) (S.held self.new.sink) (take n piece.now)) }
     {
         if self.begins_note(piece[0]) {
             return Err(WriteFailed);
@@ -164,20 +168,55 @@ impl<S: OctetSink> Noted<S> {
         self.place = place_of(piece[count - 1]);
         Ok(count)
     }
+}
 
-    /// Writes some octets of a line that isn't a note, after the end of a note that was written in part. A line feed is nowhere
-    /// but at their end. `WriteFailed` if a write failed, or the line would begin with `#`.
+impl<S: Notes> Noted<S> {
+    /// Writes a note if the log begins anew, in a new file.
+    fn note_anew(&mut self) -> Result<(), WriteFailed>
+        requires { self.old.place ≡ place.Begin }
+        ensures anew { OnOk result (IsAskedAnew S.held S.BeginsAnew self.old.sink self.new.sink) }
+        ensures begins { OnOk result (self.new.place ≡ place.Begin) }
+        ensures keeps { Keeps (held_without_notes self.old.place (S.held self.old.sink))
+            (held_without_notes self.new.place (S.held self.new.sink)) }
+    {
+        if self.sink.begins_anew() {
+            self.note(ANEW)
+        } else {
+            Ok(())
+        }
+    }
+
+    /// Ends a note that was written in part, and where a line begins writes a note if the log begins anew.
+    fn prepare_line(&mut self) -> Result<(), WriteFailed>
+        ensures anew { self.old.place ≡ place.Begin →
+            OnOk result (IsAskedAnew S.held S.BeginsAnew self.old.sink self.new.sink) }
+        ensures other { OnOk result (self.new.place ≢ place.Note) }
+        ensures keeps { Keeps (held_without_notes self.old.place (S.held self.old.sink))
+            (held_without_notes self.new.place (S.held self.new.sink)) }
+    {
+        match self.place {
+            Place::Line => Ok(()),
+            Place::Note => {
+                self.end_note()?;
+                self.note_anew()
+            }
+            Place::Begin => self.note_anew(),
+        }
+    }
+
+    /// Writes some octets of a line that isn't a note, after the end of a note that was written in part, and after a note if the
+    /// log begins anew. A line feed is nowhere but at their end. `WriteFailed` if a write failed, or the line would begin with `#`.
     pub fn write_line(&mut self, piece: &[u8]) -> Result<usize, WriteFailed>
         requires some { 0 < length piece.now }
         requires ends { EndsAtMost piece.now }
         ensures bound { IfOk result (λ n. n ≤ length piece.now) }
         ensures some { IfOk result (λ n. 0 < n) }
+        ensures anew { self.old.place ≡ place.Begin → IfOk result (λ n. (sink : S) ×
+            IsAskedAnew S.held S.BeginsAnew self.old.sink sink × Appends (S.held sink) (S.held self.new.sink) (take n piece.now)) }
         ensures octets { WriteAppends (held_without_notes self.old.place (S.held self.old.sink))
             (held_without_notes self.new.place (S.held self.new.sink)) result piece.now }
     {
-        if let Place::Note = self.place {
-            self.end_note()?;
-        }
+        self.prepare_line()?;
         self.write_piece(piece)
     }
 }
@@ -203,7 +242,7 @@ impl<S: Drop> Noted<S> {
     }
 }
 
-impl<S: OctetSink> OctetSink for Noted<S> {
+impl<S: Notes> OctetSink for Noted<S> {
     ghost held = { λ log. held_without_notes log.place (S.held log.sink) };
 
     ghost NeverFails = { λ _. ⊥ };
@@ -213,5 +252,19 @@ impl<S: OctetSink> OctetSink for Noted<S> {
             return Ok(0);
         }
         self.write_line(first_line(text))
+    }
+}
+
+impl<S: Notes> Notes for Noted<S> {
+    ghost Takes = { λ was text result is. OnOk result (IsNoted was.place (S.held was.sink) text (S.held is.sink)) };
+
+    fn take_note(&mut self, text: &[u8]) -> Result<(), WriteFailed> {
+        self.note(text)
+    }
+
+    ghost BeginsAnew = { λ was anew is. (anew ≡ false) × (is ≡ was) };
+
+    fn begins_anew(&mut self) -> bool {
+        false
     }
 }

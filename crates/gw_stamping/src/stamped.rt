@@ -5,9 +5,10 @@ ghost use Rattle.std.specs.Io.KnownBytes.{Appends, Keeps, WriteAppends};
 ghost use Rattle.gw_audit.specs.declared.moment.Moment.{Moment};
 ghost use Rattle.gw_audit.specs.Moment.{moment_text};
 ghost use Rattle.gw_addr.specs.Text.{Lacks};
-ghost use Rattle.gw_stamping.specs.Stamped.{EndsAtMost, IsWrittenStamped, ends_in_stamp, held_without, stamp_text, stamp_word};
+ghost use Rattle.gw_stamping.specs.Stamped.{BeginsIf, EndsAtMost, IsWrittenStamped, ends_in_stamp, held_without, stamp_text, stamp_word};
 
 use crate::calendar::Calendar;
+use crate::notes::Notes;
 use gw_audit::Moment;
 use gw_script::{OctetSink, WriteFailed, write_whole};
 use memchr::memchr;
@@ -158,5 +159,33 @@ impl<S: OctetSink, C: Calendar> OctetSink for Stamped<S, C> {
             return Ok(0);
         }
         self.write_line(first_line(text))
+    }
+}
+
+impl<S: Notes, C: Calendar> Stamped<S, C> {
+    /// Goes on in a new file if a line begins and that of the log was moved or removed, and answers whether it did.
+    fn follow_file(&mut self) -> bool
+        ensures begins { BeginsIf (λ anew. S.BeginsAnew self.old.sink anew self.new.sink) self.old.in_stamp result }
+        ensures keeps { Keeps (held_without self.old.in_stamp (S.held self.old.sink)) (held_without self.new.in_stamp (S.held self.new.sink)) }
+    {
+        if self.in_stamp {
+            self.sink.begins_anew()
+        } else {
+            false
+        }
+    }
+}
+
+impl<S: Notes, C: Calendar> Notes for Stamped<S, C> {
+    ghost Takes = { λ was _ _ is. is ≡ was };
+
+    ghost BeginsAnew = { λ was anew is. BeginsIf (λ anew. S.BeginsAnew was.sink anew is.sink) was.in_stamp anew };
+
+    fn take_note(&mut self, _text: &[u8]) -> Result<(), WriteFailed> {
+        Ok(())
+    }
+
+    fn begins_anew(&mut self) -> bool {
+        self.follow_file()
     }
 }

@@ -19,12 +19,12 @@ use std::alloc::{AllocError, Global};
 /// writing.
 ///
 /// ```text
-/// 2026-11-27T08:00:00Z # bacgw 0.2.0 began
+/// 2026-11-27T08:00:00Z # bacgw 0.1.0 began
 /// Nov 27 08:00:17 gate bacgw[12]: 1 17 1 1:C0A80105BAC0 read dst=100 svc=12 obj=5,2 prop=85 prio=- rule=hide
 /// ```
 ///
 /// ```text
-/// 2026-11-27T08:00:00Z # bacgw 0.2.0 began
+/// 2026-11-27T08:00:00Z # bacgw 0.1.0 began
 /// Nov 27 08:00:17 gate bacgw[12]: 192.168.1.5:47808 on network 1 reads 85 present-value of 5,2 binary-value of the device on network 100: denied by hide
 /// ```
 pub fn translate_log<R: OctetSource, W: OctetSink>(

@@ -1,2 +1,3 @@
+pub mod BegunLemmas
 pub mod NamedLemmas
 pub mod RequestLemmas

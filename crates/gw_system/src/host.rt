@@ -21,9 +21,9 @@ use crate::system_clock::SystemClock;
 use crate::udp::{UdpSock, open_pairs};
 use gw_configuration::Port;
 use gw_ports::{Ports, SockPair, TimedPorts, Watch};
-use gw_script::{OctetSink, write_whole};
+use gw_script::write_whole;
 use gw_serving::{Store, StoreFault, Wire};
-use gw_stamping::{Calendar, SystemCalendar};
+use gw_stamping::{Calendar, Notes, SystemCalendar};
 use std::alloc::{AllocError, Global};
 use std::io::{ErrorKind, Read, Seek, SeekFrom};
 use std::net::Net;
@@ -34,7 +34,7 @@ use std::{fs, io};
 /// What `run` takes of a machine.
 pub trait Host {
     /// A log that can be appended to.
-    type Log: OctetSink + Drop;
+    type Log: Notes + Drop;
 
     /// A wire over the sockets of some ports.
     type Sockets: Wire + Drop;

@@ -1,10 +1,11 @@
 //! A log in files that one after the other have its name.
 
-ghost use Rattle.std.specs.Prelude.{◌≡◌, ◌≤◌, ◌<◌, ℕ, List, Option, length, IfOk, IfSome};
+ghost use Rattle.std.specs.Prelude.{◌≡◌, ◌≤◌, ◌<◌, ⊤, ℕ, List, Option, length, IfOk, IfSome};
 ghost use Rattle.std.specs.Io.KnownBytes.{Keeps, WriteAppends};
 ghost use Rattle.gw_system.specs.NamedLog.{BeginsEmpty, joined};
 
 use gw_script::{OctetSink, WriteFailed};
+use gw_stamping::Notes;
 use std::mem;
 
 /// The files that one after the other have a name.
@@ -28,12 +29,13 @@ pub trait NamedFiles {
 }
 
 /// A log in the file that has a name: if that was renamed or removed, a line goes to a new file of the name. What was
-/// written is what the files were given, in their order.
+/// written is what the files were given, in their order. It takes no notes.
 #[derive(Drop)]
 pub struct NamedLog<F: NamedFiles> {
     files: F,
     file: F::File,
     is_at_line: bool,
+    is_anew: bool,
 }
 
 impl<F: NamedFiles> NamedLog<F> {
@@ -43,6 +45,7 @@ impl<F: NamedFiles> NamedLog<F> {
             files,
             file,
             is_at_line: true,
+            is_anew: false,
         }
     }
 
@@ -54,6 +57,17 @@ impl<F: NamedFiles> NamedLog<F> {
         if let Some(next) = self.files.renewed(&self.file) {
             let left = mem::replace(&mut self.file, next);
             self.files.leave(left);
+            self.is_anew = true;
+        }
+    }
+
+    /// Goes on in a new file if a line begins and that of the log has its name no more.
+    fn follow_at_line(&mut self)
+        ensures { Keeps (joined (F.left self.old.files) (F.File.held self.old.file))
+            (joined (F.left self.new.files) (F.File.held self.new.file)) }
+    {
+        if self.is_at_line {
+            self.follow_name();
         }
     }
 
@@ -76,9 +90,22 @@ impl<F: NamedFiles> OctetSink for NamedLog<F> {
     ghost NeverFails = { λ _. ⊥ };
 
     fn write_octets(&mut self, text: &[u8]) -> Result<usize, WriteFailed> {
-        if self.is_at_line {
-            self.follow_name();
-        }
+        self.follow_at_line();
         self.write_here(text)
+    }
+}
+
+impl<F: NamedFiles> Notes for NamedLog<F> {
+    ghost Takes = { λ was _ _ is. is ≡ was };
+
+    ghost BeginsAnew = { λ _ _ _. ⊤ };
+
+    fn take_note(&mut self, _text: &[u8]) -> Result<(), WriteFailed> {
+        Ok(())
+    }
+
+    fn begins_anew(&mut self) -> bool {
+        self.follow_at_line();
+        mem::replace(&mut self.is_anew, false)
     }
 }

@@ -1,19 +1,37 @@
 //! A machine whose logs have stamps and notes.
 
-ghost use Rattle.std.specs.Prelude.{◌≡◌, Some, IfOk};
+ghost use Rattle.std.specs.Prelude.{◌≡◌, Some, IfErr, IfOk};
 ghost use Rattle.gw_system.specs.Host.{OpensAtLine};
-ghost use Rattle.gw_system.specs.StampedHost.{IsWhole, OpensStamped, held_in, log_if};
+ghost use Rattle.gw_system.specs.StampedHost.{IsBegunIn, IsWhole, OpensStamped, log_if};
+ghost use Rattle.gw_system.specs.declared.opening.LogFailure.TheVariants as failure;
 
 use crate::host::{Host, open_at_line};
 use crate::opening::{LogFailure, SocketFailure};
 use crate::reading::ReadFailure;
 use gw_configuration::Port;
 use gw_serving::StoreFault;
-use gw_stamping::{Noted, Stamped};
+use gw_stamping::{Calendar, Noted, Notes, Stamped};
 use std::alloc::{AllocError, Global};
 
-/// The note of a log that was opened.
-const BEGAN: &[u8] = b"bacgw began";
+/// The note of a log that was opened, with the version of the program.
+const BEGAN: &[u8] = b"bacgw 0.1.0 began";
+
+/// The log with stamps and notes that goes on in this one, at which a line begins, with its first note. `Failed` if that can't be
+/// written.
+fn begun_in<L: Notes + Drop, C: Calendar + Drop>(
+    alloc: Global,
+    log: L,
+    calendar: C,
+) -> Result<Noted<Stamped<L, C>>, LogFailure>
+    ensures begun { IfOk result (IsBegunIn L.held log) }
+    ensures fault { IfErr result (λ f. f ≡ failure.Failed) }
+{
+    let mut noted = Noted::new(Stamped::new(alloc, log, calendar));
+    match noted.note(BEGAN) {
+        Ok(()) => Ok(noted),
+        Err(_) => Err(LogFailure::Failed),
+    }
+}
 
 /// A machine that opens what another one does. Each line of its logs begins with the time, and each log that is opened gets a note.
 /// What is closed it keeps.
@@ -67,9 +85,7 @@ impl<H: Host> Host for StampedHost<'_, H> {
         name: &str,
     ) -> Result<Noted<Stamped<H::Log, H::Calendar>>, LogFailure> {
         let log = open_at_line(alloc, name, self.host)?;
-        let mut noted = Noted::new(Stamped::new(alloc, log, self.host.calendar()));
-        let _ = noted.note(BEGAN);
-        Ok(noted)
+        begun_in(alloc, log, self.host.calendar())
     }
 
     fn is_cut(&self, _name: &str) -> bool {

@@ -1,16 +1,20 @@
 use Rattle.std.proofs.Common.{◌<◌, ◌++◌, ◌∷◌, [], ap, refl, subst, sym}
+use Rattle.std.specs.Prelude.{Option}
 use Rattle.std.specs.Io.KnownBytes.{Appends}
+use Rattle.gw_metrics_file.specs.Writing.{Writing}
 use Rattle.gw_script.specs.Event as event
 use Rattle.gw_serving.specs.Serve.{scene, taken_event}
 use Rattle.gw_serving.specs.Stretch.{moment}
 use Rattle.gw_serving.specs.declared.serving.ServeState.{ServeState}
+use Rattle.gw_service.specs.declared.metrics.Measures.{Measures}
 use Rattle.gw_service.specs.declared.troubles.Troubles.{Troubles}
 use Rattle.gw_serving.specs.declared.stretch.Pause.TheVariants as pause
 use Rattle.gw_service.specs.Chain.{look_text, served, standing, ticked, withheld}
+use Rattle.gw_service.specs.Metrics.{PutsDue}
 use Rattle.gw_service.specs.Notices.{notice_of}
 use Rattle.gw_service.specs.Scheduled.{reporting_by}
 use Rattle.gw_service.specs.Stats.{due_stats}
-use Rattle.gw_service.proofs.ChainLemmas.{ends_as, more_at_tick, more_at_turns, more_withheld}
+use Rattle.gw_service.proofs.ChainLemmas.{ends_as, more_at_tick, more_at_turns, more_withheld, went_kept}
 use Rattle.gw_service.proofs.ServingLemmas.{appends_nothing, appends_two}
 use Rattle.gw_service.proofs.running.Running.advance.Goals as goal
 
@@ -25,7 +29,7 @@ returns-in-Ok-Turns-clause-advances g c = λ config is_config.
       config,
       [],
       is_config,
-      (served end.turns, record { went = end.went; config = refl; requests = refl; counts = refl; said = refl }, refl),
+      (served end.turns, record { went = end.went; config = refl; requests = refl; counts = refl; said = refl }, refl, refl),
       λ never. appends_nothing (g.E.OctetSink.held c.args.errors.now),
     )
 
@@ -64,7 +68,13 @@ returns-in-Ok-Tick-clause-advances g c = λ config is_config.
     (reporting_by c.args.schedule.now) after.keeper after.counts after.gateway
     after.state.served after.state.tally in
     let turns = end.turns ++ taken_event event.Tick end.tries ∷ [] in
-    let then = moment (scene stretch.gateway (g.L.OctetSink.held stretch.log) (g.W.Wire.calls stretch.wire)) stretch.guard stretch.self.served stretch.self.tally in (
+    let calls = g.W.Wire.calls stretch.wire in
+    let noted = g.L.OctetSink.held c.at_tick.new.log in
+    let then = moment (scene stretch.gateway noted calls) stretch.guard stretch.self.served stretch.self.tally in
+    let went = went_kept g.K.Guard.Passes
+    (moment (scene old.gateway (g.L.OctetSink.held c.args.log.now) (g.W.Wire.calls c.args.wire.now)) old.keeper old.state.served old.state.tally)
+    turns stretch.gateway (g.L.OctetSink.held stretch.log) noted calls stretch.guard stretch.self.served stretch.self.tally end.went
+    c.at_tick.ensures.log in (
       done.0,
       (look ++ notice) ++ report,
       done.2,
@@ -75,7 +85,7 @@ returns-in-Ok-Tick-clause-advances g c = λ config is_config.
           tries = end.tries;
           tick = refl;
           then = then;
-          went = end.went;
+          went = went;
           ticks = end.ticks;
           done = done.3;
           rest = record {
@@ -87,6 +97,7 @@ returns-in-Ok-Tick-clause-advances g c = λ config is_config.
           said = c.notice-self.ensures.troubles;
           lines = refl;
         },
+        refl,
         refl,
       ),
       λ never.
@@ -140,6 +151,7 @@ returns-in-Ok-Withheld-clause-advances g c = λ config is_config.
           lines = refl;
         },
         refl,
+        refl,
       ),
       λ never. c.notice-self-in-Ok-Withheld.ensures.text never,
     )
@@ -159,3 +171,12 @@ returns-in-Ok-Withheld-clause-more g c = λ some.
     (moment (scene c.serve_to_tick.new.gateway (g.L.OctetSink.held c.serve_to_tick.new.log) (g.W.Wire.calls c.serve_to_tick.new.wire))
     c.serve_to_tick.new.guard c.serve_to_tick.new.self.served c.serve_to_tick.new.self.tally) c.serve_to_tick.result c.in-Ok-Withheld.field-0
     pause.Withheld c.in-Ok-Withheld.is c.in-Ok-Withheld.field-0-is c.serve_to_tick.ensures.end)
+
+pub returns-in-Ok-Tick-clause-metrics : goal.returns-in-Ok-Tick-clause-metrics
+returns-in-Ok-Tick-clause-metrics g c =
+    let held = g.M.Store.held in
+    let now = c.at_tick.new.self in
+    let decided = g.K.StateKeeper.decisions now.keeper in
+    let after = c.put_due.new.metrics in
+    subst (λ (m : Option Measures). PutsDue held c.args.self.now.metrics m now.gateway decided after) c.measure-measured.ensures
+    (subst (λ (m : Option (Writing _)). PutsDue held m c.measure-measured.result now.gateway decided after) c.at_tick.ensures.metrics c.put_due.ensures)

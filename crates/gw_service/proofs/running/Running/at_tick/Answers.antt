@@ -1,6 +1,6 @@
 use Rattle.std.proofs.Common.{List, ℕ, subst}
 use Rattle.std.specs.Io.KnownBytes.{Appends}
-use Rattle.gw_service.proofs.ChainLemmas.{same_text}
+use Rattle.gw_service.proofs.ChainLemmas.{same_note, same_text}
 use Rattle.gw_service.proofs.running.Running.at_tick.Goals as goal
 
 pub returns-clause-done : goal.returns-clause-done
@@ -14,4 +14,6 @@ returns-clause-done g c = λ config is_config.
       record { keeper = c.keep_at_tick.new.self; ticks = c.keep_at_tick.ensures; looked = looked.3 },
       λ never. subst (λ (t : List ℕ). Appends (held c.args.errors.now) (held c.look.new.errors) t)
           (same_text config old.gateway c.keep_at_tick.new.self old.keeper (g.Q.Requests.recorded old.requests) old.counts looked.1) (looked.4 never),
+      same_note config old.gateway c.keep_at_tick.new.self old.keeper (g.Q.Requests.recorded old.requests) old.counts g.L.Notes.Takes
+          c.args.log.now c.look.new.log looked.1 looked.5,
     )
