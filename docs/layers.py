@@ -14,7 +14,7 @@ WIDTH, WHOLE, LINE, GAP = 1100, 796, 15, 8
 # What the crates beside the rows are about.
 NOTES = {
     "gw_script": "the text of scripts",
-    "gw_explanation": "where a text's fault is",
+    "gw_config_faults": "where a text's fault is",
     "gw_migration": "format 3 of an older text",
     "gw_shapes": "which asks there are",
     "gw_regions": "what two policies decide",

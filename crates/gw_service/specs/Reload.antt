@@ -8,7 +8,7 @@ use Rattle.gw_configuration.specs.declared.fault.ConfigFault.TheVariants as conf
 use Rattle.gw_configuration.specs.declared.port.Port.{Port as ConfiguredPort}
 use Rattle.gw_core.specs.Resumed.{carried, saved_of}
 use Rattle.gw_core.specs.State.{State}
-use Rattle.gw_explanation.specs.Explanation.{ExplainsText}
+use Rattle.gw_config_faults.specs.Explanation.{ExplainsText}
 use Rattle.gw_policy_text.specs.Document.{configuration}
 use Rattle.gw_relay.specs.declared.port.PortState.{PortState}
 use Rattle.gw_rule_changes.specs.Changes.{changes_of, changes_text}

@@ -6,9 +6,9 @@ ghost use Rattle.gw_system.specs.Requests.{text_found};
 
 use crate::reload::ReloadFault;
 use gw_addr::put_decimal;
+use gw_config_faults::{Explanation, explain};
 use gw_configuration::{Config, ConfigFault};
 use gw_core::Gateway;
-use gw_explanation::{Explanation, explain};
 use gw_rule_changes::{changes_of, put_changes};
 use gw_saved::Saved;
 use gw_state_words::put_take_over;

@@ -6,7 +6,7 @@ use Rattle.gw_compare.specs.Comparison.{compared_by}
 use Rattle.gw_compare.specs.declared.comparison.Compared.{Compared}
 use Rattle.gw_configuration.specs.Configuration.{Configuration}
 use Rattle.gw_configuration.specs.declared.fault.ConfigFault.{ConfigFault}
-use Rattle.gw_explanation.specs.Explanation.{ExplainsText}
+use Rattle.gw_config_faults.specs.Explanation.{ExplainsText}
 use Rattle.gw_json.specs.Check.{checked_value, fault_value}
 use Rattle.gw_json.specs.Comparison.{found_value, summary_value}
 use Rattle.gw_json.specs.Document.{line_of}

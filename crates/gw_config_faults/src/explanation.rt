@@ -1,0 +1,64 @@
+//! The line that says where a fault of a configuration is.
+ghost use Rattle.std.specs.Prelude.{◌≡◌, map, IfOk, IsTrue};
+ghost use Rattle.std.specs.List.{list_all};
+ghost use Rattle.gw_config_faults.specs.Explanation.{is_printed, shown};
+
+use std::alloc::{AllocError, Global};
+use std::marker::Model;
+
+/// The greatest control character below the space.
+const LAST_CONTROL: u8 = 31;
+/// The control character after the others.
+const DELETE: u8 = 127;
+
+/// A line for an operator, without its line feed. It has no control character. Contracts see its octets.
+#[derive(Drop)]
+pub struct Explanation {
+    octets: Vec<u8>,
+}
+
+impl Model for Explanation {
+    ghost use Rattle.std.specs.Prelude.{ℕ, List, IsTrue};
+    ghost use Rattle.std.specs.List.{list_all};
+    ghost use Rattle.gw_config_faults.specs.Explanation.{is_printed};
+
+    ghost Value = { List ℕ };
+
+    ghost view = { λ e. e.octets.items };
+
+    ghost invariant = { λ e. IsTrue (list_all is_printed e.octets.items) };
+}
+
+impl Explanation {
+    /// The line of some words, with a `?` in the place of each control character. `AllocError`
+    /// where memory was refused.
+    #[tactic(auto, using(crate::proofs::Explanations::all_shown))]
+    pub(crate) fn of_words(alloc: Global, words: &[u8]) -> Result<Self, AllocError>
+        ensures { IfOk result (λ line. line ≡ map shown words.now) }
+    {
+        let mut octets = Vec::new(alloc);
+        for octet in words {
+            octets.push(shown(*octet))?;
+        }
+        Ok(Explanation { octets })
+    }
+
+    /// The octets of the line, which is UTF-8. None of them is a control character.
+    pub fn as_bytes(&self) -> &[u8]
+        ensures octets { result.now ≡ self.now }
+        ensures printed { IsTrue (list_all is_printed self.now) }
+    {
+        self.octets.as_slice()
+    }
+}
+
+/// The octet, or `?` for a control character.
+fn shown(octet: u8) -> u8
+    ensures { result ≡ shown octet }
+{
+    if octet <= LAST_CONTROL || octet == DELETE {
+        b'?'
+    } else {
+        octet
+    }
+}
