@@ -1,0 +1,5 @@
+pub mod Once
+pub mod PortsFit
+pub mod RoutesFit
+pub mod ObjectsFit
+pub mod Whole

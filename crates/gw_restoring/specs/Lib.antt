@@ -1,0 +1,3 @@
+pub mod GatewayOf
+pub mod Laws
+pub mod internal
