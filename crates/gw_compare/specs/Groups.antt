@@ -1,5 +1,6 @@
 -- Regions that were found, in groups by the rules that decide in them.
-use Rattle.std.specs.Prelude.{ℕ, ◌-◌, Bool, not, nat_eq, nat_lt, ◌&&◌, ◌==◌, if◌then◌else◌, List, [], ◌∷◌, ◌++◌, length, take, codes}
+use Rattle.std.specs.Prelude.{ℕ, ◌-◌, Bool, not, nat_eq, nat_lt, ◌&&◌, ◌==◌, if◌then◌else◌, List, [], ◌∷◌, ◌++◌, length}
+use Rattle.std.specs.Prelude.{take, codes}
 use Rattle.std.specs.Prelude.{decimal}
 use Rattle.std.specs.Cmp.Lexicographic.{pointwise}
 use Rattle.std.specs.List.{filter, flat_map, list_any}

@@ -51,7 +51,8 @@ LinesHaveAsks = (old new : Configuration) (most : ℕ) (made : Compared) (text :
 abbrev pub NoneHasAsk : Type 0
 NoneHasAsk = (old new : Configuration) (most : ℕ) (made : Compared) (text : List ℕ)
     (written : IsComparisonText old new most made text)
-    → AllByRecursion (λ f. (field : FieldName) → has (value_of field f.region) None ≡ true → is_any (value_of field f.region) ≡ false
+    → AllByRecursion (λ f. (field : FieldName) → has (value_of field f.region) None ≡ true
+    → is_any (value_of field f.region) ≡ false
     → (ask : Ask) × (lies f.region ask ≡ true) × IsAskOf old new ask × (value_of field ask ≡ None)) written.found
 
 -- Each region is in the group of exactly one of the first regions: the groups have each region once.

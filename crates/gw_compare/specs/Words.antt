@@ -106,7 +106,8 @@ possible field values = record {
 abbrev pub range_text : FieldName → Range → List ℕ
 range_text field range =
     if range.low == range.high then end_text field range.low ++ named_text field range.low
-    else if nat_lt range.high (bounds Three field).high then end_text field range.low ++ (codes ".." ++ end_text field range.high)
+    else if nat_lt range.high (bounds Three field).high
+    then end_text field range.low ++ (codes ".." ++ end_text field range.high)
     else end_text field range.low ++ codes " or more"
 
 -- some numbers, and absent if the field may be so

@@ -1,7 +1,10 @@
 //! The lines of what was found: many regions are grouped by the rules that decide in them.
-ghost use Rattle.std.specs.Prelude.{◌≡◌, ◌<◌, ◌+◌, ◌-◌, ◌^◌, ◌++◌, ◌==◌, ◌&&◌, [], codes, if◌then◌else◌, length, nat_lt, not, take, IfOk, OnOk};
+ghost use Rattle.std.specs.Prelude.{◌≡◌, ◌<◌, ◌+◌, ◌-◌, ◌^◌, ◌++◌, ◌==◌, ◌&&◌, [], codes, if◌then◌else◌, length};
+ghost use Rattle.std.specs.Prelude.{nat_lt, not, take, IfOk, OnOk};
 ghost use Rattle.std.specs.List.{flat_map, list_any};
-ghost use Rattle.gw_compare.specs.Groups.{before_text, count_text, firsts, found_text, group_head, group_of, group_text, groups_text, is_like, more_text, now_text, regions_text, was_text};
+ghost use Rattle.gw_compare.specs.Groups.{before_text, count_text, firsts, found_text, group_head, group_of};
+ghost use Rattle.gw_compare.specs.Groups.{group_text, groups_text, is_like, more_text, now_text, regions_text};
+ghost use Rattle.gw_compare.specs.Groups.{was_text};
 ghost use Rattle.gw_compare.specs.Lines.{line_text};
 ghost use Rattle.gw_regions.specs.Comparing.{unlike};
 

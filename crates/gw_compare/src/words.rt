@@ -6,7 +6,9 @@ ghost use Rattle.gw_audit.specs.Words.{name_text};
 ghost use Rattle.gw_regions.specs.Ranges.{both};
 ghost use Rattle.gw_rules.specs.Operation.{operation_name};
 ghost use Rattle.gw_rules.specs.declared.operation.TheConstants.Operation.{ALL};
-ghost use Rattle.gw_compare.specs.Words.{any_of, end_text, has_operation, item_text, items, named_text, noun_of, numbers_text, operations_of, operations_text, possible, range_text, region_text, station_text, values_text, word_of};
+ghost use Rattle.gw_compare.specs.Words.{any_of, end_text, has_operation, item_text, items, named_text, noun_of};
+ghost use Rattle.gw_compare.specs.Words.{numbers_text, operations_of, operations_text, possible, range_text};
+ghost use Rattle.gw_compare.specs.Words.{region_text, station_text, values_text, word_of};
 
 use gw_addr::{BipAddr, Sequence, put_decimal};
 use gw_names::{object_type_name, property_name, service_name};

@@ -2,7 +2,10 @@
 ghost use Rattle.std.specs.Prelude.{◌≡◌, ◌&&◌, ◌==◌, ◌++◌, find, is_some, length, OnOk};
 ghost use Rattle.std.specs.List.{filter, flat_map, list_any};
 ghost use Rattle.gw_shapes.specs.Meeting.{overlaps};
-ghost use Rattle.gw_lint.specs.Notes.{answer_note, answer_notes, answer_words, cast_note, field_notes, has_overlap, head_text, is_known, is_unknown, lets_broadcasts, lets_unnamed, network_note, network_words, note_text, notes_text, object_note, overlap_note, overlap_words, rule_notes};
+ghost use Rattle.gw_lint.specs.Notes.{answer_note, answer_notes, answer_words, cast_note, field_notes, has_overlap};
+ghost use Rattle.gw_lint.specs.Notes.{head_text, is_known, is_unknown, lets_broadcasts, lets_unnamed, network_note};
+ghost use Rattle.gw_lint.specs.Notes.{network_words, note_text, notes_text, object_note, overlap_note, overlap_words};
+ghost use Rattle.gw_lint.specs.Notes.{rule_notes};
 ghost use Rattle.gw_script.specs.Order.{in_order};
 ghost use Rattle.gw_lint.specs.Passage.{is_cast, is_routed, is_unnamed, opener, opens_beyond};
 

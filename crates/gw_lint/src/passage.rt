@@ -1,6 +1,7 @@
 //! Whether asks of a shape may pass a policy, as far as the ranges of its rules show.
 ghost use Rattle.std.specs.Prelude.{◌≡◌, position};
-ghost use Rattle.gw_lint.specs.Passage.{answers, holds_shape, is_cast, is_routed, is_unnamed, opener, opens, opens_beyond, requests, routed, settler, settles, towards};
+ghost use Rattle.gw_lint.specs.Passage.{answers, holds_shape, is_cast, is_routed, is_unnamed, opener, opens};
+ghost use Rattle.gw_lint.specs.Passage.{opens_beyond, requests, routed, settler, settles, towards};
 
 use crate::text::allows_at;
 use gw_addr::NetNum;

@@ -4,7 +4,8 @@ ghost use Rattle.std.specs.List.{flat_map};
 ghost use Rattle.gw_audit.specs.Line.{operation_of, operation_text};
 ghost use Rattle.gw_rules.specs.RuleList.{allows_at};
 ghost use Rattle.gw_script.specs.Order.{in_order};
-ghost use Rattle.gw_lint.specs.Text.{found_text, is_shown, is_listed, item_text, likeness_text, line_text, rule_text, says_same, source_text, value_text};
+ghost use Rattle.gw_lint.specs.Text.{found_text, is_shown, is_listed, item_text, likeness_text, line_text, rule_text};
+ghost use Rattle.gw_lint.specs.Text.{says_same, source_text, value_text};
 
 use crate::Finding;
 use gw_addr::{BipAddr, put_decimal};

@@ -3,7 +3,8 @@ ghost use Rattle.std.specs.Prelude.{◌≡◌, ◌+◌, ◌++◌, not, OnOk, pos
 ghost use Rattle.std.specs.List.{list_any};
 ghost use Rattle.gw_rules.specs.Range.{holds};
 ghost use Rattle.gw_rules.specs.Rule.{each_field};
-ghost use Rattle.gw_lint.specs.Trust.{ending_words, is_open_end, is_open_for, is_source_alone, is_source_network_alone, names, port_words, reach_words, source_words};
+ghost use Rattle.gw_lint.specs.Trust.{ending_words, is_open_end, is_open_for, is_source_alone, is_source_network_alone};
+ghost use Rattle.gw_lint.specs.Trust.{names, port_words, reach_words, source_words};
 
 use gw_addr::{put_decimal, put_slice};
 use gw_configuration::Port;

@@ -1,5 +1,5 @@
 -- Rules that match nothing of a region, all of it, or say what is said anyway may be left out.
-use Rattle.std.proofs.Common.{◌≡◌, ◌∙◌, sym, ap, refl, ℕ, ◌+◌, ◌<◌, Bool, true, false, List, [], ◌∷◌, ◌++◌, length, drop, get_or, Option, Some, arith}
+use Rattle.std.proofs.Common.{◌≡◌, ◌∙◌, sym, ap, refl, subst, ℕ, ◌+◌, ◌<◌, Bool, true, false, List, [], ◌∷◌, ◌++◌, length, drop, get_or, Option, Some, arith}
 use Rattle.std.specs.Prelude.{if◌then◌else◌, reverse, slice_get}
 use Rattle.std.specs.Option.{option_to_list}
 use Rattle.std.proofs.lemmas.List.{drop_all, drop_more, reverse-append}
@@ -66,3 +66,11 @@ pub all_taken : (rules : List Rule) (region : Region) (place : ℕ) (places : Li
     → DecidesIn rules region place places otherwise → AllowsIn rules region places otherwise
 all_taken rules region place places otherwise e made ask there =
     sym (decided_allows rules ask) ∙ sym (ap (λ n. decided (drop n rules) false ask) e) ∙ made ask there
+
+-- one that is left out, since no other is left and it says what is said anyway
+pub left_idle : (rules : List Rule) (region : Region) (place : ℕ) (rule : Rule) (places : List ℕ) (otherwise : Bool) → place < length rules → rule ≡ get_or rules place rule
+    → length places ≡ 0 → otherwise ≡ rule.allow → DecidesIn rules region (place + 1) places otherwise → DecidesIn rules region place places otherwise
+left_idle rules region place rule [] otherwise within is none same later =
+    subst (λ (b : Bool). DecidesIn rules region place [] b) (sym same)
+    (taken_idle rules region place rule within is (subst (λ (b : Bool). DecidesIn rules region (place + 1) [] b) same later))
+left_idle rules region place rule (x ∷ places) otherwise within is none same later = absurd (omega (arith, none))

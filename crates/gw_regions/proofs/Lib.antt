@@ -10,5 +10,6 @@ pub mod MergingLaw
 pub mod PresenceLaw
 pub mod RangeLaw
 pub mod RegionLaw
+pub mod StepLaw
 pub mod ValueLaw
 pub mod WideningLaw

@@ -6,4 +6,6 @@ pub mod Merging
 pub mod Presence
 pub mod Ranges
 pub mod Regions
+pub mod Steps
 pub mod Values
+pub mod internal

@@ -2,10 +2,12 @@
 ghost use Rattle.std.specs.Prelude.{◌≡◌, ◌≤◌, ◌<◌, ◌+◌, ◌++◌, ◌∷◌, ◌&&◌, [], ℕ, Bool, true, Ok, IfOk, OnOk, List, length};
 ghost use Rattle.gw_rules.specs.Ask.{Ask};
 ghost use Rattle.gw_rules.specs.Rule.{matches};
-ghost use Rattle.gw_regions.specs.Comparing.{AreAlike, AreDeciders, AreSame, AreUnlike, IsComparison};
+ghost use Rattle.gw_rules.specs.declared.field.TheConstants.FieldName.{ALL};
+ghost use Rattle.gw_regions.specs.Comparing.{AreDeciders, AreSame, IsComparison};
 ghost use Rattle.gw_regions.specs.Deciding.{decided_by};
-ghost use Rattle.gw_regions.specs.Regions.{Region as SpecRegion, lies, lies_in_one};
-ghost use Rattle.gw_regions.specs.declared.comparison.Found.{Found as SpecFound};
+ghost use Rattle.gw_regions.specs.Regions.{Region as SpecRegion, inside, lies, lies_in_one, pieces};
+ghost use Rattle.gw_regions.specs.Steps.{IsBeginning, IsCounted, IsReached, IsSettled, stage};
+ghost use Rattle.gw_regions.specs.internal.Looking.{AreDeciding, IsLook};
 ghost use Rattle.gw_rules.specs.declared.rule.Rule.{Rule as SpecRule};
 
 use crate::comparison::{Comparison, Found, Taken};
@@ -13,7 +15,7 @@ use crate::deciders::deciders_of;
 use crate::deciding::{Deciding, deciding_of};
 use crate::meeting::{ask_within, region_over};
 use crate::ranges::same_ranges;
-use crate::region::{Region, part};
+use crate::region::{Region, part_fields};
 use gw_rules::{FieldName, Rule};
 use std::alloc::{AllocError, Global};
 
@@ -92,10 +94,33 @@ enum Look {
     PartByNew(usize),
 }
 
+/// Where the rules that decide are the same: by the first of all to part a region, or what the verdicts say if there
+/// is none.
+fn look_by_first(p: &Deciding, q: &Deciding) -> Look
+    ensures { (old new : List SpecRule) (region : SpecRegion) →
+        AreDeciding old region p.now.places.items p.now.otherwise →
+        AreDeciding new region q.now.places.items q.now.otherwise → IsLook old new region result }
+{
+    let count = p.places.len();
+    if 0 < count {
+        return Look::PartByOld(p.places[count - 1]);
+    }
+    let count = q.places.len();
+    if 0 < count {
+        return Look::PartByNew(q.places[count - 1]);
+    }
+    if p.otherwise == q.otherwise {
+        Look::Alike
+    } else {
+        Look::Unlike(q.otherwise)
+    }
+}
+
 /// By which rule to part a region: the first in which the two policies aren't seen to be the same.
 fn choice(old: &[Rule], p: &Deciding, new: &[Rule], q: &Deciding) -> Look
-    ensures part { (allows : Bool) → ¬ (result ≡ Look.Unlike allows) }
-    ensures open { ¬ (result ≡ Look.Alike) }
+    ensures { (region : SpecRegion) →
+        AreDeciding old.now region p.now.places.items p.now.otherwise →
+        AreDeciding new.now region q.now.places.items q.now.otherwise → IsLook old.now new.now region result }
 {
     let mut a = p.places.len();
     let mut b = q.places.len();
@@ -112,90 +137,35 @@ fn choice(old: &[Rule], p: &Deciding, new: &[Rule], q: &Deciding) -> Look
     if 0 < a {
         return Look::PartByOld(p.places[a - 1]);
     }
-    match p.places.last() {
-        Some(place) => Look::PartByOld(*place),
-        None => Look::PartByOld(0),
-    }
+    look_by_first(p, q)
 }
 
 /// What two policies decide in a region.
 fn look_at(alloc: Global, old: &[Rule], new: &[Rule], region: &Region) -> Result<Look, AllocError>
-    ensures alike { result ≡ Ok Look.Alike → AreAlike old.now new.now region.now }
-    ensures unlike { (allows : Bool) → result ≡ Ok (Look.Unlike allows) →
-        AreUnlike old.now new.now region.now allows }
+    ensures { IfOk result (λ look. IsLook old.now new.now region.now look) }
 {
     let p = deciding_of(alloc, old, region)?;
     let q = deciding_of(alloc, new, region)?;
     if are_same(old, &p, new, &q) {
         return Ok(Look::Alike);
     }
-    if p.places.is_empty() && q.places.is_empty() && p.otherwise != q.otherwise {
-        return Ok(Look::Unlike(q.otherwise));
-    }
     Ok(choice(old, &p, new, &q))
 }
 
-/// Parts a region by a rule, and puts all parts back.
-fn part_back(
-    alloc: Global,
-    left: &mut Vec<Region>,
-    mut region: Region,
-    rule: &Rule,
-) -> Result<(), AllocError>
-    ensures { OnOk result ((shapes : List SpecRegion) (old new : List SpecRule) (found : List SpecFound) →
-        IsComparison shapes old new found (left.old.items ++ region ∷ []) →
-        IsComparison shapes old new found left.new.items) }
-{
-    part(alloc, left, rule, &mut region)?;
-    left.push(region)?;
-    Ok(())
-}
-
-/// Puts a region back as it is.
-fn put_back(left: &mut Vec<Region>, region: Region) -> Result<(), AllocError>
-    ensures { OnOk result (left.new.items ≡ left.old.items ++ region ∷ []) }
-{
-    left.push(region)?;
-    Ok(())
-}
-
-/// Parts a region by the rule at a place, if there is one, and puts all parts back.
+/// Parts a region that was taken up by a rule, and puts all parts back.
 fn put_parts(
-    alloc: Global,
-    left: &mut Vec<Region>,
-    region: Region,
-    rules: &[Rule],
-    place: usize,
-) -> Result<(), AllocError>
-    ensures { OnOk result ((shapes : List SpecRegion) (old new : List SpecRule) (found : List SpecFound) →
-        IsComparison shapes old new found (left.old.items ++ region ∷ []) →
-        IsComparison shapes old new found left.new.items) }
-{
-    match rules.get(place) {
-        Some(rule) => part_back(alloc, left, region, rule),
-        None => put_back(left, region),
-    }
-}
-
-/// Parts a region that was taken up, and puts all parts back.
-fn put_taken(
     alloc: Global,
     comparison: &mut Comparison,
     taken: Taken,
-    rules: &[Rule],
-    place: usize,
+    rule: &Rule,
 ) -> Result<(), AllocError>
-    ensures { OnOk result ((shapes : List SpecRegion) (old new : List SpecRule) →
-        IsComparison shapes old new comparison.old.found.items (comparison.old.left.items ++ taken.region ∷ []) →
-        IsComparison shapes old new comparison.new.found.items comparison.new.left.items) }
+    ensures found { OnOk result (comparison.new.found.items ≡ comparison.old.found.items) }
+    ensures left { OnOk result (comparison.new.left.items ≡
+        comparison.old.left.items ++ (pieces ALL rule.now taken.region ++ inside ALL rule.now taken.region ∷ [])) }
 {
-    put_parts(
-        alloc,
-        &mut comparison.left,
-        taken.into_region(),
-        rules,
-        place,
-    )?;
+    let mut region = taken.into_region();
+    part_fields(alloc, &mut comparison.left, rule, &mut region)?;
+    comparison.left.push(region)?;
     Ok(())
 }
 
@@ -216,8 +186,8 @@ fn found_of(
     Ok(taken.into_found(allows, old_rules, new_rules))
 }
 
-/// Looks at a region that was taken up.
-fn settle(
+/// Looks at a region that was taken up, and one of whose asks lies in a shape.
+fn look_up(
     alloc: Global,
     old: &[Rule],
     new: &[Rule],
@@ -226,9 +196,8 @@ fn settle(
 ) -> Result<(), AllocError>
     ensures { OnOk result ((shapes : List SpecRegion) →
         (lies taken.region taken.ask && lies_in_one shapes taken.ask) ≡ true →
-        IsComparison shapes old.now new.now comparison.old.found.items
-        (comparison.old.left.items ++ taken.region ∷ []) →
-        IsComparison shapes old.now new.now comparison.new.found.items comparison.new.left.items) }
+        IsSettled shapes old.now new.now taken.region (stage comparison.old.found.items comparison.old.left.items)
+        (stage comparison.new.found.items comparison.new.left.items)) }
 {
     match look_at(alloc, old, new, &taken.region)? {
         Look::Alike => Ok(()),
@@ -238,42 +207,33 @@ fn settle(
             Ok(())
         }
         Look::PartByOld(place) => {
-            put_taken(alloc, comparison, taken, old, place)?;
+            put_parts(alloc, comparison, taken, &old[place])?;
             Ok(())
         }
         Look::PartByNew(place) => {
-            put_taken(alloc, comparison, taken, new, place)?;
+            put_parts(alloc, comparison, taken, &new[place])?;
             Ok(())
         }
     }
 }
 
-/// Takes the last of the regions that are left, and looks at it if a shape meets it.
-fn step(
+/// Looks at a region that was taken up if a shape meets it, and leaves it out else.
+fn settle(
     alloc: Global,
     policies: &Policies<'_>,
+    region: Region,
     comparison: &mut Comparison,
 ) -> Result<(), AllocError>
     ensures { OnOk result (
-        IsComparison policies.now.shapes.now policies.now.old.now policies.now.new.now
-        comparison.old.found.items comparison.old.left.items →
-        IsComparison policies.now.shapes.now policies.now.old.now policies.now.new.now
-        comparison.new.found.items comparison.new.left.items) }
+        IsSettled policies.now.shapes.now policies.now.old.now policies.now.new.now region
+        (stage comparison.old.found.items comparison.old.left.items)
+        (stage comparison.new.found.items comparison.new.left.items)) }
 {
-    let Some(region) = comparison.take_last() else {
-        return Ok(());
-    };
     match ask_within(&region, policies.shapes) {
         None => Ok(()),
         Some(ask) => {
-            settle(
-                alloc,
-                policies.old,
-                policies.new,
-                Taken { region, ask },
-                comparison,
-            )?;
-            Ok(())
+            let taken = Taken { region, ask };
+            look_up(alloc, policies.old, policies.new, taken, comparison)
         }
     }
 }
@@ -284,6 +244,7 @@ impl Comparison {
     pub fn begin(alloc: Global, shapes: &[Region]) -> Result<Self, AllocError>
         ensures comparison { IfOk result (λ c. (old new : List SpecRule) →
             IsComparison shapes.now old new c.found.items c.left.items) }
+        ensures beginning { IfOk result (λ c. IsBeginning shapes.now (stage c.found.items c.left.items)) }
         ensures found { IfOk result (λ c. c.found.items ≡ []) }
         ensures steps { IfOk result (λ c. c.steps ≡ 0) }
     {
@@ -291,9 +252,10 @@ impl Comparison {
         Comparison::new(alloc, start)
     }
 
-    /// Goes on with the comparison, which is to be one of these policies and shapes, by at most so many steps.
-    /// It is a comparison of them after that, and it is finished if fewer steps were used. It takes no step after
-    /// 2^32 - 1 in all. An `Err` if there is no memory: what was found may be lost then.
+    /// Goes on with the comparison, which is to be one of these policies and shapes, by at most so many steps: each
+    /// takes up the last region that is left, and it counts exactly the steps that it takes. It is a comparison of them
+    /// after that, and it is finished if fewer steps were used. It takes no step after 2^32 - 1 in all. An `Err` if
+    /// there is no memory: what was found may be lost then.
     pub fn go_on(
         &mut self,
         alloc: Global,
@@ -305,6 +267,29 @@ impl Comparison {
             self.old.found.items self.old.left.items →
             IsComparison policies.now.shapes.now policies.now.old.now policies.now.new.now
             self.new.found.items self.new.left.items) }
+        ensures counted { OnOk result (
+            IsCounted policies.now.shapes.now policies.now.old.now policies.now.new.now
+            (stage self.old.found.items self.old.left.items) (stage self.new.found.items self.new.left.items)
+            self.old.steps self.new.steps) }
+        ensures least { OnOk result (self.old.steps ≤ self.new.steps) }
+        ensures most { OnOk result (self.new.steps ≤ self.old.steps + steps) }
+        ensures finished { OnOk result (self.new.steps < self.old.steps + steps → self.new.steps < 4294967295 →
+            self.new.left.items ≡ []) }
+    {
+        self.take_steps(alloc, policies, steps)
+    }
+
+    /// Takes at most so many steps, and counts them.
+    fn take_steps(
+        &mut self,
+        alloc: Global,
+        policies: &Policies<'_>,
+        steps: u32,
+    ) -> Result<(), AllocError>
+        ensures counted { OnOk result (
+            IsCounted policies.now.shapes.now policies.now.old.now policies.now.new.now
+            (stage self.old.found.items self.old.left.items) (stage self.new.found.items self.new.left.items)
+            self.old.steps self.new.steps) }
         ensures least { OnOk result (self.old.steps ≤ self.new.steps) }
         ensures most { OnOk result (self.new.steps ≤ self.old.steps + steps) }
         ensures finished { OnOk result (self.new.steps < self.old.steps + steps → self.new.steps < 4294967295 →
@@ -314,11 +299,11 @@ impl Comparison {
         let rest = u32::MAX - before;
         let most = if steps < rest { steps } else { rest };
         for used in 0..most {
-            if self.left.is_empty() {
+            let Some(region) = self.take_last() else {
                 self.steps = before + used;
                 return Ok(());
-            }
-            step(alloc, policies, self)?;
+            };
+            settle(alloc, policies, region, self)?;
         }
         self.steps = before + most;
         Ok(())
@@ -338,6 +323,8 @@ pub fn compare(
     steps: u32,
 ) -> Result<Comparison, AllocError>
     ensures comparison { IfOk result (λ c. IsComparison shapes.now old.now new.now c.found.items c.left.items) }
+    ensures reached { IfOk result (λ c.
+        IsReached shapes.now old.now new.now c.steps (stage c.found.items c.left.items)) }
     ensures steps { IfOk result (λ c. c.steps ≤ steps) }
     ensures finished { IfOk result (λ c. c.steps < steps → c.left.items ≡ []) }
 {

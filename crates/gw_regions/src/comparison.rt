@@ -135,7 +135,8 @@ impl Comparison {
         ensures found { self.new.found.items ≡ self.old.found.items }
         ensures some { IfSome result (λ region.
             self.old.left.items ≡ self.new.left.items ++ region ∷ []) }
-        ensures none { result ≡ None → self.new.left.items ≡ self.old.left.items }
+        ensures none { result ≡ None → self.old.left.items ≡ [] }
+        ensures rest { result ≡ None → self.new.left.items ≡ [] }
     {
         self.left.pop()
     }

@@ -6,6 +6,7 @@ ghost use Rattle.gw_rules.specs.Fields.{value_of};
 ghost use Rattle.gw_rules.specs.Rule.{each_field, matches, ranges_of};
 ghost use Rattle.gw_regions.specs.Regions.{lies};
 ghost use Rattle.gw_regions.specs.Coverage.{covers, holds_all, is_within, meets, overlap, overlaps};
+ghost use Rattle.gw_regions.specs.Steps.{divides};
 ghost use Rattle.gw_regions.specs.declared.coverage.Coverage.{Coverage};
 
 use crate::region::Region;
@@ -92,6 +93,7 @@ pub(crate) fn coverage_of(rule: &Rule, region: &Region) -> Coverage
         (ask : Ask) → lies region.now ask ≡ true → matches rule.now ask ≡ false }
     ensures whole { result ≡ Coverage.All →
         (ask : Ask) → lies region.now ask ≡ true → matches rule.now ask ≡ true }
+    ensures perhaps { result ≡ Coverage.Perhaps → divides rule.now region.now ≡ true }
 {
     if !meets_each(rule, region) {
         return Coverage::Nothing;

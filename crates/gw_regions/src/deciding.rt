@@ -1,6 +1,8 @@
 //! What of a policy decides in a region.
 ghost use Rattle.std.specs.Prelude.{◌≡◌, ◌+◌, ◌<◌, ◌≤◌, IfOk, OnOk, length};
-ghost use Rattle.gw_regions.specs.Deciding.{AllowsIn, DecidesIn};
+ghost use Rattle.std.specs.List.{AllByRecursion};
+ghost use Rattle.gw_regions.specs.Deciding.{DecidesIn};
+ghost use Rattle.gw_regions.specs.internal.Looking.{AreDeciding, Divides};
 
 use crate::coverage::{Coverage, coverage_of};
 use crate::region::Region;
@@ -23,9 +25,12 @@ fn take_rule(
     region: &Region,
 ) -> Result<(), AllocError>
     requires { place < length rules.now }
-    ensures { OnOk result
+    ensures decides { OnOk result
         (DecidesIn rules.now region.now (place + 1) deciding.old.places.items deciding.old.otherwise →
         DecidesIn rules.now region.now place deciding.new.places.items deciding.new.otherwise) }
+    ensures divide { OnOk result
+        (AllByRecursion (λ p. Divides rules.now region.now p) deciding.old.places.items →
+        AllByRecursion (λ p. Divides rules.now region.now p) deciding.new.places.items) }
 {
     let rule = &rules[place];
     match coverage_of(rule, region) {
@@ -49,7 +54,7 @@ pub(crate) fn deciding_of(
     rules: &[Rule],
     region: &Region,
 ) -> Result<Deciding, AllocError>
-    ensures { IfOk result (λ made. AllowsIn rules.now region.now made.places.items made.otherwise) }
+    ensures { IfOk result (λ made. AreDeciding rules.now region.now made.places.items made.otherwise) }
 {
     let mut made = Deciding {
         places: Vec::new(alloc),

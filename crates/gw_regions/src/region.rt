@@ -95,7 +95,8 @@ pub fn part(
     Ok(())
 }
 
-fn part_fields(
+/// Parts a region by a rule, field by field.
+pub(crate) fn part_fields(
     alloc: Global,
     out: &mut Vec<Region>,
     rule: &Rule,

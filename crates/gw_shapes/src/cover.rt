@@ -1,7 +1,8 @@
 //! Rules that match nothing, and rules whose asks an earlier rule takes.
 ghost use Rattle.std.specs.Prelude.{◌≡◌, IsTrue, not};
 ghost use Rattle.std.specs.List.{list_all, list_any};
-ghost use Rattle.gw_shapes.specs.Cover.{MatchesNothing, TakesAll, is_met, lies_in_any, takes_all, takes_range, takes_shape, takes_side};
+ghost use Rattle.gw_shapes.specs.Cover.{MatchesNothing, TakesAll, is_met, lies_in_any, takes_all, takes_range};
+ghost use Rattle.gw_shapes.specs.Cover.{takes_shape, takes_side};
 ghost use Rattle.gw_rules.specs.Fields.{value_of};
 ghost use Rattle.gw_rules.specs.Rule.{each_field, ranges_of};
 ghost use Rattle.gw_shapes.specs.Meeting.{meets};

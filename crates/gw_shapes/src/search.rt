@@ -1,5 +1,6 @@
 //! Whether any ask of some shapes reaches a rule.
-ghost use Rattle.std.specs.Prelude.{◌≡◌, ◌-◌, ◌<◌, ◌&&◌, ◌||◌, ℕ, true, IfOk, IfSome, List, OnOk, Some, None, Ok, option_copied, slice_get};
+ghost use Rattle.std.specs.Prelude.{◌≡◌, ◌-◌, ◌<◌, ◌&&◌, ◌||◌, ℕ, true, IfOk, IfSome, List, OnOk, Some, None, Ok};
+ghost use Rattle.std.specs.Prelude.{option_copied, slice_get};
 ghost use Rattle.gw_regions.specs.Regions.{lies, lies_in_one};
 ghost use Rattle.gw_rules.specs.Ask.{Ask as SpecAsk};
 ghost use Rattle.gw_rules.specs.Rule.{matches};

@@ -3,7 +3,11 @@
 ghost use Rattle.std.specs.Prelude.{◌≡◌, ◌≤◌, ◌++◌, [], ◌∷◌, IfOk, OnOk, length};
 ghost use Rattle.std.specs.List.{flat_map};
 ghost use Rattle.std.specs.Option.{option_to_list};
-ghost use Rattle.gw_shapes.specs.Shapes.{aimed, bound, claim_shapes, enter_shapes, foreign, foreign_shapes, gaps, gaps_between, message_shapes, named, near_shapes, network, only, own, own_shapes, passed_reads, passed_shapes, passed_writes, perhaps, perhaps_in, plain, request_shapes, shapes, shapes_beyond, shapes_from, shapes_within, some, some_in, split, table_shapes};
+ghost use Rattle.gw_shapes.specs.Shapes.{aimed, bound, claim_shapes, enter_shapes, foreign, foreign_shapes, gaps};
+ghost use Rattle.gw_shapes.specs.Shapes.{gaps_between, message_shapes, named, near_shapes, network, only, own};
+ghost use Rattle.gw_shapes.specs.Shapes.{own_shapes, passed_reads, passed_shapes, passed_writes, perhaps, perhaps_in};
+ghost use Rattle.gw_shapes.specs.Shapes.{plain, request_shapes, shapes, shapes_beyond, shapes_from, shapes_within};
+ghost use Rattle.gw_shapes.specs.Shapes.{some, some_in, split, table_shapes};
 
 use crate::piece::{NO_RANGE, above, below, numbers};
 use crate::{Shape, Side};

@@ -26,7 +26,8 @@ AllowsWhatMatches = (keeps : Bool) (asks : List Ask) (suggested old : List Rule)
 -- Each ask for which they are made is allowed.
 abbrev pub AllowsEach : Type 0
 AllowsEach = (manner : Manner) (asks : List Ask) (suggested old : List Rule) (ask : Ask)
-    → IsSuggestion manner.keeps_services (wanted manner asks) suggested → Contains asks ask → allows (suggested ++ old) ask ≡ true
+    → IsSuggestion manner.keeps_services (wanted manner asks) suggested → Contains asks ask
+    → allows (suggested ++ old) ask ≡ true
 
 -- An ask that they newly allow has the values of one for which they are made: no value that wasn't seen, and no two that
 -- weren't seen together.
@@ -37,6 +38,6 @@ AllowsNoOther = (keeps : Bool) (asks : List Ask) (suggested old : List Rule) (as
 -- If they are filled, it has the object of one, the property and the priority of another one, and all else of both: of the
 -- same station, for the same operation and destination.
 abbrev pub FillsNoOther : Type 0
-FillsNoOther = (keeps : Bool) (asks : List Ask) (suggested old : List Rule) (ask : Ask) → IsSuggestion keeps (filled asks) suggested
-    → allows (suggested ++ old) ask ≡ true → allows old ask ≡ false
+FillsNoOther = (keeps : Bool) (asks : List Ask) (suggested old : List Rule) (ask : Ask)
+    → IsSuggestion keeps (filled asks) suggested → allows (suggested ++ old) ask ≡ true → allows old ask ≡ false
     → Any (λ one. Any (λ other. (akin one other ≡ true) × HasValuesOf keeps (of_both one other) ask) asks) asks

@@ -64,8 +64,8 @@ LeavesText text (Err fault) before after =
     (front : List ℕ) × (rest : List ℕ) × (fault ≡ Write) × (text ≡ front ++ rest) × (after ≡ before ++ front)
 
 -- such a text is written, whole or a front of it
-pub record LeavesMade (text : List ℕ) (manner : Manner) (result : Result (Unit {0}) SuggestFault)
-    (log before after : List ℕ) : Type 0 where
+pub record LeavesMade
+    (text : List ℕ) (manner : Manner) (result : Result (Unit {0}) SuggestFault) (log before after : List ℕ) : Type 0 where
   pub made : List ℕ
   pub suggested : IsSuggested text manner log made
   pub written : LeavesText made result before after
@@ -73,4 +73,5 @@ pub record LeavesMade (text : List ℕ) (manner : Manner) (result : Result (Unit
 -- what is written, by the outcome: nothing with a fault, unless a write failed
 abbrev pub LeavesSuggestion : List ℕ → Manner → Result (Unit {0}) SuggestFault → (log before after : List ℕ) → Type 0
 LeavesSuggestion text manner (Ok done) log before after = LeavesMade text manner (Ok done) log before after
-LeavesSuggestion text manner (Err fault) log before after = (after ≡ before) ⊎ LeavesMade text manner (Err fault) log before after
+LeavesSuggestion text manner (Err fault) log before after =
+    (after ≡ before) ⊎ LeavesMade text manner (Err fault) log before after

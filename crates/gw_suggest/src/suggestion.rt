@@ -4,7 +4,8 @@ ghost use Rattle.gw_policy_text.specs.Document.{configuration};
 ghost use Rattle.gw_rules.specs.Ask.{Ask as SpecAsk};
 ghost use Rattle.gw_script.specs.Known.{OnKnown};
 ghost use Rattle.gw_suggest.specs.Own.{covered};
-ghost use Rattle.gw_suggest.specs.Suggestion.{IsAdded, IsSuggested, IsSuggestion, LeavesSuggestion, LeavesText, matched_own, wanted};
+ghost use Rattle.gw_suggest.specs.Suggestion.{IsAdded, IsSuggested, IsSuggestion, LeavesSuggestion, LeavesText};
+ghost use Rattle.gw_suggest.specs.Suggestion.{matched_own, wanted};
 
 use crate::cutting::cut_all;
 use crate::fault::SuggestFault;

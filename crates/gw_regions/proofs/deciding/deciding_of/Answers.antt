@@ -12,11 +12,17 @@ loop-count-preserved c =
     let next = c.take_rule.new.deciding in
     let one : length rules - c.loop-count.count ≡ length rules - 1 - c.loop-count.count + 1 = omega arith in
     let two : length rules - 1 - c.loop-count.count ≡ length rules - (c.loop-count.count + 1) = omega arith in
-    let before = subst (λ (n : ℕ). DecidesIn rules region n made.places.items made.otherwise) one c.loop-count.invariant in
-    subst (λ (n : ℕ). DecidesIn rules region n next.places.items next.otherwise) two (c.in_ok-take_rule.ensures before)
+    let before = subst (λ (n : ℕ). DecidesIn rules region n made.places.items made.otherwise) one c.loop-count.invariant.decides in
+    record {
+      decides = subst (λ (n : ℕ). DecidesIn rules region n next.places.items next.otherwise) two (c.in_ok-take_rule.ensures.decides before);
+      divide = c.in_ok-take_rule.ensures.divide c.loop-count.invariant.divide;
+    }
 
 pub returns : goal.returns
 returns c =
     let all : length c.args.rules.now - c.loop-count.count ≡ 0 = omega (arith, c.loop-count-test.false) in
-    all_taken c.args.rules.now c.args.region.now (length c.args.rules.now - c.loop-count.count) c.loop-count.made.places.items
-    c.loop-count.made.otherwise all c.loop-count.invariant
+    record {
+      allows = all_taken c.args.rules.now c.args.region.now (length c.args.rules.now - c.loop-count.count) c.loop-count.made.places.items
+          c.loop-count.made.otherwise all c.loop-count.invariant.decides;
+      divide = c.loop-count.invariant.divide;
+    }
