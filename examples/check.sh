@@ -152,6 +152,12 @@ printf '1 0 1 1:C0A80105BAC0 read dst=100 svc=12 obj=5,2 prop=85 prio=- rule=hid
 status=$?
 same 'a hostile log as objects' "$status $(jq -c '[.rule, .line, .octets]' "$work/out" | tr '\n' ' ')" \
     '0 ["hide",null,null] [null,"\"} \\ \u0000 \u001b[31m",null] [null,null,"FF"] '
+# What is in front of a line's own fields stays, and a note is a line as it is.
+printf '2026-11-27T08:00:00Z # bacgw began\n2026-11-27T08:00:17Z %s\n\377 %s\n' "$(head -1 "$work/hostile")" "$(head -1 "$work/hostile")" > "$work/stamped"
+"$program" log --json < "$work/stamped" > "$work/out" 2> "$work/err"
+status=$?
+same 'a stamped log as objects' "$status $(jq -c '[.rule, .front, .front_octets, .line]' "$work/out" | tr '\n' ' ')" \
+    '0 [null,null,null,"2026-11-27T08:00:00Z # bacgw began"] ["hide","2026-11-27T08:00:17Z ",null,null] ["hide",null,"FF20",null] '
 head -c 10000000 /dev/zero > "$work/long"
 "$program" log --json < "$work/long" > "$work/out" 2> "$work/err"
 status=$?

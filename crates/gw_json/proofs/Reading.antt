@@ -19,9 +19,9 @@ use Rattle.gw_rules.specs.RuleList.{IsNumberOf, allows, first}
 use Rattle.gw_rules.specs.declared.rule.Rule.{Rule}
 use Rattle.gw_rules.specs.declared.field.FieldName.TheVariants as fields
 use Rattle.gw_json.specs.Laws.{AnswersRead, DenialsRead, OthersRead, ReadsAs}
-use Rattle.gw_json.specs.Log.{denial_line, octets_line, text_line}
+use Rattle.gw_json.specs.Log.{denial_line, front_octets_text, front_text, octets_line, text_line}
 use Rattle.gw_json.specs.Text.{ask_text, number_text, object_text, operation_text, named_text, property_text, request_text, sender_of, source_text, station_of, station_text, station_word, stations_text, target_text, way_text}
-use Rattle.gw_json.specs.Value.{answer_value, ask_members, denial_value, grounds_members, name_value, named_value, note_value, noted_value, number_value, octets_value, operation_value, request_members, station_value, stations_members, target_members, text_value, verdict_value}
+use Rattle.gw_json.specs.Value.{answer_value, ask_members, denial_value, front_members, front_octets_members, no_front, grounds_members, name_value, named_value, note_value, noted_value, number_value, octets_value, operation_value, request_members, station_value, stations_members, target_members, text_value, verdict_value}
 use Rattle.gw_json.specs.Why.{name_text, note_at, noted_text, rule_at, shown_note, truth_text, verdict_text}
 use Rattle.gw_json.proofs.Plain.{AreSingle, IsSingle, reads}
 
@@ -178,9 +178,10 @@ narrow n less = omega (arith, less)
 wide : (n : ℕ) → n < 2 ^ 16 → n < 2 ^ 64
 wide n less = omega (arith, less)
 
-denial_single : (d : Denial) → IsShowable d → AreSingle (member (codes "number") (number (decimal d.number)) (member (codes "tick") (number (decimal d.tick))
-    (ask_members (shown_ask d) (member (codes "rule") (string d.rule) no_members))))
-denial_single d is =
+denial_single : (front : Members) (d : Denial) → IsShowable d → AreSingle front
+    → AreSingle (member (codes "number") (number (decimal d.number)) (member (codes "tick") (number (decimal d.tick))
+    (ask_members (shown_ask d) (member (codes "rule") (string d.rule) front))))
+denial_single front d is single =
     let small = is.numbers in (
       (d.number, refl, small.number),
       (
@@ -205,7 +206,7 @@ denial_single d is =
                           single_number d.ask.property (small.fields fields.Property),
                           (
                             single_number d.ask.priority (small.fields fields.Priority),
-                            (single_station (sender_of (shown_ask d)), (single_station (station_of (shown_ask d)), (tt, tt))),
+                            (single_station (sender_of (shown_ask d)), (single_station (station_of (shown_ask d)), (tt, single))),
                           ),
                         ),
                       ),
@@ -219,21 +220,42 @@ denial_single d is =
       ),
     )
 
-closing : (a b c d e f g : List ℕ) → (a ++ (b ++ (c ++ (d ++ (e ++ (f ++ (g ++ 125 ∷ []))))))) ++ 10 ∷ [] ≡ ((((((a ++ b) ++ c) ++ d) ++ e) ++ f) ++ g) ++ 125 ∷ 10 ∷ []
-closing a b c d e f g = simp append_assoc
+closing : (a b c d e f g h : List ℕ)
+    → (a ++ (b ++ (c ++ (d ++ (e ++ (f ++ (g ++ (h ++ 125 ∷ [])))))))) ++ 10 ∷ []
+    ≡ (((((((a ++ b) ++ c) ++ d) ++ e) ++ f) ++ g) ++ h) ++ 125 ∷ 10 ∷ []
+closing a b c d e f g h = simp append_assoc
 
-denial_text : (d : Denial) → IsShowable d → print (json_tokens (denial_value d)) ++ 10 ∷ [] ≡ denial_line d
+denial_text : (front : Members) (text : List ℕ) (d : Denial) → IsShowable d → AreSingle front → rest_text front ≡ text ++ 125 ∷ []
+    → print (json_tokens (denial_value front d)) ++ 10 ∷ [] ≡ denial_line text d
 unfolding escape_byte
-denial_text d is =
+denial_text front text d is single shown =
     let ask = shown_ask d in
-    let last = member (codes "rule") (string d.rule) no_members in
+    let last = member (codes "rule") (string d.rule) front in
     ap (λ (t : List ℕ). t ++ 10 ∷ [])
-    (print_object (codes "number") (number (decimal d.number)) (member (codes "tick") (number (decimal d.tick)) (ask_members ask last)) (denial_single d is)
-    ∙ ap (λ (t : List ℕ). codes "{\"number\":" ++ (decimal d.number ++ (codes ",\"tick\":" ++ (decimal d.tick ++ t)))) (ask_are ask last))
-    ∙ closing (codes "{\"number\":") (decimal d.number) (codes ",\"tick\":") (decimal d.tick) (ask_text ask) (codes ",\"rule\":") (quoted d.rule)
+    (print_object (codes "number") (number (decimal d.number)) (member (codes "tick") (number (decimal d.tick)) (ask_members ask last)) (denial_single front d is single)
+    ∙ ap (λ (t : List ℕ). codes "{\"number\":" ++ (decimal d.number ++ (codes ",\"tick\":" ++ (decimal d.tick ++ t)))) (ask_are ask last)
+    ∙ ap (λ (t : List ℕ). codes "{\"number\":" ++ (decimal d.number ++ (codes ",\"tick\":" ++ (decimal d.tick ++ (ask_text ask ++ (codes ",\"rule\":" ++ (quoted d.rule ++ t))))))) shown)
+    ∙ closing (codes "{\"number\":") (decimal d.number) (codes ",\"tick\":") (decimal d.tick) (ask_text ask) (codes ",\"rule\":") (quoted d.rule) text
+
+denial_reads : (front : Members) (text : List ℕ) (d : Denial) → IsShowable d → AreSingle front → rest_text front ≡ text ++ 125 ∷ []
+    → ReadsAs (denial_line text d) (denial_value front d)
+denial_reads front text d is single shown =
+    subst (λ (line : List ℕ). ReadsAs line (denial_value front d)) (denial_text front text d is single shown) (reads _ (denial_single front d is single))
+
+front_shown : (front : List ℕ) → rest_text (front_members front) ≡ front_text front ++ 125 ∷ []
+unfolding escape_byte
+front_shown front = refl
+
+octets_shown : (front : List ℕ) → rest_text (front_octets_members front) ≡ front_octets_text front ++ 125 ∷ []
+unfolding escape_byte
+octets_shown front = refl
 
 pub denials_read : DenialsRead
-denials_read d is = subst (λ (line : List ℕ). ReadsAs line (denial_value d)) (denial_text d is) (reads _ (denial_single d is))
+denials_read d is = record {
+  alone = denial_reads no_front [] d is tt refl;
+  fronted = λ front. denial_reads (front_members front) (front_text front) d is (tt, tt) (front_shown front);
+  by_octets = λ front. denial_reads (front_octets_members front) (front_octets_text front) d is (tt, tt) (octets_shown front);
+}
 
 -- ---- other lines
 

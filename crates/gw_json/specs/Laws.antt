@@ -1,16 +1,16 @@
 -- What a reader of JSON (RFC 8259) finds in the lines.
-use Rattle.std.specs.Prelude.{◌≡◌, ℕ, ◌≤◌, ◌<◌, ◌^◌, Bool, List, [], ◌∷◌, ◌++◌, length, All, Option, Some}
+use Rattle.std.specs.Prelude.{◌≡◌, ℕ, ◌≤◌, ◌<◌, ◌^◌, Bool, List, [], ◌∷◌, ◌++◌, codes, length, All, Option, Some}
 use Rattle.std.specs.List.{AllByRecursion}
 use Rattle.json.specs.Json.{Json, document}
-use Rattle.gw_audit.specs.Entry.{IsShowable}
+use Rattle.gw_audit.specs.Entry.{IsLineOf, IsShowable, shown_ask}
 use Rattle.gw_audit.specs.declared.denial.Denial.{Denial}
 use Rattle.gw_configuration.specs.Configuration.{Configuration}
 use Rattle.gw_configuration.specs.declared.fault.ConfigFault.{ConfigFault}
 use Rattle.gw_json.specs.Check.{checked_value, fault_value}
 use Rattle.gw_json.specs.Comparison.{found_value, summary_value}
 use Rattle.gw_json.specs.Document.{line_of}
-use Rattle.gw_json.specs.Log.{denial_line, octets_line, text_line}
-use Rattle.gw_json.specs.Value.{answer_value, denial_value, octets_value, text_value}
+use Rattle.gw_json.specs.Log.{IsEntryIn, denial_line, front_octets_text, front_text, octets_line, shown_members, text_line}
+use Rattle.gw_json.specs.Value.{answer_value, denial_value, front_members, front_octets_members, no_front, octets_value, text_value}
 use Rattle.gw_json.specs.Why.{IsAnswerIn}
 use Rattle.gw_regions.specs.declared.comparison.Found.{Found}
 use Rattle.gw_rules.specs.declared.rule.Rule.{Rule}
@@ -22,9 +22,19 @@ pub record ReadsAs (line : List ℕ) (value : Json) : Type 0 where
   pub plain : All (λ octet. 32 ≤ octet) text
   pub reads : document text ≡ Some value
 
--- each denial's line is read as the object of that denial
+-- each denial's line is read as the object of that denial, also with what is in front of it
+pub record DenialReads (d : Denial) : Type 0 where
+  pub alone : ReadsAs (denial_line [] d) (denial_value no_front d)
+  pub fronted : (front : List ℕ) → ReadsAs (denial_line (front_text front) d) (denial_value (front_members front) d)
+  pub by_octets : (front : List ℕ) → ReadsAs (denial_line (front_octets_text front) d) (denial_value (front_octets_members front) d)
+
 abbrev pub DenialsRead : Type 0
-DenialsRead = (d : Denial) → IsShowable d → ReadsAs (denial_line d) (denial_value d)
+DenialsRead = (d : Denial) → IsShowable d → DenialReads d
+
+-- Nothing changes for the line of a denial with nothing in front: its object has what the line shows, and no more.
+abbrev pub DenialsStay : Type 0
+DenialsStay = (d : Denial) (line text : List ℕ) → IsShowable d → IsLineOf line d → IsEntryIn line text
+    → text ≡ shown_members d.number d.tick (shown_ask d) d.rule ++ codes "}\n"
 
 -- and so is every other line, whatever its octets are
 abbrev pub OthersRead : Type 0

@@ -51,12 +51,22 @@ ask_members ask rest =
     (member (codes "source") (string (station_word ask.source.mac))
     (request_members ask (target_members ask (stations_members ask rest)))))
 
-abbrev pub denial_value : Denial → Json
-denial_value d =
+-- what is in front of a denial's own fields, if there is anything
+abbrev pub no_front : Members
+no_front = no_members
+
+abbrev pub front_members : List ℕ → Members
+front_members front = member (codes "front") (string front) no_members
+
+abbrev pub front_octets_members : List ℕ → Members
+front_octets_members front = member (codes "front_octets") (string (encode_upper front)) no_members
+
+abbrev pub denial_value : Members → Denial → Json
+denial_value front d =
     object
     (member (codes "number") (number (decimal d.number))
     (member (codes "tick") (number (decimal d.tick))
-    (ask_members (shown_ask d) (member (codes "rule") (string d.rule) no_members))))
+    (ask_members (shown_ask d) (member (codes "rule") (string d.rule) front))))
 
 abbrev pub text_value : List ℕ → Json
 text_value line = object (member (codes "line") (string line) no_members)

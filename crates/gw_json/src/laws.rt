@@ -1,6 +1,6 @@
 //! Laws of the lines. The functions change nothing and answer nothing: their contracts are the laws.
 
-ghost use Rattle.gw_json.specs.Laws.{AnswersRead, ChecksRead, ComparisonsRead, DenialsRead, FaultsRead, OthersRead, SummariesRead};
+ghost use Rattle.gw_json.specs.Laws.{AnswersRead, ChecksRead, ComparisonsRead, DenialsRead, DenialsStay, FaultsRead, OthersRead, SummariesRead};
 
 /// A reader of JSON reads each line as the object that it is: nothing that a line of the log, a note or a rule's name has
 /// can end a string or a line, or begin another member. So it is with the lines of a log, of answers, of a comparison and of a
@@ -13,4 +13,9 @@ pub fn reading()
     ensures summaries { SummariesRead }
     ensures checks { ChecksRead }
     ensures faults { FaultsRead }
+{}
+
+/// The object of a denial's line with nothing in front is what it was before what is in front was read.
+pub fn log()
+    ensures { DenialsStay }
 {}
