@@ -17,7 +17,7 @@ use Rattle.gw_device.specs.declared.context.Context.{Context}
 use Rattle.gw_device.specs.Device.{apdu_response, header_response, or_silence, service_response}
 use Rattle.gw_device.specs.Read.{read_value}
 use Rattle.gw_device.specs.Multi.{Part, item, multi_ack, multi_ask, multi_part, properties_part, property_part, reference_part, set_part}
-use Rattle.gw_device.specs.Response.{Answer, Response, fitted, to_client, wording, unchanged}
+use Rattle.gw_device.specs.Response.{Answer, Response, fitted, to_client, announcement_of, unchanged}
 use Rattle.gw_device.specs.Services.{set_of}
 use Rattle.gw_device.specs.WhoHas.{i_have_apdu, object_response, sought_object, who_has_ask, who_has_response}
 use Rattle.gw_device.specs.WhoIs.{i_am_apdu, if_allowed, is_within, who_is_ask, who_is_response}
@@ -187,7 +187,7 @@ no_answer true x is = absurd cc
 no_answer false x is = refl
 
 silent_one : (rules : List Rule) (ask : Ask) (apdu : Option (List ℕ)) → Silent rules (if_allowed rules ask apdu)
-silent_one rules ask apdu = (λ lists denied. no_answer (allows rules ask) (wording apdu) denied, tt)
+silent_one rules ask apdu = (λ lists denied. no_answer (allows rules ask) (announcement_of apdu) denied, tt)
 
 silent_object : (rules : List Rule) (d : Database) (context : Context) (sought : Option Object) → Silent rules (object_response rules d context sought)
 silent_object rules d context None = tt

@@ -7,7 +7,7 @@ use Rattle.std.proofs.lemmas.List.Elements.{All-append, All-cons, All-from_get_o
 use Rattle.std.proofs.lemmas.List.FromFn.{get_or-range_with_len, length-range_with_len}
 use Rattle.std.specs.Prelude.{Option, Some, None}
 use Rattle.gw_ports.specs.declared.sock_pair.SockPair.{SockPair}
-use Rattle.gw_ports.specs.declared.turns.Heard.{Heard}
+use Rattle.gw_ports.specs.declared.ports.Heard.{Heard}
 use Rattle.gw_ports.specs.internal.Asking.{AreAsked, AreAskedInTurn, turn_of}
 use Rattle.gw_ports.specs.Ports.{AllPassed, AtPlace, AtSocket, IsHeard, Ports, Turn, asked, both, last_number, sockets_in_turn, sockets_of, turn_order}
 use Rattle.gw_ports.specs.Socket.{Answer, IsPassed, Said}

@@ -221,13 +221,13 @@ chained_none manner o first Never held =
     λ c is. (c, [], is, links_none manner (first c), λ never. appends_nothing held)
 
 -- what comes of a stretch, from each configuration of this origin
-abbrev pub Advanced : {K : Type 0} → Manner K → ℕ → Origin → (Configuration → Stage K) → Result Pause ServeFault → Origin
+abbrev pub Advanced : {K : Type 0} → Manner K → ℕ → Origin → (Configuration → Stage K) → Result (Unit {0}) ServeFault → Origin
     → (Configuration → Stage K) → (Never : Type 0) → (held holds : Option (List ℕ)) → Type 0
 Advanced manner count p now result q next Never held holds =
     (c : Configuration) → p ≡ origin_of c → (d : Configuration) × (text : List ℕ) × (q ≡ origin_of d)
     × Advances manner count (now c) result text (next d) × (Never → Appends held holds text)
 
-pub chained_more : {K : Type 0} (manner : Manner K) (count : ℕ) (o p q : Origin) (first now next : Configuration → Stage K) (done : Pause)
+pub chained_more : {K : Type 0} (manner : Manner K) (count : ℕ) (o p q : Origin) (first now next : Configuration → Stage K) (done : Unit {0})
     (Never Then : Type 0) (held middle holds : Option (List ℕ)) → Chained manner o first p now Never held middle
     → Advanced manner count p now (Ok done) q next Then middle holds → (Never → Then)
     → Chained manner o first q next Never held holds

@@ -15,8 +15,6 @@ use Rattle.gw_serving.specs.Serve.{Try, Turn, taken_event}
 use Rattle.gw_serving.specs.Stretch.{EndsFaulty, GoOn, IsWithheld, Moment}
 use Rattle.gw_serving.specs.declared.serving.ServeFault.{ServeFault}
 use Rattle.gw_serving.specs.declared.serving.Served.{Served}
-use Rattle.gw_serving.specs.declared.stretch.Pause.{Pause}
-use Rattle.gw_serving.specs.declared.stretch.Pause.TheVariants as pause
 use Rattle.gw_serving.specs.declared.tally.Tally.{Tally}
 use Rattle.gw_system.specs.Requests.{Asking, GoesOn, answered, asked, unasked}
 use Rattle.gw_system.specs.declared.reading.ReadFailure.{ReadFailure}
@@ -248,13 +246,7 @@ abbrev pub Runs : {K : Type 0} → Manner K → ℕ → Stage K → Result (Unit
 Runs manner count first (Ok done) links last = RunsWhole manner count first links last
 Runs manner count first (Err fault) links last = RunsUntil manner fault count first links last
 
--- where it ended
-abbrev pub pause_of : Link → Pause
-pause_of (served turns) = pause.Turns
-pause_of (ticked turns look text) = pause.Tick
-pause_of (withheld turns event text) = pause.Withheld
-
--- What comes of a stretch of at most so many turns and of what is done after it, with what is reported then, and where it ended.
-abbrev pub Advances : {K : Type 0} → Manner K → ℕ → Stage K → Result Pause ServeFault → List ℕ → Stage K → Type 0
-Advances manner count s (Ok pause) text t = (link : Link) × IsLink manner s link t × (text ≡ link_text link) × (pause_of link ≡ pause)
+-- what comes of a stretch of at most so many turns and of what is done after it, with what is reported then
+abbrev pub Advances : {K : Type 0} → Manner K → ℕ → Stage K → Result (Unit {0}) ServeFault → List ℕ → Stage K → Type 0
+Advances manner count s (Ok done) text t = (link : Link) × IsLink manner s link t × (text ≡ link_text link)
 Advances manner count s (Err fault) text t = EndsSo manner count fault s t × (text ≡ [])

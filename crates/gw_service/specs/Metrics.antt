@@ -13,8 +13,6 @@ use Rattle.gw_rules.specs.declared.rule.Rule.{Rule}
 use Rattle.gw_serving.specs.Reports.{report_of}
 use Rattle.gw_serving.specs.declared.report.Report.{Report}
 use Rattle.gw_serving.specs.declared.serving.Served.{Served}
-use Rattle.gw_serving.specs.declared.stretch.Pause.{Pause}
-use Rattle.gw_serving.specs.declared.stretch.Pause.TheVariants as pause
 use Rattle.gw_serving.specs.declared.tally.Tally.{Tally}
 use Rattle.gw_service.specs.Stats.{has_gone_on}
 use Rattle.gw_service.specs.declared.losses.Losses.{Losses}
@@ -82,9 +80,3 @@ abbrev pub PutsDue : {S : Type 0} → (S → Option (List ℕ)) → Option (Writ
 PutsDue held (Some before) (Some m) w decisions (Some after) = PutsInto held before m w decisions after
 PutsDue held (Some before) (Some m) w decisions None = ⊥
 PutsDue held before _ w decisions after = after ≡ before
-
--- at the end of a stretch: at a tick they are put into it, if that is due, and else nothing is done
-abbrev pub PutsAt : Pause → (Puts Stays : Type 0) → Type 0
-PutsAt pause.Tick Puts Stays = Puts
-PutsAt pause.Turns Puts Stays = Stays
-PutsAt pause.Withheld Puts Stays = Stays

@@ -10,7 +10,6 @@ ghost use Rattle.gw_serving.specs.Serve.{scene};
 ghost use Rattle.gw_serving.specs.Stretch.{CanCount, moment};
 ghost use Rattle.gw_system.specs.Requests.{Asking, GoesOn, IsAsking, asked, text_found};
 ghost use Rattle.gw_service.specs.Chain.{Advances, AtTick, IsLooked, IsNotedBy, Link, Looks, Runs, chain_text, manner, stage, standing};
-ghost use Rattle.gw_service.specs.Metrics.{PutsAt, PutsDue, measures_of};
 ghost use Rattle.gw_service.specs.Notices.{no_troubles, notice_of};
 ghost use Rattle.gw_service.specs.Reload.{refusal_line};
 ghost use Rattle.gw_service.specs.Kept.{RunsFrom};
@@ -102,7 +101,6 @@ impl<K: StateKeeper, Q: Requests, M: Store + Drop> Running<K, Q, M> {
         ensures log { Keeps (L.held log.old) (L.held log.new) }
         ensures state { self.new.state ≡ self.old.state }
         ensures said { self.new.said ≡ self.old.said }
-        ensures metrics { self.new.metrics ≡ self.old.metrics }
         ensures lasts { E.NeverFails errors.old → E.NeverFails errors.new }
     {
         match reloaded(alloc, &self.gateway, &self.origin, read) {
@@ -142,7 +140,6 @@ impl<K: StateKeeper, Q: Requests, M: Store + Drop> Running<K, Q, M> {
         ensures log { Keeps (L.held log.old) (L.held log.new) }
         ensures state { self.new.state ≡ self.old.state }
         ensures said { self.new.said ≡ self.old.said }
-        ensures metrics { self.new.metrics ≡ self.old.metrics }
         ensures lasts { E.NeverFails errors.old → E.NeverFails errors.new }
     {
         if let Some(read) = self.requests.take(alloc, MAX_OCTETS) {
@@ -171,14 +168,13 @@ impl<K: StateKeeper, Q: Requests, M: Store + Drop> Running<K, Q, M> {
         ensures log { Keeps (L.held log.old) (L.held log.new) }
         ensures state { self.new.state ≡ self.old.state }
         ensures said { self.new.said ≡ self.old.said }
-        ensures metrics { self.new.metrics ≡ self.old.metrics }
         ensures lasts { E.NeverFails errors.old → E.NeverFails errors.new }
     {
         self.keeper.keep_at_tick(alloc, &self.gateway);
         self.look(alloc, log, errors);
     }
 
-    /// Serves a stretch of at most so many turns, does what is due after it, and answers where it ended. Faults: those of serving.
+    /// Serves a stretch of at most so many turns, and does what is due after it. Faults: those of serving.
     fn advance<W: Wire, L: Notes, E: OctetSink>(
         &mut self,
         alloc: Global,
@@ -187,7 +183,7 @@ impl<K: StateKeeper, Q: Requests, M: Store + Drop> Running<K, Q, M> {
         errors: &mut E,
         schedule: &Schedule,
         turns: u64,
-    ) -> Result<Pause, ServeFault>
+    ) -> Result<(), ServeFault>
         requires count { CanCount self.old.state.served self.old.state.tally (W.failure_count wire.old) turns }
         ensures advances { (c : Configuration) → self.old.origin ≡ origin_of c →
             let before = stage c (moment (scene self.old.gateway (L.held log.old) (W.calls wire.old)) self.old.keeper
@@ -198,10 +194,6 @@ impl<K: StateKeeper, Q: Requests, M: Store + Drop> Running<K, Q, M> {
             (stage d (moment (scene self.new.gateway (L.held log.new) (W.calls wire.new)) self.new.keeper
             self.new.state.served self.new.state.tally) (Q.recorded self.new.requests) self.new.counts self.new.said)
             × (E.NeverFails errors.old → Appends (E.held errors.old) (E.held errors.new) text) }
-        ensures metrics { IfOk result (λ pause. PutsAt pause (PutsDue M.held self.old.metrics
-            (measures_of schedule.now.start self.new.gateway self.new.state.served self.new.state.tally self.new.counts
-            (K.losses self.new.keeper) (K.tries self.new.keeper)) self.new.gateway (K.decisions self.new.keeper) self.new.metrics)
-            (self.new.metrics ≡ self.old.metrics)) }
         ensures rest { (rest : ℕ) → self.new.state.served.turns + rest ≤ self.old.state.served.turns + turns →
             CanCount self.new.state.served self.new.state.tally (W.failure_count wire.new) rest }
         ensures more { 0 < turns → OnOk result (self.old.state.served.turns < self.new.state.served.turns) }
@@ -213,7 +205,7 @@ impl<K: StateKeeper, Q: Requests, M: Store + Drop> Running<K, Q, M> {
             .state
             .serve_to_tick(alloc, &mut self.gateway, wire, log, keeper, turns)
         {
-            Ok(Pause::Turns) => Ok(Pause::Turns),
+            Ok(Pause::Turns) => {}
             Ok(Pause::Tick) => {
                 self.at_tick(alloc, log, errors);
                 self.said = self.notice(errors);
@@ -237,14 +229,11 @@ impl<K: StateKeeper, Q: Requests, M: Store + Drop> Running<K, Q, M> {
                     &self.gateway,
                     &self.keeper,
                 );
-                Ok(Pause::Tick)
             }
-            Ok(Pause::Withheld) => {
-                self.said = self.notice(errors);
-                Ok(Pause::Withheld)
-            }
-            Err(fault) => Err(fault),
+            Ok(Pause::Withheld) => self.said = self.notice(errors),
+            Err(fault) => return Err(fault),
         }
+        Ok(())
     }
 
     /// Serves a wire for so many turns, by stretches. After each tick the keeper does what is due, and a request is looked

@@ -2,7 +2,7 @@
 use Rattle.std.specs.Prelude.{ℕ, List, Option, Result}
 use Rattle.gw_audit.specs.Translation.{RefusesNone}
 use Rattle.gw_audit.specs.declared.moment.Moment.{Moment}
-use Rattle.gw_stamping.specs.EventText.{IsTranslatedAfterFront}
+use Rattle.gw_stamping.specs.Translating.{IsTranslatedAfterFront}
 use Rattle.gw_shell.specs.Lines.{Leaves}
 use Rattle.gw_shell.specs.declared.fault.Fault.{Fault}
 

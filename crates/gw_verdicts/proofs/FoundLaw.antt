@@ -7,14 +7,14 @@ use Rattle.gw_shapes.specs.Search.{IsNeverFirst}
 use Rattle.gw_shapes.specs.Shape.{Shape}
 use Rattle.gw_shapes.specs.Shapes.{shapes}
 use Rattle.gw_shapes.proofs.Narrowing.{deciding_rule}
-use Rattle.gw_lint.specs.Finding.{Translates}
+use Rattle.gw_lint.specs.Finding.{Finds}
 use Rattle.gw_lint.specs.declared.finding.Finding.{Finding}
 use Rattle.gw_lint.specs.declared.finding.Finding.TheVariants as finding
 use Rattle.gw_verdicts.specs.Laws.{FoundNeverDecides, says_never}
 use Rattle.gw_verdicts.proofs.ShapeLaw.{never_first_never_decides}
 
 never_first : (boxes : List Shape) (rules : List Rule) (number : ℕ) (rule : Rule) (found : Finding) → HasNumber rules number rule
-    → says_never found ≡ true → Translates boxes rules number rule found → IsNeverFirst boxes rules number
+    → says_never found ≡ true → Finds boxes rules number rule found → IsNeverFirst boxes rules number
 never_first boxes rules number rule finding.MatchesNothing has never nothing ask lies is =
     nothing ask lies (deciding_rule rules number rule ask has.there is)
 never_first boxes rules number rule (finding.TakenBy by) has never (met, taken) ask lies is =

@@ -25,7 +25,7 @@ use Rattle.gw_core.specs.Asks.{asks}
 use Rattle.gw_core.specs.Denials.{default_name}
 use Rattle.gw_core.specs.History.{effects, state_after}
 use Rattle.gw_core.specs.declared.event.Counts.{Counts}
-use Rattle.gw_lint.specs.Finding.{Translates}
+use Rattle.gw_lint.specs.Finding.{Finds}
 use Rattle.gw_lint.specs.declared.finding.Finding.{Finding}
 use Rattle.gw_lint.specs.declared.finding.Finding.TheVariants as finding
 use Rattle.gw_shapes.specs.Search.{IsNeverFirst}
@@ -83,7 +83,7 @@ says_never finding.Unknown = false
 -- A rule of which that is true over the shapes of a configuration decides no ask of any event, whatever came before.
 abbrev pub FoundNeverDecides : Type 0
 FoundNeverDecides = (c : Configuration) (number : ℕ) (rule : Rule) (found : Finding) → HasNumber c.rules number rule →
-    says_never found ≡ true → Translates (shapes c) c.rules number rule found → NeverDecides c number
+    says_never found ≡ true → Finds (shapes c) c.rules number rule found → NeverDecides c number
 
 -- ---- a peer that registers
 

@@ -1,7 +1,7 @@
 -- Ports at places one after the other, which are asked until one answers.
 use Rattle.std.specs.Prelude.{ℕ, ◌+◌, ◌≤◌, ◌<◌, Bool, false, List, slice_index_or, Option, Some, None}
 use Rattle.gw_ports.specs.declared.sock_pair.SockPair.{SockPair}
-use Rattle.gw_ports.specs.declared.turns.Heard.{Heard}
+use Rattle.gw_ports.specs.declared.ports.Heard.{Heard}
 use Rattle.gw_ports.specs.Ports.{AllPassed, AtPlace, IsHeard, Stay, Turn}
 use Rattle.gw_ports.specs.Socket.{Answer}
 use Rattle.gw_ports.specs.SockPair.{ArePassed, IsAnswer}

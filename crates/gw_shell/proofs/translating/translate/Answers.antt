@@ -2,7 +2,7 @@ use Rattle.std.proofs.Common.{sym, subst, Result, IsSomeAnd}
 use Rattle.std.specs.Io.Buffered.{writer_contents}
 use Rattle.gw_shell.specs.declared.fault.Fault.{Fault}
 use Rattle.gw_audit.specs.Translation.{RefusesNone}
-use Rattle.gw_stamping.specs.EventText.{IsTranslatedAfterFront, LeavesTranslated}
+use Rattle.gw_stamping.specs.Translating.{IsTranslatedAfterFront, LeavesTranslated}
 use Rattle.gw_shell.specs.Lines.{first_lines_fault}
 use Rattle.gw_shell.specs.Translating.{Translates}
 use Rattle.gw_shell.proofs.LinesLemmas.{flushed_lines}
@@ -14,7 +14,7 @@ returns-clause-translates g c = λ log before reads holds.
     let contents = writer_contents g.W.Write.contents in
     let done = c.translate_log-translating in
     let ends = first_lines_fault done.result c.is_ok-is_flushed.result in
-    let leaves : IsSomeAnd (contents done.new.writer) (LeavesTranslated c.args.start done.result log before) = done.ensures.said log before reads holds in
+    let leaves : IsSomeAnd (contents done.new.writer) (LeavesTranslated c.args.start done.result log before) = done.ensures.translated log before reads holds in
     let said : IsSomeAnd (contents done.new.writer) (Translates c.args.start log before ends) =
     weaker (LeavesTranslated c.args.start done.result log before) (Translates c.args.start log before ends) (contents done.new.writer)
     (λ bytes is. flushed_lines (IsTranslatedAfterFront c.args.start) RefusesNone log before bytes done.result c.is_ok-is_flushed.result is) leaves in

@@ -1,16 +1,12 @@
 use Rattle.std.proofs.Common.{◌<◌, ◌++◌, ◌∷◌, [], ap, refl, subst, sym}
-use Rattle.std.specs.Prelude.{Option}
 use Rattle.std.specs.Io.KnownBytes.{Appends}
-use Rattle.gw_metrics_file.specs.Writing.{Writing}
 use Rattle.gw_script.specs.Event as event
 use Rattle.gw_serving.specs.Serve.{scene, taken_event}
 use Rattle.gw_serving.specs.Stretch.{moment}
 use Rattle.gw_serving.specs.declared.serving.ServeState.{ServeState}
-use Rattle.gw_service.specs.declared.metrics.Measures.{Measures}
 use Rattle.gw_service.specs.declared.troubles.Troubles.{Troubles}
 use Rattle.gw_serving.specs.declared.stretch.Pause.TheVariants as pause
 use Rattle.gw_service.specs.Chain.{look_text, served, standing, ticked, withheld}
-use Rattle.gw_service.specs.Metrics.{PutsDue}
 use Rattle.gw_service.specs.Notices.{notice_of}
 use Rattle.gw_service.specs.Scheduled.{reporting_by}
 use Rattle.gw_service.specs.Stats.{due_stats}
@@ -29,7 +25,7 @@ returns-in-Ok-Turns-clause-advances g c = λ config is_config.
       config,
       [],
       is_config,
-      (served end.turns, record { went = end.went; config = refl; requests = refl; counts = refl; said = refl }, refl, refl),
+      (served end.turns, record { went = end.went; config = refl; requests = refl; counts = refl; said = refl }, refl),
       λ never. appends_nothing (g.E.OctetSink.held c.args.errors.now),
     )
 
@@ -98,7 +94,6 @@ returns-in-Ok-Tick-clause-advances g c = λ config is_config.
           lines = refl;
         },
         refl,
-        refl,
       ),
       λ never.
           let one = c.at_tick.ensures.lasts never in
@@ -151,7 +146,6 @@ returns-in-Ok-Withheld-clause-advances g c = λ config is_config.
           lines = refl;
         },
         refl,
-        refl,
       ),
       λ never. c.notice-self-in-Ok-Withheld.ensures.text never,
     )
@@ -171,12 +165,3 @@ returns-in-Ok-Withheld-clause-more g c = λ some.
     (moment (scene c.serve_to_tick.new.gateway (g.L.OctetSink.held c.serve_to_tick.new.log) (g.W.Wire.calls c.serve_to_tick.new.wire))
     c.serve_to_tick.new.guard c.serve_to_tick.new.self.served c.serve_to_tick.new.self.tally) c.serve_to_tick.result c.in-Ok-Withheld.field-0
     pause.Withheld c.in-Ok-Withheld.is c.in-Ok-Withheld.field-0-is c.serve_to_tick.ensures.end)
-
-pub returns-in-Ok-Tick-clause-metrics : goal.returns-in-Ok-Tick-clause-metrics
-returns-in-Ok-Tick-clause-metrics g c =
-    let held = g.M.Store.held in
-    let now = c.at_tick.new.self in
-    let decided = g.K.StateKeeper.decisions now.keeper in
-    let after = c.put_due.new.metrics in
-    subst (λ (m : Option Measures). PutsDue held c.args.self.now.metrics m now.gateway decided after) c.measure-measured.ensures
-    (subst (λ (m : Option (Writing _)). PutsDue held m c.measure-measured.result now.gateway decided after) c.at_tick.ensures.metrics c.put_due.ensures)
