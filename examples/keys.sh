@@ -18,6 +18,7 @@ for file in [file for crate in LIMITED for file in glob.glob(f"crates/{crate}/sr
 SHAPES = dict(re.findall(r"const (\w+): (?:Shape|Scalar) = (.*?);", TABLES, re.S))
 # What a rule may name for a field: a number within its bounds, which may end later in format 3, or what the words of a field say.
 FIELDS = open("crates/gw_rules/src/field.rt").read()
+KEYS = dict(re.findall(r'FieldName::(\w+) => "(\w+)"', FIELDS))
 BOUNDS = re.search(r"fn bounds\(.*?\n    \}\n", FIELDS, re.S)[0]
 SCALARS = re.search(r"fn scalar_of\(.*?\n\}\n", TABLES, re.S)[0]
 NAMED = {"Services": "a service", "ObjectTypes": "a type", "Properties": "a property"}
@@ -117,7 +118,7 @@ def default(key, shape):
 def fields_of(function, counted=""):
     """The keys of the fields of a function in their order, each with its words."""
     body = re.search(rf"fn {function}\(.*?\n\}}\n", TABLES, re.S)[0]
-    body = re.sub(r'ranges\(format, "(\w+)", FieldName::(\w+)\)', r'Field::may("\1", ranges(\2))', body)
+    body = re.sub(r"ranges\(format, FieldName::(\w+)\)", lambda found: f'Field::may("{KEYS[found[1]]}", ranges({found[1]}))', body)
     found = re.findall(r'Field::(needs|may)\(\s*"(\w+)",\s*(.*?),?\s*\),?\n(?=\s+Field|\s+\])', body, re.S)
     assert len(found) == body.count("Field::") and found, function
     shapes = [(need, key, plain(shape)) for need, key, shape in found]
@@ -127,11 +128,13 @@ def fields_of(function, counted=""):
 def fields(table):
     """The keys of a table in their order, those of format 3 too, each with its words."""
     counted = {"route": "ports", "multi_state": "states"}.get(table, "")
-    plain_keys = fields_of(f"{table}_fields", counted)
+    plain_keys = keys = fields_of(f"{table}_fields", counted)
     longer = re.search(rf"fn ({table}_fields_with_\w+)\(", TABLES)
-    if not longer:
-        return plain_keys
-    keys = fields_of(longer[1], counted)
+    common = re.search(rf"const COMMON_{table.upper()}_FIELDS: usize = (\d+);", TABLES)
+    if longer:
+        keys = fields_of(longer[1], counted)
+    if common:
+        plain_keys = keys[: int(common[1])]
     assert keys[: len(plain_keys)] == plain_keys, table
     return plain_keys + [(key, said + ". Format 3 alone") for key, said in keys[len(plain_keys) :]]
 

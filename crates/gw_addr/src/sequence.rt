@@ -29,13 +29,11 @@ impl<T> Sequence<T> {
         }
     }
 
-    /// No item. Memory for so many is asked for at once: an `Err` if there is none.
-    pub fn with_capacity(alloc: Global, capacity: usize) -> Result<Self, AllocError>
-        ensures { IfOk result (λ sequence. sequence ≡ []) }
+    /// The items of a vector, with its room for more.
+    pub fn from_vec(items: Vec<T>) -> Self
+        ensures { result ≡ items.items }
     {
-        Ok(Sequence {
-            items: Vec::with_capacity(alloc, capacity)?,
-        })
+        Sequence { items }
     }
 
     /// Adds an item after the others. After an `Err` they are as before.

@@ -9,13 +9,14 @@ use Rattle.gw_audit.specs.Words.{name_text}
 use Rattle.gw_names.specs.Names.{object_type_name, property_name, service_name}
 use Rattle.gw_regions.specs.Ranges.{both}
 use Rattle.gw_regions.specs.Regions.{Region}
-use Rattle.gw_regions.specs.Values.{has, is_any}
+use Rattle.gw_regions.specs.Values.{has_operation, is_any}
 use Rattle.gw_regions.specs.declared.values.Values.{Values}
 use Rattle.gw_rules.specs.Bounds.{bounds}
+use Rattle.gw_rules.specs.Field.{field_key}
 use Rattle.gw_rules.specs.Fields.{value_of}
-use Rattle.gw_rules.specs.Operation.{operation_name, operation_number}
+use Rattle.gw_rules.specs.Operation.{operation_name}
 use Rattle.gw_rules.specs.declared.field.FieldName.{FieldName}
-use Rattle.gw_rules.specs.declared.field.FieldName.TheVariants.{Operation, Port, SourceNetwork, SourceKey}
+use Rattle.gw_rules.specs.declared.field.FieldName.TheVariants.{Port, SourceNetwork, SourceKey}
 use Rattle.gw_rules.specs.declared.field.FieldName.TheVariants.{DestinationNetwork, Service, ObjectType, Instance}
 use Rattle.gw_rules.specs.declared.field.FieldName.TheVariants.{Property, Priority, Sender, Station}
 use Rattle.gw_rules.specs.declared.format.Format.TheVariants.{Three}
@@ -30,9 +31,6 @@ any_of text (item ∷ items) = text item ++ flat_map (λ other. codes " or " ++ 
 
 -- ---- operations
 
-abbrev pub has_operation : Values → SpecOperation → Bool
-has_operation values operation = has values (Some (operation_number operation))
-
 -- the operations of a set of values, in the order of their numbers
 abbrev pub operations_of : Values → List SpecOperation
 operations_of values =
@@ -46,35 +44,19 @@ operations_text values =
 
 -- ---- other fields
 
+-- what is missing if a field is absent: its key, if that is a word
+abbrev pub noun_of : FieldName → List ℕ
+noun_of SourceNetwork = codes "source network"
+noun_of ObjectType = codes "type"
+noun_of field = field_key field
+
 -- the words before the values of a field
 abbrev pub word_of : FieldName → List ℕ
-word_of Operation = codes "operation "
-word_of Port = codes "port "
 word_of SourceNetwork = codes "from network "
 word_of SourceKey = codes "from "
 word_of DestinationNetwork = codes "to network "
-word_of Service = codes "service "
-word_of ObjectType = codes "type "
-word_of Instance = codes "instance "
-word_of Property = codes "property "
-word_of Priority = codes "priority "
-word_of Sender = codes "sender "
 word_of Station = codes "to "
-
--- what is missing if a field is absent
-abbrev pub noun_of : FieldName → List ℕ
-noun_of Operation = codes "operation"
-noun_of Port = codes "port"
-noun_of SourceNetwork = codes "source network"
-noun_of SourceKey = codes "source"
-noun_of DestinationNetwork = codes "destination"
-noun_of Service = codes "service"
-noun_of ObjectType = codes "type"
-noun_of Instance = codes "instance"
-noun_of Property = codes "property"
-noun_of Priority = codes "priority"
-noun_of Sender = codes "sender"
-noun_of Station = codes "station"
+word_of field = noun_of field ++ codes " "
 
 -- a station by its key: as an address, if the key has the 48 bits of one
 abbrev pub station_text : ℕ → List ℕ

@@ -1,18 +1,19 @@
 //! The words for the asks of a region.
 ghost use Rattle.std.specs.Prelude.{◌≡◌, ◌++◌, ◌∷◌, [], codes, option_map, if◌then◌else◌, IfOk, OnOk, Some};
-ghost use Rattle.std.specs.List.{flat_map, list_all};
+ghost use Rattle.std.specs.List.{flat_map};
 ghost use Rattle.std.specs.Option.{option_to_list};
 ghost use Rattle.gw_audit.specs.Words.{name_text};
 ghost use Rattle.gw_regions.specs.Ranges.{both};
+ghost use Rattle.gw_regions.specs.Values.{has_operation};
 ghost use Rattle.gw_rules.specs.Operation.{operation_name};
 ghost use Rattle.gw_rules.specs.declared.operation.TheConstants.Operation.{ALL};
-ghost use Rattle.gw_compare.specs.Words.{any_of, end_text, has_operation, item_text, items, named_text, noun_of};
+ghost use Rattle.gw_compare.specs.Words.{any_of, end_text, item_text, items, named_text, noun_of};
 ghost use Rattle.gw_compare.specs.Words.{numbers_text, operations_of, operations_text, possible, range_text};
 ghost use Rattle.gw_compare.specs.Words.{region_text, station_text, values_text, word_of};
 
 use gw_addr::{BipAddr, Sequence, put_decimal};
 use gw_names::{object_type_name, property_name, service_name};
-use gw_regions::{Region, Values};
+use gw_regions::{Region, Values, both};
 use gw_rules::{FieldName, Format, Operation, Range};
 use std::alloc::{AllocError, Global};
 
@@ -46,20 +47,6 @@ pub(crate) fn put_region(
     put_items(alloc, out, region, &ITEMS)
 }
 
-fn has_operation(values: &Values, operation: Operation) -> bool
-    ensures { result ≡ has_operation values.now operation }
-{
-    values.has(Some(operation.number()))
-}
-
-fn has_each_operation(values: &Values) -> bool
-    ensures { result ≡ list_all (has_operation values.now) ALL }
-{
-    Operation::ALL
-        .iter()
-        .all(|operation| has_operation(values, *operation))
-}
-
 fn push_operation(
     operations: &mut Vec<Operation>,
     values: &Values,
@@ -68,7 +55,7 @@ fn push_operation(
     ensures { OnOk result (operations.new.items ≡ operations.old.items
         ++ (if has_operation values.now operation then operation ∷ [] else [])) }
 {
-    if has_operation(values, operation) {
+    if values.has_operation(operation) {
         operations.push(operation)?;
     }
     Ok(())
@@ -88,7 +75,7 @@ fn operations_of(alloc: Global, values: &Values) -> Result<Vec<Operation>, Alloc
 fn put_operations(alloc: Global, out: &mut Vec<u8>, values: &Values) -> Result<(), AllocError>
     ensures { OnOk result (out.new.items ≡ out.old.items ++ operations_text values.now) }
 {
-    if has_each_operation(values) {
+    if values.has_each_operation() {
         return out.extend_from_slice(b"any operation");
     }
     let operations = operations_of(alloc, values)?;
@@ -157,19 +144,6 @@ fn put_item(
     put_values(out, field, &values)
 }
 
-/// The numbers of both ranges, if there are some.
-fn both(a: &Range, b: &Range) -> Option<Range>
-    ensures { result ≡ both a.now b.now }
-{
-    let low = if a.low < b.low { b.low } else { a.low };
-    let high = if b.high < a.high { b.high } else { a.high };
-    if low <= high {
-        Some(Range { low, high })
-    } else {
-        None
-    }
-}
-
 /// Appends the numbers of both ranges, if there are some.
 fn push_both(out: &mut Sequence<Range>, a: &Range, b: &Range) -> Result<(), AllocError>
     ensures { OnOk result (out.new ≡ out.old ++ option_to_list (both a.now b.now)) }
@@ -219,7 +193,7 @@ fn put_values(out: &mut Vec<u8>, field: FieldName, values: &Values) -> Result<()
 fn put_numbers(out: &mut Vec<u8>, field: FieldName, values: &Values) -> Result<(), AllocError>
     ensures { OnOk result (out.new.items ≡ out.old.items ++ numbers_text field values.now) }
 {
-    out.extend_from_slice(word_of(field).as_bytes())?;
+    put_word(out, field)?;
     put_ranges(out, field, values.ranges.as_slice())?;
     put_none(out, values.absent)
 }
@@ -326,42 +300,33 @@ fn put_spaced(out: &mut Vec<u8>, name: &str) -> Result<(), AllocError>
     out.extend_from_slice(name.as_bytes())
 }
 
-/// The words before the values of a field.
-fn word_of(field: FieldName) -> &'static str
-    ensures { result.now ≡ word_of field }
+/// Appends the words before the values of a field.
+fn put_word(out: &mut Vec<u8>, field: FieldName) -> Result<(), AllocError>
+    ensures { OnOk result (out.new.items ≡ out.old.items ++ word_of field) }
 {
     match field {
-        FieldName::Operation => "operation ",
-        FieldName::Port => "port ",
-        FieldName::SourceNetwork => "from network ",
-        FieldName::SourceKey => "from ",
-        FieldName::DestinationNetwork => "to network ",
-        FieldName::Service => "service ",
-        FieldName::ObjectType => "type ",
-        FieldName::Instance => "instance ",
-        FieldName::Property => "property ",
-        FieldName::Priority => "priority ",
-        FieldName::Sender => "sender ",
-        FieldName::Station => "to ",
+        FieldName::SourceNetwork => out.extend_from_slice(b"from network "),
+        FieldName::SourceKey => out.extend_from_slice(b"from "),
+        FieldName::DestinationNetwork => out.extend_from_slice(b"to network "),
+        FieldName::Station => out.extend_from_slice(b"to "),
+        _ => put_noun(out, field),
     }
 }
 
-/// What is missing if the field is absent.
+fn put_noun(out: &mut Vec<u8>, field: FieldName) -> Result<(), AllocError>
+    ensures { OnOk result (out.new.items ≡ out.old.items ++ (noun_of field ++ codes " ")) }
+{
+    out.extend_from_slice(noun_of(field).as_bytes())?;
+    out.push(b' ')
+}
+
+/// What is missing if the field is absent: its key, if that is a word.
 fn noun_of(field: FieldName) -> &'static str
     ensures { result.now ≡ noun_of field }
 {
     match field {
-        FieldName::Operation => "operation",
-        FieldName::Port => "port",
         FieldName::SourceNetwork => "source network",
-        FieldName::SourceKey => "source",
-        FieldName::DestinationNetwork => "destination",
-        FieldName::Service => "service",
         FieldName::ObjectType => "type",
-        FieldName::Instance => "instance",
-        FieldName::Property => "property",
-        FieldName::Priority => "priority",
-        FieldName::Sender => "sender",
-        FieldName::Station => "station",
+        _ => field.key(),
     }
 }

@@ -1,5 +1,5 @@
 -- The tables of a configuration, key by key, with what each key's value may be.
-use Rattle.std.specs.Prelude.{ℕ, ◌++◌, List, [], ◌∷◌, true, false, codes, Ok, Err}
+use Rattle.std.specs.Prelude.{ℕ, ◌++◌, List, [], ◌∷◌, map, take, true, false, codes, Ok, Err}
 use Rattle.std.specs.Option.{ok_or}
 use Rattle.toml.specs.Data.{Members, get_member}
 use Rattle.gw_addr.specs.Reading.{◌>>=◌}
@@ -8,7 +8,9 @@ use Rattle.gw_rules.specs.declared.field.FieldName.{FieldName}
 use Rattle.gw_rules.specs.declared.field.FieldName.TheVariants as fields
 use Rattle.gw_rules.specs.declared.format.Format.{Format}
 use Rattle.gw_rules.specs.declared.format.Format.TheVariants as formats
+use Rattle.gw_rules.specs.declared.field.TheConstants.FieldName as names
 use Rattle.gw_rules.specs.Bounds.{bounds}
+use Rattle.gw_rules.specs.Field.{field_key}
 use Rattle.gw_configuration.specs.declared.object.ObjectKind.{ObjectKind}
 use Rattle.gw_configuration.specs.declared.object.ObjectKind.TheVariants.{BinaryValue, MultiStateValue}
 use Rattle.gw_configuration.specs.declared.object.ObjectKind.TheVariants.{CharacterStringValue, IntegerValue}
@@ -171,32 +173,23 @@ abbrev pub items_for : Format → FieldName → Shape
 items_for formats.Three field = Items (scalar_of formats.Three field)
 items_for format field = Ranges (scalar_of format field)
 
-abbrev pub ranges : Format → List ℕ → FieldName → Field
-ranges format key field = may key (items_for format field)
+abbrev pub ranges : Format → FieldName → Field
+ranges format field = may (field_key field) (items_for format field)
 
-abbrev pub common_rule_fields : Format → List Field
-common_rule_fields format =
+-- all that a rule of a format may have, of which the last four are format 3's alone: the station that sent, the station that
+-- a message names, a note, and whether what it allows is written
+abbrev pub every_rule_field : Format → List Field
+every_rule_field format =
     needs (codes "name") (One RuleName)
     ∷ needs (codes "allow") (One Boolean)
-    ∷ ranges format (codes "operation") fields.Operation
-    ∷ ranges format (codes "port") fields.Port
-    ∷ ranges format (codes "source_network") fields.SourceNetwork
-    ∷ ranges format (codes "source") fields.SourceKey
-    ∷ ranges format (codes "destination") fields.DestinationNetwork
-    ∷ ranges format (codes "service") fields.Service
-    ∷ ranges format (codes "object_type") fields.ObjectType
-    ∷ ranges format (codes "instance") fields.Instance
-    ∷ ranges format (codes "property") fields.Property
-    ∷ ranges format (codes "priority") fields.Priority
-    ∷ []
-
--- format 3 alone: the station that sent, the station that a message names, a note, and whether what it allows is written
-abbrev pub rule_fields : Format → List Field
-rule_fields formats.Three =
-    common_rule_fields formats.Three
-    ++ ranges formats.Three (codes "sender") fields.Sender
-    ∷ ranges formats.Three (codes "station") fields.Station
-    ∷ may (codes "note") text
+    ∷ map (ranges format) names.ALL
+    ++ may (codes "note") text
     ∷ may (codes "audit") (One Boolean)
     ∷ []
+
+abbrev pub common_rule_fields : Format → List Field
+common_rule_fields format = take 12 (every_rule_field format)
+
+abbrev pub rule_fields : Format → List Field
+rule_fields formats.Three = every_rule_field formats.Three
 rule_fields format = common_rule_fields format

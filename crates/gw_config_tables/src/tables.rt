@@ -21,6 +21,9 @@ use gw_configuration::{
 use gw_rules::{FieldName, Format, MAX_RULES, Range};
 use toml::{Table, Value};
 
+/// How many fields a rule may have in formats 1 and 2: the first ones of all.
+const COMMON_RULE_FIELDS: usize = 12;
+
 /// How many sets a text may have: as many as it may have octets.
 const MAX_SETS: usize = 1 << 20;
 
@@ -348,13 +351,13 @@ fn within(bounds: Range) -> Scalar
 }
 
 /// Items for a field of a rule.
-fn ranges(format: Format, key: &'static str, field: FieldName) -> Field
-    ensures { result ≡ spec.ranges format key.now field }
+fn ranges(format: Format, field: FieldName) -> Field
+    ensures { result ≡ spec.ranges format field }
 {
     let of = scalar_of(format, field);
     match format {
-        Format::Three => Field::may(key, Shape::Items(of)),
-        Format::One | Format::Two => Field::may(key, Shape::Ranges(of)),
+        Format::Three => Field::may(field.key(), Shape::Items(of)),
+        Format::One | Format::Two => Field::may(field.key(), Shape::Ranges(of)),
     }
 }
 
@@ -369,56 +372,36 @@ pub fn rule_located<'a>(
     ensures { option_map located_view result ≡
         located_beside (map view sets.now) (places.Rule rule) (spec.rule_fields format) (table_view table.now) }
 {
+    let fields = rule_fields(format);
+    let place = Place::Rule(rule);
     match format {
-        Format::Three => {
-            located_beside(sets, Place::Rule(rule), &rule_fields_with_stations(), table)
+        Format::Three => located_beside(sets, place, &fields, table),
+        Format::One | Format::Two => {
+            located_beside(sets, place, &fields[..COMMON_RULE_FIELDS], table)
         }
-        Format::Two => { located_beside(sets, Place::Rule(rule), &rule_fields(Format::Two), table) }
-        Format::One => { located_beside(sets, Place::Rule(rule), &rule_fields(Format::One), table) }
     }
 }
 
-/// The fields of a rule in format 3.
-fn rule_fields_with_stations() -> [Field; 16]
-    ensures { result ≡ spec.rule_fields Format.Three }
+/// All that a rule of this format may have, of which the last four are format 3's alone.
+fn rule_fields(format: Format) -> [Field; 16]
+    ensures { result ≡ spec.every_rule_field format }
 {
-    let format = Format::Three;
     [
         Field::needs("name", Shape::One(Scalar::RuleName)),
         Field::needs("allow", Shape::One(Scalar::Boolean)),
-        ranges(format, "operation", FieldName::Operation),
-        ranges(format, "port", FieldName::Port),
-        ranges(format, "source_network", FieldName::SourceNetwork),
-        ranges(format, "source", FieldName::SourceKey),
-        ranges(format, "destination", FieldName::DestinationNetwork),
-        ranges(format, "service", FieldName::Service),
-        ranges(format, "object_type", FieldName::ObjectType),
-        ranges(format, "instance", FieldName::Instance),
-        ranges(format, "property", FieldName::Property),
-        ranges(format, "priority", FieldName::Priority),
-        ranges(format, "sender", FieldName::Sender),
-        ranges(format, "station", FieldName::Station),
+        ranges(format, FieldName::Operation),
+        ranges(format, FieldName::Port),
+        ranges(format, FieldName::SourceNetwork),
+        ranges(format, FieldName::SourceKey),
+        ranges(format, FieldName::DestinationNetwork),
+        ranges(format, FieldName::Service),
+        ranges(format, FieldName::ObjectType),
+        ranges(format, FieldName::Instance),
+        ranges(format, FieldName::Property),
+        ranges(format, FieldName::Priority),
+        ranges(format, FieldName::Sender),
+        ranges(format, FieldName::Station),
         Field::may("note", TEXT),
         Field::may("audit", Shape::One(Scalar::Boolean)),
-    ]
-}
-
-/// The fields of a rule in formats 1 and 2.
-fn rule_fields(format: Format) -> [Field; 12]
-    ensures { result ≡ spec.common_rule_fields format }
-{
-    [
-        Field::needs("name", Shape::One(Scalar::RuleName)),
-        Field::needs("allow", Shape::One(Scalar::Boolean)),
-        ranges(format, "operation", FieldName::Operation),
-        ranges(format, "port", FieldName::Port),
-        ranges(format, "source_network", FieldName::SourceNetwork),
-        ranges(format, "source", FieldName::SourceKey),
-        ranges(format, "destination", FieldName::DestinationNetwork),
-        ranges(format, "service", FieldName::Service),
-        ranges(format, "object_type", FieldName::ObjectType),
-        ranges(format, "instance", FieldName::Instance),
-        ranges(format, "property", FieldName::Property),
-        ranges(format, "priority", FieldName::Priority),
     ]
 }

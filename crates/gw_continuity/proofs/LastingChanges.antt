@@ -5,7 +5,7 @@ use Rattle.std.proofs.lemmas.Bool.{or_parts}
 use Rattle.gw_bdt_fdt.specs.Registrations.{Registrations}
 use Rattle.gw_objects.specs.Objects.{Database}
 use Rattle.gw_objects.specs.Write.{Write}
-use Rattle.gw_relay.specs.State.{Move, Relay, changed_at, changed_of, deleted, link_later, moved, registered}
+use Rattle.gw_relay.specs.State.{Move, Relay, changed_at, changed_of, deleted, port_later, moved, registered}
 use Rattle.gw_relay.specs.State as move
 use Rattle.gw_relay.specs.declared.change.Change.TheVariants.{Entries, Registration, Deletion, Learnings}
 use Rattle.gw_relay.specs.declared.port.PortState.{PortState}
@@ -15,31 +15,31 @@ use Rattle.gw_core.specs.Lasting.{lasting_move, lasts}
 use Rattle.gw_continuity.specs.Laws.{OnlyLastingChanges, entries_of}
 
 abbrev with_fdt : (Registrations → Registrations) → PortState → PortState
-with_fdt f link = record link { fdt = f link.fdt }
+with_fdt f state = record state { fdt = f state.fdt }
 
-at_keeps : (f : Registrations → Registrations) (place : ℕ) (links : List PortState) → entries_of (changed_at place (with_fdt f) links) ≡ entries_of links
+at_keeps : (f : Registrations → Registrations) (place : ℕ) (ports : List PortState) → entries_of (changed_at place (with_fdt f) ports) ≡ entries_of ports
 at_keeps f place [] = refl
-at_keeps f zero (link ∷ links) = refl
-at_keeps f (suc place) (link ∷ links) = ap (λ rest. link.bdt ∷ rest) (at_keeps f place links)
+at_keeps f zero (state ∷ ports) = refl
+at_keeps f (suc place) (state ∷ ports) = ap (λ rest. state.bdt ∷ rest) (at_keeps f place ports)
 
-of_keeps : (f : Registrations → Registrations) (number : ℕ) (links : List PortState) → entries_of (changed_of number (with_fdt f) links) ≡ entries_of links
-of_keeps f number links = by (number == 0)
+of_keeps : (f : Registrations → Registrations) (number : ℕ) (ports : List PortState) → entries_of (changed_of number (with_fdt f) ports) ≡ entries_of ports
+of_keeps f number ports = by (number == 0)
   where
-    by : (b : Bool) → entries_of (if b then links else changed_at (number - 1) (with_fdt f) links) ≡ entries_of links
+    by : (b : Bool) → entries_of (if b then ports else changed_at (number - 1) (with_fdt f) ports) ≡ entries_of ports
     by true = refl
-    by false = at_keeps f (number - 1) links
+    by false = at_keeps f (number - 1) ports
 
-later_keeps : (links : List PortState) → entries_of (map link_later links) ≡ entries_of links
+later_keeps : (ports : List PortState) → entries_of (map port_later ports) ≡ entries_of ports
 later_keeps [] = refl
-later_keeps (link ∷ links) = ap (λ rest. link.bdt ∷ rest) (later_keeps links)
+later_keeps (state ∷ ports) = ap (λ rest. state.bdt ∷ rest) (later_keeps ports)
 
-moved_keeps : (m : Option Move) (relay : Relay) → lasting_move m ≡ false → entries_of (moved m relay).links ≡ entries_of relay.links
+moved_keeps : (m : Option Move) (relay : Relay) → lasting_move m ≡ false → entries_of (moved m relay).ports ≡ entries_of relay.ports
 moved_keeps None relay e = refl
 moved_keeps (Some (move.Commit (Entries port entries))) relay e = absurd (true≢false e)
-moved_keeps (Some (move.Commit (Registration port address time_to_live))) relay e = of_keeps (registered address time_to_live) port relay.links
-moved_keeps (Some (move.Commit (Deletion port address))) relay e = of_keeps (deleted address) port relay.links
+moved_keeps (Some (move.Commit (Registration port address time_to_live))) relay e = of_keeps (registered address time_to_live) port relay.ports
+moved_keeps (Some (move.Commit (Deletion port address))) relay e = of_keeps (deleted address) port relay.ports
 moved_keeps (Some (move.Commit (Learnings port router networks))) relay e = refl
-moved_keeps (Some move.Tick) relay e = later_keeps relay.links
+moved_keeps (Some move.Tick) relay e = later_keeps relay.ports
 
 changed_keeps : (granted : Option Write) (d : Database) → is_some granted ≡ false → changed granted d ≡ d
 changed_keeps None d e = refl

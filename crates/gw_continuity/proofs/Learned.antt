@@ -15,20 +15,20 @@ use Rattle.gw_routes.specs.declared.route.Route.{Route}
 use Rattle.gw_routes.specs.Table.{Routed, grants, has_room, is_fixed, is_learned, route_by, routes_held, table_of, with_learned}
 use Rattle.gw_routes.specs.Table.{learned_by}
 use Rattle.gw_saved.specs.Carried.{route_from}
-use Rattle.gw_continuity.specs.StateOf.{AreBy, AreLinksOf}
-use Rattle.gw_continuity.proofs.Links.{number_back, ports_saved}
+use Rattle.gw_continuity.specs.StateOf.{AreBy, AreStatesOf}
+use Rattle.gw_continuity.proofs.PortStates.{number_back, ports_saved}
 
 -- ---- by the same ports
 
-pub routes_stay : (since : ℕ) (ports : List ConfiguredPort) (links : List PortState) (routes : Routed)
-    → AreLinksOf since 1 ports links → has_twice nat_eq (map (λ p. p.network) ports) ≡ false → AreBy (length ports) routes
-    → filter_map (route_from ports (ports_saved ports links)) routes ≡ routes
-routes_stay since ports links [] are once by = refl
-routes_stay since ports links (learned ∷ routes) are once by =
+pub routes_stay : (since : ℕ) (ports : List ConfiguredPort) (states : List PortState) (routes : Routed)
+    → AreStatesOf since 1 ports states → has_twice nat_eq (map (λ p. p.network) ports) ≡ false → AreBy (length ports) routes
+    → filter_map (route_from ports (ports_saved ports states)) routes ≡ routes
+routes_stay since ports states [] are once by = refl
+routes_stay since ports states (learned ∷ routes) are once by =
     λ j. cons_option
     (option_map (λ number. (learned.0, route_by number learned.1.next))
-    (number_back since ports links learned.1.port are once by.0.0 by.0.1 j))
-    (routes_stay since ports links routes are once by.1 j)
+    (number_back since ports states learned.1.port are once by.0.0 by.0.1 j))
+    (routes_stay since ports states routes are once by.1 j)
 
 -- ---- learned again
 

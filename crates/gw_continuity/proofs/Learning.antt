@@ -21,7 +21,7 @@ use Rattle.gw_core.specs.Effects.{move_at, relay_change_for}
 use Rattle.gw_core.specs.Receive.{Received, barred, dropped, managed, message, receive, unregistered}
 use Rattle.gw_core.specs.State.{State, device_network}
 use Rattle.gw_continuity.specs.StateOf.{IsTableOf}
-use Rattle.gw_continuity.proofs.LinkMoves.{IsOneOf}
+use Rattle.gw_continuity.proofs.PortMoves.{IsOneOf}
 use Rattle.gw_continuity.proofs.Routes.{each_stays}
 use Rattle.gw_core.proofs.Whence.{Heard, heard_at}
 
@@ -58,7 +58,7 @@ of_managed ports rules format on from frame = by (link_grants rules format on fr
     by false = λ port next networks e. absurd cc
 
 of_received : (ports : ℕ) (rules : List Rule) (relay : Relay) (device : ℕ) (received : Received)
-    → Heard relay.links device (IsOneOf ports) received → Learns ports (relay_change_for rules relay received)
+    → Heard relay.ports device (IsOneOf ports) received → Learns ports (relay_change_for rules relay received)
 of_received ports rules relay device dropped heard = λ port next networks e. absurd cc
 of_received ports rules relay device (managed on from frame) heard = of_managed ports rules relay.format on from frame
 of_received ports rules relay device (unregistered m) heard = λ port next networks e. absurd cc
@@ -85,7 +85,7 @@ changed_stays ports direct configured (Some (Learnings port next networks)) rela
 
 -- the table of the next state is one of the ports
 pub table_stays : (ports : ℕ) (direct : List ℕ) (configured : Routed) (w : State) (e : Event)
-    → AllByRecursion (λ link. IsOneOf ports link.port) w.relay.links → IsTableOf ports direct configured w.relay.routes
+    → AllByRecursion (λ state. IsOneOf ports state.port) w.relay.ports → IsTableOf ports direct configured w.relay.routes
     → IsTableOf ports direct configured (moved (move_at w e) w.relay).routes
 unfolding move_at
 table_stays ports direct configured w (Datagram port from octets) each is =

@@ -19,8 +19,8 @@ use Rattle.gw_saved.specs.Carried.{routes_carried}
 use Rattle.gw_continuity.specs.Laws.{StatesAreCarried, StatesAreKept, StatesGoOn}
 use Rattle.gw_continuity.specs.StateOf.{AllInRange, IsAccepted, IsStateOf, IsTableOf}
 use Rattle.gw_continuity.proofs.Learning.{table_stays}
-use Rattle.gw_continuity.proofs.LinkMoves.{format_moved, links_begin, links_numbered, links_stay}
-use Rattle.gw_continuity.proofs.Links.{links_carried}
+use Rattle.gw_continuity.proofs.PortMoves.{format_moved, ports_begin, ports_numbered, ports_stay}
+use Rattle.gw_continuity.proofs.PortStates.{ports_carried}
 use Rattle.gw_continuity.proofs.Made.{granted_fits}
 use Rattle.gw_continuity.proofs.Ranges.{WriteFits, written_range}
 use Rattle.gw_continuity.proofs.Routes.{by_ports, learned_stays, none_learned}
@@ -38,7 +38,7 @@ begins : (c : Configuration) (k : Counts) → IsAccepted c → IsStateOf c (stat
 unfolding acts_of moved_by written
 begins c k is = record {
   format = refl;
-  links = links_begin 1 c.ports;
+  ports = ports_begin 1 c.ports;
   routes = fresh_table c is.few;
   device = refl;
   values = states_begin c.objects is.defaults;
@@ -62,8 +62,8 @@ next_is : (c : Configuration) (w : State) (e : Event) → IsStateOf c w → IsSt
 unfolding next
 next_is c w e is = record {
   format = format_moved (move_at w e) w.relay ∙ is.format;
-  links = links_stay (move_at w e) w.relay c.ports is.links;
-  routes = table_stays (length c.ports) (direct_of c) (map routed_of c.routes) w e (links_numbered w.relay.ticks c.ports w.relay.links is.links) is.routes;
+  ports = ports_stay (move_at w e) w.relay c.ports is.ports;
+  routes = table_stays (length c.ports) (direct_of c) (map routed_of c.routes) w e (ports_numbered w.relay.ticks c.ports w.relay.ports is.ports) is.routes;
   device = configured_stays (change_at w e) w.device ∙ is.device;
   values = changed_range c (change_at w e) w.device is.device (granted_fits w e) is.values;
   rules = is.rules;
@@ -84,7 +84,7 @@ states_go_on c w (e ∷ l) is = states_go_on c (next w e) l (next_is c w e is)
 pub states_are_carried : (c : Configuration) → IsAccepted c → StatesAreCarried c
 states_are_carried c is s = record {
   format = refl;
-  links = links_carried s.counts.since 1 c.ports s.ports;
+  ports = ports_carried s.counts.since 1 c.ports s.ports;
   routes = learned_stays (length c.ports) (direct_of c) (map routed_of c.routes) (routes_carried c.ports s) _ (by_ports c.ports s.ports s.routes)
       (fresh_table c is.few);
   device = refl;

@@ -19,7 +19,7 @@ use Rattle.gw_continuity.specs.Laws.{HistoriesGoOn, NothingIsLost, RunsGoOn, Val
 use Rattle.gw_core.specs.Resumed.{saved}
 use Rattle.gw_continuity.specs.StateOf.{IsAccepted, IsStateOf}
 use Rattle.gw_continuity.proofs.Found.{apart_none}
-use Rattle.gw_continuity.proofs.Links.{links_back}
+use Rattle.gw_continuity.proofs.PortStates.{ports_back}
 use Rattle.gw_continuity.proofs.Learned.{learned_back, routes_stay}
 use Rattle.gw_continuity.proofs.States.{states_are_kept}
 use Rattle.gw_continuity.proofs.Values.{states_back}
@@ -50,8 +50,8 @@ objects_once c e =
     (or_parts (has_twice nat_eq (identifiers c.objects)) _ third.1).0
 
 abbrev state_with : Format → List PortState → Table → ℕ → Configured → List Slots → List Rule → ℕ → ℕ → State
-state_with format links routes since configured states rules ticks denials = record {
-  relay = record { format = format; links = links; routes = routes; ticks = since };
+state_with format ports routes since configured states rules ticks denials = record {
+  relay = record { format = format; ports = ports; routes = routes; ticks = since };
   device = record { configured = configured; states = states };
   rules = rules;
   ticks = ticks;
@@ -71,17 +71,17 @@ routes_back : (c : Configuration) (w : State) → has_twice nat_eq (map (λ p. p
 routes_back c w once is =
     let table = is.routes in
     let learned = w.relay.routes.learned in
-    ap (learned_by (table_of (direct_of c) (map routed_of c.routes) [])) (routes_stay w.relay.ticks c.ports w.relay.links learned is.links once table.by)
+    ap (learned_by (table_of (direct_of c) (map routed_of c.routes) [])) (routes_stay w.relay.ticks c.ports w.relay.ports learned is.ports once table.by)
     ∙ learned_back (direct_of c) (map routed_of c.routes) [] learned (free_of c w is learned table.free) table.once
     (subst (λ (configured : Routed). length configured + length learned ≤ 512) table.configured table.few)
     ∙ (λ j. table_of (sym table.direct j) (sym table.configured j) learned)
 
 pub nothing_is_lost : (c : Configuration) → IsAccepted c → NothingIsLost c
 nothing_is_lost c accepted w is =
-    let ports = ports_once c accepted.once in
-    let links = links_back w.relay.ticks 1 c.ports w.relay.links [] is.links (apart_none is_port c.ports) ports in
+    let once = ports_once c accepted.once in
+    let ports = ports_back w.relay.ticks 1 c.ports w.relay.ports [] is.ports (apart_none is_port c.ports) once in
     let states = states_back c.objects w.device.states [] is.values (apart_none is_object c.objects) (objects_once c accepted.once) in
-    λ j. state_with (sym is.format j) (links j) (routes_back c w ports is j) w.relay.ticks (sym is.device j) (states j) (sym is.rules j) w.ticks w.denials
+    λ j. state_with (sym is.format j) (ports j) (routes_back c w once is j) w.relay.ticks (sym is.device j) (states j) (sym is.rules j) w.ticks w.denials
 
 pub histories_go_on : (c : Configuration) → IsAccepted c → HistoriesGoOn c
 histories_go_on c accepted k h = nothing_is_lost c accepted (state_after c k h) (states_are_kept c accepted k h)

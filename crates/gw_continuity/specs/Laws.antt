@@ -67,9 +67,9 @@ RunsGoOn c = (w : State) (l : List Event) → IsStateOf c w → run_from (carrie
 
 -- the tables of peers, in order of ports
 abbrev pub entries_of : List PortState → List (List BdtEntry)
-entries_of links = map (λ link. link.bdt) links
+entries_of ports = map (λ state. state.bdt) ports
 
 -- An event that doesn't last changes no table of peers, no slot and no default.
 abbrev pub OnlyLastingChanges : Type 0
 OnlyLastingChanges = (w : State) (e : Event) → lasts w e ≡ false →
-    (entries_of (next w e).relay.links ≡ entries_of w.relay.links) × ((next w e).device ≡ w.device)
+    (entries_of (next w e).relay.ports ≡ entries_of w.relay.ports) × ((next w e).device ≡ w.device)

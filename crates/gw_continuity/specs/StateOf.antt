@@ -28,13 +28,13 @@ pub record IsAccepted (c : Configuration) : Type 0 where
 
 -- ---- what each state keeps
 
--- these are the links of the ports, whose numbers are counted on from one, and their tables have seen so many ticks
-abbrev pub AreLinksOf : (since number : ℕ) → List ConfiguredPort → List PortState → Type 0
-AreLinksOf since number [] [] = ⊤
-AreLinksOf since number (p ∷ ports) (link ∷ links) =
-    (link.port ≡ port_of number p) × (link.stations ≡ p.stations) × (link.fdt.ticks ≡ since)
-    × AreLinksOf since (number + 1) ports links
-AreLinksOf since number _ _ = ⊥
+-- these are the states of the ports, whose numbers are counted on from one, and their tables have seen so many ticks
+abbrev pub AreStatesOf : (since number : ℕ) → List ConfiguredPort → List PortState → Type 0
+AreStatesOf since number [] [] = ⊤
+AreStatesOf since number (p ∷ ports) (state ∷ states) =
+    (state.port ≡ port_of number p) × (state.stations ≡ p.stations) × (state.fdt.ticks ≡ since)
+    × AreStatesOf since (number + 1) ports states
+AreStatesOf since number _ _ = ⊥
 
 -- each learned route is by one of so many ports
 abbrev pub AreBy : ℕ → Routed → Type 0
@@ -66,7 +66,7 @@ AllInRange _ _ = ⊥
 -- what is so in each state of a gateway of a configuration
 pub record IsStateOf (c : Configuration) (w : State) : Type 0 where
   pub format : w.relay.format ≡ c.format
-  pub links : AreLinksOf w.relay.ticks 1 c.ports w.relay.links
+  pub ports : AreStatesOf w.relay.ticks 1 c.ports w.relay.ports
   pub routes : IsTableOf (length c.ports) (direct_of c) (map routed_of c.routes) w.relay.routes
   pub device : w.device.configured ≡ (database_of c).configured
   pub values : AllInRange c.objects w.device.states

@@ -17,7 +17,7 @@ use Rattle.gw_relay.specs.Cast.{accepts, is_unregistered}
 use Rattle.gw_relay.specs.Claim.{claimed, link_source}
 use Rattle.gw_relay.specs.Entry.{admits, claim_ask, claim_asks, enter_ask, enter_asks, entry_asks, is_stranger, speaks_for_others}
 use Rattle.gw_relay.specs.Laws.{AreFrom}
-use Rattle.gw_relay.specs.State.{Relay, link_at}
+use Rattle.gw_relay.specs.State.{Relay, port_at}
 use Rattle.gw_relay.specs.declared.port.PortState.{PortState}
 use Rattle.gw_core.proofs.EntryLemmas.{entry_is_unasked}
 use Rattle.gw_relay.proofs.Claims.{broadcasts_carry_their_claim, network_messages_carry_their_claim, routing_carries_the_claim, table_asks_read_nothing}
@@ -56,9 +56,9 @@ message_if : (b : Bool) (m : Message) → IsClaimed m → IfMessage (if b then u
 message_if true m is = tt
 message_if false m is = is
 
-message_npdu : (links : List PortState) (device : ℕ) (on : PortState) (from : BipAddr) (frame : Frame) (octets : List ℕ)
-    → IfMessage (receive_npdu links device on from frame octets)
-message_npdu links device on from frame octets = by (npdu_of links device octets)
+message_npdu : (ports : List PortState) (device : ℕ) (on : PortState) (from : BipAddr) (frame : Frame) (octets : List ℕ)
+    → IfMessage (receive_npdu ports device on from frame octets)
+message_npdu ports device on from frame octets = by (npdu_of ports device octets)
   where
     by : (npdu : Option Fields) → IfMessage (elim npdu [
       | Some npdu ↦
@@ -69,43 +69,43 @@ message_npdu links device on from frame octets = by (npdu_of links device octets
     by None = tt
     by (Some npdu) = message_if (is_unregistered on from frame) (message_of on from frame npdu) (record { link = refl; claim = refl })
 
-message_frame : (links : List PortState) (device : ℕ) (on : PortState) (from : BipAddr) (frame : Frame)
-    → IfMessage (receive_frame links device on from frame)
-message_frame links device on from frame = by (manages frame) (accepts on from frame) (payload_of frame)
+message_frame : (ports : List PortState) (device : ℕ) (on : PortState) (from : BipAddr) (frame : Frame)
+    → IfMessage (receive_frame ports device on from frame)
+message_frame ports device on from frame = by (manages frame) (accepts on from frame) (payload_of frame)
   where
     by : (manages heard : Bool) (payload : Option (List ℕ)) → IfMessage (if manages then managed on from frame
         else if not heard then dropped
         else (elim payload [
-          | Some octets ↦ receive_npdu links device on from frame octets
+          | Some octets ↦ receive_npdu ports device on from frame octets
           | None ↦ dropped
         ]))
     by true heard payload = tt
     by false false payload = tt
     by false true None = tt
-    by false true (Some octets) = message_npdu links device on from frame octets
+    by false true (Some octets) = message_npdu ports device on from frame octets
 
-message_datagram : (links : List PortState) (device : ℕ) (on : PortState) (from : BipAddr) (octets : List ℕ)
-    → IfMessage (receive_datagram links device on from octets)
-message_datagram links device on from octets = by (comes_in on.port.address from octets) (bvll_at octets)
+message_datagram : (ports : List PortState) (device : ℕ) (on : PortState) (from : BipAddr) (octets : List ℕ)
+    → IfMessage (receive_datagram ports device on from octets)
+message_datagram ports device on from octets = by (comes_in on.port.address from octets) (bvll_at octets)
   where
     by : (comes : Bool) (frame : Result Frame BvllFault) → IfMessage (if comes then (elim frame [
-      | Ok frame ↦ receive_frame links device on from frame
+      | Ok frame ↦ receive_frame ports device on from frame
       | Err fault ↦ dropped
     ]) else dropped)
     by false frame = tt
     by true (Err fault) = tt
-    by true (Ok frame) = message_frame links device on from frame
+    by true (Ok frame) = message_frame ports device on from frame
 
-message_on : (links : List PortState) (device number : ℕ) (from : BipAddr) (octets : List ℕ)
-    → IfMessage (receive_on links device number from octets)
-message_on links device number from octets = by (link_at links number)
+message_on : (ports : List PortState) (device number : ℕ) (from : BipAddr) (octets : List ℕ)
+    → IfMessage (receive_on ports device number from octets)
+message_on ports device number from octets = by (port_at ports number)
   where
     by : (on : Option PortState) → IfMessage (elim on [
-      | Some on ↦ receive_datagram links device on from octets
+      | Some on ↦ receive_datagram ports device on from octets
       | None ↦ dropped
     ])
     by None = tt
-    by (Some on) = message_datagram links device on from octets
+    by (Some on) = message_datagram ports device on from octets
 
 message_admitted : (rules : List Rule) (relay : Relay) (received : Received) → IfMessage received → IfMessage (admit rules relay received)
 message_admitted rules relay dropped is = tt
@@ -121,7 +121,7 @@ message_admitted rules relay (message m) is = by (admits rules relay m)
 message_at : (w : State) (e : Event) → IfMessage (receive w e)
 unfolding receive
 message_at w (Datagram port from octets) =
-    message_admitted w.rules w.relay _ (message_on w.relay.links (device_network w.device) port from octets)
+    message_admitted w.rules w.relay _ (message_on w.relay.ports (device_network w.device) port from octets)
 message_at w Tick = tt
 
 -- ---- its asks

@@ -48,13 +48,13 @@ lasts_as w port from octets change write is same moves writes =
     same ∙ ap₂ (λ (m : Option Move) (n : Option Write). lasting_move m || is_some n) moves writes
 
 -- why a datagram is dropped, by the parts that the code reads
-pub drop_as : (w : State) (links : List PortState) (network port : ℕ) (from : BipAddr) (octets : List ℕ) (why : Option DropReason)
-    → why ≡ drop_on links network port from octets → links ≡ w.relay.links → network ≡ device_network w.device
+pub drop_as : (w : State) (ports : List PortState) (network port : ℕ) (from : BipAddr) (octets : List ℕ) (why : Option DropReason)
+    → why ≡ drop_on ports network port from octets → ports ≡ w.relay.ports → network ≡ device_network w.device
     → why ≡ drop_at w (Datagram port from octets)
 unfolding drop_at
-drop_as w links network port from octets why is same its =
+drop_as w ports network port from octets why is same its =
     is ∙ ap (λ (l : List PortState). drop_on l network port from octets) same
-    ∙ ap (λ (n : ℕ). drop_on w.relay.links n port from octets) its
+    ∙ ap (λ (n : ℕ). drop_on w.relay.ports n port from octets) its
 
 -- a tick needs no memory
 pub tick_needs_none : (w : State) → NeedsNoMemory w Tick
@@ -117,7 +117,7 @@ effects_received w e received is = ap (effects_for w) is
 
 -- what a datagram is received as on its port
 pub receive_datagram : (w : State) (port : ℕ) (from : BipAddr) (octets : List ℕ) (received : Received)
-    → received ≡ receive_on w.relay.links (device_network w.device) port from octets
+    → received ≡ receive_on w.relay.ports (device_network w.device) port from octets
     → admit w.rules w.relay received ≡ receive w (Datagram port from octets)
 unfolding receive
 receive_datagram w port from octets received is = ap (admit w.rules w.relay) is
@@ -165,11 +165,11 @@ more_than m n not =
       | inr le ↦ absurd (not le)
     ]
 
--- what the code receives a datagram as, where its links and its network are those of the state
-pub received_as : (w : State) (links : List PortState) (network port : ℕ) (from : BipAddr) (octets : List ℕ) (received : Received)
-    → received ≡ receive_on links network port from octets → links ≡ w.relay.links → network ≡ device_network w.device
+-- what the code receives a datagram as, where its ports and its network are those of the state
+pub received_as : (w : State) (ports : List PortState) (network port : ℕ) (from : BipAddr) (octets : List ℕ) (received : Received)
+    → received ≡ receive_on ports network port from octets → ports ≡ w.relay.ports → network ≡ device_network w.device
     → admit w.rules w.relay received ≡ receive w (Datagram port from octets)
-received_as w links network port from octets received is same its =
+received_as w ports network port from octets received is same its =
     receive_datagram w port from octets received
     (is ∙ ap (λ (l : List PortState). receive_on l network port from octets) same
-    ∙ ap (λ (n : ℕ). receive_on w.relay.links n port from octets) its)
+    ∙ ap (λ (n : ℕ). receive_on w.relay.ports n port from octets) its)

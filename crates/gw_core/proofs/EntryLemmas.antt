@@ -55,8 +55,8 @@ and_false : (b : Bool) → (b && false) ≡ false
 and_false true = refl
 and_false false = refl
 
-all_belong : (format : Format) (link : PortState) (address : BipAddr) → names_stations format ≡ false → belongs format link address ≡ true
-all_belong format link address off = ap (λ (b : Bool). not b || length link.stations == 0 || is_station link.port link.stations address || contains link.fdt address) off
+all_belong : (format : Format) (state : PortState) (address : BipAddr) → names_stations format ≡ false → belongs format state address ≡ true
+all_belong format state address off = ap (λ (b : Bool). not b || length state.stations == 0 || is_station state.port state.stations address || contains state.fdt address) off
 
 pub entry_is_unasked : (rules : List Rule) (relay : Relay) (m : Message) → names_stations relay.format ≡ false → entry_asks rules relay m ≡ []
 entry_is_unasked rules relay m off =

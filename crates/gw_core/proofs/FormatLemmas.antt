@@ -271,18 +271,18 @@ one_way relay m d by is =
     let route = message_ask_before Route m (bound_for m.npdu) in
     ap (λ (named : List Ask). step_with (route ∷ named) (forward_before relay m d by)) (none_named relay.format route m.npdu.payload is)
 
-one_copy : (format : Format) (m : Message) (d : Destination) (link : PortState) → format ≡ One → copy_before format m d link ≡ copy_step m d link
-one_copy format m d link is =
-    let route = message_ask_before Route m (Some link.port.network) in
-    ap (λ (named : List Ask). step_with (route ∷ named) (copy_to_port m d link)) (none_named format route m.npdu.payload is)
+one_copy : (format : Format) (m : Message) (d : Destination) (state : PortState) → format ≡ One → copy_before format m d state ≡ copy_step m d state
+one_copy format m d state is =
+    let route = message_ask_before Route m (Some state.port.network) in
+    ap (λ (named : List Ask). step_with (route ∷ named) (copy_to_port m d state)) (none_named format route m.npdu.payload is)
 
-each_copy : (format : Format) (m : Message) (d : Destination) (links : List PortState) → format ≡ One
-    → map (copy_before format m d) links ≡ map (copy_step m d) links
+each_copy : (format : Format) (m : Message) (d : Destination) (ports : List PortState) → format ≡ One
+    → map (copy_before format m d) ports ≡ map (copy_step m d) ports
 each_copy format m d [] is = refl
-each_copy format m d (link ∷ links) is = ap₂ (λ (s : Step) (ss : List Step). s ∷ ss) (one_copy format m d link is) (each_copy format m d links is)
+each_copy format m d (state ∷ ports) is = ap₂ (λ (s : Step) (ss : List Step). s ∷ ss) (one_copy format m d state is) (each_copy format m d ports is)
 
 by_way : (relay : Relay) (m : Message) (d : Destination) (by : Way) → relay.format ≡ One → steps_before relay m d by ≡ steps_of_one relay m d by
-by_way relay m d ways.Everywhere is = each_copy relay.format m d (others m.here.port.number relay.links) is
+by_way relay m d ways.Everywhere is = each_copy relay.format m d (others m.here.port.number relay.ports) is
 by_way relay m d (ways.Port other) is =
     let by = ways.Port other in
     ap (λ (s : Step). if leaves m.here.port.number by then s ∷ [] else []) (one_way relay m d by is)

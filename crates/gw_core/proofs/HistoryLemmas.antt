@@ -15,11 +15,11 @@ use Rattle.gw_objects.specs.Objects.{Database, database_of}
 use Rattle.gw_objects.specs.Write.{Write}
 use Rattle.gw_configuration.specs.declared.port.Port.{Port}
 use Rattle.gw_relay.specs.declared.change.Change.{Change}
-use Rattle.gw_relay.specs.Initial.{initial, links_from}
+use Rattle.gw_relay.specs.Initial.{initial, port_states_from}
 use Rattle.gw_relay.specs.internal.Ticks.{AreAlike}
 use Rattle.gw_relay.proofs.Places.{length_after}
 use Rattle.gw_relay.proofs.Ticks.{after_alike, initial_alike, later_alike}
-use Rattle.gw_relay.specs.State.{Move, Relay, later, link_later, moved, moved_by}
+use Rattle.gw_relay.specs.State.{Move, Relay, later, port_later, moved, moved_by}
 use Rattle.gw_relay.specs.State as move
 use Rattle.gw_core.specs.Denials.{denials_at}
 use Rattle.gw_core.specs.Effects.{change_at, changed, effects_at, move_at, passes_end, relay_change_for, ticks_of}
@@ -230,25 +230,25 @@ written_stays (write ∷ writes) d = written_stays writes d
 pub configuration_stays : ConfigurationStays
 configuration_stays c k h = written_stays (acts_of c k h).writes (database_of c)
 
--- ---- the links
+-- ---- the states
 
 -- a move leaves the number of ports
-pub length_moved : (m : Option Move) (relay : Relay) → length (moved m relay).links ≡ length relay.links
+pub length_moved : (m : Option Move) (relay : Relay) → length (moved m relay).ports ≡ length relay.ports
 length_moved None relay = refl
-length_moved (Some (move.Commit change)) relay = length_after change relay.links
-length_moved (Some move.Tick) relay = length-map relay.links link_later
+length_moved (Some (move.Commit change)) relay = length_after change relay.ports
+length_moved (Some move.Tick) relay = length-map relay.ports port_later
 
-length_by : (moves : List Move) (relay : Relay) → length (moved_by moves relay).links ≡ length relay.links
+length_by : (moves : List Move) (relay : Relay) → length (moved_by moves relay).ports ≡ length relay.ports
 unfolding moved_by
 length_by [] relay = refl
 length_by (m ∷ moves) relay = length_moved (Some m) (moved_by moves relay) ∙ length_by moves relay
 
-pub length_from : (number : ℕ) (ports : List Port) → length (links_from number ports) ≡ length ports
+pub length_from : (number : ℕ) (ports : List Port) → length (port_states_from number ports) ≡ length ports
 length_from number [] = refl
 length_from number (p ∷ ports) = ap suc (length_from (number + 1) ports)
 
--- so each configured port has its link, whatever came
-pub ports_stay : (c : Configuration) (k : Counts) (h : List Event) → length (state_after c k h).relay.links ≡ length c.ports
+-- so each configured port has its state, whatever came
+pub ports_stay : (c : Configuration) (k : Counts) (h : List Event) → length (state_after c k h).relay.ports ≡ length c.ports
 ports_stay c k h = length_by (acts_of c k h).moves (initial c) ∙ length_from 1 c.ports
 
 -- a change is no tick
@@ -271,17 +271,17 @@ pub relay_ticks : (c : Configuration) (k : Counts) (h : List Event) → (state_a
 relay_ticks = ticks_moved
 
 -- all tables have seen the same ticks
-alike_moved : (m : Option Move) (relay : Relay) → AreAlike relay.ticks relay.links → AreAlike (moved m relay).ticks (moved m relay).links
+alike_moved : (m : Option Move) (relay : Relay) → AreAlike relay.ticks relay.ports → AreAlike (moved m relay).ticks (moved m relay).ports
 alike_moved None relay alike = alike
-alike_moved (Some (move.Commit change)) relay alike = after_alike change relay.ticks relay.links alike
-alike_moved (Some move.Tick) relay alike = later_alike relay.ticks relay.links alike
+alike_moved (Some (move.Commit change)) relay alike = after_alike change relay.ticks relay.ports alike
+alike_moved (Some move.Tick) relay alike = later_alike relay.ticks relay.ports alike
 
-alike_by : (moves : List Move) (relay : Relay) → AreAlike relay.ticks relay.links
-    → AreAlike (moved_by moves relay).ticks (moved_by moves relay).links
+alike_by : (moves : List Move) (relay : Relay) → AreAlike relay.ticks relay.ports
+    → AreAlike (moved_by moves relay).ticks (moved_by moves relay).ports
 unfolding moved_by
 alike_by [] relay alike = alike
 alike_by (m ∷ moves) relay alike = alike_moved (Some m) (moved_by moves relay) (alike_by moves relay alike)
 
-pub links_alike : (c : Configuration) (k : Counts) (h : List Event)
-    → AreAlike (state_after c k h).relay.ticks (state_after c k h).relay.links
-links_alike c k h = alike_by (acts_of c k h).moves (initial c) (initial_alike 1 c.ports)
+pub ports_alike : (c : Configuration) (k : Counts) (h : List Event)
+    → AreAlike (state_after c k h).relay.ticks (state_after c k h).relay.ports
+ports_alike c k h = alike_by (acts_of c k h).moves (initial c) (initial_alike 1 c.ports)

@@ -22,7 +22,7 @@ use Rattle.gw_core.specs.Receive.{Origin, Received, barred, dropped, managed, un
 use Rattle.gw_core.specs.State.{State}
 use Rattle.gw_core.proofs.DenialLemmas.{no_denials}
 use Rattle.gw_core.proofs.EffectLemmas.{effects_at-tick}
-use Rattle.gw_core.proofs.HistoryLemmas.{links_alike, moves_ticks, relay_ticks}
+use Rattle.gw_core.proofs.HistoryLemmas.{ports_alike, moves_ticks, relay_ticks}
 
 -- a count goes on from what was counted before
 count_on : (n : ℕ) (h : List Event) → fold (λ a e. a + cond (is_tick e) 1 0) n h ≡ n + count_by is_tick h
@@ -39,7 +39,7 @@ ticks_of_acts c k (Tick ∷ h) = omega (arith, ticks_of_acts c k h, count_on 1 h
 pub relay_ticks_are_counted : RelayTicksAreCounted
 relay_ticks_are_counted c k h =
     let counted : (state_after c k h).relay.ticks ≡ count_by is_tick h = relay_ticks c k h ∙ ticks_of_acts c k h in
-    (counted, subst (λ (n : ℕ). AreAlike n (state_after c k h).relay.links) counted (links_alike c k h))
+    (counted, subst (λ (n : ℕ). AreAlike n (state_after c k h).relay.ports) counted (ports_alike c k h))
 
 pub ticks_are_counted : TicksAreCounted
 ticks_are_counted c k h = ap (λ (t : ℕ). k.ticks + t) (ticks_of_acts c k h)

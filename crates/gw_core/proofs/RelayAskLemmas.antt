@@ -135,14 +135,14 @@ else_forward format m network = (λ e. absurd cc, else_behind format (route_ask 
 else_one : (format : Format) (m : Message) (network : Option ℕ) → Else (forward_asks format (route_ask format m network) m.npdu.payload ++ [])
 else_one format m network = each_both IsElse (forward_asks format (route_ask format m network) m.npdu.payload) [] (else_forward format m network) tt
 
-else_copies : (format : Format) (m : Message) (d : Destination) (links : List PortState) → Else (asks_of (map (copy format m d) links))
+else_copies : (format : Format) (m : Message) (d : Destination) (ports : List PortState) → Else (asks_of (map (copy format m d) ports))
 else_copies format m d [] = tt
-else_copies format m d (link ∷ links) =
-    each_both IsElse (forward_asks format (route_ask format m (Some link.port.network)) m.npdu.payload) _
-    (else_forward format m (Some link.port.network)) (else_copies format m d links)
+else_copies format m d (state ∷ ports) =
+    each_both IsElse (forward_asks format (route_ask format m (Some state.port.network)) m.npdu.payload) _
+    (else_forward format m (Some state.port.network)) (else_copies format m d ports)
 
 else_way : (relay : Relay) (m : Message) (d : Destination) (by : Way) → Else (asks_of (steps_by relay m d by))
-else_way relay m d ways.Everywhere = else_copies relay.format m d (others m.here.port.number relay.links)
+else_way relay m d ways.Everywhere = else_copies relay.format m d (others m.here.port.number relay.ports)
 else_way relay m d (ways.Port other) =
     steps_if (leaves m.here.port.number (ways.Port other)) _ [] (else_one relay.format m (bound_for m.npdu)) tt
 else_way relay m d (ways.Router route) =

@@ -93,11 +93,11 @@ other_lines : (c : Configuration) (script : List ℕ) (done others : List (List 
 other_lines c script done others events are lines = ap (drop (length events)) lines
     ∙ drop_at done others (length events) (are_length (length c.ports) done events are)
 
-same_ports : (c : Configuration) (w : State) (h : List Event) → IsStateAfter w c no_counts h → length w.relay.links ≡ length c.ports
-same_ports c w h stands = ap (λ (x : State). length x.relay.links) stands ∙ ports_stay c no_counts h
+same_ports : (c : Configuration) (w : State) (h : List Event) → IsStateAfter w c no_counts h → length w.relay.ports ≡ length c.ports
+same_ports c w h stands = ap (λ (x : State). length x.relay.ports) stands ∙ ports_stay c no_counts h
 
 on_ports : (c : Configuration) (w : State) (h : List Event) (line : List ℕ) (e : Event) → IsStateAfter w c no_counts h
-    → IsLine (length w.relay.links) line e → IsLine (length c.ports) line e
+    → IsLine (length w.relay.ports) line e → IsLine (length c.ports) line e
 on_ports c w h line e stands is = subst (λ (p : ℕ). IsLine p line e) (same_ports c w h stands) is
 
 told_on : (wording : EventText) (c : Configuration) (w : State) (before : List ℕ) (events : List Event) (e : Event)
@@ -218,7 +218,7 @@ ends_at_line wording c script before n w moved text left written after m p turns
 pub flaw_at_line : (wording : EventText) (c : Configuration) (script before : List ℕ) (n : ℕ) (w moved : State) (text left written after : Option (List ℕ))
     (m : ℕ) (flaw : LineFlaw)
     → Progress wording c script before n w text written → Turns wording n w moved text left written after (Err (Line m))
-    → ((t : List ℕ) → text ≡ Some t → IsFirstFlaw (length w.relay.links) t flaw)
+    → ((t : List ℕ) → text ≡ Some t → IsFirstFlaw (length w.relay.ports) t flaw)
     → IsSomeAnd after (λ (a : List ℕ). HasFlaw (length c.ports) m script flaw)
 flaw_at_line wording c script before n w moved text left written after m flaw p turns first =
     let said = turns p.left (before ++ run_text wording c p.events) p.text_is p.written_is in

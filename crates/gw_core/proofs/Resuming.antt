@@ -1,9 +1,9 @@
--- What is saved keeps the limits, and a relay that goes on has a link for each port.
+-- What is saved keeps the limits, and a relay that goes on has a state for each port.
 use Rattle.std.proofs.Common.{◌≡◌, ap, refl, ℕ, suc, ◌+◌, ◌≤◌, ◌^◌, ◌&&◌, true, List, [], ◌∷◌, length, arith}
 use Rattle.std.proofs.lemmas.Bool.{and_from, le-leb}
 use Rattle.gw_bdt_fdt.specs.declared.tables.PortTables.{PortTables}
 use Rattle.gw_configuration.specs.declared.port.Port.{Port}
-use Rattle.gw_relay.specs.Initial.{links_with}
+use Rattle.gw_relay.specs.Initial.{port_states_with}
 use Rattle.gw_relay.specs.declared.port.PortState.{PortState}
 use Rattle.gw_routes.specs.Table.{Routed}
 use Rattle.gw_saved.specs.declared.counts.SavedCounts.{SavedCounts}
@@ -13,10 +13,10 @@ use Rattle.gw_saved.specs.Saved.{SavedObject, are_countable, are_few}
 use Rattle.gw_core.specs.Resumed.{saved_ports}
 
 -- at most one port is saved of each
-pub few_saved : (ports : List OriginPort) (links : List PortState) → length (saved_ports ports links) ≤ length ports
-few_saved [] links = omega arith
+pub few_saved : (ports : List OriginPort) (states : List PortState) → length (saved_ports ports states) ≤ length ports
+few_saved [] states = omega arith
 few_saved (port ∷ ports) [] = omega arith
-few_saved (port ∷ ports) (link ∷ links) = let few = few_saved ports links in omega (arith, few)
+few_saved (port ∷ ports) (state ∷ states) = let few = few_saved ports states in omega (arith, few)
 
 -- parts within the limits are accepted
 pub accepted : (ports : List SavedPort) (routes : Routed) (objects : List SavedObject) (counts : SavedCounts)
@@ -28,9 +28,9 @@ accepted ports routes objects counts some few most since ticks denials =
     (and_from _ _ (le-leb _ _ some) (and_from _ _ (le-leb _ _ few) (le-leb _ _ most)))
     (and_from _ _ (le-leb _ _ since) (and_from _ _ (le-leb _ _ ticks) (le-leb _ _ denials)))
 
--- as many tables as ports give as many links
+-- as many tables as ports give as many states
 pub length_with : (number : ℕ) (ports : List Port) (tables : List PortTables) → length tables ≡ length ports
-    → length (links_with number ports tables) ≡ length ports
+    → length (port_states_with number ports tables) ≡ length ports
 length_with number [] tables same = refl
 length_with number (p ∷ ports) [] same = absurd (omega (arith, same))
 length_with number (p ∷ ports) (t ∷ tables) same = ap suc (length_with (number + 1) ports tables (omega (arith, same)))

@@ -34,11 +34,11 @@ use Rattle.gw_core.specs.State.{State, device_network}
 use Rattle.gw_core.specs.declared.event.Counts.{Counts}
 use Rattle.gw_core.proofs.HistoryLemmas.{state_next}
 
-tables_moved : (m : Option Move) (relay : Relay) (ports : List Port) (acts : List PortActs) → AreStatesAfter relay.links ports acts
-    → AreStatesAfter (moved m relay).links ports (acts_moved m acts)
+tables_moved : (m : Option Move) (relay : Relay) (ports : List Port) (acts : List PortActs) → AreStatesAfter relay.ports ports acts
+    → AreStatesAfter (moved m relay).ports ports (acts_moved m acts)
 tables_moved None relay ports acts stand = stand
-tables_moved (Some (Commit change)) relay ports acts stand = changes_extend change relay.links ports acts stand
-tables_moved (Some Later) relay ports acts stand = ticks_extend relay.links ports acts stand
+tables_moved (Some (Commit change)) relay ports acts stand = changes_extend change relay.ports ports acts stand
+tables_moved (Some Later) relay ports acts stand = ticks_extend relay.ports ports acts stand
 
 routes_moved : (m : Option Move) (relay : Relay) (direct : List ℕ) (configured : Routed) (h : Learned)
     → IsTableAfter relay.routes direct configured h

@@ -22,11 +22,11 @@ way_step relay m d by = step (message_ask_before Route m (bound_for m.npdu)) (fo
 
 -- one ask for the copy of a global broadcast for another port
 abbrev pub copy_step : Message → Destination → PortState → Step
-copy_step m d link =
-    step (message_ask_before Route m (Some link.port.network)) (if has_hops d then broadcast (next_hop m) link else [])
+copy_step m d state =
+    step (message_ask_before Route m (Some state.port.network)) (if has_hops d then broadcast (next_hop m) state else [])
 
 abbrev pub steps_of_one : Relay → Message → Destination → Way → List Step
-steps_of_one relay m d Everywhere = map (copy_step m d) (others m.here.port.number relay.links)
+steps_of_one relay m d Everywhere = map (copy_step m d) (others m.here.port.number relay.ports)
 steps_of_one relay m d by = if leaves m.here.port.number by then way_step relay m d by ∷ [] else []
 
 abbrev pub routing_of_one : Relay → Message → List Step

@@ -30,7 +30,7 @@ use Rattle.gw_core.specs.State.{State, device_network}
 
 abbrev pub received_before : State → Event → Received
 received_before w (Datagram port from octets) =
-    receive_on w.relay.links (device_network w.device) port from octets
+    receive_on w.relay.ports (device_network w.device) port from octets
 received_before w Tick = dropped
 
 -- ---- the parts, in the order of the steps

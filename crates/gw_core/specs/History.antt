@@ -104,7 +104,7 @@ WritesStand c writes w = AreSlotsAfter (defaults_of c) writes w.device.states
 -- The ports' tables are those that the last granted entries, the granted registrations and deletions and
 -- the ticks left (Annex J.4, J.5).
 abbrev pub TablesStand : Configuration → List PortActs → State → Type 0
-TablesStand c acts w = AreStatesAfter w.relay.links (ports_from 1 c.ports) acts
+TablesStand c acts w = AreStatesAfter w.relay.ports (ports_from 1 c.ports) acts
 
 -- The routes are the configured ones, and those of the networks that were granted to be learned (clause 6.6).
 abbrev pub RoutesStand : Configuration → Learned → State → Type 0

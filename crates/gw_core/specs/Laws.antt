@@ -76,7 +76,7 @@ TicksAreCounted =
 abbrev pub RelayTicksAreCounted : Type 0
 RelayTicksAreCounted = (c : Configuration) (k : Counts) (h : List Event) →
     ((state_after c k h).relay.ticks ≡ count_by is_tick h)
-    × AllByRecursion (λ link. link.fdt.ticks ≡ count_by is_tick h) (state_after c k h).relay.links
+    × AllByRecursion (λ state. state.fdt.ticks ≡ count_by is_tick h) (state_after c k h).relay.ports
 
 -- The number of its last denial is the first count and the length of the log so far.
 abbrev pub DenialsAreCounted : Type 0
@@ -203,7 +203,7 @@ WritesLeaveTheSlots =
 
 -- A gateway has the ports of its configuration, whatever comes.
 abbrev pub PortsStay : Type 0
-PortsStay = (c : Configuration) (k : Counts) (h : List Event) → length (state_after c k h).relay.links ≡ length c.ports
+PortsStay = (c : Configuration) (k : Counts) (h : List Event) → length (state_after c k h).relay.ports ≡ length c.ports
 
 -- What is configured of the device never changes.
 abbrev pub ConfigurationStays : Type 0

@@ -16,7 +16,7 @@ pub record WholeStep (wording : EventText) (w moved : State) (text : List ℕ) (
     (after : Option (List ℕ)) : Type 0 where
   pub line : List ℕ
   pub event : Event
-  pub writes : IsLine (length w.relay.links) line event
+  pub writes : IsLine (length w.relay.ports) line event
   pub rest : List ℕ
   pub remains : left ≡ Some rest
   pub lines : lines_of text ≡ line ∷ lines_of rest
@@ -28,14 +28,14 @@ pub record NoEvent (w : State) (text : List ℕ) : Type 0 where
   pub line : List ℕ
   pub others : List (List ℕ)
   pub lines : lines_of text ≡ line ∷ others
-  pub no_event : (e : Event) → ¬ (IsLine (length w.relay.links) line e)
+  pub no_event : (e : Event) → ¬ (IsLine (length w.relay.ports) line e)
 
 -- the first line writes an event, of whose text a front was appended
 pub record CutStep (wording : EventText) (w : State) (text before : List ℕ) (after : Option (List ℕ)) : Type 0 where
   pub line : List ℕ
   pub event : Event
   pub others : List (List ℕ)
-  pub writes : IsLine (length w.relay.links) line event
+  pub writes : IsLine (length w.relay.ports) line event
   pub lines : lines_of text ≡ line ∷ others
   pub front : List ℕ
   pub unwritten : List ℕ
@@ -47,7 +47,7 @@ pub record PassesEnd (w : State) (text : List ℕ) : Type 0 where
   pub line : List ℕ
   pub event : Event
   pub others : List (List ℕ)
-  pub writes : IsLine (length w.relay.links) line event
+  pub writes : IsLine (length w.relay.ports) line event
   pub lines : lines_of text ≡ line ∷ others
   pub passes : passes_end w event ≡ true
 
@@ -56,7 +56,7 @@ pub record MemoryWant (w : State) (text : List ℕ) : Type 0 where
   pub line : List ℕ
   pub event : Event
   pub others : List (List ℕ)
-  pub writes : IsLine (length w.relay.links) line event
+  pub writes : IsLine (length w.relay.ports) line event
   pub lines : lines_of text ≡ line ∷ others
   pub wants : ¬ (NeedsNoMemory w event)
 

@@ -18,7 +18,7 @@ use Rattle.gw_relay.specs.Cast.{accepts, is_unregistered}
 use Rattle.gw_relay.specs.Claim.{local_source}
 use Rattle.gw_relay.specs.Entry.{admits}
 use Rattle.gw_relay.specs.Message.{Message, message_of}
-use Rattle.gw_relay.specs.State.{Relay, link_at}
+use Rattle.gw_relay.specs.State.{Relay, port_at}
 use Rattle.gw_relay.specs.declared.port.PortState.{PortState}
 use Rattle.gw_rules.specs.Ask.{Ask}
 use Rattle.gw_rules.specs.Operation.{operation_number}
@@ -71,19 +71,19 @@ payload_of other = None
 
 -- the network of a port, or the device's
 abbrev pub is_direct : List PortState → ℕ → ℕ → Bool
-is_direct links device network =
-    network == device || list_any (λ link. link.port.network == network) links
+is_direct ports device network =
+    network == device || list_any (λ state. state.port.network == network) ports
 
 -- whether a message names a source on a network of the gateway's own
 abbrev pub claims_direct : List PortState → ℕ → Option Address → Bool
-claims_direct links device None = false
-claims_direct links device (Some s) = is_direct links device s.network
+claims_direct ports device None = false
+claims_direct ports device (Some s) = is_direct ports device s.network
 
 -- an NPDU of at most 1497 octets that claims no source on a network of the gateway's own
 unfoldable pub npdu_of : List PortState → ℕ → List ℕ → Option Fields
-npdu_of links device octets =
+npdu_of ports device octets =
     if nat_le (length octets) max_len then (elim (npdu_at octets) [
-      | Ok npdu ↦ if claims_direct links device npdu.source then None else Some npdu
+      | Ok npdu ↦ if claims_direct ports device npdu.source then None else Some npdu
       | Err fault ↦ None
     ]) else None
 
@@ -91,7 +91,7 @@ npdu_of links device octets =
 
 -- a message is heard, or an unregistered sender's (Annex J.5)
 abbrev pub receive_npdu : List PortState → ℕ → PortState → BipAddr → Frame → List ℕ → Received
-receive_npdu links device on from frame octets = elim (npdu_of links device octets) [
+receive_npdu ports device on from frame octets = elim (npdu_of ports device octets) [
   | Some npdu ↦
       if is_unregistered on from frame then unregistered (message_of on from frame npdu)
       else message (message_of on from frame npdu)
@@ -100,28 +100,28 @@ receive_npdu links device on from frame octets = elim (npdu_of links device octe
 
 -- a frame brings an NPDU where it is heard (Annex J.4)
 abbrev pub receive_payload : List PortState → ℕ → PortState → BipAddr → Frame → Received
-receive_payload links device on from frame =
+receive_payload ports device on from frame =
     if not (accepts on from frame) then dropped
     else (elim (payload_of frame) [
-      | Some octets ↦ receive_npdu links device on from frame octets
+      | Some octets ↦ receive_npdu ports device on from frame octets
       | None ↦ dropped
     ])
 
 -- a frame manages a table, or brings an NPDU
 abbrev pub receive_frame : List PortState → ℕ → PortState → BipAddr → Frame → Received
-receive_frame links device on from frame =
-    if manages frame then managed on from frame else receive_payload links device on from frame
+receive_frame ports device on from frame =
+    if manages frame then managed on from frame else receive_payload ports device on from frame
 
 abbrev pub receive_datagram : List PortState → ℕ → PortState → BipAddr → List ℕ → Received
-receive_datagram links device on from octets =
+receive_datagram ports device on from octets =
     if comes_in on.port.address from octets then (elim (bvll_at octets) [
-      | Ok frame ↦ receive_frame links device on from frame
+      | Ok frame ↦ receive_frame ports device on from frame
       | Err fault ↦ dropped
     ]) else dropped
 
 abbrev pub receive_on : List PortState → ℕ → ℕ → BipAddr → List ℕ → Received
-receive_on links device number from octets = elim (link_at links number) [
-  | Some on ↦ receive_datagram links device on from octets
+receive_on ports device number from octets = elim (port_at ports number) [
+  | Some on ↦ receive_datagram ports device on from octets
   | None ↦ dropped
 ]
 
@@ -138,7 +138,7 @@ admit rules relay (message m) = if admits rules relay m then message m else barr
 -- what an event is received as in this state
 unfoldable pub receive : State → Event → Received
 receive w (Datagram port from octets) =
-    admit w.rules w.relay (receive_on w.relay.links (device_network w.device) port from octets)
+    admit w.rules w.relay (receive_on w.relay.ports (device_network w.device) port from octets)
 receive w Tick = dropped
 
 -- ---- where it comes from

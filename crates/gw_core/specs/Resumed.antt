@@ -12,15 +12,15 @@ use Rattle.gw_core.specs.State.{State}
 
 -- each port with what was configured of it and the tables that it has now
 abbrev pub saved_ports : List OriginPort → List PortState → List SavedPort
-saved_ports [] links = []
+saved_ports [] states = []
 saved_ports (port ∷ ports) [] = []
-saved_ports (port ∷ ports) (link ∷ links) = saved_port port link.bdt link.fdt.rows ∷ saved_ports ports links
+saved_ports (port ∷ ports) (state ∷ states) = saved_port port state.bdt state.fdt.rows ∷ saved_ports ports states
 
 -- what is saved of a gateway in this state of which this was configured: the ports with their tables, the learned
 -- routes, the objects with their slots and defaults, and the counts; neither the rules nor the format
 abbrev pub saved_of : Origin → State → Saved
 saved_of o w = record {
-  ports = saved_ports o.ports w.relay.links;
+  ports = saved_ports o.ports w.relay.ports;
   routes = w.relay.routes.learned;
   objects = saved_objects o.objects w.device.states;
   counts = record { since = w.relay.ticks; ticks = w.ticks; denials = w.denials };

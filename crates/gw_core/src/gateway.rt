@@ -213,7 +213,7 @@ impl Gateway {
 
     /// How many ports there are, 1 to 8.
     pub fn ports(&self) -> u8
-        ensures count { result ≡ length self.now.relay.links }
+        ensures count { result ≡ length self.now.relay.ports }
         ensures least { 1 ≤ result }
         ensures most { result ≤ MAX_PORTS }
     {
@@ -243,7 +243,7 @@ impl Gateway {
     /// The ports with their tables, and the routes.
     pub fn relay(&self) -> &Relay
         ensures parts { result.now ≡ self.now.relay }
-        ensures few { length self.now.relay.links ≤ MAX_PORTS }
+        ensures few { length self.now.relay.ports ≤ MAX_PORTS }
     {
         &self.relay
     }

@@ -19,7 +19,7 @@ use gw_addr::laws::one_to_one;
 use gw_addr::{BipAddr, NetNum};
 use gw_bvll::{Bvll, BvllFault};
 use gw_npdu::{AddressRef, Npdu, NpduFault};
-use gw_relay::{Message, PortState, TableMessage, link_at};
+use gw_relay::{Message, PortState, TableMessage, port_at};
 
 /// The longest datagram that is heard, in octets.
 const MAX_DATAGRAM: usize = gw_bvll::MAX_LEN;
@@ -110,11 +110,11 @@ impl OwnNetworks<'_> {
     }
 
     fn is_a_ports(&self, network: u16) -> bool
-        ensures { result ≡ list_any (λ link. link.port.network == network) self.now.ports.now }
+        ensures { result ≡ list_any (λ state. state.port.network == network) self.now.ports.now }
     {
         self.ports
             .iter()
-            .any(|link| link.port.network.get() == network)
+            .any(|state| state.port.network.get() == network)
     }
 
     /// Whether a source is claimed on one of these networks.
@@ -208,7 +208,7 @@ pub(crate) fn receive<'a>(
     ensures drop { let a = arrival.now in
         drop_view result ≡ drop_on ports.now device a.port a.from a.octets.now }
 {
-    let Some(here) = link_at(ports, usize::from(arrival.port)) else {
+    let Some(here) = port_at(ports, usize::from(arrival.port)) else {
         return Received::Dropped(DropReason::Ignored);
     };
     if !comes_in(here.port.address, arrival.from, arrival.octets) {

@@ -224,7 +224,7 @@ impl ScriptRun {
             (W.held writer.old) (W.held writer.new) result }
         ensures flaw { (n : ℕ) → IsErrOf result (RunFault.Line n) → (text : List ℕ) →
             prepend_known self.old.lines.unread (R.left reader.old) ≡ Some text →
-            IsFirstFlaw (length self.old.gateway.relay.links) text self.new.flaw }
+            IsFirstFlaw (length self.old.gateway.relay.ports) text self.new.flaw }
         ensures shorter { (text : List ℕ) →
             prepend_known self.old.lines.unread (R.left reader.old) ≡ Some text → result ≡ Ok true →
             IsShorter text (prepend_known self.new.lines.unread (R.left reader.new)) }

@@ -11,16 +11,16 @@ use std::alloc::{AllocError, Global};
 pub(crate) fn saved_ports(
     alloc: Global,
     ports: &[OriginPort],
-    links: &[PortState],
+    states: &[PortState],
 ) -> Result<Vec<SavedPort>, AllocError>
-    ensures { IfOk result (λ saved. saved.items ≡ saved_ports ports.now links.now) }
+    ensures { IfOk result (λ saved. saved.items ≡ saved_ports ports.now states.now) }
 {
     let mut saved = Vec::with_capacity(alloc, ports.len())?;
     for (place, port) in ports.iter().enumerate() {
-        let Some(link) = links.get(place) else {
+        let Some(state) = states.get(place) else {
             return Ok(saved);
         };
-        saved.push(port.save(alloc, &link.bdt, &link.fdt)?)?;
+        saved.push(port.save(alloc, &state.bdt, &state.fdt)?)?;
     }
     Ok(saved)
 }

@@ -112,10 +112,10 @@ if_some (Some a) follows is = follows a is
 
 -- the counts of a script, begun with none, are what is reported
 pub reported : (c : Configuration) (script first counts text : List ℕ) (ports : ℕ) (w : State) → w ≡ fresh c
-    → ports ≡ length w.relay.links → IsTally c.rules [] first → AreCountedFrom ports w script first counts
+    → ports ≡ length w.relay.ports → IsTally c.rules [] first → AreCountedFrom ports w script first counts
     → text ≡ tally_text c.rules counts → IsReport c script text
 reported c script first counts text ports w is many none counted lines =
-    let same : ports ≡ length c.ports = many ∙ ap (λ (v : State). length v.relay.links) is ∙ ports_stay c no_counts [] in
+    let same : ports ≡ length c.ports = many ∙ ap (λ (v : State). length v.relay.ports) is ∙ ports_stay c no_counts [] in
     record {
       counts = counts;
       decided = record {

@@ -1,5 +1,5 @@
 -- What two policies decide otherwise: a JSON object for each region, and a last one that sums up.
-use Rattle.std.specs.Prelude.{ℕ, ◌-◌, Bool, ◌==◌, if◌then◌else◌, List, [], ◌∷◌, slice_get, codes, decimal, Some}
+use Rattle.std.specs.Prelude.{ℕ, ◌-◌, Bool, ◌==◌, if◌then◌else◌, List, [], ◌∷◌, drop, slice_get, codes, decimal, Some}
 use Rattle.std.specs.List.{flat_map, list_all}
 use Rattle.std.specs.Option.{option_map_or}
 use Rattle.json.specs.Json.{Json, null, boolean, number, string, array, object, Members, no_items, item, no_members, member}
@@ -8,17 +8,16 @@ use Rattle.gw_json.specs.Document.{items_of}
 use Rattle.gw_json.specs.Text.{station_word}
 use Rattle.gw_regions.specs.Ranges.{both}
 use Rattle.gw_regions.specs.Regions.{Region}
-use Rattle.gw_regions.specs.Values.{has, is_any}
+use Rattle.gw_regions.specs.Values.{has_operation, is_any}
 use Rattle.gw_regions.specs.declared.comparison.Found.{Found}
 use Rattle.gw_regions.specs.declared.values.Values.{Values}
 use Rattle.gw_rules.specs.Field.{field_key}
 use Rattle.gw_rules.specs.Bounds.{bounds}
 use Rattle.gw_rules.specs.Fields.{value_of}
-use Rattle.gw_rules.specs.Operation.{operation_name, operation_number}
+use Rattle.gw_rules.specs.Operation.{operation_name}
 use Rattle.gw_rules.specs.declared.field.FieldName.{FieldName}
-use Rattle.gw_rules.specs.declared.field.FieldName.TheVariants.{Operation, Port, SourceNetwork, SourceKey}
-use Rattle.gw_rules.specs.declared.field.FieldName.TheVariants.{DestinationNetwork, Service, ObjectType, Instance}
-use Rattle.gw_rules.specs.declared.field.FieldName.TheVariants.{Property, Priority, Sender, Station}
+use Rattle.gw_rules.specs.declared.field.FieldName.TheVariants.{SourceKey, Sender, Station}
+use Rattle.gw_rules.specs.declared.field.TheConstants.FieldName as fields
 use Rattle.gw_rules.specs.declared.format.Format.TheVariants.{Three}
 use Rattle.gw_rules.specs.declared.operation.Operation.{Operation as SpecOperation}
 use Rattle.gw_rules.specs.declared.operation.TheConstants.Operation.{ALL}
@@ -26,9 +25,6 @@ use Rattle.gw_rules.specs.declared.range.Range.{Range}
 use Rattle.gw_rules.specs.declared.rule.Rule.{Rule}
 
 -- ---- operations
-
-abbrev pub has_operation : Values → SpecOperation → Bool
-has_operation values operation = has values (Some (operation_number operation))
 
 -- the name of an operation, if it is one of these
 abbrev pub named_operation : Values → SpecOperation → List Json
@@ -71,9 +67,7 @@ values_value field values =
 
 -- the fields but the operation, in the order of their numbers
 abbrev pub other_fields : List FieldName
-other_fields =
-    Port ∷ SourceNetwork ∷ SourceKey ∷ DestinationNetwork ∷ Service ∷ ObjectType ∷ Instance ∷ Property ∷ Priority
-    ∷ Sender ∷ Station ∷ []
+other_fields = drop 1 fields.ALL
 
 abbrev pub fields_members : Region → List FieldName → Members → Members
 fields_members region [] rest = rest

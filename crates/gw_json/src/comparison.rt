@@ -1,40 +1,26 @@
 //! What two policies decide otherwise, as JSON objects.
 
 ghost use Rattle.std.specs.Prelude.{◌≡◌, ◌++◌, ◌∷◌, [], codes, decimal, IfOk, OnOk};
-ghost use Rattle.std.specs.List.{flat_map, list_all};
+ghost use Rattle.std.specs.List.{flat_map};
 ghost use Rattle.json.specs.Json.{array};
 ghost use Rattle.json.specs.Print.{print};
 ghost use Rattle.json.specs.Token.{boolean, key, number};
 ghost use Rattle.json.specs.Tree.{json_tokens};
 ghost use Rattle.gw_regions.specs.Ranges.{both};
+ghost use Rattle.gw_regions.specs.Values.{has_operation};
 ghost use Rattle.gw_rules.specs.Bounds.{bounds};
 ghost use Rattle.gw_rules.specs.declared.format.Format.TheVariants.{Three};
 ghost use Rattle.gw_rules.specs.declared.operation.TheConstants.Operation.{ALL};
-ghost use Rattle.gw_json.specs.Comparison.{end_value, found_value, has_operation, named_operation, operations_value, range_value, ranges_value, rule_value, rules_value, station_end, summary_value, values_value, verdict_word};
+ghost use Rattle.gw_json.specs.Comparison.{end_value, found_value, named_operation, operations_value, other_fields, range_value, ranges_value, rule_value, rules_value, station_end, summary_value, values_value, verdict_word};
 ghost use Rattle.gw_json.specs.Document.{IsLinePut, Writes, items_of};
 ghost use Rattle.gw_json.specs.internal.Tokens.{asks_tokens, deciders_tokens, extent_tokens, field_tokens, found_tokens, operation_tokens, range_tokens, rule_tokens, verdict_tokens};
 
 use crate::document::{put_line, write_count, write_number, write_truth};
 use crate::value::{station_of, station_word};
-use gw_regions::{Found, Region, Values};
+use gw_regions::{Found, Region, Values, both};
 use gw_rules::{FieldName, Format, NO_RULE, Operation, Range, Rule};
 use json::Writer;
 use std::alloc::{AllocError, Global};
-
-/// The fields but the operation, in the order of their numbers.
-const OTHER_FIELDS: [FieldName; 11] = [
-    FieldName::Port,
-    FieldName::SourceNetwork,
-    FieldName::SourceKey,
-    FieldName::DestinationNetwork,
-    FieldName::Service,
-    FieldName::ObjectType,
-    FieldName::Instance,
-    FieldName::Property,
-    FieldName::Priority,
-    FieldName::Sender,
-    FieldName::Station,
-];
 
 /// Appends the line of a region in which two policies decide every ask otherwise: what the new one says, the asks, and
 /// the names of the rules that decide them, of the new and of the old policy. An `Err` only if memory was refused; the
@@ -119,8 +105,15 @@ fn write_asks(alloc: Global, writer: &mut Writer, region: &Region) -> Result<(),
 {
     writer.key("operation")?;
     write_operations(writer, &region.operation)?;
-    write_fields(alloc, writer, region, &OTHER_FIELDS)?;
+    write_fields(alloc, writer, region, other_fields())?;
     Ok(())
+}
+
+/// The fields but the operation, in the order of their numbers.
+fn other_fields() -> &'static [FieldName]
+    ensures { result.now ≡ other_fields }
+{
+    &FieldName::ALL[1..]
 }
 
 fn verdict_word(allows: bool) -> &'static str
@@ -176,25 +169,11 @@ fn write_rule(writer: &mut Writer, rules: &[Rule], number: usize) -> Result<(), 
     }
 }
 
-fn has_operation(values: &Values, operation: Operation) -> bool
-    ensures { result ≡ has_operation values.now operation }
-{
-    values.has(Some(operation.number()))
-}
-
-fn has_each_operation(values: &Values) -> bool
-    ensures { result ≡ list_all (has_operation values.now) ALL }
-{
-    Operation::ALL
-        .iter()
-        .all(|operation| has_operation(values, *operation))
-}
-
 /// Writes the names of the operations, or null if it may be each.
 fn write_operations(writer: &mut Writer, values: &Values) -> Result<(), AllocError>
     ensures { Writes result writer.old writer.new (json_tokens (operations_value values.now)) }
 {
-    if has_each_operation(values) {
+    if values.has_each_operation() {
         writer.null()
     } else {
         write_named_operations(writer, values)
@@ -231,7 +210,7 @@ fn write_operation(
 ) -> Result<(), AllocError>
     ensures { Writes result writer.old writer.new (operation_tokens values.now operation) }
 {
-    if has_operation(values, operation) {
+    if values.has_operation(operation) {
         writer.string(operation.name())?;
     }
     Ok(())
@@ -331,22 +310,7 @@ fn write_possible(
 fn possible(field: FieldName, range: &Range) -> Option<Range>
     ensures { result ≡ both range.now (bounds Three field) }
 {
-    let bounds = field.bounds(Format::Three);
-    let low = if range.low < bounds.low {
-        bounds.low
-    } else {
-        range.low
-    };
-    let high = if bounds.high < range.high {
-        bounds.high
-    } else {
-        range.high
-    };
-    if low <= high {
-        Some(Range { low, high })
-    } else {
-        None
-    }
+    both(range, &field.bounds(Format::Three))
 }
 
 fn write_range(

@@ -30,29 +30,29 @@ use Rattle.gw_keeping.specs.Laws.{AnsweredIsKept, CurrentIsUpToDate, FaultsKeep,
 -- ---- what doesn't last leaves what lasts
 
 -- what lasts of the ports is their tables of peers
-ports_last : (ports : List OriginPort) (links others : List PortState) → entries_of links ≡ entries_of others
-    → map lasting_port (saved_ports ports links) ≡ map lasting_port (saved_ports ports others)
-ports_last [] links others same = refl
+ports_last : (ports : List OriginPort) (states others : List PortState) → entries_of states ≡ entries_of others
+    → map lasting_port (saved_ports ports states) ≡ map lasting_port (saved_ports ports others)
+ports_last [] states others same = refl
 ports_last (port ∷ ports) [] [] same = refl
 ports_last (port ∷ ports) [] (other ∷ others) same = absurd cc
-ports_last (port ∷ ports) (link ∷ links) [] same = absurd cc
-ports_last (port ∷ ports) (link ∷ links) (other ∷ others) same =
-    let head : link.bdt ≡ other.bdt = cc in
-    let tail : entries_of links ≡ entries_of others = cc in
+ports_last (port ∷ ports) (state ∷ states) [] same = absurd cc
+ports_last (port ∷ ports) (state ∷ states) (other ∷ others) same =
+    let head : state.bdt ≡ other.bdt = cc in
+    let tail : entries_of states ≡ entries_of others = cc in
     ap₂ (λ (entries : List BdtEntry) (rest : List SavedPort). record {
       network = port.network;
       address = port.address;
       peers = port.peers;
       entries = entries;
       devices = [];
-    } ∷ rest) head (ports_last ports links others tail)
+    } ∷ rest) head (ports_last ports states others tail)
 
 lasting_stays : (o : Origin) (w : State) (event : Event) → lasts w event ≡ false
     → lasting_of (saved_of o (next w event)) ≡ lasting_of (saved_of o w)
 lasting_stays o w event still =
     let stays = only_lasting_changes w event still in
     ap₂ (λ (ports : List SavedPort) (objects : List SavedObject). record (lasting_of (saved_of o w)) { ports = ports; objects = objects })
-    (ports_last o.ports (next w event).relay.links w.relay.links stays.0) (ap (λ (d : Database). saved_objects o.objects d.states) stays.1)
+    (ports_last o.ports (next w event).relay.ports w.relay.ports stays.0) (ap (λ (d : Database). saved_objects o.objects d.states) stays.1)
 
 -- ---- one event
 

@@ -1,7 +1,9 @@
 -- Sets of values that a field of an ask may have.
 use Rattle.std.specs.Prelude.{ℕ, Bool, false, not, ◌&&◌, ◌==◌, if◌then◌else◌, List, [], ◌∷◌, length, Option, Some, None}
 use Rattle.std.specs.List.{list_any}
+use Rattle.gw_rules.specs.Operation.{operation_number}
 use Rattle.gw_rules.specs.Range.{holds}
+use Rattle.gw_rules.specs.declared.operation.Operation.{Operation}
 use Rattle.gw_rules.specs.declared.range.Range.{Range}
 use Rattle.gw_regions.specs.Coverage.{is_within}
 use Rattle.gw_regions.specs.Ranges.{between, first_number, shared, without}
@@ -11,6 +13,10 @@ use Rattle.gw_regions.specs.declared.values.Values.{Values}
 abbrev pub has : Values → Option ℕ → Bool
 has values None = values.absent
 has values (Some number) = list_any (holds number) values.ranges
+
+-- the operation may be this
+abbrev pub has_operation : Values → Operation → Bool
+has_operation values operation = has values (Some (operation_number operation))
 
 -- no field is so
 abbrev pub is_empty : Values → Bool

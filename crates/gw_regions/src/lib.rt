@@ -25,7 +25,7 @@ pub use comparison::{Comparison, Found};
 pub use deciders::DEFAULT;
 pub use meeting::ask_in;
 pub use merging::merge;
-pub use ranges::united;
+pub use ranges::{both, united};
 pub use region::{Region, lies, part};
 pub use summary::{Summary, summarize, summary_of};
 pub use values::Values;

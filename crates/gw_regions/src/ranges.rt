@@ -23,7 +23,7 @@ fn lesser(a: u64, b: u64) -> u64
 }
 
 /// The numbers of both ranges, if there are some.
-fn both(a: &Range, b: &Range) -> Option<Range>
+pub fn both(a: &Range, b: &Range) -> Option<Range>
     ensures { result ≡ both a.now b.now }
 {
     let low = greater(a.low, b.low);

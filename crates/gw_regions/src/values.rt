@@ -1,15 +1,16 @@
 //! Sets of values that a field of an ask may have.
 ghost use Rattle.std.specs.Prelude.{◌≡◌, ◌&&◌, ◌||◌, ℕ, Option, Some, None, true, not, IfOk};
-ghost use Rattle.std.specs.List.{list_any};
+ghost use Rattle.std.specs.List.{list_all, list_any};
 ghost use Rattle.gw_rules.specs.Range.{admits, holds};
+ghost use Rattle.gw_rules.specs.declared.operation.TheConstants.Operation.{ALL};
 ghost use Rattle.gw_regions.specs.Presence.{absence, present};
 ghost use Rattle.gw_regions.specs.Ranges.{first_number, shared};
-ghost use Rattle.gw_regions.specs.Values.{admitted, common, has, is_any, is_empty, others, refused, shares};
+ghost use Rattle.gw_regions.specs.Values.{admitted, common, has, has_operation, is_any, is_empty, others, refused, shares};
 
 use crate::coverage::is_within_any;
 use crate::ranges::{common_number, copy, same_ranges, shared, united, without};
 use gw_addr::Sequence;
-use gw_rules::Range;
+use gw_rules::{Operation, Range};
 use std::alloc::{AllocError, Global};
 
 /// From the least number to the greatest.
@@ -66,6 +67,22 @@ impl Values {
             None => self.absent,
             Some(number) => any_holds(self.ranges.as_slice(), number),
         }
+    }
+
+    /// Whether the operation may be this.
+    pub fn has_operation(&self, operation: Operation) -> bool
+        ensures { result ≡ has_operation self.now operation }
+    {
+        self.has(Some(operation.number()))
+    }
+
+    /// Whether the operation may be each of the thirteen.
+    pub fn has_each_operation(&self) -> bool
+        ensures { result ≡ list_all (has_operation self.now) ALL }
+    {
+        Operation::ALL
+            .iter()
+            .all(|operation| self.has_operation(*operation))
     }
 
     /// Whether there is no value, as far as a look at the list shows.

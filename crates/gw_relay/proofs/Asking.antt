@@ -32,79 +32,79 @@ allowed_one rules ask = and-true (allows rules ask)
 -- ---- tables
 
 -- the asks of a frame that manages a table are one
-pub link_asked : (format : Format) (link : PortState) (from : BipAddr) (frame : Frame) (op : Operation) → management_of frame ≡ Some op
-    → link_asks format link.port from frame ≡ link_ask format link.port from frame op ∷ []
-link_asked format link from frame op managed = rw managed refl
+pub link_asked : (format : Format) (state : PortState) (from : BipAddr) (frame : Frame) (op : Operation) → management_of frame ≡ Some op
+    → link_asks format state.port from frame ≡ link_ask format state.port from frame op ∷ []
+link_asked format state from frame op managed = rw managed refl
 
-grants_so : (rules : List Rule) (format : Format) (link : PortState) (from : BipAddr) (frame : Frame) (op : Operation) (b : Bool) → management_of frame ≡ Some op
-    → b ≡ allows rules (link_ask format link.port from frame op) → link_grants rules format link from frame ≡ (b && is_granted link from frame)
-grants_so rules format link from frame op b managed judges =
-    ap (λ (asks : List Ask). list_all (allows rules) asks && is_granted link from frame) (link_asked format link from frame op managed)
-    ∙ ap (λ (a : Bool). a && is_granted link from frame) (allowed_one rules (link_ask format link.port from frame op) ∙ sym judges)
+grants_so : (rules : List Rule) (format : Format) (state : PortState) (from : BipAddr) (frame : Frame) (op : Operation) (b : Bool) → management_of frame ≡ Some op
+    → b ≡ allows rules (link_ask format state.port from frame op) → link_grants rules format state from frame ≡ (b && is_granted state from frame)
+grants_so rules format state from frame op b managed judges =
+    ap (λ (asks : List Ask). list_all (allows rules) asks && is_granted state from frame) (link_asked format state from frame op managed)
+    ∙ ap (λ (a : Bool). a && is_granted state from frame) (allowed_one rules (link_ask format state.port from frame op) ∙ sym judges)
 
-pub link_served : (rules : List Rule) (format : Format) (link : PortState) (from : BipAddr) (frame : Frame) (op : Operation) (b : Bool)
+pub link_served : (rules : List Rule) (format : Format) (state : PortState) (from : BipAddr) (frame : Frame) (op : Operation) (b : Bool)
     → management_of frame ≡ Some op
-    → b ≡ allows rules (link_ask format link.port from frame op) → link_answer rules format link from frame ≡ served link from frame b
+    → b ≡ allows rules (link_ask format state.port from frame op) → link_answer rules format state from frame ≡ served state from frame b
 unfolding link_answer
-link_served rules format link from frame op b managed judges =
-    ap (λ (g : Bool). map (answer_to link.port from) (if g then granted link frame else refused frame))
-    (grants_so rules format link from frame op b managed judges)
+link_served rules format state from frame op b managed judges =
+    ap (λ (g : Bool). map (answer_to state.port from) (if g then granted state frame else refused frame))
+    (grants_so rules format state from frame op b managed judges)
 
-pub link_changed : (rules : List Rule) (format : Format) (link : PortState) (from : BipAddr) (frame : Frame) (op : Operation) (b : Bool)
+pub link_changed : (rules : List Rule) (format : Format) (state : PortState) (from : BipAddr) (frame : Frame) (op : Operation) (b : Bool)
     → management_of frame ≡ Some op
-    → b ≡ allows rules (link_ask format link.port from frame op) → link_change rules format link from frame ≡ served_change link from frame b
+    → b ≡ allows rules (link_ask format state.port from frame op) → link_change rules format state from frame ≡ served_change state from frame b
 unfolding link_change
-link_changed rules format link from frame op b managed judges =
+link_changed rules format state from frame op b managed judges =
     let none : Option Change = None in
-    ap (λ (g : Bool). if g then change_of link.port from frame else none) (grants_so rules format link from frame op b managed judges)
+    ap (λ (g : Bool). if g then change_of state.port from frame else none) (grants_so rules format state from frame op b managed judges)
 
 -- a frame that manages no table has no answer, no ask and no change
-pub unmanaged_answer : (rules : List Rule) (format : Format) (link : PortState) (from : BipAddr) (frame : Frame) → management_of frame ≡ None
-    → link_answer rules format link from frame ≡ []
+pub unmanaged_answer : (rules : List Rule) (format : Format) (state : PortState) (from : BipAddr) (frame : Frame) → management_of frame ≡ None
+    → link_answer rules format state from frame ≡ []
 unfolding link_answer
-unmanaged_answer rules format link from (bvll.result_code code) e = refl
-unmanaged_answer rules format link from (bvll.write_bdt entries) e = cc
-unmanaged_answer rules format link from bvll.read_bdt e = cc
-unmanaged_answer rules format link from (bvll.read_bdt_ack entries) e = refl
-unmanaged_answer rules format link from (bvll.forwarded originator npdu) e = refl
-unmanaged_answer rules format link from (bvll.register time_to_live) e = cc
-unmanaged_answer rules format link from bvll.read_fdt e = cc
-unmanaged_answer rules format link from (bvll.read_fdt_ack entries) e = refl
-unmanaged_answer rules format link from (bvll.delete address) e = cc
-unmanaged_answer rules format link from (bvll.distribute npdu) e = refl
-unmanaged_answer rules format link from (bvll.original_unicast npdu) e = refl
-unmanaged_answer rules format link from (bvll.original_broadcast npdu) e = refl
+unmanaged_answer rules format state from (bvll.result_code code) e = refl
+unmanaged_answer rules format state from (bvll.write_bdt entries) e = cc
+unmanaged_answer rules format state from bvll.read_bdt e = cc
+unmanaged_answer rules format state from (bvll.read_bdt_ack entries) e = refl
+unmanaged_answer rules format state from (bvll.forwarded originator npdu) e = refl
+unmanaged_answer rules format state from (bvll.register time_to_live) e = cc
+unmanaged_answer rules format state from bvll.read_fdt e = cc
+unmanaged_answer rules format state from (bvll.read_fdt_ack entries) e = refl
+unmanaged_answer rules format state from (bvll.delete address) e = cc
+unmanaged_answer rules format state from (bvll.distribute npdu) e = refl
+unmanaged_answer rules format state from (bvll.original_unicast npdu) e = refl
+unmanaged_answer rules format state from (bvll.original_broadcast npdu) e = refl
 
-pub unmanaged_change : (rules : List Rule) (format : Format) (link : PortState) (from : BipAddr) (frame : Frame) → management_of frame ≡ None
-    → link_change rules format link from frame ≡ None
+pub unmanaged_change : (rules : List Rule) (format : Format) (state : PortState) (from : BipAddr) (frame : Frame) → management_of frame ≡ None
+    → link_change rules format state from frame ≡ None
 unfolding link_change
-unmanaged_change rules format link from (bvll.result_code code) e = refl
-unmanaged_change rules format link from (bvll.write_bdt entries) e = cc
-unmanaged_change rules format link from bvll.read_bdt e = cc
-unmanaged_change rules format link from (bvll.read_bdt_ack entries) e = refl
-unmanaged_change rules format link from (bvll.forwarded originator npdu) e = refl
-unmanaged_change rules format link from (bvll.register time_to_live) e = cc
-unmanaged_change rules format link from bvll.read_fdt e = cc
-unmanaged_change rules format link from (bvll.read_fdt_ack entries) e = refl
-unmanaged_change rules format link from (bvll.delete address) e = cc
-unmanaged_change rules format link from (bvll.distribute npdu) e = refl
-unmanaged_change rules format link from (bvll.original_unicast npdu) e = refl
-unmanaged_change rules format link from (bvll.original_broadcast npdu) e = refl
+unmanaged_change rules format state from (bvll.result_code code) e = refl
+unmanaged_change rules format state from (bvll.write_bdt entries) e = cc
+unmanaged_change rules format state from bvll.read_bdt e = cc
+unmanaged_change rules format state from (bvll.read_bdt_ack entries) e = refl
+unmanaged_change rules format state from (bvll.forwarded originator npdu) e = refl
+unmanaged_change rules format state from (bvll.register time_to_live) e = cc
+unmanaged_change rules format state from bvll.read_fdt e = cc
+unmanaged_change rules format state from (bvll.read_fdt_ack entries) e = refl
+unmanaged_change rules format state from (bvll.delete address) e = cc
+unmanaged_change rules format state from (bvll.distribute npdu) e = refl
+unmanaged_change rules format state from (bvll.original_unicast npdu) e = refl
+unmanaged_change rules format state from (bvll.original_broadcast npdu) e = refl
 
 -- a frame that asks nothing changes nothing
-unasked_by : (rules : List Rule) (format : Format) (link : PortState) (from : BipAddr) (frame : Frame) (op : Option Operation) → management_of frame ≡ op
-    → link_asks format link.port from frame ≡ [] → link_change rules format link from frame ≡ None
-unasked_by rules format link from frame None is none = unmanaged_change rules format link from frame is
-unasked_by rules format link from frame (Some op) is none =
-    let one : link_ask format link.port from frame op ∷ [] ≡ [] = sym (link_asked format link from frame op is) ∙ none in
+unasked_by : (rules : List Rule) (format : Format) (state : PortState) (from : BipAddr) (frame : Frame) (op : Option Operation) → management_of frame ≡ op
+    → link_asks format state.port from frame ≡ [] → link_change rules format state from frame ≡ None
+unasked_by rules format state from frame None is none = unmanaged_change rules format state from frame is
+unasked_by rules format state from frame (Some op) is none =
+    let one : link_ask format state.port from frame op ∷ [] ≡ [] = sym (link_asked format state from frame op is) ∙ none in
     absurd cc
 
-pub unasked_change : (rules : List Rule) (format : Format) (link : PortState) (from : BipAddr) (frame : Frame) → link_asks format link.port from frame ≡ []
-    → link_change rules format link from frame ≡ None
-unasked_change rules format link from frame none = unasked_by rules format link from frame (management_of frame) refl none
+pub unasked_change : (rules : List Rule) (format : Format) (state : PortState) (from : BipAddr) (frame : Frame) → link_asks format state.port from frame ≡ []
+    → link_change rules format state from frame ≡ None
+unasked_change rules format state from frame none = unasked_by rules format state from frame (management_of frame) refl none
 
-pub unmanaged_asks : (format : Format) (link : PortState) (from : BipAddr) (frame : Frame) → management_of frame ≡ None → link_asks format link.port from frame ≡ []
-unmanaged_asks format link from frame e = rw e refl
+pub unmanaged_asks : (format : Format) (state : PortState) (from : BipAddr) (frame : Frame) → management_of frame ≡ None → link_asks format state.port from frame ≡ []
+unmanaged_asks format state from frame e = rw e refl
 
 -- ---- broadcasts
 
@@ -146,11 +146,11 @@ pub strange_sends : (rules : List Rule) (format : Format) (m : Message) → acce
 unfolding cast_sends
 strange_sends rules format m h s = rw (h, s) refl
 
-by_answer : (b : Bool) (link : PortState) (from : BipAddr) (frame : Frame)
-    → (if not b then map (answer_to link.port from) (refused frame) else sent link.port.number (targets link from frame)
-    (passed_on from frame)) ≡ judged link from frame b
-by_answer true link from frame = refl
-by_answer false link from frame = refl
+by_answer : (b : Bool) (state : PortState) (from : BipAddr) (frame : Frame)
+    → (if not b then map (answer_to state.port from) (refused frame) else sent state.port.number (targets state from frame)
+    (passed_on from frame)) ≡ judged state from frame b
+by_answer true state from frame = refl
+by_answer false state from frame = refl
 
 pub cast_judged : (rules : List Rule) (format : Format) (m : Message) (b : Bool) → accepts m.here m.from m.frame ≡ true
     → is_unregistered m.here m.from m.frame ≡ false → is_broadcast m.frame ≡ true → b ≡ list_all (allows rules) (cast_ask format m ∷ carried_asks format m)
@@ -160,19 +160,19 @@ cast_judged rules format m b h s broadcast judges =
     rw (h, s, cast_asked format m h s broadcast, ← judges) (by_answer b m.here m.from m.frame)
 
 -- a frame that is no broadcast goes to nobody
-no_targets : (link : PortState) (from : BipAddr) (frame : Frame) → is_broadcast frame ≡ false → targets link from frame ≡ []
-no_targets link from (bvll.result_code code) e = refl
-no_targets link from (bvll.write_bdt entries) e = refl
-no_targets link from bvll.read_bdt e = refl
-no_targets link from (bvll.read_bdt_ack entries) e = refl
-no_targets link from (bvll.forwarded originator npdu) e = cc
-no_targets link from (bvll.register time_to_live) e = refl
-no_targets link from bvll.read_fdt e = refl
-no_targets link from (bvll.read_fdt_ack entries) e = refl
-no_targets link from (bvll.delete address) e = refl
-no_targets link from (bvll.distribute npdu) e = cc
-no_targets link from (bvll.original_unicast npdu) e = refl
-no_targets link from (bvll.original_broadcast npdu) e = cc
+no_targets : (state : PortState) (from : BipAddr) (frame : Frame) → is_broadcast frame ≡ false → targets state from frame ≡ []
+no_targets state from (bvll.result_code code) e = refl
+no_targets state from (bvll.write_bdt entries) e = refl
+no_targets state from bvll.read_bdt e = refl
+no_targets state from (bvll.read_bdt_ack entries) e = refl
+no_targets state from (bvll.forwarded originator npdu) e = cc
+no_targets state from (bvll.register time_to_live) e = refl
+no_targets state from bvll.read_fdt e = refl
+no_targets state from (bvll.read_fdt_ack entries) e = refl
+no_targets state from (bvll.delete address) e = refl
+no_targets state from (bvll.distribute npdu) e = cc
+no_targets state from (bvll.original_unicast npdu) e = refl
+no_targets state from (bvll.original_broadcast npdu) e = cc
 
 pub quiet_sends : (rules : List Rule) (format : Format) (m : Message) → accepts m.here m.from m.frame ≡ true → is_unregistered m.here m.from m.frame ≡ false
     → is_broadcast m.frame ≡ false → cast_sends rules format m ≡ []

@@ -220,15 +220,15 @@ from_one : (m : Message) (format : Format) (network : Option ℕ)
     → AreFrom m.claim (forward_asks format (route_ask format m network) m.npdu.payload ++ [])
 from_one m format network = from_both m.claim (forward_asks format (route_ask format m network) m.npdu.payload) [] (from_forward m format network) tt
 
-from_copies : (format : Format) (m : Message) (d : Destination) (links : List PortState)
-    → AreFrom m.claim (asks_of (map (copy format m d) links))
+from_copies : (format : Format) (m : Message) (d : Destination) (ports : List PortState)
+    → AreFrom m.claim (asks_of (map (copy format m d) ports))
 from_copies format m d [] = tt
-from_copies format m d (link ∷ links) =
-    from_both m.claim (forward_asks format (route_ask format m (Some link.port.network)) m.npdu.payload) _
-    (from_forward m format (Some link.port.network)) (from_copies format m d links)
+from_copies format m d (state ∷ ports) =
+    from_both m.claim (forward_asks format (route_ask format m (Some state.port.network)) m.npdu.payload) _
+    (from_forward m format (Some state.port.network)) (from_copies format m d ports)
 
 from_way : (relay : Relay) (m : Message) (d : Destination) (by : Way) → AreFrom m.claim (asks_of (steps_by relay m d by))
-from_way relay m d ways.Everywhere = from_copies relay.format m d (others m.here.port.number relay.links)
+from_way relay m d ways.Everywhere = from_copies relay.format m d (others m.here.port.number relay.ports)
 from_way relay m d (ways.Port other) =
     steps_if m.claim (leaves m.here.port.number (ways.Port other)) _ [] (from_one m relay.format (bound_for m.npdu)) tt
 from_way relay m d (ways.Router route) =

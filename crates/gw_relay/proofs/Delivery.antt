@@ -30,7 +30,7 @@ use Rattle.gw_relay.specs.Laws.{Inside, NothingIsDeliveredOutside, Reaches, Reje
 use Rattle.gw_relay.specs.Message.{Message}
 use Rattle.gw_relay.specs.Route.{copy, delivered, forward, has_hops, is_kind, is_local, last_hop, leaves, next_hop, others, reject, route_steps, steps_by, who_is_router}
 use Rattle.gw_relay.specs.Sends.{Sending, sending, sendings, sent}
-use Rattle.gw_relay.specs.State.{Relay, link_at}
+use Rattle.gw_relay.specs.State.{Relay, port_at}
 use Rattle.gw_relay.specs.Stations.{belongs}
 use Rattle.gw_relay.specs.Steps.{Step, allowed_sends, broadcast, npdu_octets, sends_of, unicast}
 use Rattle.gw_relay.specs.declared.port.PortState.{PortState}
@@ -66,23 +66,23 @@ module _ (relay : Relay) (m : Message) where
   quiet_fine port [] octets e = tt
   quiet_fine port (to ∷ targets) octets e = (λ u. absurd cc, quiet_fine port targets octets e)
 
-  spread_fine : (link : PortState) (npdu : List ℕ) → AllFine relay m (spread link npdu)
+  spread_fine : (state : PortState) (npdu : List ℕ) → AllFine relay m (spread state npdu)
   unfolding spread
-  spread_fine link npdu =
+  spread_fine state npdu =
       let subnet = original_broadcast npdu in
-      let elsewhere = forwarded link.port.address npdu in
-      fine_if (nat_le (length npdu) max_len) _ (both_fine (sent link.port.number (link.port.broadcast ∷ []) subnet)
-      (sent link.port.number (managers link ++ devices link) elsewhere)
-      (fine_if (nat_le (length (encoding subnet)) MAX_LEN) _ (quiet_fine link.port.number (link.port.broadcast ∷ []) (encoding subnet) refl))
-      (fine_if (nat_le (length (encoding elsewhere)) MAX_LEN) _ (quiet_fine link.port.number (managers link ++ devices link) (encoding elsewhere) refl)))
+      let elsewhere = forwarded state.port.address npdu in
+      fine_if (nat_le (length npdu) max_len) _ (both_fine (sent state.port.number (state.port.broadcast ∷ []) subnet)
+      (sent state.port.number (managers state ++ devices state) elsewhere)
+      (fine_if (nat_le (length (encoding subnet)) MAX_LEN) _ (quiet_fine state.port.number (state.port.broadcast ∷ []) (encoding subnet) refl))
+      (fine_if (nat_le (length (encoding elsewhere)) MAX_LEN) _ (quiet_fine state.port.number (managers state ++ devices state) (encoding elsewhere) refl)))
 
-  broadcast_fine : (npdu : Fields) (link : PortState) → AllFine relay m (broadcast npdu link)
+  broadcast_fine : (npdu : Fields) (state : PortState) → AllFine relay m (broadcast npdu state)
   unfolding AllFine
-  broadcast_fine npdu link = by (npdu_octets npdu)
+  broadcast_fine npdu state = by (npdu_octets npdu)
     where
-      by : (made : Option (List ℕ)) → AllFine relay m (option_map_or (spread link) made [])
+      by : (made : Option (List ℕ)) → AllFine relay m (option_map_or (spread state) made [])
       by None = tt
-      by (Some octets) = spread_fine link octets
+      by (Some octets) = spread_fine state octets
 
   -- ---- unicasts
 
@@ -125,40 +125,40 @@ any_at p (y ∷ ys) zero x e is =
     either_first (p y) (list_any p ys) (ap p same ∙ is)
 any_at p (y ∷ ys) (suc place) x e is = either_second (p y) (list_any p ys) (any_at p ys place x e is)
 
--- what is so of a link in its place is so of one of the links
-there : (p : PortState → Bool) (links : List PortState) (number : ℕ) (link : PortState) → link_at links number ≡ Some link → p link ≡ true
-    → list_any p links ≡ true
-there p links number link e is = by (number == 0) e
+-- what is so of a state in its place is so of one of the ports
+there : (p : PortState → Bool) (ports : List PortState) (number : ℕ) (state : PortState) → port_at ports number ≡ Some state → p state ≡ true
+    → list_any p ports ≡ true
+there p ports number state e is = by (number == 0) e
   where
-    by : (b : Bool) → (if b then None else slice_get links (number - 1)) ≡ Some link → list_any p links ≡ true
+    by : (b : Bool) → (if b then None else slice_get ports (number - 1)) ≡ Some state → list_any p ports ≡ true
     by true e = absurd cc
-    by false e = any_at p links (number - 1) link e is
+    by false e = any_at p ports (number - 1) state e is
 
 module _ (relay : Relay) (m : Message) where
-  delivered_fine : (mac : List ℕ) (npdu : Fields) (link : PortState)
-      → ((p : PortState → Bool) → p link ≡ true → list_any p relay.links ≡ true) → AllFine relay m (delivered relay.format mac npdu link)
+  delivered_fine : (mac : List ℕ) (npdu : Fields) (state : PortState)
+      → ((p : PortState → Bool) → p state ≡ true → list_any p relay.ports ≡ true) → AllFine relay m (delivered relay.format mac npdu state)
   unfolding AllFine
-  delivered_fine mac npdu link known = by (length mac == 0) (length mac == 6) (belongs relay.format link (address_in mac)) refl
+  delivered_fine mac npdu state known = by (length mac == 0) (length mac == 6) (belongs relay.format state (address_in mac)) refl
     where
-      inside : belongs relay.format link (address_in mac) ≡ true → (s : Sending) → s.port ≡ link.port.number → s.to ≡ address_in mac
+      inside : belongs relay.format state (address_in mac) ≡ true → (s : Sending) → s.port ≡ state.port.number → s.to ≡ address_in mac
           → Reaches relay m s
       inside is s port to =
           Inside (known (λ l. l.port.number == s.port && belongs relay.format l s.to)
-          (both (link.port.number == s.port) (belongs relay.format link s.to) (eq-eqb link.port.number s.port (sym port))
-          (ap (belongs relay.format link) to ∙ is)))
+          (both (state.port.number == s.port) (belongs relay.format state s.to) (eq-eqb state.port.number s.port (sym port))
+          (ap (belongs relay.format state) to ∙ is)))
 
-      by : (one six here : Bool) → belongs relay.format link (address_in mac) ≡ here
-          → AllByRecursion (Fine relay m) (if one then broadcast npdu link else if six && here then unicast link.port.number (address_in mac) npdu else [])
-      by true six here e = broadcast_fine relay m npdu link
+      by : (one six here : Bool) → belongs relay.format state (address_in mac) ≡ here
+          → AllByRecursion (Fine relay m) (if one then broadcast npdu state else if six && here then unicast state.port.number (address_in mac) npdu else [])
+      by true six here e = broadcast_fine relay m npdu state
       by false false here e = tt
       by false true false e = tt
-      by false true true e = unicast_fine relay m link.port.number (address_in mac) npdu (λ s port to only. inside e s port to)
+      by false true true e = unicast_fine relay m state.port.number (address_in mac) npdu (λ s port to only. inside e s port to)
 
-  at_fine : (mac : List ℕ) (npdu : Fields) (number : ℕ) (found : Option PortState) → link_at relay.links number ≡ found
+  at_fine : (mac : List ℕ) (npdu : Fields) (number : ℕ) (found : Option PortState) → port_at relay.ports number ≡ found
       → AllFine relay m (option_map_or (delivered relay.format mac npdu) found [])
   unfolding AllFine
   at_fine mac npdu number None e = tt
-  at_fine mac npdu number (Some link) e = delivered_fine mac npdu link (λ p is. there p relay.links number link e is)
+  at_fine mac npdu number (Some state) e = delivered_fine mac npdu state (λ p is. there p relay.ports number state e is)
 
 -- ---- to a router
 
@@ -231,18 +231,18 @@ module _ (relay : Relay) (m : Message) where
       network = d.address.network
 
       by : (b : Bool) → AllFine relay m (if b then [] else unicast m.here.port.number m.link (reject network m.npdu)
-          ++ flat_map (broadcast (who_is_router None network)) (others m.here.port.number relay.links))
+          ++ flat_map (broadcast (who_is_router None network)) (others m.here.port.number relay.ports))
       by true = tt
       by false =
           both_fine relay m (unicast m.here.port.number m.link (reject network m.npdu))
-          (flat_map (broadcast (who_is_router None network)) (others m.here.port.number relay.links))
+          (flat_map (broadcast (who_is_router None network)) (others m.here.port.number relay.ports))
           (unicast_fine relay m m.here.port.number m.link (reject network m.npdu) (λ s port to only. Rejected network bound only))
-          (each_fine relay m (broadcast (who_is_router None network)) (broadcast_fine relay m (who_is_router None network)) (others m.here.port.number relay.links))
+          (each_fine relay m (broadcast (who_is_router None network)) (broadcast_fine relay m (who_is_router None network)) (others m.here.port.number relay.ports))
 
   forward_fine : (d : Destination) (by : Way) → bound_for m.npdu ≡ Some d.address.network → way relay.routes d.address.network ≡ by
       → AllFine relay m (forward relay m d by)
   unfolding AllFine
-  forward_fine d (ways.Port number) bound w = at_fine relay m d.address.mac (last_hop m) number (link_at relay.links number) refl
+  forward_fine d (ways.Port number) bound w = at_fine relay m d.address.mac (last_hop m) number (port_at relay.ports number) refl
   forward_fine d (ways.Router route) bound w = routed_fine d route w
   forward_fine d ways.Unknown bound w = rejected_fine d bound
   forward_fine d ways.Device bound w = tt
@@ -258,10 +258,10 @@ module _ (relay : Relay) (m : Message) where
       both_fine relay m (allowed_sends rules s) (sends_of rules steps)
       (fine_if relay m (list_all (allows rules) s.asks) s.sends f.0) (allowed_fine rules steps f.1)
 
-  copies_fine : (d : Destination) (links : List PortState) → AllStepsFine (map (copy relay.format m d) links)
+  copies_fine : (d : Destination) (ports : List PortState) → AllStepsFine (map (copy relay.format m d) ports)
   unfolding AllStepsFine
   copies_fine d [] = tt
-  copies_fine d (link ∷ links) = (fine_if relay m (has_hops d) _ (broadcast_fine relay m (next_hop m) link), copies_fine d links)
+  copies_fine d (state ∷ ports) = (fine_if relay m (has_hops d) _ (broadcast_fine relay m (next_hop m) state), copies_fine d ports)
 
   one_if : (b : Bool) (s : Step) → AllFine relay m s.sends → AllStepsFine (if b then s ∷ [] else [])
   unfolding AllStepsFine
@@ -271,7 +271,7 @@ module _ (relay : Relay) (m : Message) where
   steps_fine : (d : Destination) (by : Way) → bound_for m.npdu ≡ Some d.address.network → way relay.routes d.address.network ≡ by
       → AllStepsFine (steps_by relay m d by)
   unfolding AllStepsFine
-  steps_fine d ways.Everywhere bound w = copies_fine d (others m.here.port.number relay.links)
+  steps_fine d ways.Everywhere bound w = copies_fine d (others m.here.port.number relay.ports)
   steps_fine d (ways.Port number) bound w = one_if (leaves m.here.port.number (ways.Port number)) _ (forward_fine d (ways.Port number) bound w)
   steps_fine d (ways.Router route) bound w = one_if (leaves m.here.port.number (ways.Router route)) _ (forward_fine d (ways.Router route) bound w)
   steps_fine d ways.Unknown bound w = (forward_fine d ways.Unknown bound w, tt)

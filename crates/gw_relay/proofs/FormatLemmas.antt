@@ -32,7 +32,7 @@ use Rattle.gw_relay.specs.Named.{forward_asks}
 use Rattle.gw_relay.specs.Response.{Response}
 use Rattle.gw_relay.specs.Route.{delivered, is_local, last_hop, leaves, steps_by}
 use Rattle.gw_relay.specs.Sends.{Sending}
-use Rattle.gw_relay.specs.State.{Relay, link_at}
+use Rattle.gw_relay.specs.State.{Relay, port_at}
 use Rattle.gw_relay.specs.Steps.{Step, asks_of, sends_of, taken}
 use Rattle.gw_relay.specs.declared.port.Port.{Port}
 use Rattle.gw_relay.specs.declared.port.PortState.{PortState}
@@ -77,11 +77,11 @@ link_asks_as_before format port from frame e =
 
 -- what is answered if these are the asks
 answered : List Rule → PortState → BipAddr → Frame → List Ask → Response
-answered rules link from frame asks = record {
+answered rules state from frame asks = record {
   asks = asks;
-  sends = map (answer_to link.port from)
-      (if list_all (allows rules) asks && is_granted link from frame then granted link frame else refused frame);
-  change = if list_all (allows rules) asks && is_granted link from frame then change_of link.port from frame else None;
+  sends = map (answer_to state.port from)
+      (if list_all (allows rules) asks && is_granted state from frame then granted state frame else refused frame);
+  change = if list_all (allows rules) asks && is_granted state from frame then change_of state.port from frame else None;
 }
 
 pub tables_are_as_before : TablesAreAsBefore
@@ -104,16 +104,16 @@ delivered_either true six all some = refl
 delivered_either false true all some = refl
 delivered_either false false all some = refl
 
-delivered_as_before : (format : Format) (mac : List ℕ) (npdu : Fields) (link : PortState) → names_stations format ≡ false
-    → delivered format mac npdu link ≡ delivered_before mac npdu link
-delivered_as_before One mac npdu link e = delivered_either (length mac == 0) (length mac == 6) _ _
-delivered_as_before Two mac npdu link e = delivered_either (length mac == 0) (length mac == 6) _ _
-delivered_as_before Three mac npdu link e = cc
+delivered_as_before : (format : Format) (mac : List ℕ) (npdu : Fields) (state : PortState) → names_stations format ≡ false
+    → delivered format mac npdu state ≡ delivered_before mac npdu state
+delivered_as_before One mac npdu state e = delivered_either (length mac == 0) (length mac == 6) _ _
+delivered_as_before Two mac npdu state e = delivered_either (length mac == 0) (length mac == 6) _ _
+delivered_as_before Three mac npdu state e = cc
 
-at_as_before : (format : Format) (mac : List ℕ) (npdu : Fields) (link : Option PortState) → names_stations format ≡ false
-    → option_map_or (delivered format mac npdu) link [] ≡ option_map_or (delivered_before mac npdu) link []
+at_as_before : (format : Format) (mac : List ℕ) (npdu : Fields) (state : Option PortState) → names_stations format ≡ false
+    → option_map_or (delivered format mac npdu) state [] ≡ option_map_or (delivered_before mac npdu) state []
 at_as_before format mac npdu None e = refl
-at_as_before format mac npdu (Some link) e = delivered_as_before format mac npdu link e
+at_as_before format mac npdu (Some state) e = delivered_as_before format mac npdu state e
 
 -- a relay of this format
 with_format : Format → Relay → Relay
@@ -138,10 +138,10 @@ steps_as_before One relay m d (ways.Router route) e = refl
 steps_as_before Two relay m d (ways.Router route) e = refl
 steps_as_before One relay m d (ways.Port number) e =
     ap (λ (sends : List Sending). steps_of_way One m (leaves m.here.port.number (ways.Port number)) sends)
-    (at_as_before One d.address.mac (last_hop m) (link_at relay.links number) e)
+    (at_as_before One d.address.mac (last_hop m) (port_at relay.ports number) e)
 steps_as_before Two relay m d (ways.Port number) e =
     ap (λ (sends : List Sending). steps_of_way Two m (leaves m.here.port.number (ways.Port number)) sends)
-    (at_as_before Two d.address.mac (last_hop m) (link_at relay.links number) e)
+    (at_as_before Two d.address.mac (last_hop m) (port_at relay.ports number) e)
 steps_as_before Three relay m d by e = cc
 
 routing_by : (rules : List Rule) (format : Format) (relay : Relay) (m : Message) (local : Bool) (d : Option Destination)

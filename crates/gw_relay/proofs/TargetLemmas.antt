@@ -16,8 +16,8 @@ flipped true e = refl
 flipped false e = cc
 
 pub sender_left_out : SenderIsLeftOut
-sender_left_out from link =
-    any-filter_same (same from) (λ device. not (same from device)) false (λ device e. flipped (same from device) e) (devices link)
+sender_left_out from state =
+    any-filter_same (same from) (λ device. not (same from device)) false (λ device e. flipped (same from device) e) (devices state)
 
 pub own_left_out : OwnEntryIsLeftOut
 own_left_out own entries =

@@ -21,15 +21,15 @@ use Rattle.gw_relay.specs.declared.change.Change.TheVariants.{Learnings}
 use Rattle.gw_relay.specs.declared.port.PortState.{PortState}
 
 -- each copy of a global broadcast is asked for
-pub each_copy_asks : (format : Format) (m : Message) (d : Destination) (links : List PortState) → asks_of (map (copy format m d) links) ≡ []
-    → links ≡ []
+pub each_copy_asks : (format : Format) (m : Message) (d : Destination) (ports : List PortState) → asks_of (map (copy format m d) ports) ≡ []
+    → ports ≡ []
 each_copy_asks format m d [] none = refl
-each_copy_asks format m d (link ∷ links) none = absurd cc
+each_copy_asks format m d (state ∷ ports) none = absurd cc
 
 pub everywhere_silent : (relay : Relay) (m : Message) (d : Destination) (to : Way) → to ≡ Everywhere
-    → asks_of (steps_by relay m d to) ≡ [] → others m.here.port.number relay.links ≡ []
+    → asks_of (steps_by relay m d to) ≡ [] → others m.here.port.number relay.ports ≡ []
 everywhere_silent relay m d to is none =
-    each_copy_asks relay.format m d (others m.here.port.number relay.links) (sym (ap (λ (w : Way). asks_of (steps_by relay m d w)) is) ∙ none)
+    each_copy_asks relay.format m d (others m.here.port.number relay.ports) (sym (ap (λ (w : Way). asks_of (steps_by relay m d w)) is) ∙ none)
 
 -- networks that are learned are more of the learnings
 pub learnings_made : (result : Result (Unit {0}) AllocError) (old new : Table) (change : Change) (port : ℕ) (next : BipAddr)

@@ -45,31 +45,31 @@ directed entry = record {
 
 -- the peers, in the order of the table
 abbrev pub managers : PortState → List BipAddr
-managers link = map directed (peers link.port.address link.bdt)
+managers state = map directed (peers state.port.address state.bdt)
 
 -- the registered foreign devices, in their order
 abbrev pub devices : PortState → List BipAddr
-devices link = keys_of link.fdt.rows
+devices state = keys_of state.fdt.rows
 
 -- the foreign devices but one
 abbrev pub devices_but : BipAddr → PortState → List BipAddr
-devices_but address link = filter (λ device. not (same address device)) (devices link)
+devices_but address state = filter (λ device. not (same address device)) (devices state)
 
 -- The subnet itself, for a broadcast that a peer sent to the port alone. Where the own mask is
 -- another than all ones, the peer's directed broadcast has reached the subnet already.
 abbrev pub subnet : PortState → List BipAddr
-subnet link =
-    if pointwise nat_eq (own_mask link.port.address link.bdt) all_ones
-    then link.port.broadcast ∷ [] else []
+subnet state =
+    if pointwise nat_eq (own_mask state.port.address state.bdt) all_ones
+    then state.port.broadcast ∷ [] else []
 
 -- ---- a broadcast that is distributed
 
 -- whom it goes to: nobody is left out but the sender of a Distribute-Broadcast-To-Network
 abbrev pub targets : PortState → BipAddr → Frame → List BipAddr
-targets link from (original_broadcast npdu) = managers link ++ devices link
-targets link from (distribute npdu) = link.port.broadcast ∷ managers link ++ devices_but from link
-targets link from (forwarded originator npdu) = subnet link ++ devices link
-targets link from other = []
+targets state from (original_broadcast npdu) = managers state ++ devices state
+targets state from (distribute npdu) = state.port.broadcast ∷ managers state ++ devices_but from state
+targets state from (forwarded originator npdu) = subnet state ++ devices state
+targets state from other = []
 
 -- what it goes on as: a Forwarded-NPDU that names its sender as the originator, or as it came
 abbrev pub passed_on : BipAddr → Frame → Frame
@@ -82,19 +82,19 @@ passed_on from other = other
 -- A Forwarded-NPDU is heard from a peer alone, and not if the port itself is its originator
 -- (ours). Any other frame is heard.
 abbrev pub accepts : PortState → BipAddr → Frame → Bool
-accepts link from (forwarded originator npdu) =
-    not (same originator link.port.address)
-    && list_any (is_of from) (peers link.port.address link.bdt)
-accepts link from other = true
+accepts state from (forwarded originator npdu) =
+    not (same originator state.port.address)
+    && list_any (is_of from) (peers state.port.address state.bdt)
+accepts state from other = true
 
 -- Distribute-Broadcast-To-Network is for registered foreign devices (Annex J.5).
 abbrev pub is_unregistered : PortState → BipAddr → Frame → Bool
-is_unregistered link from (distribute npdu) = not (contains link.fdt from)
-is_unregistered link from other = false
+is_unregistered state from (distribute npdu) = not (contains state.fdt from)
+is_unregistered state from other = false
 
 -- whether a frame goes on to the network layer
 abbrev pub goes_on : PortState → BipAddr → Frame → Bool
-goes_on link from frame = accepts link from frame && not (is_unregistered link from frame)
+goes_on state from frame = accepts state from frame && not (is_unregistered state from frame)
 
 -- the frames that are broadcasts
 abbrev pub is_broadcast : Frame → Bool
@@ -137,8 +137,8 @@ cast_response rules format m =
 -- The sends of a broadcast by the gateway on a port: on its subnet, and as a Forwarded-NPDU of its
 -- own to all peers and foreign devices. An NPDU of over 1497 octets isn't sent (ours).
 unfoldable pub spread : PortState → List ℕ → List Sending
-spread link npdu =
+spread state npdu =
     if nat_le (length npdu) max_len
-    then sent link.port.number (link.port.broadcast ∷ []) (original_broadcast npdu)
-    ++ sent link.port.number (managers link ++ devices link) (forwarded link.port.address npdu)
+    then sent state.port.number (state.port.broadcast ∷ []) (original_broadcast npdu)
+    ++ sent state.port.number (managers state ++ devices state) (forwarded state.port.address npdu)
     else []

@@ -54,15 +54,15 @@ link_asks_before port from frame =
     option_map_or (λ operation. link_ask_before port from frame operation ∷ []) (management_of frame) []
 
 abbrev pub link_grants_before : List Rule → PortState → BipAddr → Frame → Bool
-link_grants_before rules link from frame =
-    list_all (allows rules) (link_asks_before link.port from frame) && is_granted link from frame
+link_grants_before rules state from frame =
+    list_all (allows rules) (link_asks_before state.port from frame) && is_granted state from frame
 
 abbrev pub link_response_before : List Rule → PortState → BipAddr → Frame → Response
-link_response_before rules link from frame = record {
-  asks = link_asks_before link.port from frame;
-  sends = map (answer_to link.port from)
-      (if link_grants_before rules link from frame then granted link frame else refused frame);
-  change = if link_grants_before rules link from frame then change_of link.port from frame else None;
+link_response_before rules state from frame = record {
+  asks = link_asks_before state.port from frame;
+  sends = map (answer_to state.port from)
+      (if link_grants_before rules state from frame then granted state frame else refused frame);
+  change = if link_grants_before rules state from frame then change_of state.port from frame else None;
 }
 
 -- ---- broadcasts
@@ -97,14 +97,14 @@ cast_response_before rules m =
 
 -- on a port's own network: to all if there is no DADR, to a BACnet/IP address, or to nobody
 abbrev pub delivered_before : List ℕ → Fields → PortState → List Sending
-delivered_before mac npdu link =
-    if length mac == 0 then broadcast npdu link
-    else if length mac == 6 then unicast link.port.number (address_in mac) npdu
+delivered_before mac npdu state =
+    if length mac == 0 then broadcast npdu state
+    else if length mac == 6 then unicast state.port.number (address_in mac) npdu
     else []
 
 abbrev pub forward_before : Relay → Message → Destination → Way → List Sending
 forward_before relay m d (Port number) =
-    at_port [] (delivered_before d.address.mac (last_hop m)) relay.links number
+    at_port [] (delivered_before d.address.mac (last_hop m)) relay.ports number
 forward_before relay m d other = forward relay m d other
 
 abbrev pub on_way_before : Relay → Message → Destination → Way → Step
@@ -114,14 +114,14 @@ on_way_before relay m d by = record {
 }
 
 abbrev pub copy_before : Format → Message → Destination → PortState → Step
-copy_before format m d link = record {
-  asks = forward_asks format (message_ask_before Route m (Some link.port.network)) m.npdu.payload;
-  sends = copy_to_port m d link;
+copy_before format m d state = record {
+  asks = forward_asks format (message_ask_before Route m (Some state.port.network)) m.npdu.payload;
+  sends = copy_to_port m d state;
 }
 
 abbrev pub steps_before : Relay → Message → Destination → Way → List Step
 steps_before relay m d Everywhere =
-    map (copy_before relay.format m d) (others m.here.port.number relay.links)
+    map (copy_before relay.format m d) (others m.here.port.number relay.ports)
 steps_before relay m d by = if leaves m.here.port.number by then on_way_before relay m d by ∷ [] else []
 
 abbrev pub route_steps_before : Relay → Message → List Step

@@ -40,9 +40,9 @@ all_after [] acts = []
 all_after (port ∷ ports) [] = []
 all_after (port ∷ ports) (first ∷ acts) = link_after port first ∷ all_after ports acts
 
--- links are as the acts of their ports leave them
+-- states are as the acts of their ports leave them
 abbrev pub AreStatesAfter : List PortState → List Port → List Acts → Type 0
-AreStatesAfter links ports acts = links ≡ all_after ports acts
+AreStatesAfter states ports acts = states ≡ all_after ports acts
 
 -- the ports as they are configured, with their numbers counted on from one
 abbrev pub ports_from : ℕ → List ConfiguredPort → List Port

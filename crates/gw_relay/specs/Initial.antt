@@ -21,8 +21,8 @@ port_of number p = record {
 }
 
 -- a port with the peers that it starts with, where nobody is registered
-abbrev pub link_of : ℕ → ConfiguredPort → PortState
-link_of number p = record {
+abbrev pub port_state : ℕ → ConfiguredPort → PortState
+port_state number p = record {
   port = port_of number p;
   stations = p.stations;
   bdt = p.peers;
@@ -30,9 +30,9 @@ link_of number p = record {
 }
 
 -- the ports with their numbers, counted on from one
-abbrev pub links_from : ℕ → List ConfiguredPort → List PortState
-links_from number [] = []
-links_from number (p ∷ ports) = link_of number p ∷ links_from (number + 1) ports
+abbrev pub port_states_from : ℕ → List ConfiguredPort → List PortState
+port_states_from number [] = []
+port_states_from number (p ∷ ports) = port_state number p ∷ port_states_from (number + 1) ports
 
 -- the networks that the gateway reaches itself: the ports' in order, then the device's
 abbrev pub direct_of : Configuration → List ℕ
@@ -46,7 +46,7 @@ routed_of r = (r.network, route_by r.port r.next)
 abbrev pub initial : Configuration → Relay
 initial c = record {
   format = c.format;
-  links = links_from 1 c.ports;
+  ports = port_states_from 1 c.ports;
   routes = table_of (direct_of c) (map routed_of c.routes) [];
   ticks = 0;
 }
@@ -54,8 +54,8 @@ initial c = record {
 -- ---- a relay that goes on
 
 -- a port of this number with tables that it had
-abbrev pub link_with : ℕ → ConfiguredPort → PortTables → PortState
-link_with number p t = record {
+abbrev pub port_state_with : ℕ → ConfiguredPort → PortTables → PortState
+port_state_with number p t = record {
   port = port_of number p;
   stations = p.stations;
   bdt = t.bdt;
@@ -63,17 +63,17 @@ link_with number p t = record {
 }
 
 -- the ports with their numbers, counted on from one, each with the tables at its place
-abbrev pub links_with : ℕ → List ConfiguredPort → List PortTables → List PortState
-links_with number [] tables = []
-links_with number (p ∷ ports) [] = []
-links_with number (p ∷ ports) (t ∷ tables) = link_with number p t ∷ links_with (number + 1) ports tables
+abbrev pub port_states_with : ℕ → List ConfiguredPort → List PortTables → List PortState
+port_states_with number [] tables = []
+port_states_with number (p ∷ ports) [] = []
+port_states_with number (p ∷ ports) (t ∷ tables) = port_state_with number p t ∷ port_states_with (number + 1) ports tables
 
 -- a relay of this configuration that goes on with tables of its ports and with learned routes, after
 -- so many ticks: a route is passed over if its network is direct or configured, or the table is full
 abbrev pub resumed : Configuration → List PortTables → Routed → ℕ → Relay
 resumed c tables learned ticks = record {
   format = c.format;
-  links = links_with 1 c.ports tables;
+  ports = port_states_with 1 c.ports tables;
   routes = learned_by (table_of (direct_of c) (map routed_of c.routes) []) learned;
   ticks = ticks;
 }

@@ -28,13 +28,13 @@ use Rattle.gw_relay.specs.Entry.{admits, claim_asks, comes_by_route, enter_asks,
 use Rattle.gw_relay.specs.FormatTwo.{cast_response_before, link_response_before, manage_response_before}
 use Rattle.gw_relay.specs.FormatTwo.{route_response_before}
 use Rattle.gw_relay.specs.History.{Acts, acts_after, acts_later, initial_acts, ports_from, AreStatesAfter}
-use Rattle.gw_relay.specs.Initial.{links_from}
+use Rattle.gw_relay.specs.Initial.{port_states_from}
 use Rattle.gw_relay.specs.Link.{link_change, link_response}
 use Rattle.gw_relay.specs.Manage.{manage_asks, manage_change, manage_response}
 use Rattle.gw_relay.specs.Message.{Message}
 use Rattle.gw_relay.specs.Route.{reject, route_asks, route_response, route_sends}
 use Rattle.gw_relay.specs.Sends.{Sending}
-use Rattle.gw_relay.specs.State.{Commit, Relay, link_later, links_after, moved}
+use Rattle.gw_relay.specs.State.{Commit, Relay, port_later, ports_after, moved}
 use Rattle.gw_relay.specs.Stations.{belongs}
 use Rattle.gw_relay.specs.Steps.{unicast}
 use Rattle.gw_relay.specs.declared.change.Change.{Change}
@@ -44,21 +44,21 @@ use Rattle.gw_relay.specs.declared.port.Port.{Port}
 -- Links as they are configured are those after no acts.
 abbrev pub ConfiguredLinksStand : Type 0
 ConfiguredLinksStand = (number : ℕ) (ports : List ConfiguredPort) →
-    AreStatesAfter (links_from number ports) (ports_from number ports) (map initial_acts ports)
+    AreStatesAfter (port_states_from number ports) (ports_from number ports) (map initial_acts ports)
 
--- A change extends every history: links after some acts become those after the acts with it.
+-- A change extends every history: states after some acts become those after the acts with it.
 abbrev pub ChangesExtendHistories : Type 0
-ChangesExtendHistories = (change : Change) (links : List PortState) (ports : List Port) (acts : List Acts) →
-    AreStatesAfter links ports acts → AreStatesAfter (links_after change links) ports (acts_after change acts)
+ChangesExtendHistories = (change : Change) (states : List PortState) (ports : List Port) (acts : List Acts) →
+    AreStatesAfter states ports acts → AreStatesAfter (ports_after change states) ports (acts_after change acts)
 
 -- So does a tick.
 abbrev pub TicksExtendHistories : Type 0
-TicksExtendHistories = (links : List PortState) (ports : List Port) (acts : List Acts) →
-    AreStatesAfter links ports acts → AreStatesAfter (map link_later links) ports (map acts_later acts)
+TicksExtendHistories = (states : List PortState) (ports : List Port) (acts : List Acts) →
+    AreStatesAfter states ports acts → AreStatesAfter (map port_later states) ports (map acts_later acts)
 
 -- Whoever sent a Distribute-Broadcast-To-Network is not among the foreign devices that it goes to.
 abbrev pub SenderIsLeftOut : Type 0
-SenderIsLeftOut = (from : BipAddr) (link : PortState) → list_any (same from) (devices_but from link) ≡ false
+SenderIsLeftOut = (from : BipAddr) (state : PortState) → list_any (same from) (devices_but from state) ≡ false
 
 -- A mask of all ones sends to the broadcast manager itself.
 abbrev pub AllOnesReachTheManager : Type 0
@@ -157,7 +157,7 @@ is_unicast s = slice_index s.octets 1 == octet_of OriginalUnicast
 -- it goes to an address that belongs to the port on which it is sent
 abbrev pub goes_inside : Relay → Sending → Bool
 goes_inside relay s =
-    list_any (λ link. link.port.number == s.port && belongs relay.format link s.to) relay.links
+    list_any (λ state. state.port.number == s.port && belongs relay.format state s.to) relay.ports
 
 -- it goes to a router of the table, by the port of its route
 abbrev pub goes_to_router : Relay → Sending → Bool

@@ -23,19 +23,19 @@ use Rattle.gw_relay.specs.declared.port.Port.{Port}
 -- what a frame asks for can be had: a table of at most 64 entries with no address twice, room for a
 -- registration, a registration to delete
 abbrev pub is_granted : PortState → BipAddr → Frame → Bool
-is_granted link from (write_bdt entries) = not (are_too_many entries || has_twice entries)
-is_granted link from (register time_to_live) = has_room link.fdt from
-is_granted link from (delete address) = contains link.fdt address
-is_granted link from other = true
+is_granted state from (write_bdt entries) = not (are_too_many entries || has_twice entries)
+is_granted state from (register time_to_live) = has_room state.fdt from
+is_granted state from (delete address) = contains state.fdt address
+is_granted state from other = true
 
 -- the answer if it is had: the table that is read, in its order, or success
 abbrev pub granted : PortState → Frame → List Frame
-granted link (write_bdt entries) = result_code success ∷ []
-granted link read_bdt = read_bdt_ack link.bdt ∷ []
-granted link (register time_to_live) = result_code success ∷ []
-granted link read_fdt = read_fdt_ack (map shown link.fdt.rows) ∷ []
-granted link (delete address) = result_code success ∷ []
-granted link other = []
+granted state (write_bdt entries) = result_code success ∷ []
+granted state read_bdt = read_bdt_ack state.bdt ∷ []
+granted state (register time_to_live) = result_code success ∷ []
+granted state read_fdt = read_fdt_ack (map shown state.fdt.rows) ∷ []
+granted state (delete address) = result_code success ∷ []
+granted state other = []
 
 -- the answer if it isn't: the negative code of the function (Annex J.2.1), if it has one
 abbrev pub refused : Frame → List Frame
@@ -50,8 +50,8 @@ change_of port from other = None
 
 -- it is had if the policy allows it and it can be had
 abbrev pub link_grants : List Rule → Format → PortState → BipAddr → Frame → Bool
-link_grants rules format link from frame =
-    list_all (allows rules) (link_asks format link.port from frame) && is_granted link from frame
+link_grants rules format state from frame =
+    list_all (allows rules) (link_asks format state.port from frame) && is_granted state from frame
 
 -- an answer, which goes to the sender
 abbrev pub answer_to : Port → BipAddr → Frame → Sending
@@ -59,19 +59,19 @@ answer_to port from answer = sending port.number (encoding answer) from
 
 -- the answer to a frame that reads or changes a table
 unfoldable pub link_answer : List Rule → Format → PortState → BipAddr → Frame → List Sending
-link_answer rules format link from frame =
-    map (answer_to link.port from)
-    (if link_grants rules format link from frame then granted link frame else refused frame)
+link_answer rules format state from frame =
+    map (answer_to state.port from)
+    (if link_grants rules format state from frame then granted state frame else refused frame)
 
 -- what it changes
 unfoldable pub link_change : List Rule → Format → PortState → BipAddr → Frame → Option Change
-link_change rules format link from frame =
-    if link_grants rules format link from frame then change_of link.port from frame else None
+link_change rules format state from frame =
+    if link_grants rules format state from frame then change_of state.port from frame else None
 
 -- what is answered to it
 abbrev pub link_response : List Rule → Format → PortState → BipAddr → Frame → Response
-link_response rules format link from frame = record {
-  asks = link_asks format link.port from frame;
-  sends = link_answer rules format link from frame;
-  change = link_change rules format link from frame;
+link_response rules format state from frame = record {
+  asks = link_asks format state.port from frame;
+  sends = link_answer rules format state from frame;
+  change = link_change rules format state from frame;
 }

@@ -102,7 +102,7 @@ answer_who_is_router relay m network (Router route) =
     if route.port == m.here.port.number then [] else broadcast (i_am_router (network ∷ [])) m.here
 answer_who_is_router relay m network Unknown =
     flat_map (broadcast (who_is_router (Some (asker m)) network))
-    (others m.here.port.number relay.links)
+    (others m.here.port.number relay.ports)
 answer_who_is_router relay m network Everywhere = []
 
 -- one network is asked for

@@ -99,15 +99,15 @@ who_is_router source network = made None source WhoIsRouterToNetwork (to_be_byte
 
 -- the ports but that of this number, in order
 abbrev pub others : ℕ → List PortState → List PortState
-others number links = filter (λ link. not (nat_eq link.port.number number)) links
+others number ports = filter (λ state. not (nat_eq state.port.number number)) ports
 
 -- on a port's own network: to all if there is no DADR, to a BACnet/IP address that belongs to the port, or
 -- to nobody
 abbrev pub delivered : Format → List ℕ → Fields → PortState → List Sending
-delivered format mac npdu link =
-    if length mac == 0 then broadcast npdu link
-    else if length mac == 6 && belongs format link (address_in mac)
-    then unicast link.port.number (address_in mac) npdu
+delivered format mac npdu state =
+    if length mac == 0 then broadcast npdu state
+    else if length mac == 6 && belongs format state (address_in mac)
+    then unicast state.port.number (address_in mac) npdu
     else []
 
 -- No way is known: the sender gets a reject, and each other port's routers are asked for one. There is
@@ -116,7 +116,7 @@ abbrev pub reject_and_search : Relay → Message → ℕ → List Sending
 reject_and_search relay m network =
     if is_kind RejectMessageToNetwork m.npdu.payload then []
     else unicast m.here.port.number m.link (reject network m.npdu)
-    ++ flat_map (broadcast (who_is_router None network)) (others m.here.port.number relay.links)
+    ++ flat_map (broadcast (who_is_router None network)) (others m.here.port.number relay.ports)
 
 -- to the next router
 abbrev pub routed : Message → Destination → Route → List Sending
@@ -126,7 +126,7 @@ routed m d route =
 -- by the way of the destination's network, which is one
 abbrev pub forward : Relay → Message → Destination → Way → List Sending
 forward relay m d (Port number) =
-    at_port [] (delivered relay.format d.address.mac (last_hop m)) relay.links number
+    at_port [] (delivered relay.format d.address.mac (last_hop m)) relay.ports number
 forward relay m d (Router route) = routed m d route
 forward relay m d Unknown = reject_and_search relay m d.address.network
 forward relay m d other = []
@@ -153,18 +153,18 @@ on_way relay m d way = record {
 
 -- what is sent on another port of a global broadcast
 abbrev pub copy_to_port : Message → Destination → PortState → List Sending
-copy_to_port m d link = if has_hops d then broadcast (next_hop m) link else []
+copy_to_port m d state = if has_hops d then broadcast (next_hop m) state else []
 
 -- the copy of a global broadcast for another port
 abbrev pub copy : Format → Message → Destination → PortState → Step
-copy format m d link = record {
-  asks = forward_asks format (route_ask format m (Some link.port.network)) m.npdu.payload;
-  sends = copy_to_port m d link;
+copy format m d state = record {
+  asks = forward_asks format (route_ask format m (Some state.port.network)) m.npdu.payload;
+  sends = copy_to_port m d state;
 }
 
 -- by the way of DNET: a copy for each other port, or one way
 abbrev pub steps_by : Relay → Message → Destination → Way → List Step
-steps_by relay m d Everywhere = map (copy relay.format m d) (others m.here.port.number relay.links)
+steps_by relay m d Everywhere = map (copy relay.format m d) (others m.here.port.number relay.ports)
 steps_by relay m d way =
     if leaves m.here.port.number way then on_way relay m d way ∷ [] else []
 

@@ -13,17 +13,17 @@ use Rattle.gw_relay.specs.declared.port.PortState.{PortState}
 
 pub record Relay : Type 0 where
   pub format : Format
-  pub links : List PortState
+  pub ports : List PortState
   pub routes : Table
   pub ticks : ℕ
 
--- the link of the port of a number, counted from 1
-abbrev pub link_at : List PortState → ℕ → Option PortState
-link_at links number = if number == 0 then None else slice_get links (number - 1)
+-- the state of the port of a number, counted from 1
+abbrev pub port_at : List PortState → ℕ → Option PortState
+port_at ports number = if number == 0 then None else slice_get ports (number - 1)
 
--- what the link of a port gives, and what there is if there is no such port
+-- what the state of a port gives, and what there is if there is no such port
 abbrev pub at_port : {A : Type 0} → A → (PortState → A) → List PortState → ℕ → A
-at_port none given links number = option_map_or given (link_at links number) none
+at_port none given ports number = option_map_or given (port_at ports number) none
 
 -- ---- as it changes
 
@@ -46,14 +46,14 @@ changed_at (suc place) change (x ∷ xs) = x ∷ changed_at place change xs
 abbrev pub changed_of : {A : Type 0} → ℕ → (A → A) → List A → List A
 changed_of number change xs = if number == 0 then xs else changed_at (number - 1) change xs
 
--- the links once a change is made
-abbrev pub links_after : Change → List PortState → List PortState
-links_after (Entries port bdt) = changed_of port (λ link. record link { bdt = bdt })
-links_after (Registration port address time_to_live) =
-    changed_of port (λ link. record link { fdt = registered address time_to_live link.fdt })
-links_after (Deletion port address) =
-    changed_of port (λ link. record link { fdt = deleted address link.fdt })
-links_after (Learnings port next networks) = λ links. links
+-- the ports once a change is made
+abbrev pub ports_after : Change → List PortState → List PortState
+ports_after (Entries port bdt) = changed_of port (λ state. record state { bdt = bdt })
+ports_after (Registration port address time_to_live) =
+    changed_of port (λ state. record state { fdt = registered address time_to_live state.fdt })
+ports_after (Deletion port address) =
+    changed_of port (λ state. record state { fdt = deleted address state.fdt })
+ports_after (Learnings port next networks) = λ ports. ports
 
 -- the routes once a change is made: each network is learned by the port and the next router, one
 -- after the other, unless it is fixed or the table is full
@@ -73,17 +73,17 @@ wants_room (Learnings port next networks) = true
 -- a relay once a change is made
 abbrev pub after : Change → Relay → Relay
 after change relay = record relay {
-  links = links_after change relay.links;
+  ports = ports_after change relay.ports;
   routes = routes_after change relay.routes;
 }
 
--- a link one tick later
-abbrev pub link_later : PortState → PortState
-link_later link = record link { fdt = with_tick link.fdt }
+-- a port one tick later
+abbrev pub port_later : PortState → PortState
+port_later state = record state { fdt = with_tick state.fdt }
 
 -- a relay one tick later
 abbrev pub later : Relay → Relay
-later relay = record relay { links = map link_later relay.links; ticks = relay.ticks + 1 }
+later relay = record relay { ports = map port_later relay.ports; ticks = relay.ticks + 1 }
 
 -- what happens to a relay: a change is made, or a second passes
 pub data Move : Type 0 where

@@ -22,6 +22,6 @@ is_station port stations address =
 -- An address belongs to a port if the format names no stations, or the port names none; if it is a station of one of
 -- its subnets; or if it is registered there now.
 abbrev pub belongs : Format → PortState → BipAddr → Bool
-belongs format link address =
-    not (names_stations format) || length link.stations == 0
-    || is_station link.port link.stations address || contains link.fdt address
+belongs format state address =
+    not (names_stations format) || length state.stations == 0
+    || is_station state.port state.stations address || contains state.fdt address

@@ -54,4 +54,4 @@ unicast port to npdu =
 
 -- an NPDU as a broadcast by the gateway on a port; one that is too long isn't sent
 abbrev pub broadcast : Fields → PortState → List Sending
-broadcast npdu link = option_map_or (spread link) (npdu_octets npdu) []
+broadcast npdu state = option_map_or (spread state) (npdu_octets npdu) []

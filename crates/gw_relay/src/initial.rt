@@ -5,7 +5,7 @@ ghost use Rattle.std.specs.List.{AllByRecursion};
 ghost use Rattle.gw_addr.specs.declared.TheConstants.{MAX_PORTS};
 ghost use Rattle.gw_bdt_fdt.specs.Peers.{has_twice};
 ghost use Rattle.gw_routes.specs.Table.{table_of};
-ghost use Rattle.gw_relay.specs.Initial.{direct_of, link_of, link_with, links_from, links_with, routed_of};
+ghost use Rattle.gw_relay.specs.Initial.{direct_of, port_state, port_state_with, port_states_from, port_states_with, routed_of};
 
 use crate::port::{Port, PortState};
 use gw_addr::NetNum;
@@ -15,58 +15,58 @@ use gw_routes::{Route, Routes};
 use std::alloc::{AllocError, Global};
 
 /// The ports with the peers that they start with, where nobody is registered.
-pub(crate) fn links_of(
+pub(crate) fn port_states(
     alloc: Global,
     ports: &[ConfiguredPort],
 ) -> Result<Vec<PortState>, AllocError>
     requires few { length ports.now ≤ MAX_PORTS }
     requires once { AllByRecursion (λ p. IsFalse (has_twice p.peers)) ports.now }
-    ensures { IfOk result (λ links. links.items ≡ links_from 1 ports.now) }
+    ensures { IfOk result (λ states. states.items ≡ port_states_from 1 ports.now) }
 {
-    let mut links = Vec::new(alloc);
+    let mut states = Vec::new(alloc);
     for (place, port) in ports.iter().enumerate() {
-        links.push(link_of(alloc, place as u8 + 1, port)?)?;
+        states.push(port_state(alloc, place as u8 + 1, port)?)?;
     }
-    Ok(links)
+    Ok(states)
 }
 
 /// A port of this number with the peers that it starts with, which are at most 64 and have no
 /// address twice.
-fn link_of(alloc: Global, number: u8, port: &ConfiguredPort) -> Result<PortState, AllocError>
+fn port_state(alloc: Global, number: u8, port: &ConfiguredPort) -> Result<PortState, AllocError>
     requires { IsFalse (has_twice port.now.peers) }
-    ensures { IfOk result (λ link. link ≡ link_of number port.now) }
+    ensures { IfOk result (λ state. state ≡ port_state number port.now) }
 {
     let peers = Vec::from_slice(alloc, port.peers.as_slice())?;
     let bdt = Bdt::from_vec(peers).unwrap();
     let fdt = Fdt::new(alloc);
-    link_with(alloc, number, port, PortTables { bdt, fdt })
+    port_state_with(alloc, number, port, PortTables { bdt, fdt })
 }
 
 /// The ports, each with the tables at its place.
-pub(crate) fn links_with(
+pub(crate) fn port_states_with(
     alloc: Global,
     ports: &[ConfiguredPort],
     tables: Vec<PortTables>,
 ) -> Result<Vec<PortState>, AllocError>
     requires { length ports.now ≤ MAX_PORTS }
-    ensures { IfOk result (λ links. links.items ≡ links_with 1 ports.now tables.items) }
+    ensures { IfOk result (λ states. states.items ≡ port_states_with 1 ports.now tables.items) }
 {
-    let mut links = Vec::new(alloc);
+    let mut states = Vec::new(alloc);
     for (port, tables) in ports.iter().zip(tables) {
-        let number = links.len() as u8 + 1;
-        links.push(link_with(alloc, number, port, tables)?)?;
+        let number = states.len() as u8 + 1;
+        states.push(port_state_with(alloc, number, port, tables)?)?;
     }
-    Ok(links)
+    Ok(states)
 }
 
 /// A port of this number with these tables.
-fn link_with(
+fn port_state_with(
     alloc: Global,
     number: u8,
     port: &ConfiguredPort,
     tables: PortTables,
 ) -> Result<PortState, AllocError>
-    ensures { IfOk result (λ link. link ≡ link_with number port.now tables) }
+    ensures { IfOk result (λ state. state ≡ port_state_with number port.now tables) }
 {
     let stations = port.stations.copy(alloc)?;
     let (bdt, fdt) = tables.into_parts();

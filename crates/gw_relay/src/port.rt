@@ -2,7 +2,7 @@
 
 ghost use Rattle.std.specs.Prelude.{◌≡◌};
 ghost use Rattle.std.specs.Option.{option_map};
-ghost use Rattle.gw_relay.specs.State.{link_at};
+ghost use Rattle.gw_relay.specs.State.{port_at};
 
 use gw_addr::{BipAddr, NetNum};
 use gw_bdt_fdt::{Bdt, Fdt};
@@ -46,11 +46,11 @@ impl Drop for PortState {
 }
 
 /// The port of this number, from 1, with its tables, or none.
-pub fn link_at(links: &[PortState], number: usize) -> Option<&PortState>
-    ensures { option_map (λ link. link.now) result ≡ link_at links.now number }
+pub fn port_at(ports: &[PortState], number: usize) -> Option<&PortState>
+    ensures { option_map (λ state. state.now) result ≡ port_at ports.now number }
 {
     if number == 0 {
         return None;
     }
-    links.get(number - 1)
+    ports.get(number - 1)
 }

@@ -18,14 +18,14 @@ ghost use Rattle.gw_routes.specs.History.{History as Learned};
 ghost use Rattle.gw_routes.specs.Table.{Routed};
 ghost use Rattle.gw_relay.specs.declared.port.PortState.{PortState};
 ghost use Rattle.gw_relay.specs.History.{Acts, AreStatesAfter, acts_after, acts_later, initial_acts, learned_after, ports_from};
-ghost use Rattle.gw_relay.specs.State.{after, at_port, later, link_at, wants_room};
+ghost use Rattle.gw_relay.specs.State.{after, at_port, later, port_at, wants_room};
 ghost use Rattle.gw_relay.specs.declared.port.Port.{Port};
 
 use crate::change::Change;
-use crate::initial::{links_of, links_with, routes_of};
-use crate::links::{make, tick_each};
+use crate::commit::{make, tick_each};
+use crate::initial::{port_states, port_states_with, routes_of};
 use crate::message::{Message, TableMessage};
-use crate::port::{PortState, link_at};
+use crate::port::{PortState, port_at};
 use crate::response::RelayResponse;
 use crate::sends::Sends;
 use crate::turn::Turn;
@@ -38,10 +38,10 @@ use std::alloc::{AllocError, Global};
 use std::marker::Model;
 
 /// The ports of a gateway with their tables, the routes, and the format of its policy. Contracts see
-/// the format, the links in order of ports, the table of routes, and how many ticks have passed.
+/// the format, the ports in order with their tables, the table of routes, and how many ticks have passed.
 pub struct Relay {
     format: Format,
-    links: Vec<PortState>,
+    ports: Vec<PortState>,
     routes: Routes,
     ticks: u64,
 }
@@ -51,7 +51,7 @@ impl Drop for Relay {
     fn drop(self) {
         let Relay {
             format: _,
-            links: _,
+            ports: _,
             routes: _,
             ticks: _,
         } = self;
@@ -66,12 +66,12 @@ impl Model for Relay {
 
     ghost view = { λ r. record {
       format = r.format;
-      links = r.links.items;
+      ports = r.ports.items;
       routes = r.routes;
       ticks = r.ticks;
     } };
 
-    ghost invariant = { λ r. AreAlike r.ticks r.links.items };
+    ghost invariant = { λ r. AreAlike r.ticks r.ports.items };
 }
 
 impl Relay {
@@ -82,15 +82,15 @@ impl Relay {
         ensures initial { IfOk result (λ relay. relay ≡ initial config.now) }
         ensures stands { let ports = config.now.ports in
             IfOk result (λ relay.
-            AreStatesAfter relay.links (ports_from 1 ports) (map initial_acts ports)) }
+            AreStatesAfter relay.ports (ports_from 1 ports) (map initial_acts ports)) }
         ensures learnings { let configured = map routed_of config.now.routes in
             IfOk result (λ relay. IsStateAfter relay.routes (direct_of config.now) configured []) }
     {
-        let links = links_of(alloc, config.ports())?;
+        let ports = port_states(alloc, config.ports())?;
         let routes = routes_of(alloc, config)?;
         Ok(Relay {
             format: config.format(),
-            links,
+            ports,
             routes,
             ticks: 0,
         })
@@ -111,22 +111,22 @@ impl Relay {
         ensures { IfOk result
             (λ relay. relay ≡ resumed config.now tables.items learned.now ticks) }
     {
-        let links = links_with(alloc, config.ports(), tables)?;
+        let ports = port_states_with(alloc, config.ports(), tables)?;
         let mut routes = routes_of(alloc, config)?;
         routes.learn_by(learned)?;
         Ok(Relay {
             format: config.format(),
-            links,
+            ports,
             routes,
             ticks,
         })
     }
 
     /// The port of this number, from 1, with its tables, or none.
-    pub fn link_at(&self, port: u8) -> Option<&PortState>
-        ensures { option_map (λ link. link.now) result ≡ link_at self.now.links port }
+    pub fn port_at(&self, port: u8) -> Option<&PortState>
+        ensures { option_map (λ state. state.now) result ≡ port_at self.now.ports port }
     {
-        link_at(self.links.as_slice(), usize::from(port))
+        port_at(self.ports.as_slice(), usize::from(port))
     }
 
     /// Does what [`add_link`](Self::add_link) does, and keeps the refusals. The only fault is want of
@@ -181,20 +181,20 @@ impl Relay {
     /// all peers and foreign devices. No policy is asked. On a port that isn't there nothing is
     /// sent. The only fault is want of memory.
     pub fn spread(&self, alloc: Global, port: u8, npdu: &[u8]) -> Result<Sends, AllocError>
-        ensures { let sent = λ (link : PortState). spread link npdu.now in
-            IfOk result (λ sends. sends ≡ at_port [] sent self.now.links port) }
+        ensures { let sent = λ (state : PortState). spread state npdu.now in
+            IfOk result (λ sends. sends ≡ at_port [] sent self.now.ports port) }
     {
-        match self.link_at(port) {
-            Some(link) => link.spread(alloc, npdu),
+        match self.port_at(port) {
+            Some(state) => state.spread(alloc, npdu),
             None => Ok(Sends::new(alloc)),
         }
     }
 
     /// The ports with their tables, in order.
     pub fn ports(&self) -> &[PortState]
-        ensures { result.now ≡ self.now.links }
+        ensures { result.now ≡ self.now.ports }
     {
-        self.links.as_slice()
+        self.ports.as_slice()
     }
 
     /// The format of the policy, by which asks are put.
@@ -262,8 +262,8 @@ impl Relay {
         ensures ok { OnOk result (self.new ≡ after change self.old) }
         // What is the state after some acts is then the state after the acts with this one.
         ensures stands { OnOk result ((ports : List Port) (acts : List Acts) →
-            AreStatesAfter self.old.links ports acts →
-            AreStatesAfter self.new.links ports (acts_after change acts)) }
+            AreStatesAfter self.old.ports ports acts →
+            AreStatesAfter self.new.ports ports (acts_after change acts)) }
         // So do the routes, by the networks that were granted to be learned.
         ensures learnings { OnOk result ((direct : List ℕ) (configured : Routed) (h : Learned) →
             IsStateAfter self.old.routes direct configured h →
@@ -272,7 +272,7 @@ impl Relay {
         ensures err { OnErr result (self.new ≡ self.old) }
         ensures no_growth { wants_room change ≡ false → IsOk result }
     {
-        make(&mut self.links, &mut self.routes, change)?;
+        make(&mut self.ports, &mut self.routes, change)?;
         Ok(())
     }
 
@@ -283,10 +283,10 @@ impl Relay {
         requires { self.old.ticks < 2 ^ 63 }
         ensures later { self.new ≡ later self.old }
         ensures stands { (ports : List Port) (acts : List Acts) →
-            AreStatesAfter self.old.links ports acts →
-            AreStatesAfter self.new.links ports (map acts_later acts) }
+            AreStatesAfter self.old.ports ports acts →
+            AreStatesAfter self.new.ports ports (map acts_later acts) }
     {
-        tick_each(&mut self.links);
+        tick_each(&mut self.ports);
         self.ticks += 1;
     }
 

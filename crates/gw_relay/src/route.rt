@@ -17,7 +17,7 @@ use crate::ask::bound_for;
 use crate::message::Message;
 use crate::npdu::{add_unicast, is_kind, message_of};
 use crate::outgoing::Outgoing;
-use crate::port::{PortState, link_at};
+use crate::port::{PortState, port_at};
 use crate::relay::Relay;
 use crate::sends::Sends;
 use crate::turn::Turn;
@@ -190,7 +190,7 @@ impl Relay {
         sends: &mut Sends,
     ) -> Result<(), AllocError>
         ensures { let asked = who_is_router (option_map address_view source.now) network in
-            let sent = flat_map (broadcast asked) (others number self.now.links) in
+            let sent = flat_map (broadcast asked) (others number self.now.ports) in
             OnOk result (sends.new ≡ sends.old ++ sent) }
     {
         let octets = network.to_be_bytes();
@@ -231,7 +231,7 @@ impl Relay {
             OnOk result (sends.new ≡ sends.old ++ sent) }
     {
         match way {
-            Way::Port(number) => match link_at(self.ports(), *number) {
+            Way::Port(number) => match port_at(self.ports(), *number) {
                 Some(port) => message.add_delivered(self.format(), destination.mac, port, sends),
                 None => Ok(()),
             },

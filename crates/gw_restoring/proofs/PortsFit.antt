@@ -18,8 +18,8 @@ use Rattle.gw_relay.specs.declared.port.PortState.{PortState}
 use Rattle.gw_saved.specs.declared.port.SavedPort.{SavedPort}
 use Rattle.gw_state_text.specs.Fit.{FitsDevices, FitsEntries, FitsPorts, IsDevice, is_at}
 use Rattle.gw_state_text.specs.Items.{AreItems}
-use Rattle.gw_continuity.specs.StateOf.{AreLinksOf}
-use Rattle.gw_continuity.proofs.Links.{ports_saved}
+use Rattle.gw_continuity.specs.StateOf.{AreStatesOf}
+use Rattle.gw_continuity.proofs.PortStates.{ports_saved}
 use Rattle.gw_restoring.specs.internal.Typed.{IsPort}
 use Rattle.gw_restoring.proofs.Once.{Once, all_fit, apart_first, both, once_by}
 
@@ -109,43 +109,43 @@ port_fits before port is none = record {
 }
 
 -- the networks of what is saved are those of the ports
-networks_saved : (since number : ℕ) (ports : List ConfiguredPort) (links : List PortState) → AreLinksOf since number ports links
-    → map (λ s. s.network) (ports_saved ports links) ≡ map (λ p. p.network) ports
-networks_saved since number [] links are = refl
+networks_saved : (since number : ℕ) (ports : List ConfiguredPort) (states : List PortState) → AreStatesOf since number ports states
+    → map (λ s. s.network) (ports_saved ports states) ≡ map (λ p. p.network) ports
+networks_saved since number [] states are = refl
 networks_saved since number (p ∷ ports) [] are = absurd are
-networks_saved since number (p ∷ ports) (link ∷ links) are =
-    ap (λ ns. p.network ∷ ns) (networks_saved since (number + 1) ports links are.3)
+networks_saved since number (p ∷ ports) (state ∷ states) are =
+    ap (λ ns. p.network ∷ ns) (networks_saved since (number + 1) ports states are.3)
 
 -- as many are saved as there are
-pub length_saved : (since number : ℕ) (ports : List ConfiguredPort) (links : List PortState) → AreLinksOf since number ports links
-    → length (ports_saved ports links) ≡ length ports
-length_saved since number [] links are = refl
+pub length_saved : (since number : ℕ) (ports : List ConfiguredPort) (states : List PortState) → AreStatesOf since number ports states
+    → length (ports_saved ports states) ≡ length ports
+length_saved since number [] states are = refl
 length_saved since number (p ∷ ports) [] are = absurd are
-length_saved since number (p ∷ ports) (link ∷ links) are = omega (arith, length_saved since (number + 1) ports links are.3)
+length_saved since number (p ∷ ports) (state ∷ states) are = omega (arith, length_saved since (number + 1) ports states are.3)
 
 -- the peers that were configured are those of the ports
-saved_peers_once : (ports : List ConfiguredPort) (links : List PortState)
+saved_peers_once : (ports : List ConfiguredPort) (states : List PortState)
     → list_any (λ p. has_twice nat_eq (peer_addresses p.peers)) ports ≡ false
-    → AllByRecursion (λ s. Once one_entry s.peers) (ports_saved ports links)
-saved_peers_once [] links none = tt
+    → AllByRecursion (λ s. Once one_entry s.peers) (ports_saved ports states)
+saved_peers_once [] states none = tt
 saved_peers_once (p ∷ ports) [] none = tt
-saved_peers_once (p ∷ ports) (link ∷ links) none =
+saved_peers_once (p ∷ ports) (state ∷ states) none =
     let parts =
     or_parts (has_twice nat_eq (peer_addresses p.peers)) (list_any (λ q. has_twice nat_eq (peer_addresses q.peers)) ports) none in
-    (peers_once p.peers parts.0, saved_peers_once ports links parts.1)
+    (peers_once p.peers parts.0, saved_peers_once ports states parts.1)
 
-pub ports_fit : (since : ℕ) (ports : List ConfiguredPort) (links : List PortState) → AreLinksOf since 1 ports links
+pub ports_fit : (since : ℕ) (ports : List ConfiguredPort) (states : List PortState) → AreStatesOf since 1 ports states
     → has_twice nat_eq (map (λ p. p.network) ports) ≡ false
     → list_any (λ p. has_twice nat_eq (peer_addresses p.peers)) ports ≡ false
-    → length (ports_saved ports links) ≤ 8 → AllByRecursion IsPort (ports_saved ports links)
-    → AreItems FitsPorts 8 (ports_saved ports links)
-ports_fit since ports links are once peers few each =
-    let saved = ports_saved ports links in
-    let networks = ap (has_twice nat_eq) (networks_saved since 1 ports links are) ∙ once in
+    → length (ports_saved ports states) ≤ 8 → AllByRecursion IsPort (ports_saved ports states)
+    → AreItems FitsPorts 8 (ports_saved ports states)
+ports_fit since ports states are once peers few each =
+    let saved = ports_saved ports states in
+    let networks = ap (has_twice nat_eq) (networks_saved since 1 ports states are) ∙ once in
     record {
       few = few;
       fit =
           all_fit one_port port_symm FitsPorts (λ s. IsPort s × Once one_entry s.peers) port_fits [] saved
-          (both IsPort (λ s. Once one_entry s.peers) saved each (saved_peers_once ports links peers))
+          (both IsPort (λ s. Once one_entry s.peers) saved each (saved_peers_once ports states peers))
           (once_by one_port (λ s. s.network) one_network saved networks) (apart_first one_port saved);
     }

@@ -13,7 +13,7 @@ use Rattle.gw_state_text.specs.Items.{AllFit}
 use Rattle.gw_state_text.specs.Laws.{TextsAreRead}
 use Rattle.gw_continuity.specs.Laws.{NothingIsLost, SlotsAreCarried, SlotsAreKept, SlotsGoOn, StatesAreCarried, StatesAreKept, StatesGoOn}
 use Rattle.gw_continuity.specs.StateOf.{HasItsSlots}
-use Rattle.gw_continuity.proofs.Links.{ports_saved}
+use Rattle.gw_continuity.proofs.PortStates.{ports_saved}
 use Rattle.gw_continuity.proofs.Slots.{slots_are_saved}
 use Rattle.gw_continuity.proofs.Values.{objects_saved}
 use Rattle.gw_restoring.specs.GatewayOf.{IsGatewayOf}
@@ -63,11 +63,11 @@ typed_fits c w once is typed =
     let ports = and_parts (nat_le (length s.ports) 8) _ typed.few in
     let others = and_parts (nat_le (length s.routes) 512) (nat_le (length s.objects) 256) ports.1 in
     let table = is.state.routes in
-    let many : length c.ports ≡ length s.ports = sym (length_saved w.relay.ticks 1 c.ports w.relay.links is.state.links) in
+    let many : length c.ports ≡ length s.ports = sym (length_saved w.relay.ticks 1 c.ports w.relay.ports is.state.ports) in
     record {
       counts = typed.counts;
       ports =
-          ports_fit w.relay.ticks c.ports w.relay.links is.state.links once.of_ports once.of_peers (leb-true _ 8 ports.0) typed.ports;
+          ports_fit w.relay.ticks c.ports w.relay.ports is.state.ports once.of_ports once.of_peers (leb-true _ 8 ports.0) typed.ports;
       routes =
           routes_fit (length s.ports) s.routes
           (subst (λ n. AllByRecursion (λ learned. (1 ≤ learned.1.port) × (learned.1.port ≤ n)) s.routes) many table.by) table.once
@@ -114,7 +114,7 @@ pub counts_leave_them_so : (c : Configuration) → CountsLeaveThemSo c
 counts_leave_them_so c w ticks denials is = record {
   state = record {
     format = is.state.format;
-    links = is.state.links;
+    ports = is.state.ports;
     routes = is.state.routes;
     device = is.state.device;
     values = is.state.values;

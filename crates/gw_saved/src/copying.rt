@@ -1,5 +1,5 @@
 //! Copies of peers and of slots.
-ghost use Rattle.std.specs.Prelude.{◌≡◌, length, IfOk};
+ghost use Rattle.std.specs.Prelude.{◌≡◌, [], length, vec_capacity, IfOk};
 ghost use Rattle.gw_priority.specs.declared.array.TheConstants.{PRIORITIES};
 
 use gw_addr::{BdtEntry, Sequence};
@@ -17,11 +17,19 @@ pub(crate) fn peers(alloc: Global, peers: &Peers) -> Result<Peers, AllocError>
     Ok(Peers::new(entries).unwrap())
 }
 
+/// No entry, with memory for so many.
+fn no_entries(alloc: Global, count: usize) -> Result<Vec<BdtEntry>, AllocError>
+    ensures empty { IfOk result (λ entries. entries.items ≡ []) }
+    ensures room { IfOk result (λ entries. vec_capacity entries ≡ count) }
+{
+    Vec::with_capacity(alloc, count)
+}
+
 /// The same entries.
 fn entries(alloc: Global, entries: &[BdtEntry]) -> Result<Sequence<BdtEntry>, AllocError>
     ensures { IfOk result (λ copies. copies ≡ entries.now) }
 {
-    let mut copies = Sequence::with_capacity(alloc, entries.len())?;
+    let mut copies = Sequence::from_vec(no_entries(alloc, entries.len())?);
     for entry in entries {
         copies.push(*entry)?;
     }

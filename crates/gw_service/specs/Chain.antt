@@ -84,7 +84,7 @@ pub record IsTakenOver {K : Type 0} (Adopts : K → Configuration → State → 
     (d : Configuration) (t : Standing K) : Type 0 where
   pub config : d ≡ new
   pub reads : configuration text ≡ Ok new
-  pub ports : have_same_ports s.gateway.relay.links new.ports ≡ true
+  pub ports : have_same_ports s.gateway.relay.ports new.ports ≡ true
   pub gateway : t.gateway ≡ carried new (saved c s.gateway)
   pub keeper : Adopts s.keeper new t.gateway t.keeper
   pub requests : GoesOn s.requests t.requests

@@ -42,7 +42,7 @@ reloads_of counts = record { taken_over = counts.taken_over; refused = counts.re
 
 -- how many foreign devices are registered at a port
 abbrev pub device_count : PortState → ℕ
-device_count link = length link.fdt.rows
+device_count state = length state.fdt.rows
 
 -- What is written of a run: what was measured, how many asks each of these rules decided, how many foreign devices each port
 -- has, and how many texts were lost. What was received was taken, or memory was refused for it.
@@ -71,7 +71,7 @@ pub record AreCounts (m : Measures) (in_force : List Rule) (decided : Option (Li
 -- the text of that is put into the store, if it is due
 abbrev pub PutsInto : {S : Type 0} → (S → Option (List ℕ)) → Writing S → Measures → State → Option (List ℕ) → Writing S → Type 0
 PutsInto held before m w decisions after =
-    (c : Counts) × AreCounts m w.rules decisions (map device_count w.relay.links) before.lost c
+    (c : Counts) × AreCounts m w.rules decisions (map device_count w.relay.ports) before.lost c
     × WritesAtTick held before m.report.seconds (metrics_text c) after
 
 -- if there is a store

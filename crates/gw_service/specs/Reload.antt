@@ -28,13 +28,13 @@ use Rattle.gw_service.specs.declared.reload.ReloadFault.TheVariants as fault
 
 -- a port has the network, the own address and the broadcast address that another one is configured with
 abbrev pub same_port : PortState → ConfiguredPort → Bool
-same_port link p =
-    nat_eq link.port.network p.network
-    && (same_address link.port.address p.address && same_address link.port.broadcast p.broadcast)
+same_port state p =
+    nat_eq state.port.network p.network
+    && (same_address state.port.address p.address && same_address state.port.broadcast p.broadcast)
 
 -- the same ports in the same order
 abbrev pub have_same_ports : List PortState → List ConfiguredPort → Bool
-have_same_ports links ports = pointwise same_port links ports
+have_same_ports states ports = pointwise same_port states ports
 
 -- ---- why it isn't taken over
 
@@ -46,7 +46,7 @@ IsRefused w (Ok None) fault.Absent = ⊤
 IsRefused w (Err reading.Unreadable) fault.Unreadable = ⊤
 IsRefused w (Ok (Some text)) (fault.Configuration f) = (configuration text ≡ Err f) × (f ≢ config.Memory)
 IsRefused w (Ok (Some text)) fault.Ports =
-    (c : Configuration) × (configuration text ≡ Ok c) × (have_same_ports w.relay.links c.ports ≡ false)
+    (c : Configuration) × (configuration text ≡ Ok c) × (have_same_ports w.relay.ports c.ports ≡ false)
 IsRefused w text f = ⊥
 
 -- the name of a fault of a configuration
@@ -78,7 +78,7 @@ fault_of_reading reading.Memory = fault.Memory
 -- of a text that is a configuration only its ports or memory can be why
 abbrev pub IsPortsOrMemory : State → Configuration → ReloadFault → Type 0
 IsPortsOrMemory w c fault.Memory = ⊤
-IsPortsOrMemory w c fault.Ports = have_same_ports w.relay.links c.ports ≡ false
+IsPortsOrMemory w c fault.Ports = have_same_ports w.relay.ports c.ports ≡ false
 IsPortsOrMemory w c f = ⊥
 
 -- ---- what is reported
@@ -120,7 +120,7 @@ pub record IsAdopted (w : State) (o : Origin) (c : Configuration) (made : Adopte
 pub record IsReloadedBy (w : State) (o : Origin) (text : List ℕ) (made : Adopted) : Type 0 where
   pub config : Configuration
   pub reads : configuration text ≡ Ok config
-  pub ports : have_same_ports w.relay.links config.ports ≡ true
+  pub ports : have_same_ports w.relay.ports config.ports ≡ true
   pub adopted : IsAdopted w o config made
 
 abbrev pub IsReloaded : State → Origin → Result (Option (List ℕ)) ReadFailure → Adopted → Type 0

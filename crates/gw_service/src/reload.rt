@@ -127,23 +127,23 @@ impl ReloadCounts {
 }
 
 /// Whether a port has the network and the addresses that another one is configured with.
-fn same_port(link: &PortState, port: &Port) -> bool
-    ensures { result ≡ same_port link.now port.now }
+fn same_port(state: &PortState, port: &Port) -> bool
+    ensures { result ≡ same_port state.now port.now }
 {
-    link.port.network == port.network
-        && link.port.address == port.address
-        && link.port.broadcast == port.broadcast
+    state.port.network == port.network
+        && state.port.address == port.address
+        && state.port.broadcast == port.broadcast
 }
 
 /// Whether the ports that are served are those of a configuration, in the same order.
-fn have_same_ports(links: &[PortState], ports: &[Port]) -> bool
-    ensures { result ≡ have_same_ports links.now ports.now }
+fn have_same_ports(states: &[PortState], ports: &[Port]) -> bool
+    ensures { result ≡ have_same_ports states.now ports.now }
 {
-    if links.len() != ports.len() {
+    if states.len() != ports.len() {
         return false;
     }
-    for (place, link) in links.iter().enumerate() {
-        if !same_port(link, &ports[place]) {
+    for (place, state) in states.iter().enumerate() {
+        if !same_port(state, &ports[place]) {
             return false;
         }
     }
@@ -230,7 +230,7 @@ fn adopt_ports(
     config: Config,
 ) -> Result<Adopted, ReloadFault>
     ensures adopted { IfOk result (IsAdopted gateway.now origin.now config) }
-    ensures same { IfOk result (λ _. have_same_ports gateway.now.relay.links config.ports ≡ true) }
+    ensures same { IfOk result (λ _. have_same_ports gateway.now.relay.ports config.ports ≡ true) }
     ensures fault { IfErr result (IsPortsOrMemory gateway.now config) }
 {
     if !have_same_ports(gateway.relay().ports(), config.ports()) {

@@ -18,11 +18,11 @@ use Rattle.gw_serving.specs.declared.serving.Served.{Served}
 
 -- how many foreign devices are registered at the ports
 abbrev pub registrations : List PortState → ℕ
-registrations links = sum_by (λ link. length link.fdt.rows) links
+registrations ports = sum_by (λ state. length state.fdt.rows) ports
 
 -- how many peers the ports have: the entries of their tables but the own ones
 abbrev pub peer_count : List PortState → ℕ
-peer_count links = sum_by (λ link. length (peers link.port.address link.bdt)) links
+peer_count ports = sum_by (λ state. length (peers state.port.address state.bdt)) ports
 
 -- the counts of a gateway
 abbrev pub counts_at : State → Counts
@@ -39,8 +39,8 @@ report_of start w s tally = record {
   sends = s.sends;
   send_failures = s.send_failures;
   receive_failures = s.recv_failures;
-  registrations = registrations w.relay.links;
-  peers = peer_count w.relay.links;
+  registrations = registrations w.relay.ports;
+  peers = peer_count w.relay.ports;
   learned_routes = length w.relay.routes.learned;
   tally = tally;
 }

@@ -43,35 +43,35 @@ pub struct Report {
 }
 
 /// How many foreign devices are registered at the ports.
-fn registrations(links: &[PortState]) -> u64
-    requires few { length links.now ≤ MAX_PORTS }
-    ensures { result ≡ registrations links.now }
+fn registrations(ports: &[PortState]) -> u64
+    requires few { length ports.now ≤ MAX_PORTS }
+    ensures { result ≡ registrations ports.now }
 {
     let mut count = 0;
-    for link in links {
-        count += link.fdt.count() as u64;
+    for state in ports {
+        count += state.fdt.count() as u64;
     }
     count
 }
 
 /// How many peers a port has.
-fn peers_of(link: &PortState) -> usize
-    ensures count { result ≡ length (peers link.now.port.address link.now.bdt) }
+fn peers_of(state: &PortState) -> usize
+    ensures count { result ≡ length (peers state.now.port.address state.now.bdt) }
     ensures few { result ≤ MAX_ENTRIES }
 {
-    let own = link.port.address;
-    let entries = link.bdt.entries();
+    let own = state.port.address;
+    let entries = state.bdt.entries();
     entries.iter().filter(|entry| own != entry.address).count()
 }
 
 /// How many peers the ports have.
-fn peer_count(links: &[PortState]) -> u64
-    requires few { length links.now ≤ MAX_PORTS }
-    ensures { result ≡ peer_count links.now }
+fn peer_count(ports: &[PortState]) -> u64
+    requires few { length ports.now ≤ MAX_PORTS }
+    ensures { result ≡ peer_count ports.now }
 {
     let mut count = 0;
-    for link in links {
-        count += peers_of(link) as u64;
+    for state in ports {
+        count += peers_of(state) as u64;
     }
     count
 }

@@ -8,22 +8,6 @@ use crate::places::{Places, mixed};
 use gw_rules::FieldName;
 use std::alloc::{AllocError, Global};
 
-/// The fields in which those that differ are made one. A rule lists its operations one by one, so they stay
-/// apart.
-const JOINED: [FieldName; 11] = [
-    FieldName::Port,
-    FieldName::SourceNetwork,
-    FieldName::SourceKey,
-    FieldName::DestinationNetwork,
-    FieldName::Service,
-    FieldName::ObjectType,
-    FieldName::Instance,
-    FieldName::Property,
-    FieldName::Priority,
-    FieldName::Sender,
-    FieldName::Station,
-];
-
 /// A number made of the ranges for every other field.
 fn number_but(field: FieldName, group: &Group) -> usize {
     let mut number = 0;
@@ -164,7 +148,7 @@ fn fewest(alloc: Global, groups: &[Group]) -> Result<Option<Vec<Group>>, AllocEr
 {
     let mut least = groups.len();
     let mut best = None;
-    for field in JOINED.iter() {
+    for field in FieldName::ALL[1..].iter() {
         let made = join_by(alloc, *field, groups)?;
         if made.len() < least {
             least = made.len();

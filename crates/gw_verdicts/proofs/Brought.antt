@@ -17,7 +17,7 @@ use Rattle.gw_relay.specs.Cast.{accepts, is_unregistered}
 use Rattle.gw_relay.specs.Claim.{claimed, link_source}
 use Rattle.gw_relay.specs.Entry.{admits}
 use Rattle.gw_relay.specs.Message.{Message, message_of}
-use Rattle.gw_relay.specs.State.{Relay, link_at}
+use Rattle.gw_relay.specs.State.{Relay, port_at}
 use Rattle.gw_relay.specs.declared.port.PortState.{PortState}
 use Rattle.gw_rules.specs.declared.rule.Rule.{Rule}
 use Rattle.gw_script.specs.Event.{Event, Datagram, Tick}
@@ -72,10 +72,10 @@ payload_fits (bvll.original_broadcast npdu) fits = fits
 
 -- ---- an NPDU
 
-read_of : (links : List PortState) (device : ℕ) (octets : List ℕ) (npdu : Fields) → AreOctets octets → npdu_of links device octets ≡ Some npdu
+read_of : (ports : List PortState) (device : ℕ) (octets : List ℕ) (npdu : Fields) → AreOctets octets → npdu_of ports device octets ≡ Some npdu
     → IsRead npdu
 unfolding npdu_of
-read_of links device octets npdu fits is = outer (nat_le (length octets) 1497) (npdu_at octets) (λ f e. npdu_read octets f fits e) is
+read_of ports device octets npdu fits is = outer (nat_le (length octets) 1497) (npdu_at octets) (λ f e. npdu_read octets f fits e) is
   where
     inner : (b : Bool) (f : Fields) → IsRead f → (if b then None else Some f) ≡ Some npdu → IsRead npdu
     inner true f read e = absurd cc
@@ -84,10 +84,10 @@ read_of links device octets npdu fits is = outer (nat_le (length octets) 1497) (
         subst IsRead same read
 
     outer : (b : Bool) (r : Result Fields NpduFault) → ((f : Fields) → r ≡ Ok f → IsRead f) → (if b then (elim r [
-      | Ok npdu ↦ if claims_direct links device npdu.source then None else Some npdu
+      | Ok npdu ↦ if claims_direct ports device npdu.source then None else Some npdu
       | Err fault ↦ None
     ]) else None) ≡ Some npdu → IsRead npdu
-    outer true (Ok f) so e = inner (claims_direct links device f.source) f (so f refl) e
+    outer true (Ok f) so e = inner (claims_direct ports device f.source) f (so f refl) e
     outer true (Err fault) so e = absurd cc
     outer false r so e = absurd cc
 
@@ -95,9 +95,9 @@ brought_if : (b : Bool) (m : Message) → IsBrought m → Brought (if b then unr
 brought_if true m is = tt
 brought_if false m is = is
 
-brought_npdu : (links : List PortState) (device : ℕ) (on : PortState) (from : BipAddr) (frame : Frame) (octets : List ℕ) → IsAddress from
-    → HasFields frame → AreOctets octets → Brought (receive_npdu links device on from frame octets)
-brought_npdu links device on from frame octets is fits text = by (npdu_of links device octets) (λ f e. read_of links device octets f text e)
+brought_npdu : (ports : List PortState) (device : ℕ) (on : PortState) (from : BipAddr) (frame : Frame) (octets : List ℕ) → IsAddress from
+    → HasFields frame → AreOctets octets → Brought (receive_npdu ports device on from frame octets)
+brought_npdu ports device on from frame octets is fits text = by (npdu_of ports device octets) (λ f e. read_of ports device octets f text e)
   where
     by : (npdu : Option Fields) → ((f : Fields) → npdu ≡ Some f → IsRead f) → Brought (elim npdu [
       | Some npdu ↦
@@ -114,44 +114,44 @@ brought_npdu links device on from frame octets is fits text = by (npdu_of links 
           npdu = read npdu refl;
         })
 
-brought_frame : (links : List PortState) (device : ℕ) (on : PortState) (from : BipAddr) (frame : Frame) → IsAddress from → HasFields frame
-    → Brought (receive_frame links device on from frame)
-brought_frame links device on from frame is fits = by (manages frame) (accepts on from frame) (payload_of frame) (payload_fits frame fits)
+brought_frame : (ports : List PortState) (device : ℕ) (on : PortState) (from : BipAddr) (frame : Frame) → IsAddress from → HasFields frame
+    → Brought (receive_frame ports device on from frame)
+brought_frame ports device on from frame is fits = by (manages frame) (accepts on from frame) (payload_of frame) (payload_fits frame fits)
   where
     by : (manages heard : Bool) (payload : Option (List ℕ)) → IfSome payload AreOctets → Brought (if manages then managed on from frame
         else if not heard then dropped
         else (elim payload [
-          | Some octets ↦ receive_npdu links device on from frame octets
+          | Some octets ↦ receive_npdu ports device on from frame octets
           | None ↦ dropped
         ]))
     by true heard payload text = (is, fits)
     by false false payload text = tt
     by false true None text = tt
-    by false true (Some octets) text = brought_npdu links device on from frame octets is fits text
+    by false true (Some octets) text = brought_npdu ports device on from frame octets is fits text
 
-brought_datagram : (links : List PortState) (device : ℕ) (on : PortState) (from : BipAddr) (octets : List ℕ) → IsAddress from → AreOctets octets
-    → Brought (receive_datagram links device on from octets)
-brought_datagram links device on from octets is text =
+brought_datagram : (ports : List PortState) (device : ℕ) (on : PortState) (from : BipAddr) (octets : List ℕ) → IsAddress from → AreOctets octets
+    → Brought (receive_datagram ports device on from octets)
+brought_datagram ports device on from octets is text =
     by (comes_in on.port.address from octets) (bvll_at octets) (λ frame e. ((reads_as octets frame text).0 e).valid.fields)
   where
     by : (comes : Bool) (frame : Result Frame BvllFault) → ((f : Frame) → frame ≡ Ok f → HasFields f) → Brought (if comes then (elim frame [
-      | Ok frame ↦ receive_frame links device on from frame
+      | Ok frame ↦ receive_frame ports device on from frame
       | Err fault ↦ dropped
     ]) else dropped)
     by false frame fits = tt
     by true (Err fault) fits = tt
-    by true (Ok frame) fits = brought_frame links device on from frame is (fits frame refl)
+    by true (Ok frame) fits = brought_frame ports device on from frame is (fits frame refl)
 
-brought_on : (links : List PortState) (device number : ℕ) (from : BipAddr) (octets : List ℕ) → IsAddress from → AreOctets octets
-    → Brought (receive_on links device number from octets)
-brought_on links device number from octets is text = by (link_at links number)
+brought_on : (ports : List PortState) (device number : ℕ) (from : BipAddr) (octets : List ℕ) → IsAddress from → AreOctets octets
+    → Brought (receive_on ports device number from octets)
+brought_on ports device number from octets is text = by (port_at ports number)
   where
     by : (on : Option PortState) → Brought (elim on [
-      | Some on ↦ receive_datagram links device on from octets
+      | Some on ↦ receive_datagram ports device on from octets
       | None ↦ dropped
     ])
     by None = tt
-    by (Some on) = brought_datagram links device on from octets is text
+    by (Some on) = brought_datagram ports device on from octets is text
 
 brought_admitted : (rules : List Rule) (relay : Relay) (received : Received) → Brought received → Brought (admit rules relay received)
 brought_admitted rules relay dropped is = tt
@@ -167,5 +167,5 @@ brought_admitted rules relay (message m) is = by (admits rules relay m)
 pub brought_at : (w : State) (e : Event) → IsCarried e → Brought (receive w e)
 unfolding receive
 brought_at w (Datagram port from octets) is =
-    brought_admitted w.rules w.relay _ (brought_on w.relay.links (device_network w.device) port from octets is.0 is.1)
+    brought_admitted w.rules w.relay _ (brought_on w.relay.ports (device_network w.device) port from octets is.0 is.1)
 brought_at w Tick is = tt

@@ -13,15 +13,15 @@ use Rattle.gw_shapes.specs.Shape.{IsWithin}
 use Rattle.gw_shapes.specs.Shapes.{gaps, gaps_between, network, only, split}
 use Rattle.gw_shapes.specs.declared.side.Side.{Side}
 
--- a network that none of the links has is none of the ports'
+-- a network that no port has now is none of the ports'
 pub apart : (number : ℕ) (ports : List ConfiguredPort) (acts : List PortActs) (n : ℕ)
     → length (all_after (ports_from number ports) acts) ≡ length ports
-    → list_any (λ link. link.port.network == n) (all_after (ports_from number ports) acts) ≡ false
+    → list_any (λ state. state.port.network == n) (all_after (ports_from number ports) acts) ≡ false
     → AllByRecursion (λ p. n ≢ p.network) ports
 apart number [] acts n len none = tt
 apart number (p ∷ ports) [] n len none = absurd (omega (arith, len))
 apart number (p ∷ ports) (a ∷ acts) n len none =
-    let parts = or_parts (p.network == n) (list_any (λ link. link.port.network == n) (all_after (ports_from (number + 1) ports) acts)) none in
+    let parts = or_parts (p.network == n) (list_any (λ state. state.port.network == n) (all_after (ports_from (number + 1) ports) acts)) none in
     let here = eqb-false p.network n parts.0 in
     (λ e. here (sym e), apart (number + 1) ports acts n (omega (arith, len)) parts.1)
 

@@ -181,7 +181,7 @@ pub record RouteCases (P : Ask → Type 0) (K : Known) (format : Format) (m : Me
 
 -- what is known of the networks that a message can go to
 pub record Reached (K : Known) (relay : Relay) (m : Message) : Type 0 where
-  pub ports : AllByRecursion (λ link. K.IsNet link.port.network) relay.links
+  pub ports : AllByRecursion (λ state. K.IsNet state.port.network) relay.ports
   pub bound : (d : Destination) → m.npdu.destination ≡ Some d → d.address.network ≢ EVERYWHERE → K.IsNet d.address.network
   pub text : K.IsText (payload_octets m.npdu.payload)
 
@@ -198,20 +198,20 @@ each_one P K format m network is cases net fits =
     (subst (λ (to : Option ℕ). AllByRecursion P (forward_asks format (route_ask format m to) m.npdu.payload)) (sym is)
     (each_forward P K format m network cases net fits)) tt
 
-each_copy : (P : Ask → Type 0) (K : Known) (format : Format) (m : Message) (d : Destination) (links : List PortState) → RouteCases P K format m
-    → AllByRecursion (λ link. K.IsNet link.port.network) links → K.IsText (payload_octets m.npdu.payload)
-    → AllByRecursion P (asks_of (map (copy format m d) links))
+each_copy : (P : Ask → Type 0) (K : Known) (format : Format) (m : Message) (d : Destination) (states : List PortState) → RouteCases P K format m
+    → AllByRecursion (λ state. K.IsNet state.port.network) states → K.IsText (payload_octets m.npdu.payload)
+    → AllByRecursion P (asks_of (map (copy format m d) states))
 each_copy P K format m d [] cases nets fits = tt
-each_copy P K format m d (link ∷ links) cases nets fits =
-    each_both P (forward_asks format (route_ask format m (Some link.port.network)) m.npdu.payload) _
-    (each_forward P K format m link.port.network cases nets.0 fits) (each_copy P K format m d links cases nets.1 fits)
+each_copy P K format m d (state ∷ states) cases nets fits =
+    each_both P (forward_asks format (route_ask format m (Some state.port.network)) m.npdu.payload) _
+    (each_forward P K format m state.port.network cases nets.0 fits) (each_copy P K format m d states cases nets.1 fits)
 
 -- what holds of each port holds of the others
-each_other : (Is : PortState → Type 0) (number : ℕ) (links : List PortState) → AllByRecursion Is links → AllByRecursion Is (others number links)
+each_other : (Is : PortState → Type 0) (number : ℕ) (states : List PortState) → AllByRecursion Is states → AllByRecursion Is (others number states)
 each_other Is number [] each = tt
-each_other Is number (link ∷ links) each = by (not (nat_eq link.port.number number)) (each_other Is number links each.1)
+each_other Is number (state ∷ states) each = by (not (nat_eq state.port.number number)) (each_other Is number states each.1)
   where
-    by : (b : Bool) → AllByRecursion Is (others number links) → AllByRecursion Is (if b then link ∷ others number links else others number links)
+    by : (b : Bool) → AllByRecursion Is (others number states) → AllByRecursion Is (if b then state ∷ others number states else others number states)
     by true rest = (each.0, rest)
     by false rest = rest
 
@@ -240,8 +240,8 @@ each_way P K relay m d by is at cases reached = each by at
 
     each : (by : Way) → way relay.routes d.address.network ≡ by → AllByRecursion P (asks_of (steps_by relay m d by))
     each ways.Everywhere at =
-        each_copy P K relay.format m d (others m.here.port.number relay.links) cases
-        (each_other (λ link. K.IsNet link.port.network) m.here.port.number relay.links reached.ports) reached.text
+        each_copy P K relay.format m d (others m.here.port.number relay.ports) cases
+        (each_other (λ state. K.IsNet state.port.network) m.here.port.number relay.ports reached.ports) reached.text
     each (ways.Port other) at =
         steps_if P (leaves m.here.port.number (ways.Port other)) _ []
         (λ t. one (λ e. let both = sym at ∙ e in cc)) tt

@@ -54,7 +54,7 @@ use Rattle.gw_core.proofs.FormatLemmas.{format_stays}
 use Rattle.gw_core.proofs.HistoryLemmas.{configuration_stays, ports_stay}
 use Rattle.gw_core.proofs.RespondLemmas.{four_none}
 use Rattle.gw_core.proofs.StandLemmas.{acts_leave_the_tables}
-use Rattle.gw_core.proofs.Whence.{Heard, InPorts, IsHeard, all_links, heard_at, port_bounds}
+use Rattle.gw_core.proofs.Whence.{Heard, InPorts, IsHeard, all_ports, heard_at, port_bounds}
 use Rattle.gw_verdicts.specs.Laws.{AsksLieInShapes, IsCarried, IsInstance, IsNumbered, IsOnNetwork, NeverFirstNeverDecides}
 use Rattle.gw_shapes.specs.Shape.{IsWithin, LiesInOne, Shape}
 use Rattle.gw_shapes.specs.Shapes.{claim_shapes, enter_shapes, foreign, foreign_shapes, gaps, near_shapes, network, own, own_shapes, perhaps, shapes, shapes_from, shapes_of, shapes_within, some, table_shapes}
@@ -255,9 +255,9 @@ claiming_lies format device ports m there brought names other none =
     (gap.lies (claim_ask format m) (in_front (claim_shapes format at) (shapes_from format device at) (claim_ask format m)
     (claim_lies format at m names (comes_foreign format ports m gap.side there brought named gap.within))))
 
--- no link is of a network, so no port is
+-- no port is of a network now, so none is
 abbrev Apart : State → List ConfiguredPort → Type 0
-Apart w ports = (n : ℕ) → list_any (λ link. link.port.network == n) w.relay.links ≡ false → AllByRecursion (λ p. n ≢ p.network) ports
+Apart w ports = (n : ℕ) → list_any (λ state. state.port.network == n) w.relay.ports ≡ false → AllByRecursion (λ p. n ≢ p.network) ports
 
 -- a message that names no source speaks for nobody else
 silent_claim : (relay : Relay) (m : Message) → m.npdu.source ≡ None → speaks_for_others relay m ≡ true → ⊥
@@ -277,7 +277,7 @@ speaker_names relay m e = by (names_stations relay.format) _ e
     by false rest e = absurd cc
 
 entry_lies : (w : State) (ports : List ConfiguredPort) (m : Message)
-    → IsHeard w.relay.links (device_network w.device) (InPorts 1 ports) m → IsBrought m → Apart w ports
+    → IsHeard w.relay.ports (device_network w.device) (InPorts 1 ports) m → IsBrought m → Apart w ports
     → AllByRecursion (LiesThere w.relay.format (device_network w.device) ports) (entry_asks w.rules w.relay m)
 entry_lies w ports m heard brought apart =
     let format = w.relay.format in
@@ -286,13 +286,13 @@ entry_lies w ports m heard brought apart =
     (λ e. elim heard.claim [
       | inl none ↦ absurd (silent_claim w.relay m none.0 e)
       | inr other ↦
-          let parts = or_parts (m.claim.net == device) (list_any (λ link. link.port.network == m.claim.net) w.relay.links) other in
+          let parts = or_parts (m.claim.net == device) (list_any (λ state. state.port.network == m.claim.net) w.relay.ports) other in
           claiming_lies format device ports m heard.port brought (speaker_names w.relay m e) (eqb-false m.claim.net device parts.0)
           (apart m.claim.net parts.1)
     ])
 
 -- the networks that a message can go to
-reached_by : (w : State) (m : Message) → IsBrought m → AllByRecursion (λ link. bounds_known.IsNet link.port.network) w.relay.links
+reached_by : (w : State) (m : Message) → IsBrought m → AllByRecursion (λ state. bounds_known.IsNet state.port.network) w.relay.ports
     → Reached bounds_known w.relay m
 reached_by w m brought nets = record {
   ports = nets;
@@ -306,8 +306,8 @@ reached_by w m brought nets = record {
         (place.0, omega (arith, most, other))
 
 received_lies : (w : State) (ports : List ConfiguredPort) (received : Received)
-    → Heard w.relay.links (device_network w.device) (InPorts 1 ports) received → Brought received → Apart w ports
-    → AllByRecursion (λ link. bounds_known.IsNet link.port.network) w.relay.links → DeviceKnown bounds_known w.device.configured
+    → Heard w.relay.ports (device_network w.device) (InPorts 1 ports) received → Brought received → Apart w ports
+    → AllByRecursion (λ state. bounds_known.IsNet state.port.network) w.relay.ports → DeviceKnown bounds_known w.device.configured
     → AllByRecursion (LiesThere w.relay.format (device_network w.device) ports) (asks_for w.rules w.relay w.device received)
 received_lies w ports dropped heard brought apart nets known = tt
 received_lies w ports (unregistered m) heard brought apart nets known = tt
@@ -326,7 +326,7 @@ received_lies w ports (message m) heard brought apart nets known =
     elim heard.claim [
       | inl is ↦ own_lies w ports m heard.port is.0 brought reached known entered
       | inr other ↦
-          let parts = or_parts (m.claim.net == device_network w.device) (list_any (λ link. link.port.network == m.claim.net) w.relay.links) other in
+          let parts = or_parts (m.claim.net == device_network w.device) (list_any (λ state. state.port.network == m.claim.net) w.relay.ports) other in
           foreign_lies w ports m heard.port brought (eqb-false m.claim.net (device_network w.device) parts.0) (apart m.claim.net parts.1)
           reached known entered
     ]
@@ -411,18 +411,18 @@ there_after : (c : Configuration) (k : Counts) (h : List Event) (e : Event) (w :
 unfolding asks
 there_after c k h e w is numbered carried =
     let acts = port_acts c k h in
-    let stand : w.relay.links ≡ all_after (ports_from 1 c.ports) acts = ap (λ (v : State). v.relay.links) is ∙ acts_leave_the_tables c k h in
-    let each = subst (λ (links : List PortState). AllByRecursion (λ link. InPorts 1 c.ports link.port) links) (sym stand) (all_links 1 c.ports acts) in
-    let nets = each_weaker (λ link. InPorts 1 c.ports link.port) (λ link. bounds_known.IsNet link.port.network)
-    (λ link there. port_net 1 c.ports link.port numbered.networks there) w.relay.links each in
+    let stand : w.relay.ports ≡ all_after (ports_from 1 c.ports) acts = ap (λ (v : State). v.relay.ports) is ∙ acts_leave_the_tables c k h in
+    let each = subst (λ (states : List PortState). AllByRecursion (λ state. InPorts 1 c.ports state.port) states) (sym stand) (all_ports 1 c.ports acts) in
+    let nets = each_weaker (λ state. InPorts 1 c.ports state.port) (λ state. bounds_known.IsNet state.port.network)
+    (λ state there. port_net 1 c.ports state.port numbered.networks there) w.relay.ports each in
     let configured : w.device.configured ≡ (database_of c).configured =
     ap (λ (v : State). v.device.configured) is ∙ configuration_stays c k h in
     let known = subst (λ (x : Configured). DeviceKnown bounds_known x) (sym configured)
     (device_known (database_of c).configured numbered.device (configured_small c.objects numbered.objects)) in
     let len : length (all_after (ports_from 1 c.ports) acts) ≡ length c.ports =
-    ap (λ (links : List PortState). length links) (sym stand) ∙ ap (λ (v : State). length v.relay.links) is ∙ ports_stay c k h in
+    ap (λ (states : List PortState). length states) (sym stand) ∙ ap (λ (v : State). length v.relay.ports) is ∙ ports_stay c k h in
     received_lies w c.ports (receive w e) (heard_at w (InPorts 1 c.ports) e each) (brought_at w e carried)
-    (λ n none. apart 1 c.ports acts n len (sym (ap (λ (links : List PortState). list_any (λ link. link.port.network == n) links) stand) ∙ none))
+    (λ n none. apart 1 c.ports acts n len (sym (ap (λ (states : List PortState). list_any (λ state. state.port.network == n) states) stand) ∙ none))
     nets known
 
 pub asks_lie_in_shapes : AsksLieInShapes

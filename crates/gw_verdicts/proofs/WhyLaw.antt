@@ -27,7 +27,7 @@ use Rattle.gw_relay.specs.Cast.{accepts, is_unregistered}
 use Rattle.gw_relay.specs.Entry.{admits, entry_asks}
 use Rattle.gw_relay.specs.Asks as table
 use Rattle.gw_relay.specs.Message.{Message, message_of}
-use Rattle.gw_relay.specs.State.{Relay, link_at}
+use Rattle.gw_relay.specs.State.{Relay, port_at}
 use Rattle.gw_relay.specs.declared.port.PortState.{PortState}
 use Rattle.gw_rules.specs.Ask.{Ask}
 use Rattle.gw_rules.specs.Format.{names_stations}
@@ -156,7 +156,7 @@ own_unknown c = record {
 }
 
 reached_unknown : (relay : Relay) (m : Message) → Reached nothing_known relay m
-reached_unknown relay m = record { ports = each_unknown relay.links; bound = λ d is other. tt; text = tt }
+reached_unknown relay m = record { ports = each_unknown relay.ports; bound = λ d is other. tt; text = tt }
 
 apdu_so : (rules : List Rule) (format : Format) (d : Database) (m : Message) (apdu : Option (List ℕ))
     → AllByRecursion (so m) (apdu_asks rules d (context_of format (device_network d) m) apdu)
@@ -190,9 +190,9 @@ sent_if : (b : Bool) (m : Message) → SentBy (if b then unregistered m else mes
 sent_if true m = tt
 sent_if false m = tt
 
-sent_npdu : (links : List PortState) (device : ℕ) (on : PortState) (from : BipAddr) (frame : Frame) (octets : List ℕ)
-    → SentBy (receive_npdu links device on from frame octets)
-sent_npdu links device on from frame octets = by (npdu_of links device octets)
+sent_npdu : (states : List PortState) (device : ℕ) (on : PortState) (from : BipAddr) (frame : Frame) (octets : List ℕ)
+    → SentBy (receive_npdu states device on from frame octets)
+sent_npdu states device on from frame octets = by (npdu_of states device octets)
   where
     by : (npdu : Option Fields) → SentBy (elim npdu [
       | Some npdu ↦
@@ -203,43 +203,43 @@ sent_npdu links device on from frame octets = by (npdu_of links device octets)
     by None = tt
     by (Some npdu) = sent_if (is_unregistered on from frame) (message_of on from frame npdu)
 
-sent_frame : (links : List PortState) (device : ℕ) (on : PortState) (from : BipAddr) (frame : Frame) → IsAddress from
-    → SentBy (receive_frame links device on from frame)
-sent_frame links device on from frame is = by (manages frame) (accepts on from frame) (payload_of frame)
+sent_frame : (states : List PortState) (device : ℕ) (on : PortState) (from : BipAddr) (frame : Frame) → IsAddress from
+    → SentBy (receive_frame states device on from frame)
+sent_frame states device on from frame is = by (manages frame) (accepts on from frame) (payload_of frame)
   where
     by : (manages heard : Bool) (payload : Option (List ℕ)) → SentBy (if manages then managed on from frame
         else if not heard then dropped
         else (elim payload [
-          | Some octets ↦ receive_npdu links device on from frame octets
+          | Some octets ↦ receive_npdu states device on from frame octets
           | None ↦ dropped
         ]))
     by true heard payload = is
     by false false payload = tt
     by false true None = tt
-    by false true (Some octets) = sent_npdu links device on from frame octets
+    by false true (Some octets) = sent_npdu states device on from frame octets
 
-sent_datagram : (links : List PortState) (device : ℕ) (on : PortState) (from : BipAddr) (octets : List ℕ) → IsAddress from
-    → SentBy (receive_datagram links device on from octets)
-sent_datagram links device on from octets is = by (comes_in on.port.address from octets) (bvll_at octets)
+sent_datagram : (states : List PortState) (device : ℕ) (on : PortState) (from : BipAddr) (octets : List ℕ) → IsAddress from
+    → SentBy (receive_datagram states device on from octets)
+sent_datagram states device on from octets is = by (comes_in on.port.address from octets) (bvll_at octets)
   where
     by : (comes : Bool) (frame : Result Frame BvllFault) → SentBy (if comes then (elim frame [
-      | Ok frame ↦ receive_frame links device on from frame
+      | Ok frame ↦ receive_frame states device on from frame
       | Err fault ↦ dropped
     ]) else dropped)
     by false frame = tt
     by true (Err fault) = tt
-    by true (Ok frame) = sent_frame links device on from frame is
+    by true (Ok frame) = sent_frame states device on from frame is
 
-sent_on : (links : List PortState) (device number : ℕ) (from : BipAddr) (octets : List ℕ) → IsAddress from
-    → SentBy (receive_on links device number from octets)
-sent_on links device number from octets is = by (link_at links number)
+sent_on : (states : List PortState) (device number : ℕ) (from : BipAddr) (octets : List ℕ) → IsAddress from
+    → SentBy (receive_on states device number from octets)
+sent_on states device number from octets is = by (port_at states number)
   where
     by : (on : Option PortState) → SentBy (elim on [
-      | Some on ↦ receive_datagram links device on from octets
+      | Some on ↦ receive_datagram states device on from octets
       | None ↦ dropped
     ])
     by None = tt
-    by (Some on) = sent_datagram links device on from octets is
+    by (Some on) = sent_datagram states device on from octets is
 
 sent_admitted : (rules : List Rule) (relay : Relay) (received : Received) → SentBy received → SentBy (admit rules relay received)
 sent_admitted rules relay dropped is = tt
@@ -255,7 +255,7 @@ sent_admitted rules relay (message m) is = by (admits rules relay m)
 sent_at : (w : State) (e : Event) → IsSent e → SentBy (receive w e)
 unfolding receive
 sent_at w (Datagram port from octets) is =
-    sent_admitted w.rules w.relay _ (sent_on w.relay.links (device_network w.device) port from octets is)
+    sent_admitted w.rules w.relay _ (sent_on w.relay.ports (device_network w.device) port from octets is)
 sent_at w Tick is = tt
 
 -- ---- denials

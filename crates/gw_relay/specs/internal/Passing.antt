@@ -13,4 +13,4 @@ unicast_of port to npdu = option_map_or (λ octets. sent port (to ∷ []) (origi
 
 -- as a broadcast on a port
 abbrev pub broadcast_of : Option (List ℕ) → PortState → List Sending
-broadcast_of npdu link = option_map_or (spread link) npdu []
+broadcast_of npdu state = option_map_or (spread state) npdu []

@@ -16,20 +16,20 @@ use Rattle.gw_relay.specs.declared.port.PortState.{PortState}
 
 -- the answer to a frame that manages a table
 abbrev pub served : PortState → BipAddr → Frame → Bool → List Sending
-served link from frame allowed =
-    map (answer_to link.port from)
-    (if allowed && is_granted link from frame then granted link frame else refused frame)
+served state from frame allowed =
+    map (answer_to state.port from)
+    (if allowed && is_granted state from frame then granted state frame else refused frame)
 
 -- what it changes
 abbrev pub served_change : PortState → BipAddr → Frame → Bool → Option Change
-served_change link from frame allowed =
-    if allowed && is_granted link from frame then change_of link.port from frame else None
+served_change state from frame allowed =
+    if allowed && is_granted state from frame then change_of state.port from frame else None
 
 -- the sends of a broadcast
 abbrev pub judged : PortState → BipAddr → Frame → Bool → List Sending
-judged link from frame allowed =
-    if allowed then sent link.port.number (targets link from frame) (passed_on from frame)
-    else map (answer_to link.port from) (refused frame)
+judged state from frame allowed =
+    if allowed then sent state.port.number (targets state from frame) (passed_on from frame)
+    else map (answer_to state.port from) (refused frame)
 
 -- what is learned of a router's message
 abbrev pub learn_response : List Rule → Format → Message → Response

@@ -12,7 +12,7 @@ invariant_of-self-2 c =
     let room = ap (λ (s : State). s.denials) c.self.view_is in record {
       some = c.self.invariant.some;
       most = c.self.invariant.most;
-      links = ap (λ (r : Relay). length r.links) is ∙ length_moved (option_map Commit c.args.change) old ∙ c.self.invariant.links;
+      ports = ap (λ (r : Relay). length r.ports) is ∙ length_moved (option_map Commit c.args.change) old ∙ c.self.invariant.ports;
       later = subst (λ (n : ℕ). n ≤ c.self.inside.counts.ticks)
           (sym (ap (λ (r : Relay). r.ticks) is ∙ same_ticks c.args.change old)) c.self.invariant.later;
       ticks = c.self.invariant.ticks;

@@ -7,7 +7,7 @@ pub invariant_of-result : goal.invariant_of-result
 invariant_of-result c = record {
   some = omega (arith, ap length c.ports.ensures.ports, c.ports.ensures.some);
   most = omega (arith, ap length c.ports.ensures.ports, c.ports.ensures.most);
-  links = ap (λ (r : Relay). length r.links) c.in_ok-relay.ensures.initial ∙ length_from 1 c.args.config.ports ∙ sym (ap length c.ports.ensures.ports);
+  ports = ap (λ (r : Relay). length r.ports) c.in_ok-relay.ensures.initial ∙ length_from 1 c.args.config.ports ∙ sym (ap length c.ports.ensures.ports);
   later = subst (λ (n : ℕ). n ≤ c.args.counts.ticks) (sym (ap (λ (r : Relay). r.ticks) c.in_ok-relay.ensures.initial)) (omega arith);
   ticks = c.requires.ticks;
   denials = c.requires.denials;

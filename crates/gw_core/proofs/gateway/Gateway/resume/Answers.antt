@@ -27,7 +27,7 @@ invariant_of-result c =
     record {
       some = omega (arith, ports, some);
       most = omega (arith, ports, most);
-      links = ap (λ (r : Relay). length r.links) c.in_ok-relay.ensures
+      ports = ap (λ (r : Relay). length r.ports) c.in_ok-relay.ensures
           ∙ length_with 1 c.args.config.ports c.in_ok-tables.tables.items (c.in_ok-tables.ensures.each ∙ ports)
           ∙ sym ports;
       later = subst (λ (n : ℕ). n ≤ c.counts-counts.result.ticks) (sym (ap (λ (r : Relay). r.ticks) c.in_ok-relay.ensures)) c.counts-counts.ensures.since;

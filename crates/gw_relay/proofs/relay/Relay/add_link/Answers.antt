@@ -24,20 +24,20 @@ returns-in_default-clause-turn g c = λ rules stands.
 pub returns-clause-turn : goal.returns-clause-turn
 returns-clause-turn g c = λ rules stands.
     let m = c.args.message.now in
-    let link = m.here.now in
+    let state = m.here.now in
     let turn = c.args.turn.now in
     let frame = view m.frame.now in
     let operation = c.in-Some.operation in
     let allowed = c.in_ok-is_allowed.is_allowed in
     let managed = sym c.management_of.ensures ∙ c.in-Some.is in
-    let own : c.link_ask-ask.result ≡ link_ask c.args.self.now.format link.port m.from frame operation = c.link_ask-ask.ensures
-    ∙ ap (λ (format : Format). link_ask format link.port m.from frame operation) c.format.ensures in
+    let own : c.link_ask-ask.result ≡ link_ask c.args.self.now.format state.port m.from frame operation = c.link_ask-ask.ensures
+    ∙ ap (λ (format : Format). link_ask format state.port m.from frame operation) c.format.ensures in
     let judges = c.in_ok-is_allowed.ensures.answer rules stands ∙ ap (allows rules) own in
     let asked = c.in_ok-is_allowed.ensures.kept rules stands
     ∙ ap (λ (ask : Ask). g.A.Asker.kept turn.asker ++ g.A.Asker.kept_of rules (ask ∷ [])) own in record {
       sends = c.set_change.ensures.sends ∙ c.in_ok-change.ensures.sends ∙ ap (λ (l : List Sending). turn.sends ++ l)
-          (sym (link_served rules c.args.self.now.format link m.from frame operation allowed managed judges));
-      verdicts = rw (link_asked c.args.self.now.format link m.from frame operation managed) (ap g.A.Asker.kept c.set_change.ensures.asker ∙ asked);
+          (sym (link_served rules c.args.self.now.format state m.from frame operation allowed managed judges));
+      verdicts = rw (link_asked c.args.self.now.format state m.from frame operation managed) (ap g.A.Asker.kept c.set_change.ensures.asker ∙ asked);
       change = c.set_change.ensures.change ∙ ap (λ (x : Option Change). option_or turn.change x)
-          (c.in_ok-change.ensures.change ∙ sym (link_changed rules c.args.self.now.format link m.from frame operation allowed managed judges));
+          (c.in_ok-change.ensures.change ∙ sym (link_changed rules c.args.self.now.format state m.from frame operation allowed managed judges));
     }

@@ -1,5 +1,5 @@
 use Rattle.std.proofs.Common.{◌∙◌, ap, map}
-use Rattle.gw_relay.specs.Initial.{direct_of, links_from, routed_of}
+use Rattle.gw_relay.specs.Initial.{direct_of, port_states_from, routed_of}
 use Rattle.gw_relay.proofs.Histories.{configured_stand}
 use Rattle.gw_relay.proofs.WayLemmas.{none_learned}
 use Rattle.gw_relay.proofs.Peers.{all_peers_once}
@@ -7,14 +7,14 @@ use Rattle.gw_relay.proofs.Ticks.{initial_alike}
 use Rattle.gw_relay.proofs.relay.Relay.new.Goals as goal
 
 pub invariant_of-result : goal.invariant_of-result
-invariant_of-result c = rw c.in_ok-links.ensures (initial_alike 1 c.ports.result.now)
+invariant_of-result c = rw c.in_ok-ports.ensures (initial_alike 1 c.ports.result.now)
 
 pub returns-clause-stands : goal.returns-clause-stands
 returns-clause-stands c =
-    c.in_ok-links.ensures ∙ ap (links_from 1) c.ports.ensures.ports ∙ configured_stand 1 c.args.config.now.ports
+    c.in_ok-ports.ensures ∙ ap (port_states_from 1) c.ports.ensures.ports ∙ configured_stand 1 c.args.config.now.ports
 
-pub links_of-requires-clause-once : goal.links_of-requires-clause-once
-links_of-requires-clause-once c = rw c.ports.ensures.ports (all_peers_once c.args.config.now c.ports.ensures.once)
+pub port_states-requires-clause-once : goal.port_states-requires-clause-once
+port_states-requires-clause-once c = rw c.ports.ensures.ports (all_peers_once c.args.config.now c.ports.ensures.once)
 
 pub returns-clause-learnings : goal.returns-clause-learnings
 returns-clause-learnings c =

@@ -6,7 +6,7 @@ ghost use Rattle.gw_routes.specs.History.{IsStateAfter};
 ghost use Rattle.gw_routes.specs.History.{History as Learned};
 ghost use Rattle.gw_routes.specs.Table.{Routed};
 ghost use Rattle.gw_relay.specs.History.{learned_after};
-ghost use Rattle.gw_relay.specs.State.{deleted, link_later, links_after, registered, routes_after, wants_room};
+ghost use Rattle.gw_relay.specs.State.{deleted, port_later, ports_after, registered, routes_after, wants_room};
 
 use crate::change::Change;
 use crate::port::PortState;
@@ -18,31 +18,31 @@ use std::alloc::AllocError;
 /// Makes a change whole. The only fault is want of memory for a registration or for
 /// routes; then nothing changed.
 pub(crate) fn make(
-    links: &mut [PortState],
+    ports: &mut [PortState],
     routes: &mut Routes,
     change: Change,
 ) -> Result<(), AllocError>
-    ensures ok { OnOk result (links.new ≡ links_after change links.old) }
+    ensures ok { OnOk result (ports.new ≡ ports_after change ports.old) }
     ensures learned { OnOk result (routes.new ≡ routes_after change routes.old) }
     ensures learnings { OnOk result ((direct : List ℕ) (configured : Routed) (h : Learned) →
         IsStateAfter routes.old direct configured h →
         IsStateAfter routes.new direct configured (learned_after change routes.old h)) }
-    ensures err { OnErr result (links.new ≡ links.old) }
+    ensures err { OnErr result (ports.new ≡ ports.old) }
     ensures unlearned { OnErr result (routes.new ≡ routes.old) }
     ensures no_growth { wants_room change ≡ false → IsOk result }
 {
     match change {
         Change::Entries { port, bdt } => {
-            replace(links, port, bdt);
+            replace(ports, port, bdt);
             Ok(())
         }
         Change::Registration {
             port,
             address,
             time_to_live,
-        } => register(links, port, address, time_to_live),
+        } => register(ports, port, address, time_to_live),
         Change::Deletion { port, address } => {
-            delete(links, port, address);
+            delete(ports, port, address);
             Ok(())
         }
         Change::Learnings {
@@ -54,32 +54,32 @@ pub(crate) fn make(
 }
 
 /// A table takes the place of a port's.
-fn replace(links: &mut [PortState], port: u8, bdt: Bdt)
-    ensures { links.new ≡ links_after (Change.Entries port bdt) links.old }
+fn replace(ports: &mut [PortState], port: u8, bdt: Bdt)
+    ensures { ports.new ≡ ports_after (Change.Entries port bdt) ports.old }
 {
-    if port == 0 || usize::from(port) > links.len() {
+    if port == 0 || usize::from(port) > ports.len() {
         return;
     }
-    let link = &mut links[usize::from(port) - 1];
-    link.bdt = bdt;
+    let state = &mut ports[usize::from(port) - 1];
+    state.bdt = bdt;
 }
 
 /// A foreign device registers, if there is room for it.
 fn register(
-    links: &mut [PortState],
+    ports: &mut [PortState],
     port: u8,
     address: BipAddr,
     time_to_live: u16,
 ) -> Result<(), AllocError>
     ensures ok { OnOk result
-        (links.new ≡ links_after (Change.Registration port address time_to_live) links.old) }
-    ensures err { OnErr result (links.new ≡ links.old) }
+        (ports.new ≡ ports_after (Change.Registration port address time_to_live) ports.old) }
+    ensures err { OnErr result (ports.new ≡ ports.old) }
 {
-    if port == 0 || usize::from(port) > links.len() {
+    if port == 0 || usize::from(port) > ports.len() {
         return Ok(());
     }
-    let link = &mut links[usize::from(port) - 1];
-    registered(&mut link.fdt, address, time_to_live)?;
+    let state = &mut ports[usize::from(port) - 1];
+    registered(&mut state.fdt, address, time_to_live)?;
     Ok(())
 }
 
@@ -95,14 +95,14 @@ fn registered(fdt: &mut Fdt, address: BipAddr, time_to_live: u16) -> Result<(), 
 }
 
 /// A registration is deleted, if it is there.
-fn delete(links: &mut [PortState], port: u8, address: BipAddr)
-    ensures { links.new ≡ links_after (Change.Deletion port address) links.old }
+fn delete(ports: &mut [PortState], port: u8, address: BipAddr)
+    ensures { ports.new ≡ ports_after (Change.Deletion port address) ports.old }
 {
-    if port == 0 || usize::from(port) > links.len() {
+    if port == 0 || usize::from(port) > ports.len() {
         return;
     }
-    let link = &mut links[usize::from(port) - 1];
-    deleted(&mut link.fdt, address);
+    let state = &mut ports[usize::from(port) - 1];
+    deleted(&mut state.fdt, address);
 }
 
 /// A registration of a table is deleted, if it is there.
@@ -113,11 +113,11 @@ fn deleted(fdt: &mut Fdt, address: BipAddr)
 }
 
 /// One second passes on each port.
-pub(crate) fn tick_each(links: &mut [PortState])
-    requires { AllByRecursion (λ link. link.fdt.ticks < 2 ^ 63) links.old }
-    ensures { links.new ≡ map link_later links.old }
+pub(crate) fn tick_each(ports: &mut [PortState])
+    requires { AllByRecursion (λ state. state.fdt.ticks < 2 ^ 63) ports.old }
+    ensures { ports.new ≡ map port_later ports.old }
 {
-    for link in links.iter_mut() {
-        link.fdt.tick();
+    for state in ports.iter_mut() {
+        state.fdt.tick();
     }
 }

@@ -1,5 +1,5 @@
 use Rattle.gw_relay.proofs.WayLemmas.{learnings_made}
-use Rattle.gw_relay.proofs.links.make.Goals as goal
+use Rattle.gw_relay.proofs.commit.make.Goals as goal
 
 pub returns-in-Learnings-clause-learnings : goal.returns-in-Learnings-clause-learnings
 returns-in-Learnings-clause-learnings c =
