@@ -32,6 +32,8 @@ NOTES = {
     "gw_keeping": "that what lasts is kept",
     "gw_watching": "a trial, an audit, counts",
     "gw_watch_files": "their files",
+    "gw_notices": "what an operator reads",
+    "gw_named_log": "a log that is renamed",
     "gw_rule_changes": "rules new, gone, moved",
     "gw_suggest": "rules from what was seen",
     "gw_tally": "how often rules decide",

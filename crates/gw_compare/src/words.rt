@@ -317,7 +317,8 @@ fn put_noun(out: &mut Vec<u8>, field: FieldName) -> Result<(), AllocError>
     ensures { OnOk result (out.new.items ≡ out.old.items ++ (noun_of field ++ codes " ")) }
 {
     out.extend_from_slice(noun_of(field).as_bytes())?;
-    out.push(b' ')
+    out.push(b' ')?;
+    Ok(())
 }
 
 /// What is missing if the field is absent: its key, if that is a word.

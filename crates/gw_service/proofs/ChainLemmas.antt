@@ -26,12 +26,13 @@ use Rattle.gw_system.specs.declared.reading.ReadFailure.{ReadFailure}
 use Rattle.gw_service.specs.Chain.{Advances, AreLinks, IsLink, IsLooked, IsNotedBy, Link, Look, Looks, Manner, Runs, Stage, chain_text, link_text, look_text}
 use Rattle.gw_service.specs.Chain.{refused, standing, taken_over, unrequested}
 use Rattle.gw_service.specs.Keeping.{IsSuccessor}
-use Rattle.gw_service.specs.Reload.{IsRefusalLine, IsRefused, IsReloaded, refusal_line, reload_line, with_refused, with_taken_over}
+use Rattle.gw_notices.specs.Reload.{IsRefusalLine, refusal_line, reload_line, with_refused, with_taken_over}
+use Rattle.gw_service.specs.Reload.{IsRefused, IsReloaded}
 use Rattle.gw_service.specs.declared.reload.Adopted.{Adopted}
-use Rattle.gw_service.specs.declared.reload.ReloadCounts.{ReloadCounts}
-use Rattle.gw_service.specs.declared.reload.ReloadFault.{ReloadFault}
-use Rattle.gw_service.specs.declared.reload.ReloadFault.TheVariants as faults
-use Rattle.gw_service.proofs.ServingLemmas.{appends_nothing, appends_two}
+use Rattle.gw_notices.specs.declared.reload.ReloadCounts.{ReloadCounts}
+use Rattle.gw_notices.specs.declared.reload.ReloadFault.{ReloadFault}
+use Rattle.gw_notices.specs.declared.reload.ReloadFault.TheVariants as faults
+use Rattle.gw_notices.proofs.AppendLemmas.{appends_nothing, appends_two}
 
 -- one link more
 pub links_more : {K : Type 0} (manner : Manner K) (s : Stage K) (links : List Link) (t u : Stage K) (link : Link)

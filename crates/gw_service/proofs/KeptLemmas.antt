@@ -16,12 +16,12 @@ use Rattle.gw_system.specs.Requests.{Asking, recorded_by}
 use Rattle.gw_service.specs.Chain.{Link, Manner, Runs, Stage, chain_text, stage}
 use Rattle.gw_service.specs.Keeping.{troubles_in, unkept_in}
 use Rattle.gw_service.specs.Watch.{more_of, troubles_of}
-use Rattle.gw_service.specs.declared.troubles.Troubles.{Troubles}
+use Rattle.gw_notices.specs.declared.troubles.Troubles.{Troubles}
 use Rattle.gw_service.specs.Kept.{Given, KeepsFirst, LeavesKept, RunsBy, RunsFrom, manner_of, no_more, outcome_by, reporting_of, unkept_of, watched_manner_of}
-use Rattle.gw_service.specs.Notices.{no_troubles, notice_of}
+use Rattle.gw_notices.specs.Notices.{no_troubles, notice_of}
 use Rattle.gw_service.specs.Serving.{Ends, Service, ends, log_held}
 use Rattle.gw_service.specs.Start.{BeginsAs, counts_of}
-use Rattle.gw_service.specs.Reload.{counts_since}
+use Rattle.gw_notices.specs.Reload.{counts_since}
 use Rattle.gw_service.specs.Stats.{Reporting, end_stats, reporting}
 use Rattle.gw_service.specs.declared.fault.ServiceFault.{ServiceFault}
 use Rattle.gw_service.specs.declared.fault.ServiceFault.TheVariants as fault
@@ -29,8 +29,8 @@ use Rattle.std.specs.Prelude.{Bool, is_some, ◌||◌}
 use Rattle.gw_serving.specs.declared.guard.Both.{Both}
 use Rattle.gw_watching.specs.Watching.{Watching}
 use Rattle.gw_service.specs.declared.keeping.Kept.{Kept}
-use Rattle.gw_service.specs.declared.reload.ReloadCounts.{ReloadCounts}
-use Rattle.gw_service.proofs.ServingLemmas.{appends_nothing, appends_two}
+use Rattle.gw_notices.specs.declared.reload.ReloadCounts.{ReloadCounts}
+use Rattle.gw_notices.proofs.AppendLemmas.{appends_nothing, appends_two}
 
 -- A run reports first what isn't kept or recorded, and last what was done.
 pub ran_from : {K : Type 0} (manner : Manner K) (report : K → ReloadCounts → State → Served → Tally → List ℕ) (count : ℕ) (at : Troubles → Stage K)

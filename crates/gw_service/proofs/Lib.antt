@@ -1,9 +1,7 @@
-mod AnnouncementLemmas
 mod ChainLemmas
 mod KeptLemmas
 mod LawLemmas
 mod ServedLemmas
 pub mod ServingLemmas
 mod StampedLemmas
-mod StatsLemmas
 mod WatchedLemmas

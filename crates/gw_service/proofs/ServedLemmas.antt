@@ -27,7 +27,7 @@ use Rattle.gw_service.specs.Fault.{fault_of_serving}
 use Rattle.gw_service.specs.Keeping.{IsKeptAtTick, IsKeptFor, IsPassed, troubles_in}
 use Rattle.gw_service.specs.Kept.{Given, KeepsFirst, RunsBy, RunsKept, first_stage, manner_of, outcome_by, reporting_of}
 use Rattle.gw_service.specs.Laws.{FindsNone, IsAsServed, NobodyAsks}
-use Rattle.gw_service.specs.Reload.{reload_line}
+use Rattle.gw_notices.specs.Reload.{reload_line}
 use Rattle.gw_service.specs.Serving.{Ends, Serves, Service, first_scene, service}
 use Rattle.gw_service.specs.Start.{BeginsAs, begun}
 use Rattle.gw_service.specs.Stats.{Reporting}

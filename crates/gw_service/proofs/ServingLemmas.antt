@@ -1,5 +1,5 @@
 -- What serving leaves, from what is opened and what serving a wire leads to.
-use Rattle.std.proofs.Common.{◌≡◌, ◌∙◌, sym, ◌++◌, ap, append_assoc, ℕ, List, [], Option, Some, None, Result, Ok, Err, IsOk, IfOk, IfErr, OnOk, inl, inr, refl, rules, subst}
+use Rattle.std.proofs.Common.{◌≡◌, ◌∙◌, sym, ap, ℕ, List, [], Option, Some, None, Result, Ok, Err, IsOk, IfOk, IfErr, OnOk, inl, inr, refl, rules, subst}
 use Rattle.std.specs.Io.KnownBytes.{Appends, append_known}
 use Rattle.gw_core.specs.History.{state_after}
 use Rattle.gw_core.specs.Replay.{no_counts}
@@ -7,6 +7,7 @@ use Rattle.gw_serving.specs.Reports.{IsRunWith, reported_of}
 use Rattle.gw_serving.specs.Serve.{Scene, ServesAll, Stops, counts_of_answer, scene}
 use Rattle.gw_core.specs.State.{State}
 use Rattle.gw_serving.specs.Wire.{Call}
+use Rattle.gw_notices.proofs.AppendLemmas.{appends_nothing}
 use Rattle.gw_serving.specs.declared.serving.Served.{Served}
 use Rattle.gw_serving.specs.declared.serving.ServeFault.{ServeFault}
 use Rattle.gw_serving.specs.declared.serving.ServeFault.TheVariants as serving
@@ -112,18 +113,6 @@ serves_on_output held c how log lent inner inner_then buffer calls calls_then te
     ap (λ l. log_held held l (append_known inner_then buffer)) no_log ∙ ap (append_known inner_then) is_empty ∙ append_empty inner_then in
     subst (λ (o : Option (List ℕ)). Serves c how (ends o calls) (ends (log_held held log (append_known inner_then buffer)) calls_then) text outcome)
     (sym first) (subst (λ (o : Option (List ℕ)). Serves c how (ends lent calls) (ends o calls_then) text outcome) (sym last) serves)
-
--- nothing is appended if nothing is reported
-pub appends_nothing : (held : Option (List ℕ)) → Appends held held []
-appends_nothing None = tt
-appends_nothing (Some held) = search rules
-
--- two texts that are appended are appended as one
-pub appends_two : (a b c : Option (List ℕ)) (x y : List ℕ) → Appends a b x → Appends b c y → Appends a c (x ++ y)
-appends_two None b c x y first second = tt
-appends_two (Some a) None c x y first second = absurd first
-appends_two (Some a) (Some b) None x y first second = absurd second
-appends_two (Some a) (Some b) (Some c) x y first second = second ∙ ap (λ (t : List ℕ). t ++ y) first ∙ append_assoc a x y
 
 -- a write that succeeded appended its text
 pub appends_written : {A E : Type 0} (r : Result A E) (held holds : Option (List ℕ)) (text line : List ℕ) → text ≡ line → IsOk r

@@ -3,7 +3,7 @@ use Rattle.std.proofs.Common.{◌≡◌, ℕ, Bool, true, false, List, Option, R
 use Rattle.std.specs.Prelude.{option_map, string_bytes}
 use Rattle.gw_command_line.specs.declared.options.RunOptions.{RunOptions}
 use Rattle.gw_configuration.specs.Configuration.{Configuration}
-use Rattle.gw_service.specs.Announcement.{startup_line}
+use Rattle.gw_notices.specs.Announcement.{startup_line}
 use Rattle.gw_service.specs.Kept.{LeavesBy, LeavesService, LeavesWithState, Names, StateMachine, is_plain, names_of, ran, unopened, unprepared, whole_machine}
 use Rattle.gw_service.specs.Serving.{LeavesServed, Machine, Service, served, service, shut}
 use Rattle.gw_service.specs.declared.fault.ServiceFault.{ServiceFault}

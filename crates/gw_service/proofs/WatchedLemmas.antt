@@ -17,11 +17,11 @@ use Rattle.gw_service.specs.Chain.{refused, served, taken_over, ticked, unreques
 use Rattle.gw_service.specs.Keeping.{IsKeptFor, IsPassed, troubles_in, unkept_in}
 use Rattle.gw_service.specs.Kept.{Given, manner_of, no_more, reporting_of, watched_manner_of}
 use Rattle.gw_service.specs.Laws.{IsAsUnwatched}
-use Rattle.gw_service.specs.Notices.{no_troubles, notice_of, of_state}
+use Rattle.gw_notices.specs.Notices.{no_troubles, notice_of, of_state}
 use Rattle.gw_service.specs.Stats.{Reporting, end_stats}
 use Rattle.gw_service.specs.Watch.{IsKeptForBeside}
 use Rattle.gw_service.specs.declared.keeping.Kept.{Kept}
-use Rattle.gw_service.specs.declared.troubles.Troubles.{Troubles}
+use Rattle.gw_notices.specs.declared.troubles.Troubles.{Troubles}
 
 -- ---- the first of two guards
 

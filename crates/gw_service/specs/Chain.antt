@@ -18,11 +18,12 @@ use Rattle.gw_serving.specs.declared.serving.Served.{Served}
 use Rattle.gw_serving.specs.declared.tally.Tally.{Tally}
 use Rattle.gw_system.specs.Requests.{Asking, GoesOn, answered, asked, unasked}
 use Rattle.gw_system.specs.declared.reading.ReadFailure.{ReadFailure}
-use Rattle.gw_service.specs.Reload.{IsRefusalLine, IsRefused, have_same_ports, reload_line, with_refused, with_taken_over}
-use Rattle.gw_service.specs.Notices.{notice_of}
-use Rattle.gw_service.specs.declared.reload.ReloadCounts.{ReloadCounts}
-use Rattle.gw_service.specs.declared.reload.ReloadFault.{ReloadFault}
-use Rattle.gw_service.specs.declared.troubles.Troubles.{Troubles}
+use Rattle.gw_notices.specs.Reload.{IsRefusalLine, reload_line, with_refused, with_taken_over}
+use Rattle.gw_service.specs.Reload.{IsRefused, have_same_ports}
+use Rattle.gw_notices.specs.Notices.{notice_of}
+use Rattle.gw_notices.specs.declared.reload.ReloadCounts.{ReloadCounts}
+use Rattle.gw_notices.specs.declared.reload.ReloadFault.{ReloadFault}
+use Rattle.gw_notices.specs.declared.troubles.Troubles.{Troubles}
 
 -- ---- what keeps the state
 

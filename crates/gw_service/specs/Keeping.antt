@@ -9,10 +9,10 @@ use Rattle.gw_serving.specs.declared.store.StoreFault.{StoreFault}
 use Rattle.gw_metrics.specs.declared.counts.StateTries.{StateTries}
 use Rattle.gw_service.specs.declared.keeping.Kept.{Kept}
 use Rattle.gw_service.specs.declared.keeping.Kept.TheVariants.{Nowhere, In}
-use Rattle.gw_service.specs.declared.losses.Losses.{Losses}
+use Rattle.gw_notices.specs.declared.losses.Losses.{Losses}
 use Rattle.gw_service.specs.declared.successor.Successor.{Successor}
-use Rattle.gw_service.specs.declared.troubles.Troubles.{Troubles}
-use Rattle.gw_service.specs.Notices.{of_state}
+use Rattle.gw_notices.specs.declared.troubles.Troubles.{Troubles}
+use Rattle.gw_notices.specs.Notices.{of_state}
 use Rattle.gw_tally.specs.Tally.{IsTally}
 
 -- what is made of this configuration: what can be written, which rules are audited, and counts of which none began

@@ -22,20 +22,20 @@ use Rattle.gw_system.specs.declared.opening.OpenFailure.{OpenFailure}
 use Rattle.gw_system.specs.declared.reading.ReadFailure.{ReadFailure}
 use Rattle.gw_system.specs.declared.reading.ReadFailure.TheVariants as reading
 use Rattle.gw_service.specs.Chain.{Link, Manner, Runs, Stage, chain_text, manner, stage}
-use Rattle.gw_service.specs.Announcement.{IsWarning, startup_line}
+use Rattle.gw_notices.specs.Announcement.{IsWarning, startup_line}
 use Rattle.gw_service.specs.Fault.{fault_of_opening, fault_of_serving}
 use Rattle.gw_service.specs.Keeping.{IsKeptAtTick, IsKeptFor, IsPassed, troubles_in, unkept_in}
-use Rattle.gw_service.specs.Notices.{no_troubles, notice_of}
+use Rattle.gw_notices.specs.Notices.{no_troubles, notice_of}
 use Rattle.gw_service.specs.Watch.{IsKeptAtTickBeside, IsKeptForBeside, IsUnwatched, IsWatcherUnder, WatchNames, is_watched, more_of, troubles_of, unaudited_note, watch_names}
 use Rattle.gw_service.specs.Serving.{AreOpen, ArentOpen, Ends, LeavesServed, LogStays, Machine, Service, ends, log_held, service}
 use Rattle.gw_service.specs.Start.{BeginsAs, IsStateRead, counts_of, start_text}
-use Rattle.gw_service.specs.Reload.{counts_since}
+use Rattle.gw_notices.specs.Reload.{counts_since}
 use Rattle.gw_service.specs.Stats.{Reporting, due_stats, end_stats, reporting}
 use Rattle.gw_service.specs.declared.fault.ServiceFault.{ServiceFault}
 use Rattle.gw_service.specs.declared.fault.ServiceFault.TheVariants as fault
 use Rattle.gw_service.specs.declared.keeping.Kept.{Kept}
-use Rattle.gw_service.specs.declared.reload.ReloadCounts.{ReloadCounts}
-use Rattle.gw_service.specs.declared.troubles.Troubles.{Troubles}
+use Rattle.gw_notices.specs.declared.reload.ReloadCounts.{ReloadCounts}
+use Rattle.gw_notices.specs.declared.troubles.Troubles.{Troubles}
 use Rattle.gw_service.specs.declared.keeping.Kept.TheVariants.{Nowhere, In}
 use Rattle.gw_service.specs.declared.kept.Before.{Before}
 use Rattle.gw_command_line.specs.declared.options.RunOptions.{RunOptions}

@@ -15,9 +15,9 @@ use Rattle.gw_serving.specs.declared.report.Report.{Report}
 use Rattle.gw_serving.specs.declared.serving.Served.{Served}
 use Rattle.gw_serving.specs.declared.tally.Tally.{Tally}
 use Rattle.gw_service.specs.Stats.{has_gone_on}
-use Rattle.gw_service.specs.declared.losses.Losses.{Losses}
+use Rattle.gw_notices.specs.declared.losses.Losses.{Losses}
 use Rattle.gw_service.specs.declared.metrics.Measures.{Measures}
-use Rattle.gw_service.specs.declared.reload.ReloadCounts.{ReloadCounts}
+use Rattle.gw_notices.specs.declared.reload.ReloadCounts.{ReloadCounts}
 
 -- What is measured of a run whose gateway began with these counts and is in this state, when so much was done. The counts never
 -- fell since then; if they had, nothing would be.

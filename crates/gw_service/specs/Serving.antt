@@ -14,7 +14,7 @@ use Rattle.gw_serving.specs.declared.serving.ServeFault.TheVariants as serving
 use Rattle.gw_serving.specs.declared.serving.ServeStop.{ServeStop}
 use Rattle.gw_configuration.specs.Configuration.{Configuration}
 use Rattle.gw_configuration.specs.declared.port.Port.{Port}
-use Rattle.gw_service.specs.Announcement.{IsWarning}
+use Rattle.gw_notices.specs.Announcement.{IsWarning}
 use Rattle.gw_system.specs.Host.{LogOpening}
 use Rattle.gw_system.specs.Opening.{IsNote}
 use Rattle.gw_system.specs.declared.opening.LogFailure.{LogFailure}

@@ -1,5 +1,5 @@
 -- What watches a gateway beside what keeps its state: from where it begins, what is done with it, and what is reported of it.
-use Rattle.std.specs.Prelude.{◌≡◌, ◌⊎◌, ⊤, ℕ, ◌+◌, ◌==◌, ◌||◌, Bool, true, false, is_some, nat_le, not, ◌&&◌, if◌then◌else◌, List, [], ◌++◌, length, codes, decimal, Option, Some, None, Result, Ok, Err, option_map, string_bytes}
+use Rattle.std.specs.Prelude.{◌≡◌, ◌⊎◌, ⊤, ℕ, ◌||◌, Bool, true, false, is_some, nat_le, not, ◌&&◌, if◌then◌else◌, List, [], codes, Option, Some, None, Result, Ok, Err, option_map, string_bytes}
 use Rattle.std.specs.List.{list_any}
 use Rattle.std.specs.Option.{option_map_or}
 use Rattle.gw_command_line.specs.declared.options.RunOptions.{RunOptions}
@@ -9,7 +9,7 @@ use Rattle.gw_rules.specs.declared.rule.Rule.{Rule}
 use Rattle.gw_serving.specs.declared.guard.Both.{Both}
 use Rattle.gw_system.specs.Host.{LogOpening}
 use Rattle.gw_system.specs.declared.reading.ReadFailure.{ReadFailure}
-use Rattle.gw_tally.specs.Tally.{IsTally, tally_text}
+use Rattle.gw_tally.specs.Tally.{IsTally}
 use Rattle.gw_watch_files.specs.Trial.{IsAuditBy, IsTrialBy}
 use Rattle.gw_watch_files.specs.declared.fault.WatchFault.{WatchFault}
 use Rattle.gw_watch_files.specs.declared.fault.WatchFault.TheVariants as watch
@@ -19,8 +19,9 @@ use Rattle.gw_service.specs.Keeping.{IsKeptAtTick, IsKeptFor, failing_in}
 use Rattle.gw_service.specs.declared.fault.ServiceFault.{ServiceFault}
 use Rattle.gw_service.specs.declared.fault.ServiceFault.TheVariants as fault
 use Rattle.gw_service.specs.declared.keeping.Kept.{Kept}
-use Rattle.gw_service.specs.declared.losses.Losses.{Losses}
-use Rattle.gw_service.specs.declared.troubles.Troubles.{Troubles}
+use Rattle.gw_notices.specs.Watch.{watch_text}
+use Rattle.gw_notices.specs.declared.losses.Losses.{Losses}
+use Rattle.gw_notices.specs.declared.troubles.Troubles.{Troubles}
 
 -- ---- at the start
 
@@ -145,36 +146,6 @@ has_lost log = option_map_or (λ (b : Beside _ _). nat_le 1 b.lost) log false
 
 abbrev pub troubles_of : {S T A : Type 0} → Both (Kept S) (Watching T A) → Troubles
 troubles_of k = record { state = failing_in k.first; trial = has_lost k.second.trial; audit = has_lost k.second.audit }
-
--- the number of the last record of a log beside the log, and how many were lost
-abbrev pub beside_text : List ℕ → ℕ → ℕ → List ℕ
-beside_text front number lost = front ++ decimal number ++ codes " lost=" ++ decimal lost ++ codes "\n"
-
-abbrev pub trial_text : {C S : Type 0} → Option (Beside C S) → List ℕ
-trial_text None = []
-trial_text (Some b) = beside_text (codes "stats trial=") b.number b.lost
-
-abbrev pub audit_text : {C S : Type 0} → Option (Beside C S) → List ℕ
-audit_text None = []
-audit_text (Some b) = beside_text (codes "stats audit=") b.number b.lost
-
--- how many events weren't watched
-abbrev pub unseen_text : ℕ → List ℕ
-unseen_text unseen = codes "stats unseen=" ++ decimal unseen ++ codes "\n"
-
--- how many asks each rule decided, and how many none did
-abbrev pub counts_text : List Rule → Option (List ℕ) → List ℕ
-counts_text rules None = []
-counts_text rules (Some counts) = if length counts == length rules + 1 then tally_text rules counts else []
-
-abbrev pub logs_text : {T A : Type 0} → Watching T A → List ℕ
-logs_text w = trial_text w.trial ++ audit_text w.audit
-
-abbrev pub asks_text : {T A : Type 0} → List Rule → Watching T A → List ℕ
-asks_text rules w = unseen_text w.unseen ++ counts_text rules w.counts
-
-abbrev pub watch_text : {T A : Type 0} → List Rule → Watching T A → List ℕ
-watch_text rules w = logs_text w ++ asks_text rules w
 
 abbrev pub more_of : {S T A : Type 0} → Both (Kept S) (Watching T A) → State → List ℕ
 more_of k w = watch_text w.rules k.second

@@ -7,14 +7,13 @@ ghost use Rattle.gw_core.specs.State.{State};
 ghost use Rattle.gw_saved.specs.Saved.{origin_of};
 ghost use Rattle.gw_service.specs.Keeping.{IsKeptAtTick, IsKeptFor, IsPassed, IsSuccessor, failing_in, no_losses, tries_in, troubles_in, unkept_in};
 ghost use Rattle.gw_metrics.specs.declared.counts.StateTries.{StateTries};
-ghost use Rattle.gw_service.specs.declared.losses.Losses.{Losses};
-ghost use Rattle.gw_service.specs.declared.troubles.Troubles.{Troubles};
+ghost use Rattle.gw_notices.specs.declared.losses.Losses.{Losses};
+ghost use Rattle.gw_notices.specs.declared.troubles.Troubles.{Troubles};
 
-use crate::losses::Losses;
 use crate::successor::Successor;
-use crate::troubles::Troubles;
 use gw_core::{AllAsked, Gateway, Taken};
 use gw_metrics::StateTries;
+use gw_notices::{Losses, Troubles};
 use gw_saved::Origin;
 use gw_script::OctetSink;
 use gw_serving::{Guard, Keeper, Store, StoreFault};

@@ -5,7 +5,7 @@ ghost use Rattle.gw_core.specs.State.{State};
 ghost use Rattle.gw_serving.specs.declared.serving.Served.{Served};
 ghost use Rattle.gw_serving.specs.declared.tally.Tally.{Tally};
 ghost use Rattle.gw_service.specs.Chain.{manner};
-ghost use Rattle.gw_service.specs.declared.reload.ReloadCounts.{ReloadCounts};
+ghost use Rattle.gw_notices.specs.declared.reload.ReloadCounts.{ReloadCounts};
 ghost use Rattle.gw_service.specs.Kept.{Given};
 ghost use Rattle.gw_service.specs.Laws.{IsAsServed, IsAsUnwatched, NobodyAsks, NumbersGoOn, RulesAreInForce, RulesStay};
 

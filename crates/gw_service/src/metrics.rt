@@ -6,13 +6,12 @@ ghost use Rattle.gw_metrics_file.specs.Writing.{nothing_written};
 ghost use Rattle.gw_service.specs.Metrics.{AreCounts, PutsDue, PutsInto, device_count, drops_of, reloads_of};
 
 use crate::keeping::StateKeeper;
-use crate::losses::Losses;
-use crate::reload::ReloadCounts;
 use arrayvec::ArrayVec;
 use gw_addr::MAX_PORTS;
 use gw_core::Gateway;
 use gw_metrics::{Counts, Drops, Reloads, StateTries};
 use gw_metrics_file::Metrics;
+use gw_notices::{Losses, ReloadCounts};
 use gw_relay::PortState;
 use gw_rules::RuleList;
 use gw_serving::{Report, Store};

@@ -10,23 +10,22 @@ ghost use Rattle.gw_serving.specs.Serve.{scene};
 ghost use Rattle.gw_serving.specs.Stretch.{CanCount, moment};
 ghost use Rattle.gw_system.specs.Requests.{Asking, GoesOn, IsAsking, asked, text_found};
 ghost use Rattle.gw_service.specs.Chain.{Advances, AtTick, IsLooked, IsNotedBy, Link, Looks, Runs, chain_text, manner, stage, standing};
-ghost use Rattle.gw_service.specs.Notices.{no_troubles, notice_of};
-ghost use Rattle.gw_service.specs.Reload.{refusal_line};
+ghost use Rattle.gw_notices.specs.Notices.{no_troubles, notice_of};
+ghost use Rattle.gw_notices.specs.Reload.{refusal_line};
 ghost use Rattle.gw_service.specs.Kept.{RunsFrom};
 ghost use Rattle.gw_service.specs.Serving.{ends};
 ghost use Rattle.gw_service.specs.Scheduled.{reporting_by};
 ghost use Rattle.gw_service.specs.Stats.{due_stats, end_stats};
 
 use crate::keeping::StateKeeper;
-use crate::line::{line_with_place, refusal_line};
 use crate::metrics::put_due;
-use crate::note::write_note;
-use crate::notices::report_notices;
-use crate::reload::{Adopted, ReloadCounts, ReloadFault, reloaded};
+use crate::reload::{Adopted, reloaded};
 use crate::stats::Schedule;
-use crate::troubles::Troubles;
 use gw_core::Gateway;
 use gw_metrics_file::Metrics;
+use gw_notices::{
+    ReloadCounts, ReloadFault, Troubles, line_with_place, refusal_line, report_notices, write_note,
+};
 use gw_policy_text::MAX_OCTETS;
 use gw_saved::Origin;
 use gw_script::OctetSink;

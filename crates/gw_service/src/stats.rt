@@ -1,19 +1,18 @@
 //! Reports of a run, each so many seconds and at its end.
 
 ghost use Rattle.std.proofs.Props.{props};
-ghost use Rattle.std.specs.Prelude.{◌≡◌, ◌++◌, ◌-◌, ◌%◌, ◌==◌, ◌<◌, ◌≤◌, IfSome, IsOk, IsTrue, OnOk, decimal, if◌then◌else◌, [], List, ℕ, true};
+ghost use Rattle.std.specs.Prelude.{◌≡◌, ◌-◌, ◌%◌, ◌==◌, ◌<◌, ◌≤◌, IfSome, IsTrue, if◌then◌else◌, [], List, ℕ, true};
 ghost use Rattle.std.specs.Io.KnownBytes.{Appends};
 ghost use Rattle.gw_serving.specs.ReportTurn.{HasGoneOn};
 ghost use Rattle.gw_service.specs.Metrics.{measures_of};
-ghost use Rattle.gw_service.specs.Stats.{due_stats, end_stats, has_gone_on, is_due, reloads_text, reporting, stats_text, tries_text, unkept_text};
+ghost use Rattle.gw_service.specs.Stats.{due_stats, end_stats, has_gone_on, is_due, reporting, stats_text, tries_text};
 
 use crate::keeping::StateKeeper;
 use crate::metrics::Measures;
-use crate::reload::ReloadCounts;
 use gw_core::{Counts, Gateway};
-use gw_script::{OctetSink, WriteFailed, write_whole};
+use gw_notices::{ReloadCounts, report_reloads, report_unkept};
+use gw_script::OctetSink;
 use gw_serving::{ServeState, Served, report_of, try_report};
-use itoa::Buffer;
 
 /// When a report is due: the counts of the gateway at first, and the seconds from one to the next, if reports are asked for;
 /// and whether it says how often the state couldn't be kept, and how often the configuration was read again.
@@ -28,63 +27,6 @@ pub struct Schedule {
     /// Whether the configuration is read again if that is asked for.
     pub reloads: bool,
     pub ghost some: { IfSome seconds (λ n. 0 < n) } by { Prim.hlevel props },
-}
-
-/// Writes how often the state couldn't be kept.
-fn write_unkept<E: OctetSink>(unkept: u64, errors: &mut E) -> Result<(), WriteFailed>
-    ensures ok { OnOk result (Appends (E.held errors.old) (E.held errors.new) (unkept_text true unkept)) }
-    ensures sure { E.NeverFails errors.old → IsOk result }
-    ensures lasts { E.NeverFails errors.old → E.NeverFails errors.new }
-{
-    write_whole(errors, b"stats unkept=")?;
-    write_whole(errors, Buffer::new().format(unkept).as_bytes())?;
-    write_whole(errors, b"\n")
-}
-
-/// Reports how often the state couldn't be kept, if it is.
-fn report_unkept<E: OctetSink>(is_kept: bool, unkept: u64, errors: &mut E)
-    ensures said { E.NeverFails errors.old → Appends (E.held errors.old) (E.held errors.new) (unkept_text is_kept unkept) }
-    ensures lasts { E.NeverFails errors.old → E.NeverFails errors.new }
-{
-    if is_kept {
-        let _ = write_unkept(unkept, errors);
-    }
-}
-
-/// Writes a text and this count.
-pub(crate) fn write_count<E: OctetSink>(
-    text: &str,
-    count: u64,
-    errors: &mut E,
-) -> Result<(), WriteFailed>
-    ensures ok { OnOk result (Appends (E.held errors.old) (E.held errors.new) (text.now ++ decimal count)) }
-    ensures sure { E.NeverFails errors.old → IsOk result }
-    ensures lasts { E.NeverFails errors.old → E.NeverFails errors.new }
-{
-    write_whole(errors, text.as_bytes())?;
-    write_whole(errors, Buffer::new().format(count).as_bytes())
-}
-
-/// Writes how often a configuration was taken over and refused, and since when the one in force is.
-fn write_reloads<E: OctetSink>(counts: ReloadCounts, errors: &mut E) -> Result<(), WriteFailed>
-    ensures ok { OnOk result (Appends (E.held errors.old) (E.held errors.new) (reloads_text true counts)) }
-    ensures sure { E.NeverFails errors.old → IsOk result }
-    ensures lasts { E.NeverFails errors.old → E.NeverFails errors.new }
-{
-    write_count("stats reloads=", counts.taken_over, errors)?;
-    write_count(" refused=", counts.refused, errors)?;
-    write_count(" since=", counts.since, errors)?;
-    write_whole(errors, b"\n")
-}
-
-/// Reports how often the configuration was read again, if it is.
-fn report_reloads<E: OctetSink>(is_read: bool, counts: ReloadCounts, errors: &mut E)
-    ensures said { E.NeverFails errors.old → Appends (E.held errors.old) (E.held errors.new) (reloads_text is_read counts) }
-    ensures lasts { E.NeverFails errors.old → E.NeverFails errors.new }
-{
-    if is_read {
-        let _ = write_reloads(counts, errors);
-    }
 }
 
 /// Whether a gateway's counts didn't fall since it began with these, and each tick is an event that was taken. It is always so.

@@ -5,12 +5,10 @@ ghost use Rattle.gw_service.specs.Watch.{BeginAnew, IsKeptAtTickBeside, IsKeptFo
 ghost use Rattle.gw_service.specs.Keeping.{tries_in, unkept_in};
 
 use crate::keeping::{Kept, StateKeeper};
-use crate::losses::Losses;
 use crate::successor::Successor;
-use crate::troubles::Troubles;
-use crate::watch_report::report_watched;
 use gw_core::Gateway;
 use gw_metrics::StateTries;
+use gw_notices::{Losses, Troubles, report_watched};
 use gw_script::OctetSink;
 use gw_serving::{Both, Store};
 use gw_tally::Tally;

@@ -10,7 +10,7 @@ use Rattle.gw_command_line.specs.declared.fault.WordsFault.TheVariants as words
 use Rattle.gw_state_text.specs.declared.fault.FaultKind.{FaultKind}
 use Rattle.gw_state_text.specs.declared.fault.FaultKind.TheVariants as state_fault
 use Rattle.gw_state_text.specs.declared.fault.StateFault.{StateFault}
-use Rattle.gw_service.specs.Reload.{name_of}
+use Rattle.gw_notices.specs.Reload.{name_of}
 use Rattle.gw_service.specs.declared.fault.ServiceFault.{ServiceFault}
 use Rattle.gw_service.specs.declared.fault.ServiceFault.TheVariants as service
 use Rattle.gw_serving.specs.declared.store.StoreFault.{StoreFault}

@@ -17,9 +17,9 @@ use crate::files::ConfigFiles;
 use crate::replaying::replay;
 use gw_configuration::Config;
 use gw_decisions::count_script;
+use gw_notices::write_note;
 use gw_policy_text::SETTING;
 use gw_script::{OctetSink, OctetSource};
-use gw_service::write_note;
 use std::alloc::Global;
 use std::io::{BufWriter, Write};
 

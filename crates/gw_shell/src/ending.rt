@@ -4,15 +4,15 @@ ghost use Rattle.std.specs.Prelude.{◌≡◌, ◌++◌, ◌∷◌, [], codes, d
 ghost use Rattle.std.specs.Io.KnownBytes.{Appends};
 ghost use Rattle.std.specs.Process.{exit_status};
 ghost use Rattle.gw_shell.specs.declared.fault.Fault.TheVariants as fault;
-ghost use Rattle.gw_service.specs.Reload.{name_of};
+ghost use Rattle.gw_notices.specs.Reload.{name_of};
 ghost use Rattle.gw_shell.specs.Ending.{cause_of, error_text, line_of, reason_of, status_after, status_by, store_words, text_of, usage_of, words_of};
 
 use crate::fault::{Fault, cause_of, reason_of, store_words, trial_reason, trial_words, words_of};
 use gw_command_line::Choice;
 use gw_configuration::ConfigFault;
 use gw_migration::MigrationFault;
+use gw_notices::name_of;
 use gw_script::{LineFlaw, OctetSink, WriteFailed, write_whole};
-use gw_service::name_of;
 use gw_serving::StoreFault;
 use gw_state_text::StateFault;
 use gw_watch_files::TrialFault;

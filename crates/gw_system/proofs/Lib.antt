@@ -1,3 +1,2 @@
 pub mod BegunLemmas
-pub mod NamedLemmas
 pub mod RequestLemmas

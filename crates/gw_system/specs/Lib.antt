@@ -1,6 +1,5 @@
 pub mod Folder
 pub mod Host
-pub mod NamedLog
 pub mod Opening
 pub mod Waiting
 pub mod Requests

@@ -8,7 +8,6 @@
 mod file_log;
 mod folder;
 mod host;
-mod named_log;
 mod opening;
 mod poll_waiter;
 mod reading;
@@ -21,7 +20,6 @@ mod udp;
 pub use file_log::{FileLog, LogFile, LogFiles};
 pub use folder::{Folder, SystemFolder};
 pub use host::{Host, SystemHost, open_at_line};
-pub use named_log::{NamedFiles, NamedLog};
 pub use opening::{FailedStep, LogFailure, OpenFailure, Reason, SocketFailure, Step, note_of};
 pub use poll_waiter::PollWaiter;
 pub use reading::{MAX_LOG_END, ReadFailure};

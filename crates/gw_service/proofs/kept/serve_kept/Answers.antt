@@ -2,7 +2,7 @@ use Rattle.std.proofs.Common.{List, [], ◌++◌, ap, Err, refl, subst, ℕ}
 use Rattle.std.specs.Io.Buffered.{writer_contents}
 use Rattle.std.specs.Io.KnownBytes.{Appends}
 use Rattle.gw_service.specs.Kept.{ran, unopened, unprepared}
-use Rattle.gw_service.proofs.ServingLemmas.{appends_nothing, appends_two}
+use Rattle.gw_notices.proofs.AppendLemmas.{appends_nothing, appends_two}
 use Rattle.gw_service.proofs.kept.serve_kept.Goals as goal
 
 pub returns-in-Ok-open-clause-served : goal.returns-in-Ok-open-clause-served

@@ -2,7 +2,7 @@ use Rattle.std.proofs.Common.{◌≡◌, ◌∙◌, Bool, sym, subst, true, fals
 use Rattle.std.specs.Io.Buffered.{writer_contents}
 use Rattle.std.specs.Prelude.{option_map, string_bytes}
 use Rattle.gw_system.specs.Host.{OpensAtLine}
-use Rattle.gw_service.specs.Announcement.{startup_line}
+use Rattle.gw_notices.specs.Announcement.{startup_line}
 use Rattle.gw_service.specs.Kept.{LeavesBy, LeavesWithState, names_of, state_machine}
 use Rattle.gw_service.specs.Serving.{LeavesServed, machine, service}
 use Rattle.gw_service.proofs.serving.serve_chosen.Goals as goal

@@ -2,7 +2,7 @@ use Rattle.std.proofs.Common.{List, ◌++◌, ap, Err, subst, ℕ}
 use Rattle.std.specs.Io.Buffered.{writer_contents}
 use Rattle.std.specs.Io.KnownBytes.{Appends}
 use Rattle.gw_service.specs.Serving.{served, shut}
-use Rattle.gw_service.proofs.ServingLemmas.{appends_two}
+use Rattle.gw_notices.proofs.AppendLemmas.{appends_two}
 use Rattle.gw_service.proofs.serving.serve_plain.Goals as goal
 
 pub returns-in-Ok-clause-served : goal.returns-in-Ok-clause-served

@@ -1,6 +1,6 @@
 use Rattle.std.proofs.Common.{List, ℕ, ◌++◌, ◌≡◌, ap, rules, subst}
 use Rattle.std.specs.Io.KnownBytes.{Appends}
-use Rattle.gw_service.proofs.ServingLemmas.{appends_two}
+use Rattle.gw_notices.proofs.AppendLemmas.{appends_two}
 use Rattle.gw_service.proofs.serving.serve_ports.Goals as goal
 
 pub returns-clause-served : goal.returns-clause-served

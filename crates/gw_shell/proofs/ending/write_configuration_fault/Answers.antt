@@ -1,6 +1,6 @@
 use Rattle.std.proofs.Common.{rules, ◌≡◌, ◌∷◌, [], codes, ℕ, List, subst}
 use Rattle.std.specs.Io.KnownBytes.{Appends}
-use Rattle.gw_service.specs.Reload.{name_of}
+use Rattle.gw_notices.specs.Reload.{name_of}
 use Rattle.gw_shell.proofs.AppendLemmas.{three_writes}
 use Rattle.gw_shell.proofs.ending.write_configuration_fault.Goals as goal
 

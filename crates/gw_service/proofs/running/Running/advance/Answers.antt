@@ -4,14 +4,14 @@ use Rattle.gw_script.specs.Event as event
 use Rattle.gw_serving.specs.Serve.{scene, taken_event}
 use Rattle.gw_serving.specs.Stretch.{moment}
 use Rattle.gw_serving.specs.declared.serving.ServeState.{ServeState}
-use Rattle.gw_service.specs.declared.troubles.Troubles.{Troubles}
+use Rattle.gw_notices.specs.declared.troubles.Troubles.{Troubles}
 use Rattle.gw_serving.specs.declared.stretch.Pause.TheVariants as pause
 use Rattle.gw_service.specs.Chain.{look_text, served, standing, ticked, withheld}
-use Rattle.gw_service.specs.Notices.{notice_of}
+use Rattle.gw_notices.specs.Notices.{notice_of}
 use Rattle.gw_service.specs.Scheduled.{reporting_by}
 use Rattle.gw_service.specs.Stats.{due_stats}
 use Rattle.gw_service.proofs.ChainLemmas.{ends_as, more_at_tick, more_at_turns, more_withheld, went_kept}
-use Rattle.gw_service.proofs.ServingLemmas.{appends_nothing, appends_two}
+use Rattle.gw_notices.proofs.AppendLemmas.{appends_nothing, appends_two}
 use Rattle.gw_service.proofs.running.Running.advance.Goals as goal
 
 pub returns-in-Ok-Turns-clause-advances : goal.returns-in-Ok-Turns-clause-advances

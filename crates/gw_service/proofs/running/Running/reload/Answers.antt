@@ -1,7 +1,7 @@
 use Rattle.std.proofs.Common.{◌∙◌, ℕ, List, ap, subst, sym}
 use Rattle.std.specs.Io.KnownBytes.{Appends}
 use Rattle.gw_system.specs.Requests.{text_found}
-use Rattle.gw_service.specs.Reload.{IsRefusalLine, with_taken_over}
+use Rattle.gw_notices.specs.Reload.{IsRefusalLine, with_taken_over}
 use Rattle.gw_service.proofs.ChainLemmas.{refused_so, says_why, taken_so}
 use Rattle.gw_service.proofs.running.Running.reload.Goals as goal
 

@@ -6,7 +6,7 @@ use Rattle.gw_service.specs.Chain.{manner, stage}
 use Rattle.gw_service.specs.Serving.{ends}
 use Rattle.gw_service.specs.Scheduled.{reporting_by}
 use Rattle.gw_service.specs.Stats.{due_stats, end_stats}
-use Rattle.gw_service.specs.declared.troubles.Troubles.{Troubles}
+use Rattle.gw_notices.specs.declared.troubles.Troubles.{Troubles}
 use Rattle.gw_service.proofs.KeptLemmas.{ran_from}
 use Rattle.gw_service.proofs.running.Running.run.Goals as goal
 

@@ -1,7 +1,7 @@
 use Rattle.std.proofs.Common.{List, subst}
 use Rattle.std.specs.Io.KnownBytes.{Appends}
 use Rattle.gw_rules.specs.declared.rule.Rule.{Rule}
-use Rattle.gw_service.specs.Watch.{watch_text}
+use Rattle.gw_notices.specs.Watch.{watch_text}
 use Rattle.gw_service.proofs.watched.BothKeptWatcherStateKeeper.report_more.Goals as goal
 
 pub returns-clause-said : goal.returns-clause-said

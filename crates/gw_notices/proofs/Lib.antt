@@ -1,0 +1,3 @@
+mod AnnouncementLemmas
+pub mod AppendLemmas
+mod StatsLemmas

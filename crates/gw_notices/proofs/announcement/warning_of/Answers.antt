@@ -1,0 +1,11 @@
+use Rattle.std.proofs.Common.{Bool, [], refl, sym, subst}
+use Rattle.gw_notices.specs.Announcement.{IsWarning}
+use Rattle.gw_notices.proofs.announcement.warning_of.Goals as goal
+
+pub returns-then-is_asked : goal.returns-then-is_asked
+returns-then-is_asked g c =
+    subst (λ (b : Bool). IsWarning (g.H.Host.RoutesIp c.args.host.now) b c.routing_note.result.now) (sym c.if-is_asked.true)
+    (c.routes_ip.result, c.routes_ip.ensures, c.routing_note.ensures)
+
+pub returns-else-is_asked : goal.returns-else-is_asked
+returns-else-is_asked g c = subst (λ (b : Bool). IsWarning (g.H.Host.RoutesIp c.args.host.now) b []) (sym c.if-is_asked.false) refl

@@ -1,0 +1,5 @@
+pub mod Announcement
+pub mod Notices
+pub mod Reload
+pub mod Stats
+pub mod Watch

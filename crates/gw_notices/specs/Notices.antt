@@ -1,0 +1,42 @@
+-- What an operator reads of what is kept and recorded, or isn't.
+use Rattle.std.specs.Prelude.{ℕ, Bool, true, false, List, [], Option, Some, None, codes, ◌++◌, ◌∷◌}
+use Rattle.gw_serving.specs.declared.store.StoreFault.{StoreFault}
+use Rattle.gw_serving.specs.declared.store.StoreFault.TheVariants as store
+use Rattle.gw_notices.specs.declared.troubles.Troubles.{Troubles}
+
+-- the state alone isn't kept
+abbrev pub of_state : Option StoreFault → Troubles
+of_state fault = record { state = fault; trial = false; audit = false }
+
+abbrev pub no_troubles : Troubles
+no_troubles = of_state None
+
+abbrev pub reason_of : StoreFault → List ℕ
+reason_of store.NoSpace = codes "no space"
+reason_of store.NotPermitted = codes "not permitted"
+reason_of store.ReadOnly = codes "read-only"
+reason_of store.Memory = codes "out of memory"
+reason_of store.System = codes "refused by the system"
+
+-- the line of a state that isn't kept
+abbrev pub unkept_line : StoreFault → List ℕ
+unkept_line fault = codes "bacgw: state isn't kept: " ++ reason_of fault ++ 10 ∷ []
+
+-- It is reported once, until the state is kept again, which is reported too.
+abbrev pub state_notice : (was is : Option StoreFault) → List ℕ
+state_notice None (Some fault) = unkept_line fault
+state_notice (Some fault) None = codes "bacgw: state is kept again\n"
+state_notice None None = []
+state_notice (Some a) (Some b) = []
+
+-- Lines that are lost are reported the first time.
+abbrev pub trial_notice : (was is : Bool) → List ℕ
+trial_notice false true = codes "bacgw: trial: lines are lost\n"
+trial_notice _ _ = []
+
+abbrev pub audit_notice : (was is : Bool) → List ℕ
+audit_notice false true = codes "bacgw: audit: lines are lost\n"
+audit_notice _ _ = []
+
+abbrev pub notice_of : (was is : Troubles) → List ℕ
+notice_of was is = state_notice was.state is.state ++ (trial_notice was.trial is.trial ++ audit_notice was.audit is.audit)

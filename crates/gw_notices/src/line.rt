@@ -1,0 +1,136 @@
+//! What is reported of a configuration that is read again.
+
+ghost use Rattle.std.specs.Prelude.{◌≡◌, IfOk, IfSome, Ok, Some};
+ghost use Rattle.gw_notices.specs.Reload.{IsRefusalLine, located_line, name_of, refusal_line, refusal_words, reload_line};
+ghost use Rattle.gw_system.specs.Requests.{text_found};
+
+use crate::reload::ReloadFault;
+use gw_addr::put_decimal;
+use gw_config_faults::{Explanation, explain};
+use gw_configuration::{Config, ConfigFault};
+use gw_core::Gateway;
+use gw_rule_changes::{changes_of, put_changes};
+use gw_saved::Saved;
+use gw_state_words::put_take_over;
+use gw_system::ReadFailure;
+use gw_takeover::take_over;
+use std::alloc::{AllocError, Global};
+
+/// The line of a configuration that a gateway takes over, of which this was saved: how many rules it has and how they
+/// differ from those in force, how many objects, and what goes on. An `Err` only if a growth was refused.
+pub fn reload_line(
+    alloc: Global,
+    gateway: &Gateway,
+    config: &Config,
+    saved: &Saved,
+) -> Result<Vec<u8>, AllocError>
+    ensures { IfOk result (λ line. line.items ≡ reload_line gateway.now config.now saved.now) }
+{
+    let changes = changes_of(gateway.rules(), config.rules());
+    let taken = take_over(alloc, config, saved)?;
+    let mut line = Vec::from_slice(alloc, b"reload: ")?;
+    put_decimal(&mut line, config.rules().rules().len())?;
+    line.extend_from_slice(b" rules (")?;
+    put_changes(&changes, &mut line)?;
+    line.extend_from_slice(b"), ")?;
+    put_decimal(&mut line, config.objects().len())?;
+    line.extend_from_slice(b" objects; ")?;
+    put_take_over(&taken, &mut line)?;
+    line.push(b'\n')?;
+    Ok(line)
+}
+
+/// The name of a fault of a configuration.
+pub fn name_of(fault: ConfigFault) -> &'static str
+    ensures { result.now ≡ name_of fault }
+{
+    match fault {
+        ConfigFault::NotToml => "NotToml",
+        ConfigFault::UnknownKey => "UnknownKey",
+        ConfigFault::Missing => "Missing",
+        ConfigFault::Kind => "Kind",
+        ConfigFault::Range => "Range",
+        ConfigFault::Duplicate => "Duplicate",
+        ConfigFault::TooMany => "TooMany",
+        ConfigFault::Memory => "Memory",
+    }
+}
+
+/// The line of a configuration that isn't taken over, by the fault of its text.
+fn refusal_of_text(fault: ConfigFault) -> &'static str
+    ensures { result.now ≡ refusal_line (ReloadFault.Configuration fault) }
+{
+    match fault {
+        ConfigFault::NotToml => "reload refused: configuration: NotToml\n",
+        ConfigFault::UnknownKey => "reload refused: configuration: UnknownKey\n",
+        ConfigFault::Missing => "reload refused: configuration: Missing\n",
+        ConfigFault::Kind => "reload refused: configuration: Kind\n",
+        ConfigFault::Range => "reload refused: configuration: Range\n",
+        ConfigFault::Duplicate => "reload refused: configuration: Duplicate\n",
+        ConfigFault::TooMany => "reload refused: configuration: TooMany\n",
+        ConfigFault::Memory => "reload refused: configuration: Memory\n",
+    }
+}
+
+/// The line of a configuration that isn't taken over. It takes no memory.
+pub fn refusal_line(fault: ReloadFault) -> &'static str
+    ensures { result.now ≡ refusal_line fault }
+{
+    match fault {
+        ReloadFault::Absent => "reload refused: cannot read configuration: no such file\n",
+        ReloadFault::Unreadable => "reload refused: cannot read configuration\n",
+        ReloadFault::Configuration(fault) => refusal_of_text(fault),
+        ReloadFault::Ports => "reload refused: the ports differ: restart for them\n",
+        ReloadFault::Memory => "reload refused: out of memory\n",
+    }
+}
+
+/// The line of a text's fault whose place is known.
+fn located_line(
+    alloc: Global,
+    fault: ConfigFault,
+    place: &Explanation,
+) -> Result<Vec<u8>, AllocError>
+    ensures { IfOk result (λ line. line.items ≡ located_line fault place.now) }
+{
+    let mut line = Vec::from_slice(alloc, b"reload refused: configuration: ")?;
+    line.extend_from_slice(name_of(fault).as_bytes())?;
+    line.extend_from_slice(b": ")?;
+    line.extend_from_slice(place.as_bytes())?;
+    line.push(b'\n')?;
+    Ok(line)
+}
+
+/// The line of a text's fault with its place, if there is memory for it.
+fn explained_line(alloc: Global, text: &[u8], fault: ConfigFault) -> Option<Vec<u8>>
+    ensures { IfSome result (λ line. IsRefusalLine (Ok (Some text.now)) (ReloadFault.Configuration fault) line.items) }
+{
+    match explain(alloc, text, fault) {
+        Ok(Some(place)) => located_line(alloc, fault, &place).ok(),
+        Ok(None) | Err(_) => None,
+    }
+}
+
+/// The line of a text that isn't taken over that takes memory: of a fault of the text, with its place.
+fn line_of_text(alloc: Global, text: &[u8], fault: ReloadFault) -> Option<Vec<u8>>
+    ensures { IfSome result (λ line. IsRefusalLine (Ok (Some text.now)) fault line.items) }
+{
+    match fault {
+        ReloadFault::Configuration(fault) => explained_line(alloc, text, fault),
+        _ => None,
+    }
+}
+
+/// The line of what was read and isn't taken over that takes memory, if there is one.
+pub fn line_with_place(
+    alloc: Global,
+    read: &Result<Option<Vec<u8>>, ReadFailure>,
+    fault: ReloadFault,
+) -> Option<Vec<u8>>
+    ensures { IfSome result (λ line. IsRefusalLine (text_found read.now) fault line.items) }
+{
+    match read {
+        Ok(Some(text)) => line_of_text(alloc, text, fault),
+        Ok(None) | Err(_) => None,
+    }
+}

@@ -1,0 +1,66 @@
+//! What an operator reads of what is kept and recorded, or isn't.
+
+ghost use Rattle.std.specs.Prelude.{◌≡◌};
+ghost use Rattle.std.specs.Io.KnownBytes.{Appends};
+ghost use Rattle.gw_notices.specs.Notices.{audit_notice, notice_of, state_notice, trial_notice, unkept_line};
+
+use crate::note::write_note;
+use crate::troubles::Troubles;
+use gw_script::OctetSink;
+use gw_serving::StoreFault;
+
+/// The line of a state that isn't kept.
+fn unkept_line(fault: StoreFault) -> &'static str
+    ensures { result.now ≡ unkept_line fault }
+{
+    match fault {
+        StoreFault::NoSpace => "bacgw: state isn't kept: no space\n",
+        StoreFault::NotPermitted => "bacgw: state isn't kept: not permitted\n",
+        StoreFault::ReadOnly => "bacgw: state isn't kept: read-only\n",
+        StoreFault::Memory => "bacgw: state isn't kept: out of memory\n",
+        StoreFault::System => "bacgw: state isn't kept: refused by the system\n",
+    }
+}
+
+/// What is reported if the state was kept, or not, and is so now: a line if that changed, and else nothing.
+fn state_notice(was: Option<StoreFault>, is: Option<StoreFault>) -> &'static str
+    ensures { result.now ≡ state_notice was is }
+{
+    match (was, is) {
+        (None, Some(fault)) => unkept_line(fault),
+        (Some(_), None) => "bacgw: state is kept again\n",
+        _ => "",
+    }
+}
+
+/// What is reported if lines of a policy on trial were lost before, and are now: a line the first time.
+fn trial_notice(was: bool, is: bool) -> &'static str
+    ensures { result.now ≡ trial_notice was is }
+{
+    if is && !was {
+        "bacgw: trial: lines are lost\n"
+    } else {
+        ""
+    }
+}
+
+/// What is reported if lines of an audit were lost before, and are now: a line the first time.
+fn audit_notice(was: bool, is: bool) -> &'static str
+    ensures { result.now ≡ audit_notice was is }
+{
+    if is && !was {
+        "bacgw: audit: lines are lost\n"
+    } else {
+        ""
+    }
+}
+
+/// Reports what isn't kept or recorded, if that changed.
+pub fn report_notices<E: OctetSink>(was: Troubles, is: Troubles, errors: &mut E)
+    ensures said { E.NeverFails errors.old → Appends (E.held errors.old) (E.held errors.new) (notice_of was is) }
+    ensures lasts { E.NeverFails errors.old → E.NeverFails errors.new }
+{
+    write_note(state_notice(was.state, is.state).as_bytes(), errors);
+    write_note(trial_notice(was.trial, is.trial).as_bytes(), errors);
+    write_note(audit_notice(was.audit, is.audit).as_bytes(), errors);
+}

@@ -1,0 +1,66 @@
+//! Reports of how often the state couldn't be kept, and how often the configuration was read again.
+
+ghost use Rattle.std.specs.Prelude.{◌≡◌, ◌++◌, IsOk, OnOk, decimal, true};
+ghost use Rattle.std.specs.Io.KnownBytes.{Appends};
+ghost use Rattle.gw_notices.specs.Stats.{reloads_text, unkept_text};
+
+use crate::reload::ReloadCounts;
+use gw_script::{OctetSink, WriteFailed, write_whole};
+use itoa::Buffer;
+
+/// Writes how often the state couldn't be kept.
+fn write_unkept<E: OctetSink>(unkept: u64, errors: &mut E) -> Result<(), WriteFailed>
+    ensures ok { OnOk result (Appends (E.held errors.old) (E.held errors.new) (unkept_text true unkept)) }
+    ensures sure { E.NeverFails errors.old → IsOk result }
+    ensures lasts { E.NeverFails errors.old → E.NeverFails errors.new }
+{
+    write_whole(errors, b"stats unkept=")?;
+    write_whole(errors, Buffer::new().format(unkept).as_bytes())?;
+    write_whole(errors, b"\n")
+}
+
+/// Reports how often the state couldn't be kept, if it is.
+pub fn report_unkept<E: OctetSink>(is_kept: bool, unkept: u64, errors: &mut E)
+    ensures said { E.NeverFails errors.old → Appends (E.held errors.old) (E.held errors.new) (unkept_text is_kept unkept) }
+    ensures lasts { E.NeverFails errors.old → E.NeverFails errors.new }
+{
+    if is_kept {
+        let _ = write_unkept(unkept, errors);
+    }
+}
+
+/// Writes a text and this count.
+pub(crate) fn write_count<E: OctetSink>(
+    text: &str,
+    count: u64,
+    errors: &mut E,
+) -> Result<(), WriteFailed>
+    ensures ok { OnOk result (Appends (E.held errors.old) (E.held errors.new) (text.now ++ decimal count)) }
+    ensures sure { E.NeverFails errors.old → IsOk result }
+    ensures lasts { E.NeverFails errors.old → E.NeverFails errors.new }
+{
+    write_whole(errors, text.as_bytes())?;
+    write_whole(errors, Buffer::new().format(count).as_bytes())
+}
+
+/// Writes how often a configuration was taken over and refused, and since when the one in force is.
+fn write_reloads<E: OctetSink>(counts: ReloadCounts, errors: &mut E) -> Result<(), WriteFailed>
+    ensures ok { OnOk result (Appends (E.held errors.old) (E.held errors.new) (reloads_text true counts)) }
+    ensures sure { E.NeverFails errors.old → IsOk result }
+    ensures lasts { E.NeverFails errors.old → E.NeverFails errors.new }
+{
+    write_count("stats reloads=", counts.taken_over, errors)?;
+    write_count(" refused=", counts.refused, errors)?;
+    write_count(" since=", counts.since, errors)?;
+    write_whole(errors, b"\n")
+}
+
+/// Reports how often the configuration was read again, if it is.
+pub fn report_reloads<E: OctetSink>(is_read: bool, counts: ReloadCounts, errors: &mut E)
+    ensures said { E.NeverFails errors.old → Appends (E.held errors.old) (E.held errors.new) (reloads_text is_read counts) }
+    ensures lasts { E.NeverFails errors.old → E.NeverFails errors.new }
+{
+    if is_read {
+        let _ = write_reloads(counts, errors);
+    }
+}

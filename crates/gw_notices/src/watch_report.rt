@@ -1,0 +1,185 @@
+//! What is reported of what watches a gateway.
+
+ghost use Rattle.std.specs.Prelude.{◌≡◌, ◌++◌, ◌+◌, codes, decimal, length, IsOk, OnOk};
+ghost use Rattle.std.specs.Io.KnownBytes.{Appends};
+ghost use Rattle.gw_script.specs.Order.{in_order};
+ghost use Rattle.gw_notices.specs.Watch.{asks_text, audit_text, beside_text, counts_text, logs_text, trial_text, unseen_text, watch_text};
+ghost use Rattle.gw_tally.specs.Tally.{line_in, rule_line};
+
+use crate::stats::write_count;
+use gw_rules::{Rule, RuleList};
+use gw_script::{OctetSink, WriteFailed, write_whole};
+use gw_tally::Tally;
+use gw_watching::{Beside, Watcher};
+
+/// Writes the line of a log beside the log: how it begins, the number of its last record, and how many were lost.
+fn write_beside<E: OctetSink>(
+    front: &str,
+    number: u64,
+    lost: u64,
+    errors: &mut E,
+) -> Result<(), WriteFailed>
+    ensures ok { OnOk result (Appends (E.held errors.old) (E.held errors.new) (beside_text front.now number lost)) }
+    ensures sure { E.NeverFails errors.old → IsOk result }
+    ensures lasts { E.NeverFails errors.old → E.NeverFails errors.new }
+{
+    write_count(front, number, errors)?;
+    write_count(" lost=", lost, errors)?;
+    write_whole(errors, b"\n")
+}
+
+/// Reports what a policy on trial recorded, if there is one.
+fn report_trial<C, S, E: OctetSink>(trial: &Option<Beside<C, S>>, errors: &mut E)
+    ensures said { E.NeverFails errors.old → Appends (E.held errors.old) (E.held errors.new) (trial_text trial.now) }
+    ensures lasts { E.NeverFails errors.old → E.NeverFails errors.new }
+{
+    if let Some(trial) = trial {
+        let _ = write_beside("stats trial=", trial.number, trial.lost, errors);
+    }
+}
+
+/// Reports what an audit recorded, if there is one.
+fn report_audit<C, S, E: OctetSink>(audit: &Option<Beside<C, S>>, errors: &mut E)
+    ensures said { E.NeverFails errors.old → Appends (E.held errors.old) (E.held errors.new) (audit_text audit.now) }
+    ensures lasts { E.NeverFails errors.old → E.NeverFails errors.new }
+{
+    if let Some(audit) = audit {
+        let _ = write_beside("stats audit=", audit.number, audit.lost, errors);
+    }
+}
+
+/// Writes how many events weren't watched.
+fn write_unseen<E: OctetSink>(unseen: u64, errors: &mut E) -> Result<(), WriteFailed>
+    ensures ok { OnOk result (Appends (E.held errors.old) (E.held errors.new) (unseen_text unseen)) }
+    ensures sure { E.NeverFails errors.old → IsOk result }
+    ensures lasts { E.NeverFails errors.old → E.NeverFails errors.new }
+{
+    write_count("stats unseen=", unseen, errors)?;
+    write_whole(errors, b"\n")
+}
+
+/// Reports how many events weren't watched.
+fn report_unseen<E: OctetSink>(unseen: u64, errors: &mut E)
+    ensures said { E.NeverFails errors.old → Appends (E.held errors.old) (E.held errors.new) (unseen_text unseen) }
+    ensures lasts { E.NeverFails errors.old → E.NeverFails errors.new }
+{
+    let _ = write_unseen(unseen, errors);
+}
+
+/// Writes how many asks the rule of this number decided.
+fn write_rule<E: OctetSink>(
+    number: u64,
+    rule: &Rule,
+    count: u64,
+    errors: &mut E,
+) -> Result<(), WriteFailed>
+    ensures ok { OnOk result (Appends (E.held errors.old) (E.held errors.new) (rule_line number rule.now count)) }
+    ensures sure { E.NeverFails errors.old → IsOk result }
+    ensures lasts { E.NeverFails errors.old → E.NeverFails errors.new }
+{
+    write_count("rule ", number, errors)?;
+    write_whole(errors, b" ")?;
+    write_whole(errors, rule.name.as_str().as_bytes())?;
+    write_count(": ", count, errors)?;
+    write_whole(errors, b"\n")
+}
+
+/// Reports how many asks the rule of this number decided.
+fn report_rule<E: OctetSink>(number: u64, rule: &Rule, count: u64, errors: &mut E)
+    ensures said { E.NeverFails errors.old → Appends (E.held errors.old) (E.held errors.new) (rule_line number rule.now count) }
+    ensures lasts { E.NeverFails errors.old → E.NeverFails errors.new }
+{
+    let _ = write_rule(number, rule, count, errors);
+}
+
+/// Reports how many asks each rule decided, in order.
+fn report_rules<E: OctetSink>(rules: &[Rule], counts: &Tally, errors: &mut E)
+    requires { length counts.now ≡ length rules.now + 1 }
+    ensures said { E.NeverFails errors.old →
+        Appends (E.held errors.old) (E.held errors.new) (in_order (line_in counts.now) 1 rules.now) }
+    ensures lasts { E.NeverFails errors.old → E.NeverFails errors.new }
+{
+    for place in 0..rules.len() {
+        report_rule(
+            place as u64 + 1,
+            &rules[place],
+            counts.count(place + 1),
+            errors,
+        );
+    }
+}
+
+/// Writes how many asks no rule decided.
+fn write_default<E: OctetSink>(count: u64, errors: &mut E) -> Result<(), WriteFailed>
+    ensures ok { OnOk result (Appends (E.held errors.old) (E.held errors.new)
+        (codes "default: " ++ decimal count ++ codes "\n")) }
+    ensures sure { E.NeverFails errors.old → IsOk result }
+    ensures lasts { E.NeverFails errors.old → E.NeverFails errors.new }
+{
+    write_count("default: ", count, errors)?;
+    write_whole(errors, b"\n")
+}
+
+/// Reports how many asks no rule decided.
+fn report_default<E: OctetSink>(count: u64, errors: &mut E)
+    ensures said { E.NeverFails errors.old → Appends (E.held errors.old) (E.held errors.new)
+        (codes "default: " ++ decimal count ++ codes "\n") }
+    ensures lasts { E.NeverFails errors.old → E.NeverFails errors.new }
+{
+    let _ = write_default(count, errors);
+}
+
+/// Reports how many asks each rule decided, and how many none did, if they are counts of these rules. They always are.
+fn report_counts<E: OctetSink>(rules: &RuleList, counts: &Option<Tally>, errors: &mut E)
+    ensures said { E.NeverFails errors.old →
+        Appends (E.held errors.old) (E.held errors.new) (counts_text rules.now counts.now) }
+    ensures lasts { E.NeverFails errors.old → E.NeverFails errors.new }
+{
+    match counts {
+        Some(counts) if counts.is_of(rules) => {
+            report_rules(rules.rules(), counts, errors);
+            report_default(counts.count(0), errors);
+        }
+        _ => {}
+    }
+}
+
+/// Reports what the logs of a watcher have and lost.
+fn report_logs<T: OctetSink + Drop, A: OctetSink + Drop, E: OctetSink>(
+    watcher: &Watcher<T, A>,
+    errors: &mut E,
+)
+    ensures said { E.NeverFails errors.old → Appends (E.held errors.old) (E.held errors.new) (logs_text watcher.now) }
+    ensures lasts { E.NeverFails errors.old → E.NeverFails errors.new }
+{
+    report_trial(watcher.trial(), errors);
+    report_audit(watcher.audit(), errors);
+}
+
+/// Reports how many events a watcher didn't see, and how many asks each of these rules decided.
+fn report_asks<T: OctetSink + Drop, A: OctetSink + Drop, E: OctetSink>(
+    rules: &RuleList,
+    watcher: &Watcher<T, A>,
+    errors: &mut E,
+)
+    ensures said { E.NeverFails errors.old →
+        Appends (E.held errors.old) (E.held errors.new) (asks_text rules.now watcher.now) }
+    ensures lasts { E.NeverFails errors.old → E.NeverFails errors.new }
+{
+    report_unseen(watcher.unseen(), errors);
+    report_counts(rules, watcher.counts(), errors);
+}
+
+/// Reports what a watcher recorded and lost, and how many asks each of these rules decided.
+pub fn report_watched<T: OctetSink + Drop, A: OctetSink + Drop, E: OctetSink>(
+    rules: &RuleList,
+    watcher: &Watcher<T, A>,
+    errors: &mut E,
+)
+    ensures said { E.NeverFails errors.old →
+        Appends (E.held errors.old) (E.held errors.new) (watch_text rules.now watcher.now) }
+    ensures lasts { E.NeverFails errors.old → E.NeverFails errors.new }
+{
+    report_logs(watcher, errors);
+    report_asks(rules, watcher, errors);
+}
