@@ -616,7 +616,7 @@ explained() {
 explained '' Missing 'format: is missing; it must be 1 to 3'
 explained 'format = 1\nformat = ' NotToml 'the text: is no TOML document, line 2, column 10: invalid value, expected a string, number, boolean, date-time, array or inline table'
 explained '\xff' NotToml "the text: is no TOML document, since it isn't UTF-8"
-explained 'colour = 1' UnknownKey 'colour: is no key of this table'
+explained 'colour = 1' UnknownKey 'colour: is no key of this table; known keys here: format, device, port, route, object, rule'
 explained 'format = 1\nport = []\n[device]\n' Range 'port: a list of 0 must have 1 to 8'
 
 # The recipes of the cookbook, and what each policy lets through and refuses.

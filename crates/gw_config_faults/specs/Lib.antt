@@ -2,4 +2,5 @@ pub mod Explanation
 pub mod Near
 pub mod Place
 pub mod FaultWords
+pub mod Keys
 pub mod Wanted

@@ -29,6 +29,7 @@ use Rattle.gw_config_tables.specs.Items.{items_named, number_named, set_name_in}
 use Rattle.gw_config_tables.specs.Range.{between, bounds_of}
 use Rattle.gw_config_tables.specs.Value.{list_in}
 use Rattle.gw_config_tables.specs.Written.{mask_written}
+use Rattle.gw_config_faults.specs.Keys.{fields_at, keys_words}
 use Rattle.gw_config_faults.specs.Near.{near_words, noun_of}
 use Rattle.gw_config_faults.specs.Place.{table_at, value_at}
 use Rattle.gw_config_faults.specs.FaultWords.{value_words}
@@ -332,9 +333,9 @@ shape_words top fault (Some shape) item None = missing_words shape
 shape_words top fault (Some shape) item (Some value) = must_words top fault shape item value
 shape_words top fault None item value = codes "is at fault"
 
--- by the fault, the shape of its field, and the value there
+-- by the fault, the shape of its field, and the value there; of an unknown key the known ones
 abbrev pub last_words : Members → Located → Option Data → Option Data → ConfigFault → List ℕ
-last_words top located kind value UnknownKey = []
+last_words top located kind value UnknownKey = keys_words (fields_at located.place top)
 last_words top located kind value Duplicate = twice_words kind
 last_words top located kind value fault = shape_words top fault located.wanted located.item value
 

@@ -3,6 +3,7 @@
 
 mod diagnosis;
 mod explanation;
+mod keys;
 pub mod laws;
 mod near;
 mod reason;

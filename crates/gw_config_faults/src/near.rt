@@ -68,7 +68,8 @@ fn put_suggestion(line: &mut Vec<u8>, name: &str) -> Result<(), AllocError>
     put_text(line, name)
 }
 
-fn put_text(line: &mut Vec<u8>, text: &str) -> Result<(), AllocError>
+/// Puts a text as it is. `AllocError` where memory was refused.
+pub(crate) fn put_text(line: &mut Vec<u8>, text: &str) -> Result<(), AllocError>
     ensures { OnOk result (line.new.items ≡ line.old.items ++ text.now) }
 {
     line.extend_from_slice(text.as_bytes())
