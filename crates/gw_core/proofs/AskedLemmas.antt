@@ -15,7 +15,7 @@ use Rattle.gw_core.specs.Asked.{asked_at, asked_of, refused_of}
 use Rattle.gw_core.specs.Asks.{asks, asks_for}
 use Rattle.gw_core.specs.Receive.{Origin, Received, admit, dropped, unregistered, message, message_origin, origin, receive}
 use Rattle.gw_core.specs.State.{State}
-use Rattle.gw_core.specs.View.{admitted_view, judged, origin_of, received_view}
+use Rattle.gw_core.specs.internal.View.{admitted_view, judged, origin_of, received_view}
 use Rattle.gw_core.specs.declared.receive.Received.{Received as LentReceived}
 use Rattle.gw_core.specs.declared.receive.Received.TheVariants as lent
 use Rattle.gw_core.proofs.DenialLemmas.{asks_received, origin_admitted}

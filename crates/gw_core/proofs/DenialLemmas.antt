@@ -17,7 +17,7 @@ use Rattle.gw_core.specs.Receive.{Origin, Received, admit, barred, dropped, mana
 use Rattle.gw_core.specs.Reply.{apdu_for, context_of}
 use Rattle.gw_core.specs.State.{State, device_network}
 use Rattle.gw_relay.specs.Message.{message_view}
-use Rattle.gw_core.specs.View.{admitted_view, judged, origin_of, received_view}
+use Rattle.gw_core.specs.internal.View.{admitted_view, judged, origin_of, received_view}
 use Rattle.gw_core.specs.declared.receive.Received.{Received as LentReceived}
 use Rattle.gw_core.specs.declared.receive.Received.TheVariants as lent
 use Rattle.std.specs.Prelude.{if◌then◌else◌}

@@ -22,8 +22,8 @@ use Rattle.gw_rules.specs.Ask.{Ask}
 use Rattle.gw_rules.specs.declared.rule.Rule.{Rule}
 use Rattle.gw_rules.specs.declared.verdict.Verdict.{Verdict}
 use Rattle.gw_core.specs.Receive.{admit}
-use Rattle.gw_core.specs.Respond.{entered_response, is_taken, message_response, passed_response, received_response}
-use Rattle.gw_core.specs.View.{judged}
+use Rattle.gw_core.specs.internal.Respond.{entered_response, is_taken, message_response, passed_response, received_response}
+use Rattle.gw_core.specs.internal.View.{judged}
 use Rattle.gw_core.proofs.RespondLemmas.{bars, entered_off, entered_on, goes, stops}
 use Rattle.gw_core.proofs.TurnLemmas.{KeepsBoth, or_none, walked_both, walked_like}
 

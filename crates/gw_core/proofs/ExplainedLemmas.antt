@@ -22,7 +22,7 @@ use Rattle.gw_core.specs.Explained.{ask_line, ask_lines, asks_text}
 use Rattle.gw_core.specs.Laws.{DeniedLinesAreLogged}
 use Rattle.gw_core.specs.Receive.{Origin, Received, admit, dropped, unregistered, message, message_origin, origin, receive, source_of}
 use Rattle.gw_core.specs.State.{State}
-use Rattle.gw_core.specs.View.{judged, origin_of, received_view}
+use Rattle.gw_core.specs.internal.View.{judged, origin_of, received_view}
 use Rattle.gw_core.specs.declared.receive.Received.{Received as LentReceived}
 use Rattle.gw_core.specs.declared.receive.Received.TheVariants as lent
 use Rattle.gw_core.proofs.DenialLemmas.{origin_admitted}

@@ -2,6 +2,7 @@ pub mod DenialLemmas
 pub mod SilenceLemmas
 pub mod EffectLemmas
 pub mod DropLemmas
+pub mod HeardLemmas
 pub mod EntryLemmas
 pub mod HistoryLemmas
 pub mod StandLemmas

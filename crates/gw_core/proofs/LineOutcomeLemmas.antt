@@ -7,7 +7,7 @@ use Rattle.gw_core.specs.State.{State}
 use Rattle.gw_script.specs.Flaw.{IsFlaw}
 use Rattle.gw_script.specs.declared.flaw.LineFlaw.{LineFlaw}
 use Rattle.gw_script.specs.Script.{IsLine}
-use Rattle.gw_core.specs.LineOutcome.{LineOutcome, MemoryWant, PassesEnd}
+use Rattle.gw_core.specs.internal.LineOutcome.{LineOutcome, MemoryWant, PassesEnd}
 use Rattle.gw_core.specs.Replay.{EventText}
 
 pub same_line : (p q : ℕ) (a b : List ℕ) (e : Event) → p ≡ q → a ≡ b → IsLine q b e → IsLine p a e

@@ -16,7 +16,7 @@ use Rattle.gw_relay.specs.Steps.{Step, asks_of, sends_of}
 use Rattle.gw_relay.proofs.Asking.{quiet_asks, quiet_sends}
 use Rattle.gw_rules.specs.Ask.{Ask}
 use Rattle.gw_rules.specs.declared.rule.Rule.{Rule}
-use Rattle.gw_core.specs.Respond.{is_apdu, is_plain, is_unicast, passed_asks, passed_change, passed_sends}
+use Rattle.gw_core.specs.internal.Respond.{is_apdu, is_plain, is_unicast, passed_asks, passed_change, passed_sends}
 use Rattle.gw_core.proofs.RespondLemmas.{asks_on, change_on, sends_on}
 
 both : (a b : Bool) → (a && b) ≡ true → (a ≡ true) × (b ≡ true)

@@ -14,7 +14,7 @@ use Rattle.gw_core.specs.Laws.{RunsAreWritten}
 use Rattle.gw_script.specs.Script.{lines_of, IsLine, AreLines}
 use Rattle.gw_core.specs.Shown.{event_text, text_of_run, effects_text}
 use Rattle.gw_core.specs.Replay.{EventText, no_counts, run_text, text_after, FirstLines, Replays, RunsWhole, RunsToLine, RunsToEnd, RunsToMemory, RunsPart, RunsFront}
-use Rattle.gw_core.specs.LineOutcome.{LineOutcome}
+use Rattle.gw_core.specs.internal.LineOutcome.{LineOutcome}
 use Rattle.gw_core.specs.Flawed.{HasFlaw, IsFirstFlaw}
 use Rattle.gw_script.specs.Flaw.{IsFlaw}
 use Rattle.gw_script.proofs.KnownTexts.{holds_known}

@@ -32,8 +32,8 @@ use Rattle.gw_device.specs.Response.{Answer}
 use Rattle.gw_core.proofs.DenialLemmas.{answer_put}
 use Rattle.gw_relay.specs.Message.{Message}
 use Rattle.gw_core.specs.Receive.{Received, admit, barred, dropped, unregistered, message}
-use Rattle.gw_core.specs.Respond.{IsResponse, entered_response, is_taken, passed_asks, passed_change, passed_sends}
-use Rattle.gw_core.specs.View.{judged}
+use Rattle.gw_core.specs.internal.Respond.{IsResponse, entered_response, is_taken, passed_asks, passed_change, passed_sends}
+use Rattle.gw_core.specs.internal.View.{judged}
 
 abbrev on : Message → Bool
 on m = goes_on m.here m.from m.frame

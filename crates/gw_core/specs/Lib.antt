@@ -1,5 +1,4 @@
 pub mod State
-pub mod Kept
 pub mod Receive
 pub mod Reply
 pub mod Asks
@@ -9,9 +8,7 @@ pub mod Effects
 pub mod History
 pub mod Resumed
 pub mod Lasting
-pub mod View
 pub mod Drops
-pub mod Respond
 pub mod Setting
 pub mod Examples
 pub mod FormatOne
@@ -20,7 +17,6 @@ pub mod Laws
 pub mod Shown
 pub mod Explained
 pub mod Replay
-pub mod LineOutcome
 pub mod Flawed
 pub mod NoLeak
 pub mod Refused

@@ -77,16 +77,6 @@ reply_npdu network request answer = record {
   payload = apdu answer.apdu;
 }
 
--- what a reply to a node of the port's own network is, which names no source
-abbrev pub local_reply : ℕ → ℕ → List ℕ → Fields
-local_reply network priority octets = record {
-  destination = None;
-  source = Some (record { network = network; mac = device_station ∷ [] });
-  reply_expected = false;
-  priority = priority;
-  payload = apdu octets;
-}
-
 -- ---- what the device knows
 
 -- how many octets the APDU may have that goes back to the station that asked

@@ -1,5 +1,10 @@
 -- What only private parts and proofs cite.
 pub mod Arrivals
 pub mod Frame
+pub mod Kept
+pub mod LineOutcome
+pub mod Replies
 pub mod Reports
+pub mod Respond
 pub mod Verdicts
+pub mod View

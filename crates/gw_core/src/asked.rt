@@ -6,7 +6,7 @@ ghost use Rattle.gw_rules.specs.Authorizer.{denied_of};
 ghost use Rattle.gw_rules.specs.declared.rule.Rule.{Rule};
 ghost use Rattle.gw_core.specs.Asked.{asked_of, refused_of};
 ghost use Rattle.gw_core.specs.Receive.{Origin};
-ghost use Rattle.gw_core.specs.View.{origin_of};
+ghost use Rattle.gw_core.specs.internal.View.{origin_of};
 
 use crate::denial::origin_of;
 use crate::receive::Received;

@@ -1,10 +1,10 @@
 //! The record of what the policy denies.
 
-ghost use Rattle.std.specs.Prelude.{◌≡◌, ◌<◌, ◌+◌, ◌^◌, [], length, IfOk, IsOk};
+ghost use Rattle.std.specs.Prelude.{◌≡◌, ◌<◌, ◌+◌, ◌^◌, [], length, IfOk, IsOk, vec_capacity};
 ghost use Rattle.std.specs.Option.{option_map, option_map_or};
 ghost use Rattle.gw_core.specs.Denials.{default_name, denials_from, denials_of, name_at, rule_name};
 ghost use Rattle.gw_core.specs.Receive.{source_of};
-ghost use Rattle.gw_core.specs.View.{origin_of, origin_view};
+ghost use Rattle.gw_core.specs.internal.View.{origin_of, origin_view};
 
 use crate::event::Counts;
 use crate::receive::Received;
@@ -36,17 +36,10 @@ pub fn rule_name(alloc: Global, rules: &RuleList, by: Option<u16>) -> Result<Rul
     ensures { IfOk result (λ name. name ≡ rule_name rules.now by) }
 {
     match by {
-        Some(number) => copy_at(alloc, rules, number),
-        None => RuleName::of_no_rule(alloc),
-    }
-}
-
-/// A copy of the name of the rule of this number, from 1, or of `default`.
-fn copy_at(alloc: Global, rules: &RuleList, number: u16) -> Result<RuleName, AllocError>
-    ensures { IfOk result (λ name. name ≡ name_at rules.now number) }
-{
-    match rule_at(rules, number) {
-        Some(rule) => rule.name.copy(alloc),
+        Some(number) => match rule_at(rules, number) {
+            Some(rule) => rule.name.copy(alloc),
+            None => RuleName::of_no_rule(alloc),
+        },
         None => RuleName::of_no_rule(alloc),
     }
 }
@@ -138,6 +131,14 @@ fn denials_with_origin(
     }
 }
 
+/// An empty list with memory for the denials of these refusals.
+fn empty_list(alloc: Global, refusals: &[Refusal]) -> Result<Vec<Denial>, AllocError>
+    ensures empty { IfOk result (λ denials. denials.items ≡ []) }
+    ensures room { IfOk result (λ denials. vec_capacity denials ≡ length refusals.now) }
+{
+    Vec::with_capacity(alloc, refusals.len())
+}
+
 /// The record of refusals, counted on from these counts.
 fn denials_from(
     alloc: Global,
@@ -152,7 +153,7 @@ fn denials_from(
         IfOk result (λ denials. denials ≡ due) }
 {
     let first = counts.denials + 1;
-    let mut denials = Denials::with_capacity(alloc, refusals.len())?;
+    let mut denials = Denials::from_vec(empty_list(alloc, refusals)?);
     for (place, refusal) in refusals.iter().enumerate() {
         let rule = rule_name(alloc, rules, refusal.by)?;
         denials.push(Denial {

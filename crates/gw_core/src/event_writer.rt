@@ -5,7 +5,7 @@ ghost use Rattle.gw_script.specs.Event.{Tick, event_view};
 ghost use Rattle.gw_core.specs.Effects.{NeedsNoMemory};
 ghost use Rattle.gw_core.specs.Explained.{asks_text};
 ghost use Rattle.gw_core.specs.History.{next};
-ghost use Rattle.gw_core.specs.LineOutcome.{IsEventFault};
+ghost use Rattle.gw_core.specs.internal.LineOutcome.{IsEventFault};
 ghost use Rattle.gw_core.specs.Shown.{event_text};
 
 use crate::fault::StepFault;

@@ -3,7 +3,7 @@
 ghost use Rattle.std.specs.Prelude.{◌≡◌, ◌≤◌, ◌++◌, [], IsOk, OnOk, Some, vec_capacity};
 ghost use Rattle.gw_addr.specs.Appending.{IsAppended};
 ghost use Rattle.gw_core.specs.Explained.{by_text, judged_text, verdict_text};
-ghost use Rattle.gw_core.specs.View.{origin_of, origin_view};
+ghost use Rattle.gw_core.specs.internal.View.{origin_of, origin_view};
 ghost use Rattle.gw_core.specs.internal.Verdicts.{verdict_line, verdict_lines};
 
 use crate::denial::{Origin, name_at, origin_of};

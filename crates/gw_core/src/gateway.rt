@@ -20,14 +20,13 @@ use crate::effects::Effects;
 use crate::event::Counts;
 use crate::explaining::put_verdicts;
 use crate::fault::StepFault;
-use crate::receive::{Arrival, read_npdu, receive};
+use crate::receive::{Arrival, npdu_in, receive};
 use crate::respond::{network_of, respond};
 use crate::saving::saved_ports;
 use gw_addr::BipAddr;
 use gw_audit::Denials;
 use gw_configuration::Config;
 use gw_device::{Change, Device};
-use gw_npdu::NpduFault;
 use gw_relay::{Change as RelayChange, Relay, Sends, Turn};
 use gw_rule_index::Policy;
 use gw_rules::{Authorizer, Recorder, RuleList};
@@ -122,7 +121,7 @@ impl Drop for Gateway {
 
 impl Model for Gateway {
     ghost use Rattle.gw_core.specs.State.{State};
-    ghost use Rattle.gw_core.specs.Kept.{IsKept};
+    ghost use Rattle.gw_core.specs.internal.Kept.{IsKept};
 
     ghost Value = { State };
 
@@ -299,13 +298,12 @@ impl Gateway {
         ensures silent { NeedsNoMemory self.now (event_of arrival.now) → IsOk result }
     {
         let frame = gw_bvll::decode(arrival.octets);
-        let mut npdu = Err(NpduFault::Short);
-        read_npdu(&frame, &mut npdu);
+        let npdu = npdu_in(&frame);
         let network = network_of(&self.device);
         let received = receive(self.relay.ports(), network, arrival, &frame, &npdu);
         let drop = received.drop_reason();
         let mut turn = Turn::new(asker);
-        let write = respond(&self.relay, &self.device, &received, &mut turn)?;
+        let write = respond(&self.relay, &self.device, network, &received, &mut turn)?;
         let Turn {
             asker,
             sends,
@@ -484,12 +482,11 @@ impl Gateway {
         ensures capacity { vec_capacity out.old ≤ vec_capacity out.new }
     {
         let frame = gw_bvll::decode(arrival.octets);
-        let mut npdu = Err(NpduFault::Short);
-        read_npdu(&frame, &mut npdu);
+        let npdu = npdu_in(&frame);
         let network = network_of(&self.device);
         let received = receive(self.relay.ports(), network, arrival, &frame, &npdu);
         let mut turn = Turn::new(Recorder::new(alloc, &self.policy));
-        respond(&self.relay, &self.device, &received, &mut turn)?;
+        respond(&self.relay, &self.device, network, &received, &mut turn)?;
         put_verdicts(out, self.policy.rules(), &received, turn.asker.verdicts())
     }
 

@@ -1,24 +1,22 @@
 //! What the gateway makes of a datagram before any policy is asked (Annex J.2, clause 6.2).
 
-ghost use Rattle.std.specs.Prelude.{◌≡◌, ◌==◌, [], unwrap_or};
+ghost use Rattle.std.specs.Prelude.{◌≡◌, ◌==◌};
 ghost use Rattle.std.specs.List.{list_any};
 ghost use Rattle.std.specs.Option.{option_map};
 ghost use Rattle.gw_bvll.specs.Bvll.{view as frame_view};
 ghost use Rattle.gw_addr.specs.Reading.{Gives};
 ghost use Rattle.gw_bvll.specs.Reading.{bvll_at};
 ghost use Rattle.gw_npdu.specs.Npdu.{address_view, view as npdu_view};
-ghost use Rattle.gw_npdu.specs.Reading.{npdu_at};
-ghost use Rattle.gw_relay.specs.Claim.{local_source};
 ghost use Rattle.gw_core.specs.Receive.{claims_direct, comes_in, is_direct, manages, payload_of, receive_on, receive_payload};
-ghost use Rattle.gw_core.specs.internal.Frame.{octets_in};
+ghost use Rattle.gw_core.specs.internal.Frame.{frame_npdu, heard_npdu, npdu_in};
 ghost use Rattle.gw_core.specs.Drops.{drop_on, length_drop, payload_drop};
-ghost use Rattle.gw_core.specs.View.{drop_view, received_view};
+ghost use Rattle.gw_core.specs.internal.View.{drop_view, received_view};
 
 use crate::drops::DropReason;
 use gw_addr::laws::one_to_one;
 use gw_addr::{BipAddr, NetNum};
 use gw_bvll::{Bvll, BvllFault};
-use gw_npdu::{AddressRef, Npdu, NpduFault};
+use gw_npdu::{AddressRef, Npdu};
 use gw_relay::{Message, PortState, TableMessage, port_at};
 
 /// The longest datagram that is heard, in octets.
@@ -129,56 +127,50 @@ impl OwnNetworks<'_> {
     }
 }
 
-/// The octets of the NPDU that a frame brings: none where there is no frame, or none that brings one.
-fn octets_in<'a>(frame: &Result<Bvll<'a>, BvllFault>) -> &'a [u8]
-    ensures { result.now ≡ octets_in frame.now }
+/// Reads octets as an NPDU that is heard: one of at most 1497 octets.
+#[inline(always)]
+fn heard_npdu(octets: &[u8]) -> Result<Npdu<'_>, DropReason>
+    ensures { Gives npdu_view result (heard_npdu octets.now) }
 {
-    match frame {
-        Ok(frame) => payload_of(frame).unwrap_or(&[]),
-        Err(_) => &[],
+    if octets.len() > MAX_NPDU {
+        return Err(DropReason::Malformed);
+    }
+    match gw_npdu::decode(octets) {
+        Ok(npdu) => Ok(npdu),
+        Err(_) => Err(DropReason::Malformed),
     }
 }
 
-/// Reads the NPDU that a frame brings into its place, where it stays; where there is none, nothing is read.
+/// The NPDU that a frame brings, or why it is dropped if it manages no table: it brings none, or is no frame, or the
+/// NPDU is too long or unreadable.
 #[inline(always)]
-pub(crate) fn read_npdu<'a>(
-    frame: &Result<Bvll<'a>, BvllFault>,
-    npdu: &mut Result<Npdu<'a>, NpduFault>,
-)
-    ensures { Gives npdu_view npdu.new (npdu_at (octets_in frame.now)) }
+pub(crate) fn npdu_in<'a>(frame: &Result<Bvll<'a>, BvllFault>) -> Result<Npdu<'a>, DropReason>
+    ensures { Gives npdu_view result (npdu_in frame.now) }
 {
-    let octets = octets_in(frame);
-    if octets.is_empty() {
-        *npdu = Err(NpduFault::Short);
-    } else {
-        *npdu = gw_npdu::decode(octets);
+    let Ok(frame) = frame else {
+        return Err(DropReason::Malformed);
+    };
+    match payload_of(frame) {
+        Some(octets) => heard_npdu(octets),
+        None => Err(DropReason::Ignored),
     }
 }
 
-/// What a frame is received as that manages no table, with the NPDU that it brings: that is heard, or the frame is
-/// dropped.
+/// What a frame is received as that manages no table, with the NPDU that it brings, or why it is dropped.
 #[inline(always)]
-#[tactic(auto, unfolding(crate::specs::Receive::npdu_of, crate::specs::Drops::npdu_drop))]
 fn receive_payload<'a>(
     own: &OwnNetworks<'_>,
     here: &'a PortState,
     from: BipAddr,
     frame: &'a Bvll<'a>,
-    npdu: &'a Result<Npdu<'a>, NpduFault>,
+    npdu: &'a Result<Npdu<'a>, DropReason>,
 ) -> Received<'a>
-    requires { let octets = unwrap_or (payload_of (frame_view frame.now)) [] in
-        Gives npdu_view npdu.now (npdu_at octets) }
+    requires { Gives npdu_view npdu.now (frame_npdu (frame_view frame.now)) }
     ensures received { let frame = frame_view frame.now in
         received_view result ≡ receive_payload own.now.ports.now own.now.device here.now from frame }
     ensures drop { let frame = frame_view frame.now in
         drop_view result ≡ payload_drop own.now.ports.now own.now.device here.now from frame }
 {
-    let Some(octets) = payload_of(frame) else {
-        return Received::Dropped(DropReason::Ignored);
-    };
-    if octets.len() > MAX_NPDU {
-        return Received::Dropped(DropReason::Malformed);
-    }
     match npdu {
         Ok(npdu) if !own.are_claimed(&npdu.source) => Received::Message(Message {
             here,
@@ -187,7 +179,7 @@ fn receive_payload<'a>(
             npdu,
         }),
         Ok(_) => Received::Dropped(DropReason::OwnNetwork),
-        Err(_) => Received::Dropped(DropReason::Malformed),
+        Err(why) => Received::Dropped(*why),
     }
 }
 
@@ -199,10 +191,10 @@ pub(crate) fn receive<'a>(
     device: NetNum,
     arrival: &Arrival<'_>,
     frame: &'a Result<Bvll<'a>, BvllFault>,
-    npdu: &'a Result<Npdu<'a>, NpduFault>,
+    npdu: &'a Result<Npdu<'a>, DropReason>,
 ) -> Received<'a>
     requires frame { Gives frame_view frame.now (bvll_at arrival.now.octets.now) }
-    requires npdu { Gives npdu_view npdu.now (npdu_at (octets_in frame.now)) }
+    requires npdu { Gives npdu_view npdu.now (npdu_in frame.now) }
     ensures received { let a = arrival.now in
         received_view result ≡ receive_on ports.now device a.port a.from a.octets.now }
     ensures drop { let a = arrival.now in

@@ -1,7 +1,7 @@
 //! The replay of a script: its events one by one through a fresh gateway, and the text of what
 //! they do.
 
-ghost use Rattle.std.specs.Prelude.{◌≡◌, ◌+◌, ◌*◌, ◌<◌, ◌≤◌, ℕ, List, [], length, Ok, Some, IsErrOf, true, vec_capacity};
+ghost use Rattle.std.specs.Prelude.{◌≡◌, ◌+◌, ◌*◌, ◌<◌, ◌≤◌, ℕ, List, [], length, Ok, Some, IfOk, IsErrOf, true, vec_capacity};
 ghost use Rattle.std.specs.Io.KnownBytes.{prepend_known};
 ghost use Rattle.gw_script.specs.Reader.{IsPaid};
 ghost use Rattle.gw_configuration.specs.Configuration.{Configuration};
@@ -10,7 +10,7 @@ ghost use Rattle.gw_core.specs.Explained.{explained_text};
 ghost use Rattle.gw_core.specs.Shown.{event_text};
 ghost use Rattle.gw_core.specs.Replay.{Replays, no_counts};
 ghost use Rattle.gw_script.specs.Known.{IsShorter, OnKnown};
-ghost use Rattle.gw_core.specs.LineOutcome.{OnKnownLine};
+ghost use Rattle.gw_core.specs.internal.LineOutcome.{OnKnownLine};
 ghost use Rattle.gw_core.specs.Flawed.{HasFlaw, IsFirstFlaw};
 
 use crate::event::Counts;
@@ -21,7 +21,7 @@ use gw_script::{
     LineFlaw, LineReader, MAX_DATAGRAM, NextLine, OctetSink, OctetSource, flaw_of, parse_spelled,
     write_whole,
 };
-use std::alloc::Global;
+use std::alloc::{AllocError, Global};
 use thiserror::Error;
 
 /// How many octets of text there is room for at the start.
@@ -45,6 +45,14 @@ pub enum RunFault {
     /// 5: the count of ticks or the number of the last denial would pass 2^63.
     #[error("count at its end")]
     CountEnd,
+}
+
+/// An empty text with the room that there is at the start.
+fn empty_text(alloc: Global) -> Result<Vec<u8>, AllocError>
+    ensures empty { IfOk result (λ text. text.items ≡ []) }
+    ensures room { IfOk result (λ text. vec_capacity text ≡ 4096) }
+{
+    Vec::with_capacity(alloc, TEXT_ROOM)
 }
 
 /// What a replay keeps from line to line, and what is wrong with the line that ends it.
@@ -165,7 +173,7 @@ fn replay_with<T: EventText, R: OctetSource, W: OctetSink>(
     let Ok(gateway) = Gateway::new(alloc, config, counts) else {
         return Err(RunFault::Memory);
     };
-    let Ok(text) = Vec::with_capacity(alloc, TEXT_ROOM) else {
+    let Ok(text) = empty_text(alloc) else {
         return Err(RunFault::Memory);
     };
     let mut run = ScriptRun {

@@ -2,7 +2,7 @@
 //! 6.2.2).
 
 ghost use Rattle.std.specs.Prelude.{◌≡◌, ℕ, ◌+◌, ◌<◌, ◌≤◌, ◌^◌, ◌++◌, [], ◌∷◌, length, take, drop};
-ghost use Rattle.std.specs.Prelude.{IfOk, IsOk, OnOk, None, Ok, true, false, vec_len};
+ghost use Rattle.std.specs.Prelude.{IfOk, IsOk, OnOk, None, Ok, true, false, vec_capacity, vec_len};
 ghost use Rattle.std.specs.Int.{w16, to_be_bytes};
 ghost use Rattle.std.specs.Option.{option_map};
 ghost use Rattle.gw_device.specs.Response.{answer_view};
@@ -14,8 +14,9 @@ ghost use Rattle.gw_bvll.specs.Bvll.{original_unicast};
 ghost use Rattle.gw_bvll.specs.Bvll.{encoding as bvll_encoding};
 ghost use Rattle.gw_relay.specs.Steps.{broadcast, npdu_octets, unicast};
 ghost use Rattle.gw_core.specs.Reply.{apdu_for, apdu_of, context_of, goes_to_all, is_broadcast, is_device};
-ghost use Rattle.gw_core.specs.Reply.{is_local_broadcast, local_reply, reply_npdu, reply_sends, max_reply_apdu};
+ghost use Rattle.gw_core.specs.Reply.{is_local_broadcast, reply_npdu, max_reply_apdu};
 ghost use Rattle.gw_core.specs.Reply.{reply_destination};
+ghost use Rattle.gw_core.specs.internal.Replies.{local_reply};
 ghost use Rattle.gw_relay.specs.Message.{message_view};
 
 use gw_addr::NetNum;
@@ -190,12 +191,13 @@ fn put_npdu(
     }
 }
 
-/// How many octets the buffer of an answer to a node behind a router has at first: the answer's, and
-/// those that most replies have before it.
-fn routed_room(answer: &Answer) -> usize
-    ensures { result ≡ 32 + vec_len answer.now.octets }
+/// An empty buffer with memory for an answer to a node behind a router: for its octets, and for those that most
+/// replies have before it.
+fn routed_buffer(alloc: Global, answer: &Answer) -> Result<Vec<u8>, AllocError>
+    ensures empty { IfOk result (λ octets. octets.items ≡ []) }
+    ensures room { IfOk result (λ octets. vec_capacity octets ≡ 32 + vec_len answer.now.octets) }
 {
-    REPLY_HEADERS + answer.octets.len()
+    Vec::with_capacity(alloc, REPLY_HEADERS + answer.octets.len())
 }
 
 /// The datagram of an answer to a node behind a router, in a buffer of its own. None if the NPDU would be over
@@ -210,7 +212,7 @@ fn routed_octets(
         IfOk result (λ made. option_map (λ v. v.items) made
         ≡ option_map (λ octets. bvll_encoding (original_unicast octets)) (npdu_octets npdu)) }
 {
-    let mut octets = Vec::with_capacity(alloc, routed_room(answer))?;
+    let mut octets = routed_buffer(alloc, answer)?;
     put_frame(&mut octets)?;
     if !put_npdu(&mut octets, network, request, answer)? {
         return Ok(None);
@@ -284,30 +286,6 @@ fn is_local_broadcast(request: &Npdu<'_>, answer: &Answer) -> bool
     answer.broadcast && request.source.is_none()
 }
 
-/// Appends the sends of an answer to a message. An `Err` only if a growth of memory was refused; a part may
-/// then be added.
-fn add_reply(
-    network: NetNum,
-    message: &Message<'_>,
-    answer: Answer,
-    sends: &mut Sends,
-) -> Result<(), AllocError>
-    ensures { let due = reply_sends network (message_view message.now) (answer_view answer) in
-        OnOk result (sends.new ≡ sends.old ++ due) }
-{
-    let alloc = sends.alloc();
-    let goes_to_all = is_local_broadcast(message.npdu, &answer);
-    let Some(octets) = reply_octets(alloc, network, message.npdu, answer)? else {
-        return Ok(());
-    };
-    if goes_to_all {
-        message.here.add_spread_in(octets, sends)
-    } else {
-        let port = message.here.port.number;
-        sends.push(Batch::to_one(port, message.link(), octets))
-    }
-}
-
 /// Appends the sends of an answer to a message, if there is one. An `Err` only if a growth of memory
 /// was refused, and none without an answer; a part may then be added.
 pub(crate) fn add_answer(
@@ -320,8 +298,18 @@ pub(crate) fn add_answer(
         OnOk result (sends.new ≡ sends.old ++ due) }
     ensures silent { answer ≡ None → IsOk result }
 {
-    match answer {
-        Some(answer) => add_reply(network, message, answer, sends),
-        None => Ok(()),
+    let Some(answer) = answer else {
+        return Ok(());
+    };
+    let alloc = sends.alloc();
+    let goes_to_all = is_local_broadcast(message.npdu, &answer);
+    let Some(octets) = reply_octets(alloc, network, message.npdu, answer)? else {
+        return Ok(());
+    };
+    if goes_to_all {
+        message.here.add_spread_in(octets, sends)
+    } else {
+        let port = message.here.port.number;
+        sends.push(Batch::to_one(port, message.link(), octets))
     }
 }

@@ -13,10 +13,10 @@ ghost use Rattle.gw_relay.specs.Turn.{IsWalked};
 ghost use Rattle.gw_core.specs.Asks.{asks_for, message_asks};
 ghost use Rattle.gw_core.specs.Effects.{message_change, message_sends, sends_for};
 ghost use Rattle.gw_core.specs.Receive.{admit};
-ghost use Rattle.gw_core.specs.Respond.{IsResponse, entered_response, is_taken, is_apdu, is_plain, message_response};
-ghost use Rattle.gw_core.specs.Respond.{passed_asks, passed_response};
+ghost use Rattle.gw_core.specs.internal.Respond.{IsResponse, entered_response, is_taken, is_apdu, is_plain, message_response};
+ghost use Rattle.gw_core.specs.internal.Respond.{passed_asks, passed_response};
 ghost use Rattle.gw_core.specs.State.{device_network};
-ghost use Rattle.gw_core.specs.View.{judged, received_view};
+ghost use Rattle.gw_core.specs.internal.View.{judged, received_view};
 
 use crate::receive::Received;
 use crate::reply::{add_answer, apdu_for, context_of};
@@ -152,9 +152,11 @@ fn add_entry<A: Asker>(
 fn add_served<A: Asker>(
     format: Format,
     device: &Device,
+    network: NetNum,
     message: &Message<'_>,
     turn: &mut Turn<A>,
 ) -> Result<Option<Change>, AllocError>
+    requires network { network ≡ device_network device.now }
     ensures walked { (rules : List Rule) → A.StandsFor turn.old.asker rules →
         let due = message_response rules format device.now (message_view message.now) in
         OnOk result (IsWalked A.kept A.kept_of rules due turn.old turn.new) }
@@ -167,7 +169,6 @@ fn add_served<A: Asker>(
         message_asks rules format device.now m ≡ [] → message_sends rules format device.now m ≡ [] →
         IsOk result }
 {
-    let network = network_of(device);
     let Some(apdu) = apdu_for(network, message.npdu) else {
         return Ok(None);
     };
@@ -183,9 +184,11 @@ fn add_served<A: Asker>(
 fn add_message<A: Asker>(
     relay: &Relay,
     device: &Device,
+    network: NetNum,
     message: &Message<'_>,
     turn: &mut Turn<A>,
 ) -> Result<Option<Change>, AllocError>
+    requires network { network ≡ device_network device.now }
     ensures response { (rules : List Rule) → A.StandsFor turn.old.asker rules →
         let due = admit rules relay.now (judged (message_view message.now)) in
         IfOk result (IsResponse A.kept A.kept_of rules relay.now device.now due turn.old turn.new) }
@@ -202,7 +205,7 @@ fn add_message<A: Asker>(
     if !goes_on {
         return Ok(None);
     }
-    let write = add_served(relay.format(), device, message, turn)?;
+    let write = add_served(relay.format(), device, network, message, turn)?;
     Ok(write)
 }
 
@@ -213,9 +216,11 @@ fn add_message<A: Asker>(
 pub(crate) fn respond<A: Asker>(
     relay: &Relay,
     device: &Device,
+    network: NetNum,
     received: &Received<'_>,
     turn: &mut Turn<A>,
 ) -> Result<Option<Change>, AllocError>
+    requires network { network ≡ device_network device.now }
     ensures response { (rules : List Rule) → A.StandsFor turn.old.asker rules →
         let due = admit rules relay.now (received_view received.now) in
         IfOk result (IsResponse A.kept A.kept_of rules relay.now device.now due turn.old turn.new) }
@@ -230,6 +235,6 @@ pub(crate) fn respond<A: Asker>(
             relay.add_link(message, turn)?;
             Ok(None)
         }
-        Received::Message(message) => add_message(relay, device, message, turn),
+        Received::Message(message) => add_message(relay, device, network, message, turn),
     }
 }

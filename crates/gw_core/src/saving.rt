@@ -1,10 +1,18 @@
 //! What is saved of the ports.
-ghost use Rattle.std.specs.Prelude.{◌≡◌, ◌≤◌, length, IfOk};
+ghost use Rattle.std.specs.Prelude.{◌≡◌, [], length, IfOk, vec_capacity};
 ghost use Rattle.gw_core.specs.Resumed.{saved_ports};
 
 use gw_relay::PortState;
 use gw_saved::{OriginPort, SavedPort};
 use std::alloc::{AllocError, Global};
+
+/// An empty list with memory for these ports.
+fn empty_list(alloc: Global, ports: &[OriginPort]) -> Result<Vec<SavedPort>, AllocError>
+    ensures empty { IfOk result (λ saved. saved.items ≡ []) }
+    ensures room { IfOk result (λ saved. vec_capacity saved ≡ length ports.now) }
+{
+    Vec::with_capacity(alloc, ports.len())
+}
 
 /// The ports with the tables that they have now, which have the same order. The only fault is want of
 /// memory.
@@ -15,7 +23,7 @@ pub(crate) fn saved_ports(
 ) -> Result<Vec<SavedPort>, AllocError>
     ensures { IfOk result (λ saved. saved.items ≡ saved_ports ports.now states.now) }
 {
-    let mut saved = Vec::with_capacity(alloc, ports.len())?;
+    let mut saved = empty_list(alloc, ports)?;
     for (place, port) in ports.iter().enumerate() {
         let Some(state) = states.get(place) else {
             return Ok(saved);

@@ -1,6 +1,6 @@
 use Rattle.std.proofs.Common.{◌≡◌, ◌+◌, ◌++◌, drop}
 use Rattle.gw_core.specs.Denials.{denials_from}
-use Rattle.gw_core.specs.View.{origin_view}
+use Rattle.gw_core.specs.internal.View.{origin_view}
 use Rattle.gw_core.proofs.denial.denials_from.Given as goal
 
 abbrev pub invariant-loop-place : goal.invariant-loop-place

@@ -1,6 +1,6 @@
 use Rattle.std.proofs.Common.{◌≡◌, ◌≤◌, ◌++◌, take, vec_capacity}
 use Rattle.std.specs.Prelude.{Some}
-use Rattle.gw_core.specs.View.{origin_view}
+use Rattle.gw_core.specs.internal.View.{origin_view}
 use Rattle.gw_core.specs.internal.Verdicts.{verdict_lines}
 use Rattle.gw_core.proofs.explaining.put_lines.Given as goal
 

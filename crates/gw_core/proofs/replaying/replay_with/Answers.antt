@@ -1,8 +1,8 @@
 use Rattle.gw_core.proofs.ReplayLemmas.{ends_before}
 use Rattle.gw_core.proofs.replaying.replay_with.Goals as goal
 
-pub returns-in_default-with_capacity-clause-run : goal.returns-in_default-with_capacity-clause-run
-returns-in_default-with_capacity-clause-run g c = λ script before known written. ends_before g.T.EventText.wording c.args.config script before _ written
+pub returns-in_default-empty_text-clause-run : goal.returns-in_default-empty_text-clause-run
+returns-in_default-empty_text-clause-run g c = λ script before known written. ends_before g.T.EventText.wording c.args.config script before _ written
 
 pub returns-in_default-clause-run : goal.returns-in_default-clause-run
 returns-in_default-clause-run g c = λ script before known written. ends_before g.T.EventText.wording c.args.config script before _ written

@@ -3,7 +3,7 @@ use Rattle.gw_relay.specs.Cast.{cast_asks, cast_response}
 use Rattle.gw_relay.specs.Manage.{manage_response}
 use Rattle.gw_relay.specs.Message.{message_view}
 use Rattle.gw_relay.specs.Route.{route_response}
-use Rattle.gw_core.specs.Respond.{passed_response}
+use Rattle.gw_core.specs.internal.Respond.{passed_response}
 use Rattle.gw_core.proofs.RespondLemmas.{asks_off, asks_on, change_off, change_on, empty_left, on_asks, sends_off, sends_on}
 use Rattle.gw_core.proofs.TurnLemmas.{walked_both, walked_like}
 use Rattle.gw_core.proofs.respond.add_each_way.Goals as goal

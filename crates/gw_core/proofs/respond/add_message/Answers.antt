@@ -4,7 +4,7 @@ use Rattle.gw_relay.specs.Turn.{IsWalked}
 use Rattle.gw_core.specs.Asks.{message_asks}
 use Rattle.gw_core.specs.Effects.{message_change, message_sends}
 use Rattle.gw_relay.specs.Message.{message_view}
-use Rattle.gw_core.specs.Respond.{message_response}
+use Rattle.gw_core.specs.internal.Respond.{message_response}
 use Rattle.gw_core.proofs.EntryLemmas.{admitted_on, barred_goes_on, due_barred, due_stopped, due_taken}
 use Rattle.gw_core.proofs.RespondLemmas.{bars, cast_silent, entry_silent, goes, judged_silent, served_silent, stops}
 use Rattle.gw_core.proofs.respond.add_message.Goals as goal

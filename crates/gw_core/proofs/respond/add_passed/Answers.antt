@@ -1,7 +1,7 @@
 use Rattle.std.proofs.Common.{◌∙◌, sym, []}
 use Rattle.gw_relay.specs.Message.{message_view}
 use Rattle.gw_relay.specs.Route.{route_response}
-use Rattle.gw_core.specs.Respond.{passed_response}
+use Rattle.gw_core.specs.internal.Respond.{passed_response}
 use Rattle.gw_core.proofs.PlainLemmas.{passes_by}
 use Rattle.gw_core.proofs.TurnLemmas.{walked_like}
 use Rattle.gw_core.proofs.respond.add_passed.Goals as goal

@@ -7,7 +7,7 @@ use Rattle.gw_script.specs.Event.{Datagram}
 use Rattle.gw_core.specs.Asks.{asks_for}
 use Rattle.gw_core.specs.Receive.{receive}
 use Rattle.gw_core.specs.State.{State}
-use Rattle.gw_core.specs.View.{admitted_view, origin_of}
+use Rattle.gw_core.specs.internal.View.{admitted_view, origin_of}
 use Rattle.gw_core.specs.internal.Verdicts.{verdict_lines}
 use Rattle.gw_core.proofs.DenialLemmas.{asks_received}
 use Rattle.gw_core.proofs.EffectLemmas.{received_as, sends_received}

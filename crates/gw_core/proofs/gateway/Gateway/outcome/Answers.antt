@@ -3,7 +3,7 @@ use Rattle.gw_rules.specs.Authorizer.{denied_of}
 use Rattle.gw_core.specs.Asks.{asks_for}
 use Rattle.gw_core.specs.Receive.{receive}
 use Rattle.gw_core.specs.State.{State}
-use Rattle.gw_core.specs.View.{admitted_view}
+use Rattle.gw_core.specs.internal.View.{admitted_view}
 use Rattle.gw_core.specs.internal.Arrivals.{event_of}
 use Rattle.gw_core.proofs.AskedLemmas.{reported_as}
 use Rattle.gw_core.proofs.DenialLemmas.{asks_received, counted_for, denials_received, recorded}

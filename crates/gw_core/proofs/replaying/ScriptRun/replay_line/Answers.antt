@@ -6,7 +6,7 @@ use Rattle.gw_script.specs.declared.reader.NextLine.{NextLine}
 use Rattle.gw_script.specs.Reader.{IsNextLine, IsWithin}
 use Rattle.gw_script.specs.Script.{lines_of}
 use Rattle.gw_script.specs.Event.{event_view}
-use Rattle.gw_core.specs.LineOutcome.{LineOutcome}
+use Rattle.gw_core.specs.internal.LineOutcome.{LineOutcome}
 use Rattle.gw_core.proofs.LineOutcomeLemmas.{same_flaw, same_line, not_taken}
 use Rattle.gw_script.proofs.Passing.{passes_on}
 use Rattle.gw_script.proofs.KnownTexts.{left_known, if_known, appended}
