@@ -104,6 +104,9 @@ refusals() {
     "$program" log < "$work/lines" > "$work/out" 2> "$work/err"
     status=$?
     agrees "a log in words: $1" 0 "$1.log.out" /dev/null
+    "$program" log "$work/lines" < /dev/null > "$work/out" 2> "$work/err"
+    status=$?
+    agrees "a log of a file in words: $1" 0 "$1.log.out" /dev/null
 
     # The same with something in front of each line, which stays there.
     sed 's/^/Nov 27 08:00:00 gate bacgw[12]: /' "$work/lines" | "$program" log > "$work/stamped" 2> "$work/err"
@@ -112,7 +115,7 @@ refusals() {
     agrees "a log in words after a prefix: $1" 0 "$1.log.out" /dev/null
 
     # And with the moments, for a run that began at eight.
-    "$program" log --start 2026-11-25T08:00:00+01:00 < "$work/lines" > "$work/out" 2> "$work/err"
+    "$program" log "$work/lines" --start 2026-11-25T08:00:00+01:00 < /dev/null > "$work/out" 2> "$work/err"
     status=$?
     agrees "a log in words with its moments: $1" 0 "$1.since.out" /dev/null
 }
@@ -148,8 +151,10 @@ refused() {
 # A log as JSON objects, which jq reads back: nothing in it ends a string or a line.
 command -v jq > /dev/null || { echo 'this wants jq: apt-get install jq' >&2; exit 1; }
 printf '1 0 1 1:C0A80105BAC0 read dst=100 svc=12 obj=5,2 prop=85 prio=- rule=hide\n"} \\ \0 \033[31m\n\377\n' > "$work/hostile"
-"$program" log --json < "$work/hostile" > "$work/out" 2> "$work/err"
+"$program" log --json < "$work/hostile" > "$work/piped"
+"$program" log --json "$work/hostile" > "$work/out" 2> "$work/err"
 status=$?
+same 'a log of a file as objects' "$(cat "$work/out")" "$(cat "$work/piped")"
 same 'a hostile log as objects' "$status $(jq -c '[.rule, .line, .octets]' "$work/out" | tr '\n' ' ')" \
     '0 ["hide",null,null] [null,"\"} \\ \u0000 \u001b[31m",null] [null,null,"FF"] '
 # What is in front of a line's own fields stays, and a note is a line as it is.
@@ -203,13 +208,25 @@ refused check --config a --config a
 refused check --lint
 refused why
 refused why --config a --explain
-refused log site.log
+refused log site.log other.log
 refused log --start
 refused_alone log --start 2026-11-25T08:00:00
 refused_alone log --start 2026-11-25T08:00:60Z
 refused_alone log --start now
-refused_alone run --config a --turns 0
-refused_alone run --config a --turns 9223372036854775808
+# none WORDS..: the last of the words is out of range, and the line says so
+none() {
+    refused "$@"
+    same "a number out of range: $*" "$(sed -n 2p "$work/told")" \
+        "error: invalid value '${*: -1}' for '${*: -2:1} <$value>': ${*: -1} is not in 1..=$most"
+}
+value=N most=9223372036854775807
+none run --config a --turns 0
+none run --config a --turns 9223372036854775808
+none compare --config a --with b --most 0
+none reload --config a --reload b --was c --most 0
+value=SECONDS most=4294967295
+none run --config a --stats 0
+none run --config a --stats 4294967296
 refused_alone run --config a --trial b
 refused_alone run --config a --trial-log c
 refused_alone run --config a --stamp
@@ -294,7 +311,7 @@ ran() {
 }
 printf 'format = ' > "$work/faulty.toml"
 sed 's/10\.1\.0/203.0.113/; s/10\.2\.0/198.51.100/' "$here/two_subnets.toml" > "$work/elsewhere.toml"
-ran 1 'bacgw: cannot read configuration' --config "$work/nowhere.toml" --log "$work/nowhere/log"
+ran 1 "bacgw: cannot read configuration $work/nowhere.toml: no such file" --config "$work/nowhere.toml" --log "$work/nowhere/log"
 ran 2 'bacgw: configuration: NotToml' --config "$work/faulty.toml" --log "$work/nowhere/log"
 ran 1 'bacgw: log failed' --config "$work/elsewhere.toml" --log "$work/nowhere/log"
 ran 1 'bacgw: socket failed on port 1' --config "$work/elsewhere.toml" --log "$work/log"
@@ -562,7 +579,7 @@ for rules in 512 513; do
     fi
 done
 checked "$work"
-tells 'a folder in the place of a configuration' 1 'bacgw: cannot read configuration'
+tells 'a folder in the place of a configuration' 1 "bacgw: cannot read configuration $work: is a directory"
 
 # What the policy hides follows the first line, if that is asked for.
 hiding '' > "$work/hiding.toml"
@@ -653,9 +670,24 @@ same 'the status of the attacks' "$status" "$((differing > 0))"
 
 checked /dev/zero
 tells "a file without an end" 2 'bacgw: configuration: TooMany'
-for file in "$work" "$work/none.toml" "$work/line/none.toml" ''; do
-    checked "$file"
-    tells "a file that can't be read: $file" 1 'bacgw: cannot read configuration'
+# unread FILE REASON: this file can't be read, and the line names it
+unread() {
+    checked "$1"
+    tells "a file that can't be read: $1" 1 "bacgw: cannot read configuration ${3-$1}: $2"
+}
+unread "$work" 'is a directory'
+unread "$work/none.toml" 'no such file'
+unread "$work/line/none.toml" "it can't be read"
+unread '' 'no such file'
+unread $'none\n\e[31mbacgw: out of memory\x7f' 'no such file' 'none??[31mbacgw: out of memory?'
+"$program" compare --config "$here/two_subnets.toml" --with "$work/none.toml" > "$work/out" 2> "$work/err"
+status=$?
+tells "a second file that can't be read" 2 "bacgw: cannot read configuration $work/none.toml: no such file"
+for options in '' --json; do
+    # shellcheck disable=SC2086 # No option is no word.
+    "$program" log $options "$work/none.log" > "$work/out" 2> "$work/err"
+    status=$?
+    tells "a log that can't be read $options" 1 "bacgw: cannot read log $work/none.log: no such file"
 done
 
 "$program" replay < "$here" > /dev/null 2> "$work/err"

@@ -32,7 +32,10 @@ _bacgw() {
             suggest) options='--config --fill --exact --help' ;;
             compare) options='--config --with --most --steps --json --help' ;;
             report) options='--config --log --help' ;;
-            log) options='--start --json --help' ;;
+            log)
+                if [[ $word != -* ]]; then compopt -o default; return; fi
+                options='--start --json --help'
+                ;;
             objects) options='--config --csv --help' ;;
             help) options='check replay run why compare log state reload suggest report objects' ;;
             *) return ;;

@@ -17,7 +17,7 @@ complete -c bacgw -n "not __fish_seen_subcommand_from $commands" -a help -d 'Pri
 complete -c bacgw -n "not __fish_seen_subcommand_from $commands" -l version -d 'Prints the version'
 complete -c bacgw -l help -d 'Prints help'
 complete -c bacgw -n '__fish_seen_subcommand_from check replay run why compare state reload suggest report objects' -l config -r -F -d 'The configuration, in TOML'
-complete -c bacgw -n '__fish_seen_subcommand_from check' -l explain -d 'Also prints where the fault is, or who may do what'
+complete -c bacgw -n '__fish_seen_subcommand_from check' -l explain -d 'Also prints who may do what, what is hidden, and warnings'
 complete -c bacgw -n '__fish_seen_subcommand_from check' -l lint -d 'Also prints which rules never decide'
 complete -c bacgw -n '__fish_seen_subcommand_from check' -l migrate -d 'Prints the configuration in format 3 instead'
 complete -c bacgw -n '__fish_seen_subcommand_from replay' -l explain -d 'Also prints each ask and its rule'
@@ -45,5 +45,6 @@ complete -c bacgw -n '__fish_seen_subcommand_from reload' -l was -r -F -d 'The c
 complete -c bacgw -n '__fish_seen_subcommand_from compare reload' -l most -x -d 'How many lines are printed at most, or of each group'
 complete -c bacgw -n '__fish_seen_subcommand_from compare' -l steps -d 'Also prints how many steps the comparison took'
 complete -c bacgw -n '__fish_seen_subcommand_from objects' -l csv -d 'As comma-separated values'
+complete -c bacgw -n '__fish_seen_subcommand_from log' -F
 complete -c bacgw -n '__fish_seen_subcommand_from log' -l start -x -d 'Also shows when each denial was, if the log began then'
 complete -c bacgw -n '__fish_seen_subcommand_from help' -a 'check replay run why compare log state reload suggest report objects'

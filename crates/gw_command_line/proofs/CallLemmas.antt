@@ -34,9 +34,11 @@ calls_are_taken = record {
   report = λ program. record { taken = refl; asked = refl; sound = λ void. void };
   points = λ program. record { taken = refl; asked = refl; sound = λ void. void };
   log_json = λ program. record { taken = refl; asked = refl; sound = λ void. void };
+  log_json_of_file = λ program. record { taken = refl; asked = refl; sound = λ void. void };
   why_json = λ program. record { taken = refl; asked = refl; sound = λ void. void };
   why_json_strict = λ program. record { taken = refl; asked = refl; sound = λ void. void };
   log = λ program. record { taken = refl; asked = refl; sound = λ void. void None refl };
+  log_of_file = λ program. record { taken = refl; asked = refl; sound = λ void. void None refl };
   log_since = λ program. record { taken = refl; asked = refl; sound = λ void. void (Some morning) morning_is_read };
 }
 
@@ -51,5 +53,11 @@ calls_are_refused = record {
   reload_most = λ program. (refl, refl);
   trial = λ program. (refl, refl);
   stamp = λ program. (refl, refl);
+  turns = λ program. refl;
+  stats = λ program. refl;
+  stats_long = λ program. refl;
+  compare_most = λ program. refl;
+  reload_none = λ program. refl;
+  logs = λ program. refl;
   points = λ program. refl;
 }

@@ -51,8 +51,8 @@ refusal_answers words k (Ok (choice.Run options)) among is = absurd is
 refusal_answers words k (Ok (choice.Why file counts strict)) among is = absurd is
 refusal_answers words k (Ok (choice.Compare old new most steps)) among is = absurd is
 refusal_answers words k (Ok (choice.CompareJson old new most)) among is = absurd is
-refusal_answers words k (Ok (choice.Log start)) among is = absurd is
-refusal_answers words k (Ok choice.Objects) among is = absurd is
+refusal_answers words k (Ok (choice.Log file start)) among is = absurd is
+refusal_answers words k (Ok (choice.Objects file)) among is = absurd is
 refusal_answers words k (Ok (choice.Judge file strict)) among is = absurd is
 refusal_answers words k (Ok (choice.Report file log)) among is = absurd is
 refusal_answers words k (Ok (choice.Points file)) among is = absurd is
@@ -81,8 +81,8 @@ taken_answers words (Ok (choice.Run options)) none is = (none, is)
 taken_answers words (Ok (choice.Why file counts strict)) none is = (none, is)
 taken_answers words (Ok (choice.Compare old new most steps)) none is = (none, is)
 taken_answers words (Ok (choice.CompareJson old new most)) none is = (none, is)
-taken_answers words (Ok (choice.Log start)) none is = (none, is)
-taken_answers words (Ok choice.Objects) none is = (none, is)
+taken_answers words (Ok (choice.Log file start)) none is = (none, is)
+taken_answers words (Ok (choice.Objects file)) none is = (none, is)
 taken_answers words (Ok (choice.Judge file strict)) none is = (none, is)
 taken_answers words (Ok (choice.Report file log)) none is = (none, is)
 taken_answers words (Ok (choice.Points file)) none is = (none, is)
@@ -123,10 +123,10 @@ chooses words request (Ok (choice.Compare old new most steps)) asks is =
     chosen words request (Ok (choice.Compare old new most steps)) asks.asked is.1
 chooses words request (Ok (choice.CompareJson old new most)) asks is =
     chosen words request (Ok (choice.CompareJson old new most)) asks.asked is.1
-chooses words request (Ok (choice.Log start)) asks is =
-    chosen words request (Ok (choice.Log start)) asks.asked is.1
-chooses words request (Ok choice.Objects) asks is =
-    chosen words request (Ok choice.Objects) asks.asked is.1
+chooses words request (Ok (choice.Log file start)) asks is =
+    chosen words request (Ok (choice.Log file start)) asks.asked is.1
+chooses words request (Ok (choice.Objects file)) asks is =
+    chosen words request (Ok (choice.Objects file)) asks.asked is.1
 chooses words request (Ok (choice.Judge file strict)) asks is =
     chosen words request (Ok (choice.Judge file strict)) asks.asked is.1
 chooses words request (Ok (choice.Report file log)) asks is =

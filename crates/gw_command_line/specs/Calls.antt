@@ -3,9 +3,9 @@ use Rattle.std.specs.Prelude.{◌≡◌, ℕ, true, false, List, [], ◌∷◌, 
 use Rattle.clap.specs.Words.{Text, fault_of}
 use Rattle.clap.specs.declared.error.kind.ErrorKind.TheVariants as parse
 use Rattle.gw_command_line.specs.CommandLine.{AskFor}
-use Rattle.gw_command_line.specs.Commands.{commands}
+use Rattle.gw_command_line.specs.Commands.{commands, most_count}
 use Rattle.gw_command_line.specs.Requests.{Checks, ChecksJson, Compares, ComparesJson, Explains, Judges, ListsLog, ListsPoints, Migrates}
-use Rattle.gw_command_line.specs.Requests.{Reloads, Replays, Reports, Request, Serves, Shows, Suggests, TranslatesLog, asked_in, most_count}
+use Rattle.gw_command_line.specs.Requests.{Reloads, Replays, Reports, Request, Serves, Shows, Suggests, TranslatesLog, asked_in}
 
 -- these words, after the program's name, ask for this
 abbrev pub Calls : List Text → Request → Type 0
@@ -14,6 +14,10 @@ Calls words request = (program : Text) → AskFor (program ∷ words) request
 -- these words, after the program's name, are taken by the parser and ask for nothing
 abbrev pub Mistakes : List Text → Type 0
 Mistakes words = (program : Text) → (fault_of commands (program ∷ words) ≡ []) × (asked_in (program ∷ words) ≡ None)
+
+-- these words, after the program's name, have a value that isn't a number in its range
+abbrev pub OutOfRange : List Text → Type 0
+OutOfRange words = (program : Text) → fault_of commands (program ∷ words) ≡ parse.ValueValidation ∷ []
 
 -- the words `--config site.toml`
 abbrev pub on_site : List Text → List Text
@@ -89,12 +93,14 @@ pub record CallsAreTaken : Type 0 where
       (Reloads site (codes "again") (Some (codes "old.toml", 20)))
   pub report : Calls (codes "report" ∷ on_site (codes "--log" ∷ codes "denials.log" ∷ [])) (Reports site (Some (codes "denials.log")))
   pub points : Calls (codes "objects" ∷ on_site (codes "--csv" ∷ [])) (ListsPoints site)
-  pub log : Calls (codes "log" ∷ []) (TranslatesLog None)
-  pub log_json : Calls (codes "log" ∷ codes "--json" ∷ []) ListsLog
+  pub log : Calls (codes "log" ∷ []) (TranslatesLog None None)
+  pub log_of_file : Calls (codes "log" ∷ codes "denials.log" ∷ []) (TranslatesLog (Some (codes "denials.log")) None)
+  pub log_json : Calls (codes "log" ∷ codes "--json" ∷ []) (ListsLog None)
+  pub log_json_of_file : Calls (codes "log" ∷ codes "--json" ∷ codes "denials.log" ∷ []) (ListsLog (Some (codes "denials.log")))
   pub why_json : Calls (codes "why" ∷ on_site (codes "--json" ∷ [])) (Judges site false)
   pub why_json_strict : Calls (codes "why" ∷ on_site (codes "--json" ∷ codes "--strict" ∷ [])) (Judges site true)
   pub log_since : Calls (codes "log" ∷ codes "--start" ∷ codes "2026-11-25T08:00:00+01:00" ∷ [])
-      (TranslatesLog (Some (codes "2026-11-25T08:00:00+01:00")))
+      (TranslatesLog None (Some (codes "2026-11-25T08:00:00+01:00")))
 
 pub record CallsAreRefused : Type 0 where
   pub check_json_explain : Mistakes (codes "check" ∷ on_site (codes "--json" ∷ codes "--explain" ∷ []))
@@ -106,5 +112,12 @@ pub record CallsAreRefused : Type 0 where
   pub reload_most : Mistakes (codes "reload" ∷ on_site (codes "--reload" ∷ codes "again" ∷ codes "--most" ∷ codes "20" ∷ []))
   pub trial : Mistakes (codes "run" ∷ on_site (codes "--trial" ∷ codes "new.toml" ∷ []))
   pub stamp : Mistakes (codes "run" ∷ on_site (codes "--stamp" ∷ []))
+  pub turns : OutOfRange (codes "run" ∷ on_site (codes "--turns" ∷ codes "0" ∷ []))
+  pub stats : OutOfRange (codes "run" ∷ on_site (codes "--stats" ∷ codes "0" ∷ []))
+  pub stats_long : OutOfRange (codes "run" ∷ on_site (codes "--stats" ∷ codes "4294967296" ∷ []))
+  pub compare_most : OutOfRange (codes "compare" ∷ on_site (codes "--with" ∷ codes "new.toml" ∷ codes "--most" ∷ codes "0" ∷ []))
+  pub reload_none : OutOfRange
+      (codes "reload" ∷ on_site (codes "--reload" ∷ codes "again" ∷ codes "--was" ∷ codes "old.toml" ∷ codes "--most" ∷ codes "0" ∷ []))
+  pub logs : (program : Text) → fault_of commands (program ∷ codes "log" ∷ codes "one.log" ∷ codes "two.log" ∷ []) ≡ parse.UnknownArgument ∷ []
   pub points : (program : Text)
       → fault_of commands (program ∷ codes "objects" ∷ on_site []) ≡ parse.MissingRequiredArgument ∷ []

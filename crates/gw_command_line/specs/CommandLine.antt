@@ -60,8 +60,9 @@ IsFor request (choice.CompareJson old new most) = request ≡ ComparesJson (stri
 IsFor request (choice.State config state) = request ≡ Shows (string_bytes config) (string_bytes state)
 IsFor request (choice.Suggest file fills exact) = request ≡ Suggests (string_bytes file) fills exact
 IsFor request (choice.Reload config file was) = request ≡ Reloads (string_bytes config) (string_bytes file) (option_map was_of was)
-IsFor request (choice.Log start) = (text : Option Text) × (request ≡ TranslatesLog text) × IsStart text start
-IsFor request choice.Objects = request ≡ ListsLog
+IsFor request (choice.Log file start) =
+    (text : Option Text) × (request ≡ TranslatesLog (option_map string_bytes file) text) × IsStart text start
+IsFor request (choice.Objects file) = request ≡ ListsLog (option_map string_bytes file)
 IsFor request (choice.Judge file strict) = request ≡ Judges (string_bytes file) strict
 IsFor request (choice.Report file log) = request ≡ Reports (string_bytes file) (option_map string_bytes log)
 IsFor request (choice.Points file) = request ≡ ListsPoints (string_bytes file)
@@ -78,7 +79,7 @@ IsWas was (Err fault.Memory) = ⊤
 
 -- No choice is what was asked for: the text at which the log is to have begun is no moment.
 abbrev pub IsVoid : Request → Type 0
-IsVoid (TranslatesLog text) = (start : Option Moment) → ¬ (IsStart text start)
+IsVoid (TranslatesLog file text) = (start : Option Moment) → ¬ (IsStart text start)
 IsVoid _ = ⊥
 
 -- a choice is what a call asks for, and a bad command line is a call that asks for nothing; memory may run out at any

@@ -1,16 +1,34 @@
 -- The commands of the program and their options, as the crate `clap` describes them.
-use Rattle.std.specs.Prelude.{Some, true, codes}
+use Rattle.std.specs.Prelude.{ℕ, Some, true, codes}
 use Rattle.clap.specs.Words.{App, Rule, Text, new_app, new_rule, with_rule, with_subcommand}
 use Rattle.clap.specs.Simple.{on_top}
 use Rattle.clap.specs.declared.builder.action.ArgAction.TheVariants.{SetTrue}
+use Rattle.clap.specs.declared.builder.value_parser.ValueParser.TheVariants.{Unsigned}
 
--- an option of a name that has a value, one that has to be given, and one that has no value
+-- the most turns, and the most lines
+abbrev pub most_count : ℕ
+most_count = 9223372036854775807
+
+-- the most seconds between two reports
+abbrev pub most_seconds : ℕ
+most_seconds = 4294967295
+
+-- an option of a name that has a value, and one that has to be given
 abbrev pub option : Text → Rule
 option name = record (new_rule name) { long = Some name; value_names = 1 }
 
 abbrev pub needed : Text → Rule
 needed name = record (option name) { required = true }
 
+-- one whose value is a number from 1 to the most
+abbrev pub number : Text → (most : ℕ) → Rule
+number name most = record (option name) { parser = Some (Unsigned 1 most) }
+
+-- a value that is a word of its own, with no name of an option in front
+abbrev pub positional : Text → Rule
+positional name = record (new_rule name) { value_names = 1 }
+
+-- an option of a name that has no value
 abbrev pub flag : Text → Rule
 flag name = record (new_rule name) { long = Some name; action = Some SetTrue }
 
@@ -39,10 +57,10 @@ replay = with_rule replay_of_explanation (flag (codes "stats"))
 -- `run --config FILE [--log FILE] [--turns N] [--verbose] [--stats SECONDS] [--state FILE] [--reload FILE] [--trial FILE]
 -- [--trial-log FILE] [--audit FILE] [--stamp] [--metrics FILE]`
 abbrev pub run_of_turns : App
-run_of_turns = with_rule (with_rule (of_file (codes "run")) (option (codes "log"))) (option (codes "turns"))
+run_of_turns = with_rule (with_rule (of_file (codes "run")) (option (codes "log"))) (number (codes "turns") most_count)
 
 abbrev pub run_of_reports : App
-run_of_reports = with_rule (with_rule run_of_turns (flag (codes "verbose"))) (option (codes "stats"))
+run_of_reports = with_rule (with_rule run_of_turns (flag (codes "verbose"))) (number (codes "stats") most_seconds)
 
 abbrev pub run_of_state : App
 run_of_state = with_rule (with_rule run_of_reports (option (codes "state"))) (option (codes "reload"))
@@ -69,14 +87,17 @@ report = with_rule (of_file (codes "report")) (option (codes "log"))
 
 -- `compare --config FILE --with FILE [--most N] [--steps] [--json]`
 abbrev pub compare_of_most : App
-compare_of_most = with_rule (with_rule (of_file (codes "compare")) (needed (codes "with"))) (option (codes "most"))
+compare_of_most = with_rule (with_rule (of_file (codes "compare")) (needed (codes "with"))) (number (codes "most") most_count)
 
 abbrev pub compare : App
 compare = with_rule (with_rule compare_of_most (flag (codes "steps"))) (flag (codes "json"))
 
--- `log [--start TIME] [--json]`
+-- `log [FILE] [--start TIME] [--json]`
+abbrev pub log_of_file : App
+log_of_file = with_rule (new_app (codes "log")) (positional (codes "file"))
+
 abbrev pub log : App
-log = with_rule (with_rule (new_app (codes "log")) (option (codes "start"))) (flag (codes "json"))
+log = with_rule (with_rule log_of_file (option (codes "start"))) (flag (codes "json"))
 
 -- `state --config FILE --state FILE`
 abbrev pub state : App
@@ -91,7 +112,7 @@ abbrev pub reload_of_request : App
 reload_of_request = with_rule (of_file (codes "reload")) (needed (codes "reload"))
 
 abbrev pub reload : App
-reload = with_rule (with_rule reload_of_request (option (codes "was"))) (option (codes "most"))
+reload = with_rule (with_rule reload_of_request (option (codes "was"))) (number (codes "most") most_count)
 
 -- `objects --config FILE --csv`
 abbrev pub objects : App

@@ -5,7 +5,7 @@ use Rattle.std.specs.Option.{option_and_then, option_map}
 use Rattle.std.specs.Str.Parse.{digits_value, without_leading_plus}
 use Rattle.clap.specs.Words.{IsUnsignedIn, Row, Text, first_of, subcommand_of}
 use Rattle.clap.specs.ValueTests.{is_unsigned_in}
-use Rattle.gw_command_line.specs.Commands.{commands}
+use Rattle.gw_command_line.specs.Commands.{commands, most_count, most_seconds}
 
 -- what `run` is asked for
 pub record Service : Type 0 where
@@ -35,8 +35,8 @@ pub data Request : Type 0 where
   Shows : (config state : Text) → Request
   Reloads : (config request : Text) (was : Option (Text × ℕ)) → Request
   Suggests : (file : Text) (fills exact : Bool) → Request
-  TranslatesLog : (start : Option Text) → Request
-  ListsLog : Request
+  TranslatesLog : (file start : Option Text) → Request
+  ListsLog : (file : Option Text) → Request
   Judges : (file : Text) (strict : Bool) → Request
   Reports : (file : Text) (log : Option Text) → Request
   ListsPoints : (file : Text) → Request
@@ -60,18 +60,10 @@ abbrev pub number_in : ℕ → Text → Option ℕ
 number_in most text =
     if is_unsigned_in 1 most text then Some (digits_value 10 (without_leading_plus text)) else None
 
--- the most turns, and the most lines
-abbrev pub most_count : ℕ
-most_count = 9223372036854775807
-
 -- a number of turns or of lines: the most if none is given
 abbrev pub count_in : Option Text → Option ℕ
 count_in None = Some most_count
 count_in (Some text) = number_in most_count text
-
--- the most seconds between two reports
-abbrev pub most_seconds : ℕ
-most_seconds = 4294967295
 
 -- how many seconds lie between two reports, if a number of them is given
 abbrev pub period_in : Option Text → Option (Option ℕ)
@@ -177,14 +169,16 @@ why_asked file value =
     else Some (Explains file counts strict)
 
 -- `log` as JSON objects, which have no start
-abbrev pub list_asked : Option Text → Option Request
-list_asked None = Some ListsLog
-list_asked (Some start) = None
+abbrev pub list_asked : (file start : Option Text) → Option Request
+list_asked file None = Some (ListsLog file)
+list_asked file (Some start) = None
 
--- `log`: in words, or as JSON objects
+-- `log` of a file, or of standard input if none is named: in words, or as JSON objects
 abbrev pub log_asked : Values → Option Request
 log_asked value =
-    if is_true (value (codes "json")) then list_asked (value (codes "start")) else Some (TranslatesLog (value (codes "start")))
+    if is_true (value (codes "json"))
+    then list_asked (value (codes "file")) (value (codes "start"))
+    else Some (TranslatesLog (value (codes "file")) (value (codes "start")))
 
 -- a command's name is this one
 abbrev pub is_named : Text → Text → Bool

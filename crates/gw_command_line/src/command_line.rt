@@ -83,11 +83,14 @@ pub enum Choice {
         fills: bool,
         exact: bool,
     },
-    /// Say the log on standard input in words, and when each denial was if this is the moment at
-    /// which the log began.
-    Log(Option<Moment>),
-    /// Write the log on standard input as JSON objects.
-    Objects,
+    /// Say the log in the file of this name, or on standard input, in words, and when each denial was if
+    /// this is the moment at which the log began.
+    Log {
+        file: Option<String>,
+        start: Option<Moment>,
+    },
+    /// Write the log in the file of this name, or on standard input, as JSON objects.
+    Objects(Option<String>),
     /// Answer each ask on standard input by the rules of the configuration in this file, as JSON
     /// objects. Strict: a line that is no ask is a fault.
     Judge {
@@ -323,32 +326,35 @@ fn report_choice(
 
 /// What `log` asks for. `CommandLine` if the text of its start says no moment, or if it is to be written
 /// as JSON objects and has a start.
-fn log_choice(matches: &ArgMatches<'_>) -> Result<Choice, WordsFault>
+fn log_choice(alloc: Global, matches: &ArgMatches<'_>) -> Result<Choice, WordsFault>
     ensures { IsChosen (log_asked (first_value (found_of matches.now))) result }
 {
+    let file = file_of(alloc, matches, "file")?;
     if is_given(matches, "json") {
-        list_choice(matches)
+        list_choice(matches, file)
     } else {
-        words_choice(matches)
+        words_choice(matches, file)
     }
 }
 
-/// What `log` asks for as JSON objects.
-fn list_choice(matches: &ArgMatches<'_>) -> Result<Choice, WordsFault>
-    ensures { IsChosen (list_asked (first_value (found_of matches.now) (codes "start"))) result }
+/// What `log` of this file, or of standard input, asks for as JSON objects.
+fn list_choice(matches: &ArgMatches<'_>, file: Option<String>) -> Result<Choice, WordsFault>
+    ensures { let start = first_value (found_of matches.now) (codes "start") in
+        IsChosen (list_asked (option_map string_bytes file) start) result }
 {
     match matches.get_str("start") {
         Some(_) => Err(WordsFault::CommandLine),
-        None => Ok(Choice::Objects),
+        None => Ok(Choice::Objects(file)),
     }
 }
 
-/// What `log` asks for in words.
-fn words_choice(matches: &ArgMatches<'_>) -> Result<Choice, WordsFault>
-    ensures { IsChosen (Some (TranslatesLog (first_value (found_of matches.now) (codes "start")))) result }
+/// What `log` of this file, or of standard input, asks for in words.
+fn words_choice(matches: &ArgMatches<'_>, file: Option<String>) -> Result<Choice, WordsFault>
+    ensures { let start = first_value (found_of matches.now) (codes "start") in
+        IsChosen (Some (TranslatesLog (option_map string_bytes file) start)) result }
 {
     match start_of(matches.get_str("start")) {
-        Ok(start) => Ok(Choice::Log(start)),
+        Ok(start) => Ok(Choice::Log { file, start }),
         Err(fault) => Err(fault),
     }
 }
@@ -420,7 +426,7 @@ fn choice_for(alloc: Global, name: &str, matches: &ArgMatches<'_>) -> Result<Cho
     ensures { IsChosen (asked name.now (first_value (found_of matches.now))) result }
 {
     if name == "log" {
-        return log_choice(matches);
+        return log_choice(alloc, matches);
     }
     let config = file_of(alloc, matches, "config")?;
     if name == "replay" {

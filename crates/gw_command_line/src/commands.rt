@@ -4,10 +4,13 @@ ghost use Rattle.std.specs.Prelude.{◌≡◌, false, codes, IfOk};
 ghost use Rattle.clap.specs.Words.{app_of, rule_of};
 ghost use Rattle.clap.specs.declared.builder.command.Command.TheViews.{out-Command};
 ghost use Rattle.gw_command_line.specs.Commands.{check, check_of_explanation, commands, compare, compare_of_most, first_commands, flag};
-ghost use Rattle.gw_command_line.specs.Commands.{log, needed, needed_flag, objects, of_file, option, program, reload, reload_of_request};
+ghost use Rattle.gw_command_line.specs.Commands.{log, log_of_file, needed, needed_flag, number, objects, of_file, option, positional, program};
+ghost use Rattle.gw_command_line.specs.Commands.{reload, reload_of_request};
 ghost use Rattle.gw_command_line.specs.Commands.{replay, replay_of_explanation, report, run, run_of_audit, run_of_reports, run_of_state};
 ghost use Rattle.gw_command_line.specs.Commands.{run_of_trial, run_of_turns, state, suggest, why, why_of_form};
 
+use crate::values::{MAX_COUNT, MAX_SECONDS};
+use clap::builder::ValueParser;
 use clap::{Arg, ArgAction, Command};
 use std::alloc::{AllocError, Global};
 
@@ -43,7 +46,7 @@ const RELOAD_EXAMPLE: &str = "Example:
   bacgw reload --config site.toml --reload /run/bacgw/reload";
 
 const LOG_EXAMPLE: &str = "Example:
-  bacgw log < denials.log | sort | uniq -c";
+  bacgw log denials.log | sort | uniq -c";
 
 const OBJECTS_EXAMPLE: &str = "Example:
   bacgw objects --config site.toml --csv > site.csv";
@@ -61,6 +64,28 @@ fn make_option<'a>(alloc: Global, name: &'a str, value_name: &'a str, help: &'a 
         .long(name)
         .value_name(value_name)
         .help(help)
+}
+
+/// An option of this name whose value is a number from 1 to the most.
+fn make_number<'a>(
+    alloc: Global,
+    name: &'a str,
+    value_name: &'a str,
+    most: u64,
+    help: &'a str,
+) -> Arg<'a>
+    ensures rule { rule_of result ≡ number name.now most }
+    ensures local { result.global ≡ false }
+{
+    make_option(alloc, name, value_name, help).value_parser(ValueParser::unsigned(1, most))
+}
+
+/// A file that is named by a word of its own.
+fn make_positional<'a>(alloc: Global, name: &'a str, help: &'a str) -> Arg<'a>
+    ensures rule { rule_of result ≡ positional name.now }
+    ensures local { result.global ≡ false }
+{
+    Arg::new(alloc, name).value_name(FILE).help(help)
 }
 
 /// An option of this name that has no value.
@@ -115,7 +140,7 @@ fn make_check_of_explanation<'a>(alloc: Global) -> Result<Command<'a>, AllocErro
     ensures app { IfOk result (λ command. app_of command ≡ check_of_explanation) }
     ensures local { IfOk result (λ command. (out-Command command).has_globals ≡ false) }
 {
-    let help = "Also prints where the fault is, or what the policy hides from whom";
+    let help = "Also prints who may do what, what is hidden from whom, and warnings";
     let explain = make_flag(alloc, "explain", help);
     let lint = make_flag(alloc, "lint", "Also prints which rules never decide");
     let about = "Says what a configuration has, or its first fault";
@@ -194,7 +219,7 @@ fn make_run_of_reports<'a>(alloc: Global) -> Result<Command<'a>, AllocError>
     let help = "Reports at the start what is served, or where a fault is";
     let verbose = make_flag(alloc, "verbose", help);
     let help = "Reports what was done, each so many seconds, from 1 to 4294967295, and at the end";
-    let stats = make_option(alloc, "stats", "SECONDS", help);
+    let stats = make_number(alloc, "stats", "SECONDS", MAX_SECONDS, help);
     make_run_of_turns(alloc)?.arg(verbose)?.arg(stats)
 }
 
@@ -205,7 +230,7 @@ fn make_run_of_turns<'a>(alloc: Global) -> Result<Command<'a>, AllocError>
     let help = "What the log is appended to; without it standard output";
     let log = make_option(alloc, "log", FILE, help);
     let help = "How many turns are served, from 1 to 9223372036854775807, the default";
-    let turns = make_option(alloc, "turns", NUMBER, help);
+    let turns = make_number(alloc, "turns", NUMBER, MAX_COUNT, help);
     let about = "Serves the ports of a configuration over UDP";
     make_of_file(alloc, "run", about)?
         .after_help(RUN_EXAMPLE)
@@ -255,7 +280,7 @@ fn make_compare_of_most<'a>(alloc: Global) -> Result<Command<'a>, AllocError>
     ensures local { IfOk result (λ command. (out-Command command).has_globals ≡ false) }
 {
     let with = make_needed(alloc, "with", "The other configuration, in TOML");
-    let most = make_option(alloc, "most", NUMBER, MOST_HELP);
+    let most = make_number(alloc, "most", NUMBER, MAX_COUNT, MOST_HELP);
     let about = "Says which asks the rules of two configurations decide otherwise";
     make_of_file(alloc, "compare", about)?
         .after_help(COMPARE_EXAMPLE)
@@ -271,11 +296,18 @@ fn make_log<'a>(alloc: Global) -> Result<Command<'a>, AllocError>
     let start = make_option(alloc, "start", "TIME", help);
     let help = "Makes each line a JSON object instead; without --start";
     let json = make_flag(alloc, "json", help);
+    make_log_of_file(alloc)?.arg(start)?.arg(json)
+}
+
+fn make_log_of_file<'a>(alloc: Global) -> Result<Command<'a>, AllocError>
+    ensures app { IfOk result (λ command. app_of command ≡ log_of_file) }
+    ensures local { IfOk result (λ command. (out-Command command).has_globals ≡ false) }
+{
+    let file = make_positional(alloc, "file", "The log; without it standard input");
     Command::new(alloc, "log")
-        .about("Says each line of a log on standard input in words")
+        .about("Says each line of a log in words")
         .after_help(LOG_EXAMPLE)
-        .arg(start)?
-        .arg(json)
+        .arg(file)
 }
 
 fn make_report<'a>(alloc: Global) -> Result<Command<'a>, AllocError>
@@ -325,7 +357,7 @@ fn make_reload<'a>(alloc: Global) -> Result<Command<'a>, AllocError>
 {
     let help = "The configuration that the gateway has; prints first what the new one changes";
     let was = make_option(alloc, "was", FILE, help);
-    let most = make_option(alloc, "most", NUMBER, MOST_HELP);
+    let most = make_number(alloc, "most", NUMBER, MAX_COUNT, MOST_HELP);
     make_reload_of_request(alloc)?.arg(was)?.arg(most)
 }
 

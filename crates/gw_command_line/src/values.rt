@@ -12,10 +12,10 @@ use gw_audit::Moment;
 use std::alloc::{AllocError, Global};
 
 /// How many turns are served and how many lines are printed at most, and if no number of them is given.
-const MAX_COUNT: u64 = i64::MAX as u64;
+pub const MAX_COUNT: u64 = i64::MAX as u64;
 
 /// How many seconds lie between two reports at most.
-const MAX_SECONDS: u64 = u32::MAX as u64;
+pub const MAX_SECONDS: u64 = u32::MAX as u64;
 
 /// The file that the option of this name names.
 pub fn file_of(

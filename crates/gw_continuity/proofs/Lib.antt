@@ -1,6 +1,6 @@
 pub mod Found
-pub mod Links
-pub mod LinkMoves
+pub mod PortStates
+pub mod PortMoves
 pub mod Routes
 pub mod Learned
 pub mod Values

@@ -14,7 +14,7 @@ use gw_cases::{MemReader, MemWriter, number_behind};
 use gw_configuration::Port;
 use gw_serving::{Got, RECEIVE_ROOM, Store, StoreFault, Wire, WireFault};
 use gw_shell::{
-    ConfigFiles, FailedStep, Fault, Host, LogFailure, Reason, SocketFailure, Step, run,
+    ConfigFiles, FailedStep, Fault, Host, LogFailure, Obstacle, Reason, SocketFailure, Step, run,
 };
 use gw_stamping::{Calendar, moment_after};
 use gw_system::{ReadFailure, Requests};
@@ -34,7 +34,7 @@ const BESIDE: [&str; 2] = ["trial.log", "audit.log"];
 /// The name of the file of the metrics.
 const METRICS: &str = "bacgw.prom";
 
-/// The name of the one file that can't be read.
+/// What the name of a file begins with that can't be read; that of a log or a state is just this.
 const UNREADABLE: &str = "unreadable";
 
 /// More octets than any run of a section writes.
@@ -52,15 +52,20 @@ struct MemFiles<'a> {
 impl<'a> ConfigFiles for MemFiles<'a> {
     type Log = MemReader<'a>;
 
-    fn open_log(&self, name: &str) -> Option<MemReader<'a>> {
-        (name != UNREADABLE).then_some(MemReader::new(self.text.as_bytes(), None))
+    ghost ReadsLog = { λ _ _ _. ⊤ };
+
+    fn open_log(&self, name: &str) -> Result<MemReader<'a>, Fault> {
+        if name == UNREADABLE {
+            return Err(Fault::LogUnreadable(Obstacle::NotPermitted));
+        }
+        Ok(MemReader::new(self.text.as_bytes(), None))
     }
 
     ghost Reads = { λ _ _ _. ⊤ };
 
     fn read(&self, alloc: Global, name: &str) -> Result<Vec<u8>, Fault> {
-        if name == UNREADABLE {
-            return Err(Fault::Unreadable);
+        if name.starts_with(UNREADABLE) {
+            return Err(Fault::Unreadable(Obstacle::Absent));
         }
         Ok(Vec::from_slice(alloc, self.text.as_bytes())?)
     }

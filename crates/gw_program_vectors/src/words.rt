@@ -5,7 +5,7 @@ use gw_configuration::ConfigFault;
 use gw_migration::MigrationFault;
 use gw_script::LineFlaw;
 use gw_serving::StoreFault;
-use gw_shell::{Choice, Fault, RunOptions, Shown, WordsFault, choice_of, end};
+use gw_shell::{Choice, Fault, Obstacle, RunOptions, Shown, WordsFault, choice_of, end};
 use gw_state_text::{FaultKind, StateFault};
 use gw_watch_files::TrialFault;
 use itoa::Buffer;
@@ -111,8 +111,14 @@ fn put_choice(
             put_compare(old.as_str(), new.as_str(), *most, out)?;
             put(out, &[" json"])
         }
-        Ok(Choice::Log(start)) => put_log(alloc, *start, out),
-        Ok(Choice::Objects) => put(out, &["log json"]),
+        Ok(Choice::Log { file, start }) => {
+            put_log(alloc, *start, out)?;
+            put_file(out, " file=", file)
+        }
+        Ok(Choice::Objects(file)) => {
+            put(out, &["log json"])?;
+            put_file(out, " file=", file)
+        }
         Ok(Choice::Judge { file, strict }) => {
             put(out, &["why ", file.as_str(), " json"])?;
             put_flag(out, " strict", *strict)
@@ -207,7 +213,10 @@ const LINE_ROOM: usize = 256;
 pub fn faults(alloc: Global, out: &mut Vec<u8>) -> io::Result<()> {
     let faults = [
         Fault::CommandLine,
-        Fault::Unreadable,
+        Fault::Unreadable(Obstacle::Absent),
+        Fault::Unreadable(Obstacle::NotPermitted),
+        Fault::OtherUnreadable(Obstacle::Folder),
+        Fault::LogUnreadable(Obstacle::Other),
         Fault::Configuration(ConfigFault::UnknownKey),
         Fault::Migration(MigrationFault::Already),
         Fault::Migration(MigrationFault::Unlike),

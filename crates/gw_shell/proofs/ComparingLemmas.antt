@@ -19,7 +19,9 @@ module _ (Is : Compared → List ℕ → Type 0) (held holds : Option (List ℕ)
   printed lines fault.Different is leaves = (lines.made, leaves.0, lines.text.items, is, leaves.1)
   printed lines fault.Write is leaves = (lines.made, lines.text.items, is, leaves)
   printed lines fault.CommandLine is leaves = elim leaves [ ]
-  printed lines fault.Unreadable is leaves = elim leaves [ ]
+  printed lines (fault.Unreadable _) is leaves = elim leaves [ ]
+  printed lines (fault.OtherUnreadable _) is leaves = elim leaves [ ]
+  printed lines (fault.LogUnreadable _) is leaves = elim leaves [ ]
   printed lines (fault.Configuration _) is leaves = elim leaves [ ]
   printed lines (fault.Migration _) is leaves = elim leaves [ ]
   printed lines (fault.Line _) is leaves = elim leaves [ ]

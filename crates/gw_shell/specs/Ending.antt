@@ -1,8 +1,8 @@
 -- What the program reports of a fault: the line on standard error, and the exit status.
-use Rattle.std.specs.Prelude.{◌≡◌, ◌⊎◌, ⊤, IsTrue, ℕ, Bool, true, false, List, [], ◌∷◌, ◌++◌, codes, decimal, nat_eq, if◌then◌else◌, Option, Some}
+use Rattle.std.specs.Prelude.{◌≡◌, ◌⊎◌, ⊤, IsTrue, ℕ, Bool, true, false, List, [], ◌∷◌, ◌++◌, codes, decimal, nat_eq, if◌then◌else◌, map, Option, Some, None}
 use Rattle.std.specs.Prelude.{Result, Ok, Err, string_bytes}
 use Rattle.std.specs.List.{list_all, starts_with}
-use Rattle.gw_config_faults.specs.Explanation.{ExplainsText, is_printed}
+use Rattle.gw_config_faults.specs.Explanation.{ExplainsText, is_printed, shown}
 use Rattle.gw_command_line.specs.declared.command_line.Choice.{Choice}
 use Rattle.gw_command_line.specs.declared.command_line.Choice.TheVariants as choice
 use Rattle.gw_command_line.specs.declared.fault.WordsFault.{WordsFault}
@@ -21,6 +21,8 @@ use Rattle.gw_watch_files.specs.declared.fault.TrialFault.{TrialFault}
 use Rattle.gw_watch_files.specs.declared.fault.TrialFault.TheVariants as trial
 use Rattle.gw_shell.specs.declared.fault.Fault.{Fault}
 use Rattle.gw_shell.specs.declared.fault.Fault.TheVariants as fault
+use Rattle.gw_shell.specs.declared.fault.Obstacle.{Obstacle}
+use Rattle.gw_shell.specs.declared.fault.Obstacle.TheVariants as obstacle
 use Rattle.gw_compare.specs.declared.comparison.Compared.{Compared}
 use Rattle.gw_compare.specs.declared.comparison.Compared.TheVariants as compared
 use Rattle.gw_configuration.specs.declared.fault.ConfigFault.{ConfigFault}
@@ -66,6 +68,13 @@ store_words store.ReadOnly = codes "read-only"
 store_words store.Memory = codes "out of memory"
 store_words store.System = codes "refused by the system"
 
+-- why a file can't be read
+abbrev pub obstacle_words : Obstacle → List ℕ
+obstacle_words obstacle.Absent = codes "no such file"
+obstacle_words obstacle.NotPermitted = codes "permission denied"
+obstacle_words obstacle.Folder = codes "is a directory"
+obstacle_words obstacle.Other = codes "it can't be read"
+
 -- why a policy isn't on trial
 abbrev pub trial_words : TrialFault → List ℕ
 trial_words trial.Unreadable = codes "cannot read configuration"
@@ -82,7 +91,9 @@ trial_reason f = []
 -- the line on standard error, without its line feed, of a fault that has one
 abbrev pub text_of : Fault → List ℕ
 text_of fault.CommandLine = codes "bacgw: bad command line"
-text_of fault.Unreadable = codes "bacgw: cannot read configuration"
+text_of (fault.Unreadable why) = codes "bacgw: cannot read configuration: " ++ obstacle_words why
+text_of (fault.OtherUnreadable why) = codes "bacgw: cannot read configuration: " ++ obstacle_words why
+text_of (fault.LogUnreadable why) = codes "bacgw: cannot read log: " ++ obstacle_words why
 text_of (fault.Configuration f) = codes "bacgw: configuration: " ++ name_of f
 text_of (fault.Migration f) = codes "bacgw: migration: " ++ reason_of f
 text_of (fault.Line n) = codes "bacgw: line " ++ decimal n
@@ -114,6 +125,48 @@ line_of fault.Different = []
 line_of fault.Refused = []
 line_of f = text_of f ++ 10 ∷ []
 
+-- the file that the configuration of a choice is read from, or the first of two; nothing if it names none
+abbrev pub first_file : Result Choice Fault → List ℕ
+first_file (Ok (choice.Check file explains lints)) = string_bytes file
+first_file (Ok (choice.CheckJson file)) = string_bytes file
+first_file (Ok (choice.Migrate file)) = string_bytes file
+first_file (Ok (choice.Replay (Some file) explains counts)) = string_bytes file
+first_file (Ok (choice.Run options)) = string_bytes options.config
+first_file (Ok (choice.Why file counts strict)) = string_bytes file
+first_file (Ok (choice.Compare old new most steps)) = string_bytes old
+first_file (Ok (choice.CompareJson old new most)) = string_bytes old
+first_file (Ok (choice.State config state)) = string_bytes config
+first_file (Ok (choice.Reload config request was)) = string_bytes config
+first_file (Ok (choice.Suggest file fills exact)) = string_bytes file
+first_file (Ok (choice.Judge file strict)) = string_bytes file
+first_file (Ok (choice.Report file log)) = string_bytes file
+first_file (Ok (choice.Points file)) = string_bytes file
+first_file _ = []
+
+-- the file of the configuration that it is compared with
+abbrev pub other_file : Result Choice Fault → List ℕ
+other_file (Ok (choice.Compare old new most steps)) = string_bytes new
+other_file (Ok (choice.CompareJson old new most)) = string_bytes new
+other_file (Ok (choice.Reload config request (Some shown))) = string_bytes shown.old
+other_file _ = []
+
+-- the file of the log
+abbrev pub log_file : Result Choice Fault → List ℕ
+log_file (Ok (choice.Log (Some file) start)) = string_bytes file
+log_file (Ok (choice.Objects (Some file))) = string_bytes file
+log_file _ = []
+
+-- The line of a file that can't be read: its name, with `?` in the place of each control character, and why.
+abbrev pub unread_line : (text name : List ℕ) → Obstacle → List ℕ
+unread_line text name why = text ++ (map shown name ++ (codes ": " ++ (obstacle_words why ++ 10 ∷ [])))
+
+-- the line of a fault after a choice, which names the file that can't be read
+abbrev pub line_by : Result Choice Fault → Fault → List ℕ
+line_by choice (fault.Unreadable why) = unread_line (codes "bacgw: cannot read configuration ") (first_file choice) why
+line_by choice (fault.OtherUnreadable why) = unread_line (codes "bacgw: cannot read configuration ") (other_file choice) why
+line_by choice (fault.LogUnreadable why) = unread_line (codes "bacgw: cannot read log ") (log_file choice) why
+line_by choice f = line_of f
+
 -- 2 if a policy can't be on trial, and 1 if a file of it can't be had
 abbrev pub status_of_trial : TrialFault → ℕ
 status_of_trial trial.Unreadable = 1
@@ -125,7 +178,9 @@ status_of_trial trial.Log = 1
 -- 2 where what the program was given is wrong, 1 where what it needs failed
 abbrev pub status_of : Fault → ℕ
 status_of fault.CommandLine = 2
-status_of fault.Unreadable = 1
+status_of (fault.Unreadable why) = 1
+status_of (fault.OtherUnreadable why) = 1
+status_of (fault.LogUnreadable why) = 1
 status_of (fault.Configuration f) = 2
 status_of (fault.Migration f) = 2
 status_of (fault.Line n) = 2
@@ -154,6 +209,16 @@ status_of fault.Different = 1
 abbrev pub status_of_comparison : Fault → ℕ
 status_of_comparison fault.Different = 1
 status_of_comparison _ = 2
+
+-- a comparison found something
+abbrev pub is_different : Fault → Bool
+is_different fault.Different = true
+is_different _ = false
+
+-- the fault of the configuration that another is compared with
+abbrev pub of_other : Fault → Fault
+of_other (fault.Unreadable why) = fault.OtherUnreadable why
+of_other f = f
 
 -- why words choose nothing, as the program reports it
 abbrev pub fault_of_words : WordsFault → Fault
@@ -275,6 +340,11 @@ first_fault (Err of_run) flushed = Err of_run
 abbrev pub error_text : Result (Unit {0}) Fault → List ℕ
 error_text (Ok done) = []
 error_text (Err of_program) = line_of of_program
+
+-- the same after a choice
+abbrev pub error_text_by : Result Choice Fault → Result (Unit {0}) Fault → List ℕ
+error_text_by choice (Ok done) = []
+error_text_by choice (Err of_program) = line_by choice of_program
 
 -- the exit status: 0, or the fault's
 abbrev pub status_after : Result (Unit {0}) Fault → ℕ

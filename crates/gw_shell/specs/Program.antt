@@ -27,7 +27,7 @@ use Rattle.gw_shell.specs.Asking.{Answers, Counts, ReportsUnread, asks_in}
 use Rattle.gw_shell.specs.Comparing.{AreProgress, IsCompared}
 use Rattle.gw_shell.specs.Configured.{IsConfigurationOf, IsConfigured}
 use Rattle.gw_shell.specs.Deciding.{ReportsAsks}
-use Rattle.gw_shell.specs.Ending.{FaultNote, IsAnswerTo, chosen, error_text, outcome_of_answer, status_by, usage_of}
+use Rattle.gw_shell.specs.Ending.{FaultNote, IsAnswerTo, chosen, error_text_by, is_different, of_other, outcome_of_answer, status_by, usage_of}
 use Rattle.gw_shell.specs.Checked.{IsChecked}
 use Rattle.gw_shell.specs.Json.{AreComparisonLines, FaultLine, IsMade, checked_line}
 use Rattle.gw_shell.specs.Kept.{IsSaidOfText}
@@ -148,7 +148,7 @@ LeavesCompared limits held holds old new outcome = LeavesSome (IsCompared limits
 abbrev pub LeavesComparison : Limits → Option (List ℕ) → Option (List ℕ) → (old new : Result Configuration Fault)
     → Result (Unit {0}) Fault → Type 0
 LeavesComparison limits held holds (Ok old) (Ok new) outcome = LeavesCompared limits held holds old new outcome
-LeavesComparison limits held holds (Ok old) (Err f) outcome = (outcome ≡ Err f) × (holds ≡ held)
+LeavesComparison limits held holds (Ok old) (Err f) outcome = (outcome ≡ Err (of_other f)) × (holds ≡ held)
 LeavesComparison limits held holds (Err f) new outcome = (outcome ≡ Err f) × (holds ≡ held)
 
 -- What printing leaves of a text that was made, of which a failed write may leave a front; or of why none was.
@@ -178,7 +178,7 @@ LeavesComparedJson most held holds old new outcome = LeavesSome (AreComparisonLi
 abbrev pub LeavesComparisonJson : ℕ → Option (List ℕ) → Option (List ℕ) → (old new : Result Configuration Fault)
     → Result (Unit {0}) Fault → Type 0
 LeavesComparisonJson most held holds (Ok old) (Ok new) outcome = LeavesComparedJson most held holds old new outcome
-LeavesComparisonJson most held holds (Ok old) (Err f) outcome = (outcome ≡ Err f) × (holds ≡ held)
+LeavesComparisonJson most held holds (Ok old) (Err f) outcome = (outcome ≡ Err (of_other f)) × (holds ≡ held)
 LeavesComparisonJson most held holds (Err f) new outcome = (outcome ≡ Err f) × (holds ≡ held)
 
 -- What `objects --csv` leaves of the configuration that was read: the list of its objects. If there is none, the outcome
@@ -255,12 +255,17 @@ abbrev pub LeavesReload : (Answers : List ℕ → List ℕ → Type 0) → List 
 LeavesReload Answers request held holds (Ok c) outcome = LeavesAsked Answers request held holds outcome
 LeavesReload Answers request held holds (Err f) outcome = (outcome ≡ Err f) × (holds ≡ held)
 
--- What it leaves after a comparison with this outcome, if that is one: a comparison that finds something is no fault.
+-- What it leaves after a comparison that ended with this fault, by whether that says that it found something: then it is none.
+abbrev pub LeavesAfterFault : (found : Bool) → (Answers : List ℕ → List ℕ → Type 0) → List ℕ → Fault
+    → Option (List ℕ) → Option (List ℕ) → Result (Unit {0}) Fault → Type 0
+LeavesAfterFault true Answers request f mid holds outcome = LeavesAsked Answers request mid holds outcome
+LeavesAfterFault false Answers request f mid holds outcome = (outcome ≡ Err f) × (holds ≡ mid)
+
+-- What it leaves after a comparison with this outcome.
 abbrev pub LeavesAfter : (Answers : List ℕ → List ℕ → Type 0) → List ℕ → (compared : Result (Unit {0}) Fault)
     → Option (List ℕ) → Option (List ℕ) → Result (Unit {0}) Fault → Type 0
 LeavesAfter Answers request (Ok done) mid holds outcome = LeavesAsked Answers request mid holds outcome
-LeavesAfter Answers request (Err fault.Different) mid holds outcome = LeavesAsked Answers request mid holds outcome
-LeavesAfter Answers request (Err f) mid holds outcome = (outcome ≡ Err f) × (holds ≡ mid)
+LeavesAfter Answers request (Err f) mid holds outcome = LeavesAfterFault (is_different f) Answers request f mid holds outcome
 
 -- What `reload --was` leaves of the configurations that were read: what the new one changes of the old one, and then that.
 abbrev pub LeavesReloadShown : (Answers : List ℕ → List ℕ → Type 0) → List ℕ → ℕ → Option (List ℕ) → Option (List ℕ)
@@ -269,7 +274,7 @@ LeavesReloadShown Answers request most held holds (Ok old) (Ok new) outcome =
     (mid : Option (List ℕ)) × (shown : Result (Unit {0}) Fault)
     × LeavesCompared (record { most = most; steps = false }) held mid old new shown
     × LeavesAfter Answers request shown mid holds outcome
-LeavesReloadShown Answers request most held holds (Err f) (Ok new) outcome = (outcome ≡ Err f) × (holds ≡ held)
+LeavesReloadShown Answers request most held holds (Err f) (Ok new) outcome = (outcome ≡ Err (of_other f)) × (holds ≡ held)
 LeavesReloadShown Answers request most held holds old (Err f) outcome = (outcome ≡ Err f) × (holds ≡ held)
 
 -- What it leaves if that is the file of this name, and the old configuration that of another, if one is named.
@@ -306,61 +311,76 @@ LeavesAnsweredIn Reads file how input held holds said outcome =
     (c : Result Configuration Fault) × IsConfigured Reads (Some file) c
     × LeavesAnswered how.counts (asks_in how.strict input) held holds c outcome × ReportsUnread how.strict outcome said
 
--- What is on standard output, which held `held` before, if files give what `Reads` and `ReadsState` say, `run`
+-- What a log leaves that was opened, by what `Leaves` says of a log; or of why it wasn't.
+abbrev pub LeavesOpened : (Leaves : List ℕ → List ℕ → Result (Unit {0}) Fault → List ℕ → Type 0)
+    → Result (Option (List ℕ)) Fault → Option (List ℕ) → Option (List ℕ) → Result (Unit {0}) Fault → Type 0
+LeavesOpened Leaves (Ok input) held holds outcome = OnKnown input held holds (λ log before. Leaves log before outcome)
+LeavesOpened Leaves (Err f) held holds outcome = (outcome ≡ Err f) × (holds ≡ held)
+
+-- What the log in the file of this name leaves, or that on standard input.
+abbrev pub LeavesOfLog : (ReadsLog : List ℕ → Result (Option (List ℕ)) Fault → Type 0)
+    → (Leaves : List ℕ → List ℕ → Result (Unit {0}) Fault → List ℕ → Type 0) → Option (List ℕ) → Option (List ℕ)
+    → Option (List ℕ) → Option (List ℕ) → Result (Unit {0}) Fault → Type 0
+LeavesOfLog ReadsLog Leaves None input held holds outcome =
+    OnKnown input held holds (λ log before. Leaves log before outcome)
+LeavesOfLog ReadsLog Leaves (Some file) input held holds outcome =
+    (opened : Result (Option (List ℕ)) Fault) × ReadsLog file opened × LeavesOpened Leaves opened held holds outcome
+
+-- What is on standard output, which held `held` before, if files give what `Reads`, `ReadsState` and `ReadsLog` say, `run`
 -- opens what the machine says, and `reload` is answered what `Answers` says: at `check`, `replay` and `why` what they leave of some configuration that is the one they name,
 -- at `compare` of the two, at `state` of the one and the state, at `run` also what was reported at the start, at `log` what that leaves of the log, and at help its text, of which a
 -- failed write may leave a front. Words that choose nothing leave it as it was, and their fault is the outcome.
 abbrev pub LeavesOutput : {C Log Sockets S Q : Type 0} → (Reads ReadsState : List ℕ → Result (List ℕ) Fault → Type 0)
-    → (Answers : List ℕ → List ℕ → Type 0) → TimedMachine C Log Sockets S Q → Option (List ℕ) → Option (List ℕ) → Option (List ℕ) → List ℕ
+    → (ReadsLog : List ℕ → Result (Option (List ℕ)) Fault → Type 0) → (Answers : List ℕ → List ℕ → Type 0) → TimedMachine C Log Sockets S Q → Option (List ℕ) → Option (List ℕ) → Option (List ℕ) → List ℕ
     → Result Choice Fault → Result (Unit {0}) Fault → Type 0
-LeavesOutput Reads ReadsState Answers machine input held holds said (Ok (choice.Check file explains lints)) outcome =
+LeavesOutput Reads ReadsState ReadsLog Answers machine input held holds said (Ok (choice.Check file explains lints)) outcome =
     (text : Result (List ℕ) Fault) × Reads (string_bytes file) text
     × LeavesOfText explains lints text held holds outcome
-LeavesOutput Reads ReadsState Answers machine input held holds said (Ok (choice.CheckJson file)) outcome =
+LeavesOutput Reads ReadsState ReadsLog Answers machine input held holds said (Ok (choice.CheckJson file)) outcome =
     (text : Result (List ℕ) Fault) × Reads (string_bytes file) text × LeavesCheckedJson text held holds outcome
-LeavesOutput Reads ReadsState Answers machine input held holds said (Ok (choice.Migrate file)) outcome =
+LeavesOutput Reads ReadsState ReadsLog Answers machine input held holds said (Ok (choice.Migrate file)) outcome =
     (c : Result Configuration Fault) × IsConfigured Reads (Some (string_bytes file)) c
     × LeavesMigrated held holds c outcome
-LeavesOutput Reads ReadsState Answers machine input held holds said (Ok (choice.Replay file explains counts)) outcome =
+LeavesOutput Reads ReadsState ReadsLog Answers machine input held holds said (Ok (choice.Replay file explains counts)) outcome =
     LeavesPlayedIn Reads (option_map string_bytes file) (record { explains = explains; counts = counts }) input held holds said outcome
-LeavesOutput Reads ReadsState Answers machine input held holds said (Ok (choice.Run options)) outcome =
+LeavesOutput Reads ReadsState ReadsLog Answers machine input held holds said (Ok (choice.Run options)) outcome =
     (text : Result (List ℕ) Fault) × Reads (string_bytes options.config) text
     × (c : Result Configuration Fault) × IsConfigurationOf text c
     × LeavesRun machine text held holds options c said outcome
-LeavesOutput Reads ReadsState Answers machine input held holds said (Ok (choice.Why file counts strict)) outcome =
+LeavesOutput Reads ReadsState ReadsLog Answers machine input held holds said (Ok (choice.Why file counts strict)) outcome =
     LeavesAnsweredIn Reads (string_bytes file) (record { counts = counts; strict = strict }) input held holds said outcome
-LeavesOutput Reads ReadsState Answers machine input held holds said (Ok (choice.Reload config request was)) outcome =
+LeavesOutput Reads ReadsState ReadsLog Answers machine input held holds said (Ok (choice.Reload config request was)) outcome =
     LeavesReloadIn Reads Answers (string_bytes config) (string_bytes request) was held holds said outcome
-LeavesOutput Reads ReadsState Answers machine input held holds said (Ok (choice.Compare old new most steps)) outcome =
+LeavesOutput Reads ReadsState ReadsLog Answers machine input held holds said (Ok (choice.Compare old new most steps)) outcome =
     (a : Result Configuration Fault) × IsConfigured Reads (Some (string_bytes old)) a
     × (b : Result Configuration Fault) × IsConfigured Reads (Some (string_bytes new)) b
     × LeavesComparison (record { most = most; steps = steps }) held holds a b outcome × AreProgress said
-LeavesOutput Reads ReadsState Answers machine input held holds said (Ok (choice.CompareJson old new most)) outcome =
+LeavesOutput Reads ReadsState ReadsLog Answers machine input held holds said (Ok (choice.CompareJson old new most)) outcome =
     (a : Result Configuration Fault) × IsConfigured Reads (Some (string_bytes old)) a
     × (b : Result Configuration Fault) × IsConfigured Reads (Some (string_bytes new)) b
     × LeavesComparisonJson most held holds a b outcome
-LeavesOutput Reads ReadsState Answers machine input held holds said (Ok (choice.Points file)) outcome =
+LeavesOutput Reads ReadsState ReadsLog Answers machine input held holds said (Ok (choice.Points file)) outcome =
     (c : Result Configuration Fault) × IsConfigured Reads (Some (string_bytes file)) c × LeavesPoints held holds c outcome
-LeavesOutput Reads ReadsState Answers machine input held holds said (Ok (choice.State config state)) outcome =
+LeavesOutput Reads ReadsState ReadsLog Answers machine input held holds said (Ok (choice.State config state)) outcome =
     LeavesStateIn Reads ReadsState (string_bytes config) (string_bytes state) held holds outcome
-LeavesOutput Reads ReadsState Answers machine input held holds said (Ok (choice.Suggest file fills exact)) outcome =
+LeavesOutput Reads ReadsState ReadsLog Answers machine input held holds said (Ok (choice.Suggest file fills exact)) outcome =
     LeavesSuggestedIn Reads (string_bytes file) (record { keeps_services = exact; fills = fills }) (asks_in false input) held holds outcome
     × ReportsUnread false outcome said
-LeavesOutput Reads ReadsState Answers machine input held holds said (Ok (choice.Log start)) outcome =
-    OnKnown input held holds (λ log before. Translates start log before outcome)
-LeavesOutput Reads ReadsState Answers machine input held holds said (Ok choice.Objects) outcome =
-    OnKnown input held holds (λ log before. Lists log before outcome)
-LeavesOutput Reads ReadsState Answers machine input held holds said (Ok (choice.Judge file strict)) outcome =
+LeavesOutput Reads ReadsState ReadsLog Answers machine input held holds said (Ok (choice.Log file start)) outcome =
+    LeavesOfLog ReadsLog (Translates start) (option_map string_bytes file) input held holds outcome
+LeavesOutput Reads ReadsState ReadsLog Answers machine input held holds said (Ok (choice.Objects file)) outcome =
+    LeavesOfLog ReadsLog Lists (option_map string_bytes file) input held holds outcome
+LeavesOutput Reads ReadsState ReadsLog Answers machine input held holds said (Ok (choice.Judge file strict)) outcome =
     LeavesJudgedIn Reads (string_bytes file) (asks_in strict input) held holds outcome × ReportsUnread strict outcome said
-LeavesOutput Reads ReadsState Answers machine input held holds said (Ok (choice.Report file log)) outcome =
+LeavesOutput Reads ReadsState ReadsLog Answers machine input held holds said (Ok (choice.Report file log)) outcome =
     LeavesReportIn Reads (string_bytes file) held holds outcome
-LeavesOutput Reads ReadsState Answers machine input held holds said (Ok (choice.Help text)) (Ok done) =
+LeavesOutput Reads ReadsState ReadsLog Answers machine input held holds said (Ok (choice.Help text)) (Ok done) =
     Appends held holds (string_bytes text)
-LeavesOutput Reads ReadsState Answers machine input held holds said (Ok (choice.Help text)) (Err f) =
+LeavesOutput Reads ReadsState ReadsLog Answers machine input held holds said (Ok (choice.Help text)) (Err f) =
     (f ≡ fault.Write) × AppendsFront held holds (string_bytes text)
-LeavesOutput Reads ReadsState Answers machine input held holds said (Ok (choice.Usage text)) outcome =
+LeavesOutput Reads ReadsState ReadsLog Answers machine input held holds said (Ok (choice.Usage text)) outcome =
     (outcome ≡ Err fault.CommandLine) × (holds ≡ held)
-LeavesOutput Reads ReadsState Answers machine input held holds said (Err f) outcome = (outcome ≡ Err f) × (holds ≡ held)
+LeavesOutput Reads ReadsState ReadsLog Answers machine input held holds said (Err f) outcome = (outcome ≡ Err f) × (holds ≡ held)
 
 -- Only `run`, `replay`, `why`, `suggest`, `compare` and `reload` report something before a fault's line.
 abbrev pub IsQuiet : Result Choice Fault → List ℕ → Type 0
@@ -402,5 +422,5 @@ pub record IsRun (Chooses : Result Choice Fault → Type 0)
   pub output : Leaves said choice outcome
   pub quiet : IsQuiet choice said
   pub flush : OnOk outcome (IsFlushed choice was is)
-  pub errors : Adds (said ++ error_text outcome ++ usage_of choice)
+  pub errors : Adds (said ++ error_text_by choice outcome ++ usage_of choice)
   pub status : exit ≡ status_by choice outcome

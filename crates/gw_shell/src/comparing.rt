@@ -249,6 +249,8 @@ pub fn compare<C: Calendar, W: Write + Drop, E: OctetSink>(
     ensures flush { OnOk result (writer_buffer output.new ≡ []) }
 {
     let old = both.old?;
-    let new = both.new?;
-    print_compared(alloc, limits, &old, &new, seconds, output, errors)
+    match both.new {
+        Ok(new) => print_compared(alloc, limits, &old, &new, seconds, output, errors),
+        Err(fault) => Err(fault.of_other()),
+    }
 }

@@ -1,14 +1,19 @@
 //! How the program ends: the line on standard error, and the exit status.
 
-ghost use Rattle.std.specs.Prelude.{◌≡◌, ◌++◌, ◌∷◌, [], codes, decimal, IsOk, OnOk};
+ghost use Rattle.std.specs.Prelude.{◌≡◌, ◌++◌, ◌∷◌, [], codes, decimal, map, Err, IsOk, OnOk};
 ghost use Rattle.std.specs.Io.KnownBytes.{Appends};
 ghost use Rattle.std.specs.Process.{exit_status};
 ghost use Rattle.gw_shell.specs.declared.fault.Fault.TheVariants as fault;
+ghost use Rattle.gw_config_faults.specs.Explanation.{shown};
 ghost use Rattle.gw_notices.specs.Reload.{name_of};
-ghost use Rattle.gw_shell.specs.Ending.{cause_of, error_text, line_of, reason_of, status_after, status_by, store_words, text_of, usage_of, words_of};
+ghost use Rattle.gw_shell.specs.Ending.{cause_of, error_text, error_text_by, first_file, line_by, line_of, log_file, obstacle_words, other_file, reason_of};
+ghost use Rattle.gw_shell.specs.Ending.{status_after, status_by, store_words, text_of, unread_line, usage_of, words_of};
 
-use crate::fault::{Fault, cause_of, reason_of, store_words, trial_reason, trial_words, words_of};
-use gw_command_line::Choice;
+use crate::fault::{
+    Fault, Obstacle, cause_of, obstacle_words, reason_of, store_words, trial_reason, trial_words,
+    words_of,
+};
+use gw_command_line::{Choice, Shown};
 use gw_configuration::ConfigFault;
 use gw_migration::MigrationFault;
 use gw_notices::name_of;
@@ -119,6 +124,22 @@ fn write_trial_fault<E: OctetSink>(why: TrialFault, errors: &mut E) -> Result<()
     write_whole(errors, b"\n")
 }
 
+/// Writes a text, why a file can't be read, and a line feed.
+fn write_obstacle<E: OctetSink>(
+    text: &str,
+    why: Obstacle,
+    errors: &mut E,
+) -> Result<(), WriteFailed>
+    ensures ok { OnOk result (Appends (E.held errors.old) (E.held errors.new)
+        (text.now ++ (obstacle_words why ++ 10 ∷ []))) }
+    ensures sure { E.NeverFails errors.old → IsOk result }
+    ensures lasts { E.NeverFails errors.old → E.NeverFails errors.new }
+{
+    write_whole(errors, text.as_bytes())?;
+    write_whole(errors, obstacle_words(why).as_bytes())?;
+    write_whole(errors, b"\n")
+}
+
 /// Writes the line of a fault, if it has one.
 fn write_fault<E: OctetSink>(fault: Fault, errors: &mut E) -> Result<(), WriteFailed>
     ensures ok { OnOk result (Appends (E.held errors.old) (E.held errors.new) (line_of fault)) }
@@ -127,7 +148,10 @@ fn write_fault<E: OctetSink>(fault: Fault, errors: &mut E) -> Result<(), WriteFa
 {
     match fault {
         Fault::CommandLine => write_whole(errors, b"bacgw: bad command line\n"),
-        Fault::Unreadable => write_whole(errors, b"bacgw: cannot read configuration\n"),
+        Fault::Unreadable(why) | Fault::OtherUnreadable(why) => {
+            write_obstacle("bacgw: cannot read configuration: ", why, errors)
+        }
+        Fault::LogUnreadable(why) => write_obstacle("bacgw: cannot read log: ", why, errors),
         Fault::Configuration(fault) => write_configuration_fault(fault, errors),
         Fault::Migration(fault) => write_migration_fault(fault, errors),
         Fault::Line(number) => write_number("bacgw: line ", number, "\n", errors),
@@ -159,6 +183,139 @@ fn write_fault<E: OctetSink>(fault: Fault, errors: &mut E) -> Result<(), WriteFa
             write_whole(errors, b"bacgw: suggestion: the rules can't be written\n")
         }
         Fault::Refused | Fault::Different => write_whole(errors, b""),
+    }
+}
+
+/// The file that the configuration of a choice is read from, or the first of two; nothing if it names none.
+fn first_file(choice: &Result<Choice, Fault>) -> &str
+    ensures { result.now ≡ first_file choice.now }
+{
+    match choice {
+        Ok(Choice::Check { file, .. }) => file.as_str(),
+        Ok(Choice::CheckJson(file)) => file.as_str(),
+        Ok(Choice::Migrate(file)) => file.as_str(),
+        Ok(
+            Choice::Replay {
+                file: Some(file),
+                ..
+            },
+        ) => file.as_str(),
+        Ok(Choice::Run(options)) => options.config.as_str(),
+        Ok(Choice::Why { file, .. }) => file.as_str(),
+        Ok(Choice::Compare { old, .. }) => old.as_str(),
+        Ok(Choice::CompareJson { old, .. }) => old.as_str(),
+        Ok(Choice::State { config, .. }) => config.as_str(),
+        Ok(Choice::Reload { config, .. }) => config.as_str(),
+        Ok(Choice::Suggest { file, .. }) => file.as_str(),
+        Ok(Choice::Judge { file, .. }) => file.as_str(),
+        Ok(Choice::Report { file, .. }) => file.as_str(),
+        Ok(Choice::Points(file)) => file.as_str(),
+        _ => "",
+    }
+}
+
+/// The file of the configuration that it is compared with; nothing if there is none.
+fn other_file(choice: &Result<Choice, Fault>) -> &str
+    ensures { result.now ≡ other_file choice.now }
+{
+    match choice {
+        Ok(Choice::Compare { new, .. }) => new.as_str(),
+        Ok(Choice::CompareJson { new, .. }) => new.as_str(),
+        Ok(
+            Choice::Reload {
+                was: Some(Shown { old, .. }),
+                ..
+            },
+        ) => old.as_str(),
+        _ => "",
+    }
+}
+
+/// The file of the log of a choice; nothing if it names none.
+fn log_file(choice: &Result<Choice, Fault>) -> &str
+    ensures { result.now ≡ log_file choice.now }
+{
+    match choice {
+        Ok(
+            Choice::Log {
+                file: Some(file),
+                ..
+            },
+        ) => file.as_str(),
+        Ok(Choice::Objects(Some(file))) => file.as_str(),
+        _ => "",
+    }
+}
+
+/// The greatest control character below the space.
+const LAST_CONTROL: u8 = 31;
+
+/// The control character after the others.
+const DELETE: u8 = 127;
+
+/// The octet, or `?` for a control character, which could end the line or colour a terminal.
+fn visible(octet: u8) -> u8
+    ensures { result ≡ shown octet }
+{
+    if octet <= LAST_CONTROL || octet == DELETE {
+        b'?'
+    } else {
+        octet
+    }
+}
+
+/// Writes the name of a file, with a `?` in the place of each control character.
+fn write_name<E: OctetSink>(name: &[u8], errors: &mut E) -> Result<(), WriteFailed>
+    ensures ok { OnOk result (Appends (E.held errors.old) (E.held errors.new) (map shown name.now)) }
+    ensures sure { E.NeverFails errors.old → IsOk result }
+    ensures lasts { E.NeverFails errors.old → E.NeverFails errors.new }
+{
+    for octet in name {
+        write_whole(errors, &[visible(*octet)])?;
+    }
+    Ok(())
+}
+
+/// Writes the line of a file that can't be read: a text, the file's name, and why.
+fn write_unread<E: OctetSink>(
+    text: &str,
+    name: &str,
+    why: Obstacle,
+    errors: &mut E,
+) -> Result<(), WriteFailed>
+    ensures ok { OnOk result (Appends (E.held errors.old) (E.held errors.new) (unread_line text.now name.now why)) }
+    ensures sure { E.NeverFails errors.old → IsOk result }
+    ensures lasts { E.NeverFails errors.old → E.NeverFails errors.new }
+{
+    write_whole(errors, text.as_bytes())?;
+    write_name(name.as_bytes(), errors)?;
+    write_obstacle(": ", why, errors)
+}
+
+/// Writes the line of a fault after this choice, if it has one. It names the file that can't be read.
+fn write_fault_by<E: OctetSink>(
+    choice: &Result<Choice, Fault>,
+    fault: Fault,
+    errors: &mut E,
+) -> Result<(), WriteFailed>
+    ensures ok { OnOk result (Appends (E.held errors.old) (E.held errors.new) (line_by choice.now fault)) }
+    ensures sure { E.NeverFails errors.old → IsOk result }
+    ensures lasts { E.NeverFails errors.old → E.NeverFails errors.new }
+{
+    match fault {
+        Fault::Unreadable(why) => {
+            let file = first_file(choice);
+            write_unread("bacgw: cannot read configuration ", file, why, errors)
+        }
+        Fault::OtherUnreadable(why) => {
+            let file = other_file(choice);
+            write_unread("bacgw: cannot read configuration ", file, why, errors)
+        }
+        Fault::LogUnreadable(why) => {
+            let file = log_file(choice);
+            write_unread("bacgw: cannot read log ", file, why, errors)
+        }
+        _ => write_fault(fault, errors),
     }
 }
 
@@ -196,15 +353,26 @@ pub fn end_by<E: OctetSink>(
     outcome: Result<(), Fault>,
     errors: &mut E,
 ) -> ExitCode
-    ensures line { E.NeverFails errors.old → Appends (E.held errors.old) (E.held errors.new) (error_text outcome) }
+    ensures line { E.NeverFails errors.old →
+        Appends (E.held errors.old) (E.held errors.new) (error_text_by choice.now outcome) }
     ensures lasts { E.NeverFails errors.old → E.NeverFails errors.new }
     ensures status { exit_status result ≡ status_by choice.now outcome }
 {
-    match (choice, outcome) {
-        (Ok(Choice::Compare { .. } | Choice::CompareJson { .. }), Err(fault)) => {
-            let _ = write_fault(fault, errors);
-            ExitCode::from(fault.status_of_comparison())
+    match outcome {
+        Ok(()) => ExitCode::SUCCESS,
+        Err(fault) => {
+            let _ = write_fault_by(choice, fault, errors);
+            ExitCode::from(status_by(choice, fault))
         }
-        _ => end(outcome, errors),
+    }
+}
+
+/// The exit status of a fault after this choice.
+fn status_by(choice: &Result<Choice, Fault>, fault: Fault) -> u8
+    ensures { result ≡ status_by choice.now (Err fault) }
+{
+    match choice {
+        Ok(Choice::Compare { .. } | Choice::CompareJson { .. }) => fault.status_of_comparison(),
+        _ => fault.status(),
     }
 }

@@ -1,9 +1,10 @@
 //! Why the program ends without success, and its exit status.
 
 ghost use Rattle.std.specs.Prelude.{◌≡◌, ◌≢◌};
-ghost use Rattle.gw_shell.specs.Ending.{IsUnanswered, cause_of, fault_of, fault_of_configuration, fault_of_metrics, fault_of_migration, fault_of_request, fault_of_service, fault_of_state, fault_of_store, fault_of_suggestion, fault_of_words, reason_of, status_of, status_of_comparison, status_of_trial, store_words, trial_reason, trial_words, words_of};
+ghost use Rattle.gw_shell.specs.Ending.{IsUnanswered, cause_of, fault_of, fault_of_configuration, fault_of_metrics, fault_of_migration, fault_of_request, fault_of_service, fault_of_state, fault_of_store, fault_of_suggestion, fault_of_words, is_different, obstacle_words, of_other, reason_of, status_of, status_of_comparison, status_of_trial, store_words, trial_reason, trial_words, words_of};
 ghost use Rattle.gw_shell.specs.Lines.{fault_of_lines};
 ghost use Rattle.gw_shell.specs.declared.fault.Fault.TheVariants.{CommandLine, Memory};
+ghost use Rattle.gw_shell.specs.declared.fault.Obstacle.TheVariants.{Absent, Folder, NotPermitted, Other};
 
 use gw_command_line::WordsFault;
 use gw_configuration::ConfigFault;
@@ -19,13 +20,48 @@ use gw_watch_files::TrialFault;
 use std::alloc::AllocError;
 use std::io::ErrorKind;
 
+/// Why a file can't be read.
+#[derive(Clone, Copy)]
+pub enum Obstacle {
+    /// There is none of its name.
+    Absent,
+    /// The system doesn't permit it.
+    NotPermitted,
+    /// It is a folder.
+    Folder,
+    /// Another error of the system.
+    Other,
+}
+
+impl Obstacle {
+    /// The obstacle by what the system reports.
+    pub fn of(kind: ErrorKind) -> Obstacle
+        ensures absent { kind ≡ ErrorKind.NotFound → result ≡ Absent }
+        ensures not_permitted { kind ≡ ErrorKind.PermissionDenied → result ≡ NotPermitted }
+        ensures folder { kind ≡ ErrorKind.IsADirectory → result ≡ Folder }
+        ensures other { kind ≢ ErrorKind.NotFound → kind ≢ ErrorKind.PermissionDenied
+            → kind ≢ ErrorKind.IsADirectory → result ≡ Other }
+    {
+        match kind {
+            ErrorKind::NotFound => Obstacle::Absent,
+            ErrorKind::PermissionDenied => Obstacle::NotPermitted,
+            ErrorKind::IsADirectory => Obstacle::Folder,
+            _ => Obstacle::Other,
+        }
+    }
+}
+
 /// Why the program ends without success.
 #[derive(Clone, Copy)]
 pub enum Fault {
     /// The words that the program was called with are none that it takes.
     CommandLine,
-    /// The file of the configuration can't be read.
-    Unreadable,
+    /// The file of the configuration can't be read, and why.
+    Unreadable(Obstacle),
+    /// The file of the configuration that it is compared with can't be read, and why.
+    OtherUnreadable(Obstacle),
+    /// The file of the log can't be read, and why.
+    LogUnreadable(Obstacle),
     /// What the file of the configuration says is none, and why.
     Configuration(ConfigFault),
     /// The configuration isn't written in format 3, and why.
@@ -115,6 +151,16 @@ impl Fault {
         }
     }
 
+    /// The fault if it is of the configuration that another is compared with.
+    pub fn of_other(self) -> Fault
+        ensures { result ≡ of_other self }
+    {
+        match self {
+            Fault::Unreadable(why) => Fault::OtherUnreadable(why),
+            _ => self,
+        }
+    }
+
     /// The exit status: 2 where what the program was given is wrong, and 1 where what it needs failed.
     pub fn status(self) -> u8
         ensures { result ≡ status_of self }
@@ -131,7 +177,9 @@ impl Fault {
             | Fault::TooManyRules
             | Fault::Unwritable
             | Fault::Refused => 2,
-            Fault::Unreadable
+            Fault::Unreadable(_)
+            | Fault::OtherUnreadable(_)
+            | Fault::LogUnreadable(_)
             | Fault::Store(_)
             | Fault::Audit
             | Fault::Metrics(_)
@@ -155,6 +203,16 @@ impl Fault {
         match self {
             Fault::Different => 1,
             _ => 2,
+        }
+    }
+
+    /// Whether it is that of a comparison which found something.
+    pub fn is_different(self) -> bool
+        ensures { result ≡ is_different self }
+    {
+        match self {
+            Fault::Different => true,
+            _ => false,
         }
     }
 }
@@ -189,6 +247,18 @@ pub fn trial_reason(fault: TrialFault) -> &'static str
     match fault {
         TrialFault::Configuration(fault) => name_of(fault),
         _ => "",
+    }
+}
+
+/// Why a file can't be read.
+pub fn obstacle_words(why: Obstacle) -> &'static str
+    ensures { result.now ≡ obstacle_words why }
+{
+    match why {
+        Obstacle::Absent => "no such file",
+        Obstacle::NotPermitted => "permission denied",
+        Obstacle::Folder => "is a directory",
+        Obstacle::Other => "it can't be read",
     }
 }
 

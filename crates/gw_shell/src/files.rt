@@ -1,10 +1,10 @@
 //! The files that configurations are read from.
 
-ghost use Rattle.std.specs.Prelude.{ℕ, List, Result};
-ghost use Rattle.gw_shell.specs.Files.{IsStateFaultShown, IsFaultShown, result_map};
+ghost use Rattle.std.specs.Prelude.{ℕ, List, Option, Result};
+ghost use Rattle.gw_shell.specs.Files.{IsFaultShown, IsLogFaultShown, IsStateFaultShown, result_map};
 ghost use Rattle.gw_shell.specs.declared.fault.Fault.{Fault};
 
-use crate::fault::Fault;
+use crate::fault::{Fault, Obstacle};
 use gw_policy_text::MAX_OCTETS;
 use gw_script::OctetSource;
 use std::alloc::Global;
@@ -36,8 +36,12 @@ pub trait ConfigFiles {
     /// The text of a log.
     type Log: OctetSource + Drop;
 
-    /// The log of this name, or `None` if it can't be opened.
-    fn open_log(&self, name: &str) -> Option<Self::Log>;
+    /// What opening the log of a name may give: its octets, as far as they are known, or a fault.
+    ghost ReadsLog: { Self → List ℕ → Result (Option (List ℕ)) Fault → Type 0 };
+
+    /// The log of this name. Faults: `LogUnreadable`, and `Memory`.
+    fn open_log(&self, name: &str) -> Result<Self::Log, Fault>
+        ensures { ReadsLog self.now name.now (result_map Self.Log.left result) };
 }
 
 /// The files of the system.
@@ -50,8 +54,16 @@ pub struct SystemFiles<'a, R> {
 impl<R: Files> ConfigFiles for SystemFiles<'_, R> {
     type Log = R::File;
 
-    fn open_log(&self, name: &str) -> Option<R::File> {
-        fs::open(self.rt, name).ok()
+    ghost ReadsLog = { λ _ _ log. IsLogFaultShown log };
+
+    fn open_log(&self, name: &str) -> Result<R::File, Fault> {
+        match fs::open(self.rt, name) {
+            Ok(file) => Ok(file),
+            Err(error) => match error.kind() {
+                ErrorKind::OutOfMemory => Err(Fault::Memory),
+                kind => Err(Fault::LogUnreadable(Obstacle::of(kind))),
+            },
+        }
     }
 
     ghost Reads = { λ _ _ octets. IsFaultShown octets };
@@ -61,7 +73,7 @@ impl<R: Files> ConfigFiles for SystemFiles<'_, R> {
             Ok(octets) => Ok(octets),
             Err(error) => match error.kind() {
                 ErrorKind::OutOfMemory => Err(Fault::Memory),
-                _ => Err(Fault::Unreadable),
+                kind => Err(Fault::Unreadable(Obstacle::of(kind))),
             },
         }
     }

@@ -169,8 +169,10 @@ pub fn compare_in_json<W: Write + Drop>(
     ensures flush { OnOk result (writer_buffer output.new ≡ []) }
 {
     let old = old?;
-    let new = new?;
-    print_compared(alloc, most, &old, &new, output)
+    match new {
+        Ok(new) => print_compared(alloc, most, &old, &new, output),
+        Err(fault) => Err(fault.of_other()),
+    }
 }
 
 /// The list of the objects of a configuration. `Memory` is its only fault.

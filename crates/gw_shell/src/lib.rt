@@ -1,7 +1,7 @@
 //! The program `bacgw` over any words, files, streams and machine.
 //!
 //! [`run`] is the whole program: the words choose a command, the file that they name has the configuration, and `check`, `replay`,
-//! `run` or `why` is done under it; `compare` takes two files; `log` and help need none. A fault is one line on standard error, and the exit status says of which kind it is.
+//! `run` or `why` is done under it; `compare` takes two files; `log` reads a log; help needs none. A fault is one line on standard error, and the exit status says of which kind it is.
 #![tactic(auto)]
 
 mod asking;
@@ -25,7 +25,7 @@ mod translating;
 mod unread;
 
 pub use ending::end;
-pub use fault::{Fault, words_of};
+pub use fault::{Fault, Obstacle, words_of};
 pub use files::{ConfigFiles, SystemFiles};
 pub use gw_command_line::{Choice, RunOptions, Shown, WordsFault, choice_of};
 pub use gw_system::{

@@ -1,11 +1,13 @@
 //! A log, and the answers to its asks, as JSON objects.
 
-ghost use Rattle.std.specs.Prelude.{◌≡◌, [], ℕ, List, false, OnOk};
+ghost use Rattle.std.specs.Prelude.{◌≡◌, [], ℕ, List, false, option_map, string_bytes, OnOk};
 ghost use Rattle.std.specs.Io.Buffered.{writer_buffer, writer_contents};
 ghost use Rattle.std.specs.Io.KnownBytes.{Appends};
 ghost use Rattle.gw_script.specs.Known.{OnKnown};
 ghost use Rattle.gw_shell.specs.Asking.{ReportsUnread, asks_in};
+ghost use Rattle.gw_shell.specs.Files.{result_map};
 ghost use Rattle.gw_shell.specs.Objects.{Judges, LeavesJudged, LeavesJudgedIn, Lists};
+ghost use Rattle.gw_shell.specs.Program.{LeavesOfLog, LeavesOpened};
 
 use crate::configured::configuration_in;
 use crate::fault::Fault;
@@ -21,7 +23,7 @@ use std::io::{BufWriter, Write};
 
 /// Writes each line of the log that `reader` has left as a JSON object. What was written is flushed at every outcome.
 /// Faults: those of the writing, and `Write` also if the flush alone fails.
-pub fn list<R: OctetSource, W: Write + Drop>(
+fn list<R: OctetSource, W: Write + Drop>(
     alloc: Global,
     reader: &mut R,
     writer: &mut BufWriter<W>,
@@ -33,6 +35,41 @@ pub fn list<R: OctetSource, W: Write + Drop>(
     let listing = log_in_json(alloc, reader, writer);
     let is_flushed = writer.flush().is_ok();
     first_lines_fault(listing, is_flushed)
+}
+
+/// Writes each line of a log that was opened as a JSON object, if it was.
+fn list_opened<L: OctetSource + Drop, W: Write + Drop>(
+    alloc: Global,
+    opened: Result<L, Fault>,
+    writer: &mut BufWriter<W>,
+) -> Result<(), Fault>
+    ensures output { LeavesOpened Lists (result_map L.left opened)
+        (writer_contents W.contents writer.old) (writer_contents W.contents writer.new) result }
+    ensures flush { OnOk result (writer_buffer writer.new ≡ []) }
+{
+    match opened {
+        Ok(mut log) => list(alloc, &mut log, writer),
+        Err(fault) => Err(fault),
+    }
+}
+
+/// Writes each line of the log in the file of this name, or of that on standard input, as a JSON object. Faults: those
+/// of the writing, `Write`, and `LogUnreadable` if there is no such file.
+pub fn list_in<F: ConfigFiles, R: OctetSource, W: Write + Drop>(
+    alloc: Global,
+    files: &F,
+    file: &Option<String>,
+    input: &mut R,
+    output: &mut BufWriter<W>,
+) -> Result<(), Fault>
+    ensures output { LeavesOfLog (F.ReadsLog files.now) Lists (option_map string_bytes file.now) (R.left input.old)
+        (writer_contents W.contents output.old) (writer_contents W.contents output.new) result }
+    ensures flush { OnOk result (writer_buffer output.new ≡ []) }
+{
+    match file {
+        Some(file) => list_opened(alloc, files.open_log(file), output),
+        None => list(alloc, input, output),
+    }
 }
 
 /// Answers each ask that `reader` has left by the rules of a configuration, with their notes, as a JSON object.

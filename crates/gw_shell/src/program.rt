@@ -30,10 +30,11 @@ use crate::fault::Fault;
 use crate::files::ConfigFiles;
 use crate::json::{check_in_json, compare_in_json, print_points};
 use crate::kept::words_of_text;
+use crate::objects;
 use crate::reloading::{Asking, reload_in};
 use crate::reporting::print_report_in;
 use crate::suggesting::suggest_shown;
-use crate::{objects, translating};
+use crate::translating::{Translating, translate_in};
 use gw_command_line::{Choice, RunOptions, choice_of};
 use gw_config_faults::{Explanation, explain};
 use gw_configuration::{Config, ConfigFault};
@@ -319,7 +320,7 @@ fn follow<F: ConfigFiles, H: Host, R: OctetSource, W: Write + Drop, E: OctetSink
     errors: &mut E,
 ) -> Result<(), Fault>
     ensures followed { IsFollowed
-        (LeavesOutput (F.Reads files.now) (F.ReadsState files.now) (answers_by (H.Asks host.old) H.Answers)
+        (LeavesOutput (F.Reads files.now) (F.ReadsState files.now) (F.ReadsLog files.now) (answers_by (H.Asks host.old) H.Answers)
         (timed_machine {C = H.Calendar}
         (whole_machine (machine (OpensAtLine (H.LogOpens host.old) (H.LogIsCut host.old) H.Log.held)
         (H.SocketsOpen host.old) (H.RoutesIp host.old) (H.Closes host.new) H.Log.held H.Sockets.calls)
@@ -431,8 +432,14 @@ fn follow<F: ConfigFiles, H: Host, R: OctetSource, W: Write + Drop, E: OctetSink
             };
             suggest_shown(alloc, files, file, manner, input, output, errors)
         }
-        Ok(Choice::Log(start)) => translating::translate(alloc, *start, input, output),
-        Ok(Choice::Objects) => objects::list(alloc, input, output),
+        Ok(Choice::Log { file, start }) => {
+            let asked = Translating {
+                file,
+                start: *start,
+            };
+            translate_in(alloc, files, &asked, input, output)
+        }
+        Ok(Choice::Objects(file)) => objects::list_in(alloc, files, file, input, output),
         Ok(Choice::Judge { file, strict }) => {
             objects::judge_in(alloc, files, file, *strict, input, output, errors)
         }
@@ -445,7 +452,7 @@ fn follow<F: ConfigFiles, H: Host, R: OctetSource, W: Write + Drop, E: OctetSink
 
 /// Runs the program on these words, or on the fault for which there are none: the configuration that
 /// they name is read from `files`, what it has is printed to `output`, or the script of `input` is
-/// replayed there, or its asks are answered, or its log is put into words, or what `host` opens is served, or two
+/// replayed there, or its asks are answered, or its log or that of a file is put into words, or what `host` opens is served, or two
 /// configurations are compared, or help is printed; what
 /// is served, or where a fault is, may be reported on `errors`, a fault is one line there, after words
 /// that are no command line it says how the program is called, and the exit status says of which kind
@@ -463,7 +470,7 @@ pub fn run<F: ConfigFiles, H: Host, R: OctetSource, W: Write + Drop, E: OctetSin
         (λ choice. MatchResult words
         (λ w. IsChoiceOf (map string_bytes w.items) choice)
         (λ f. choice ≡ Err f))
-        (LeavesOutput (F.Reads files.now) (F.ReadsState files.now) (answers_by (H.Asks host.old) H.Answers)
+        (LeavesOutput (F.Reads files.now) (F.ReadsState files.now) (F.ReadsLog files.now) (answers_by (H.Asks host.old) H.Answers)
         (timed_machine {C = H.Calendar}
         (whole_machine (machine (OpensAtLine (H.LogOpens host.old) (H.LogIsCut host.old) H.Log.held)
         (H.SocketsOpen host.old) (H.RoutesIp host.old) (H.Closes host.new) H.Log.held H.Sockets.calls)

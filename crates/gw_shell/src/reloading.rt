@@ -6,7 +6,7 @@ ghost use Rattle.std.specs.Io.KnownBytes.{Appends};
 ghost use Rattle.gw_shell.specs.Comparing.{AreProgress};
 ghost use Rattle.gw_shell.specs.Ending.{IsAnswerTo, IsUnanswered, answers_by, outcome_of_answer};
 ghost use Rattle.gw_shell.specs.Files.{result_map};
-ghost use Rattle.gw_shell.specs.Program.{LeavesAnswer, LeavesAsked, LeavesReload, LeavesReloadIn, LeavesReloadShown, LeavesText};
+ghost use Rattle.gw_shell.specs.Program.{LeavesAfter, LeavesAnswer, LeavesAsked, LeavesReload, LeavesReloadIn, LeavesReloadShown, LeavesText};
 
 use crate::comparing::{Both, Limits, Seconds, print_compared};
 use crate::configured::configuration_in;
@@ -112,8 +112,27 @@ fn print_asked<H: Host, W: Write + Drop>(
     print_answer(ask(alloc, request, host), output)
 }
 
-/// Prints what the new configuration changes of the old one, and then asks as [`reload`] does. A comparison that isn't
-/// finished, or finds something, is no fault.
+/// Asks as [`reload`] does after a comparison that ended so. One that isn't finished, or finds something, is no fault.
+fn ask_after<H: Host, W: Write + Drop>(
+    alloc: Global,
+    compared: Result<(), Fault>,
+    request: &str,
+    host: &H,
+    output: &mut BufWriter<W>,
+) -> Result<(), Fault>
+    ensures output { LeavesAfter (answers_by (H.Asks host.now) H.Answers) request.now compared
+        (writer_contents W.contents output.old) (writer_contents W.contents output.new) result }
+    ensures flush { OnOk result (writer_buffer output.new ≡ []) }
+{
+    if let Err(fault) = compared {
+        if !fault.is_different() {
+            return Err(fault);
+        }
+    }
+    print_asked(alloc, request, host, output)
+}
+
+/// Prints what the new configuration changes of the old one, and then asks as [`reload`] does.
 fn reload_shown<H: Host, W: Write + Drop, E: OctetSink>(
     alloc: Global,
     both: Both,
@@ -131,12 +150,14 @@ fn reload_shown<H: Host, W: Write + Drop, E: OctetSink>(
     ensures flush { OnOk result (writer_buffer output.new ≡ []) }
 {
     let new = both.new?;
-    let old = both.old?;
-    let limits = Limits { most, steps: false };
-    let mut seconds = Seconds::new(host.calendar());
-    match print_compared(alloc, limits, &old, &new, &mut seconds, output, errors) {
-        Ok(()) | Err(Fault::Different) => print_asked(alloc, asking.request, host, output),
-        Err(fault) => Err(fault),
+    match both.old {
+        Ok(old) => {
+            let limits = Limits { most, steps: false };
+            let mut seconds = Seconds::new(host.calendar());
+            let compared = print_compared(alloc, limits, &old, &new, &mut seconds, output, errors);
+            ask_after(alloc, compared, asking.request, host, output)
+        }
+        Err(fault) => Err(fault.of_other()),
     }
 }
 

@@ -50,8 +50,8 @@ fn make_page_with<F: ConfigFiles>(
     ensures { IsPageMade (result_map (λ octets. octets.items) result) }
 {
     match files.open_log(log) {
-        Some(reader) => make_page_of(alloc, config, reader),
-        None => Err(Fault::Log),
+        Ok(reader) => make_page_of(alloc, config, reader),
+        Err(_) => Err(Fault::Log),
     }
 }
 

@@ -36,8 +36,9 @@ returns-in-Ok-Migrate-clause-followed g c =
 
 pub returns-in-Ok-Log-clause-followed : goal.returns-in-Ok-Log-clause-followed
 returns-in-Ok-Log-clause-followed g c =
-    let is : c.args.choice.now ≡ Ok (choice.Log c.in-Ok-Log.start) = search rules in
-    followed _ _ c.args.choice.now (Ok (choice.Log c.in-Ok-Log.start)) c.translate.result is refl c.translate.ensures.translates
+    let chosen = choice.Log c.in-Ok-Log.file c.in-Ok-Log.start in
+    let is : c.args.choice.now ≡ Ok chosen = search rules in
+    followed _ _ c.args.choice.now (Ok chosen) c.translate_in.result is refl c.translate_in.ensures.output
     (λ never. appends_nothing (g.E.OctetSink.held c.args.errors.now))
 
 pub returns-in-Ok-State-clause-followed : goal.returns-in-Ok-State-clause-followed
@@ -54,8 +55,9 @@ returns-in-Ok-State-clause-followed g c =
 
 pub returns-in-Ok-Objects-clause-followed : goal.returns-in-Ok-Objects-clause-followed
 returns-in-Ok-Objects-clause-followed g c =
-    let is : c.args.choice.now ≡ Ok choice.Objects = search rules in
-    followed _ _ c.args.choice.now (Ok choice.Objects) c.list.result is refl c.list.ensures.lists
+    let chosen = choice.Objects c.in-Ok-Objects.file in
+    let is : c.args.choice.now ≡ Ok chosen = search rules in
+    followed _ _ c.args.choice.now (Ok chosen) c.list_in.result is refl c.list_in.ensures.output
     (λ never. appends_nothing (g.E.OctetSink.held c.args.errors.now))
 
 pub returns-in-Ok-Report-clause-followed : goal.returns-in-Ok-Report-clause-followed

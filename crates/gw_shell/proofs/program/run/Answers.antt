@@ -1,6 +1,6 @@
 use Rattle.std.proofs.Common.{◌++◌, List, subst, ℕ}
 use Rattle.std.specs.Io.KnownBytes.{Appends}
-use Rattle.gw_shell.specs.Ending.{error_text, usage_of}
+use Rattle.gw_shell.specs.Ending.{error_text_by, usage_of}
 use Rattle.gw_shell.proofs.AppendLemmas.{appends_two}
 use Rattle.gw_shell.proofs.program.run.Goals as goal
 
@@ -20,8 +20,8 @@ returns g c =
         flush = c.follow-outcome.ensures.flush;
         errors = λ never.
             let lasting = c.follow-outcome.ensures.lasting never in
-            appends_two (held c.args.errors.now) (held c.end_by-exit.new.errors) (held c.write_note.new.errors) (done.said ++ error_text outcome) (usage_of chosen)
-            (appends_two (held c.args.errors.now) (held c.follow-outcome.new.errors) (held c.end_by-exit.new.errors) done.said (error_text outcome)
+            appends_two (held c.args.errors.now) (held c.end_by-exit.new.errors) (held c.write_note.new.errors) (done.said ++ error_text_by chosen outcome) (usage_of chosen)
+            (appends_two (held c.args.errors.now) (held c.follow-outcome.new.errors) (held c.end_by-exit.new.errors) done.said (error_text_by chosen outcome)
             (done.errors never) (c.end_by-exit.ensures.line lasting))
             (subst (λ (text : List ℕ). Appends (held c.end_by-exit.new.errors) (held c.write_note.new.errors) text) c.usage_of.ensures
             (c.write_note.ensures.said (c.end_by-exit.ensures.lasts lasting)));
