@@ -17,6 +17,6 @@ pub use denial::{Denial, Denials};
 pub use entry::{Shown, ShownAsk, Stations};
 pub use moment::Moment;
 pub use reading::{read_ask, read_line};
-pub use text::{line, put_ask};
+pub use text::{line, operation_named, put_ask};
 pub use translating::translate_log;
 pub use words::translate_line;

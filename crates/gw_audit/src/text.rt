@@ -227,9 +227,9 @@ fn put_operation(out: &mut Vec<u8>, number: Option<u64>, has_sender: bool) -> Re
     }
 }
 
-/// The operation that a line names by this number: [`Operation::Enter`] and [`Operation::Claim`] if
-/// the ask has a sender only.
-pub(crate) fn operation_named(number: u64, has_sender: bool) -> Option<Operation>
+/// The operation that a line names by this number, or `None` if it shows the number itself: that of no operation, and
+/// those of [`Operation::Enter`] and [`Operation::Claim`] if the ask has no sender.
+pub fn operation_named(number: u64, has_sender: bool) -> Option<Operation>
     ensures { result ≡ operation_named has_sender number }
 {
     if has_sender || number < Operation::Enter.number() {

@@ -1,5 +1,5 @@
 -- What a line shows.
-use Rattle.std.proofs.Common.{◌≡◌, ◌<◌, ◌≤◌, ◌+◌, Bool, true, false, ℕ, zero, suc, add-one, arith, get_or, take, if◌then◌else◌, List, [], ◌∷◌, ◌++◌, map, length, nat_lt, codes, Result, Ok, Err, OnOk, rules, refl, ap, subst, sym, ◌∙◌}
+use Rattle.std.proofs.Common.{◌≡◌, ◌≤◌, ◌+◌, Bool, true, false, ℕ, take, if◌then◌else◌, List, [], ◌∷◌, ◌++◌, map, length, nat_lt, codes, Result, Ok, Err, OnOk, rules, refl, ap, subst, sym, ◌∙◌}
 use Rattle.std.specs.Prelude.{Float, IfOk, Option, vec_items}
 use Rattle.std.specs.Global.{Vec}
 use Rattle.std.specs.List.{list_all}
@@ -13,10 +13,11 @@ use Rattle.gw_configuration.specs.declared.fault.ConfigFault.{ConfigFault}
 use Rattle.gw_configuration.specs.declared.fault.ConfigFault.TheVariants.{TooMany}
 use Rattle.gw_configuration.specs.Configuration.{Configuration}
 use Rattle.gw_policy_text.specs.Document.{configuration_of, document, located_configuration}
-use Rattle.gw_config_faults.specs.Explanation.{Explains, IsNoDocument, IsTextWanted, IsWanted, IsExplanation, is_printed, position_words, shown, tables_in, tables_or}
+use Rattle.gw_config_faults.specs.Explanation.{Explains, IsNoDocument, IsTextWanted, IsWanted, IsExplanation, position_words, tables_in, tables_or}
 use Rattle.gw_config_faults.specs.Wanted.{wanted_words}
 use Rattle.gw_config_faults.specs.Place.{place_words, value_at}
 use Rattle.gw_config_faults.specs.FaultWords.{fault_words, single_words}
+use Rattle.gw_configuration.specs.Shown.{is_printed, shown}
 use Rattle.gw_configuration.specs.Located.{Find, Located, Read, of_text}
 
 printed_shown : (octet : ℕ) → is_printed (shown octet) ≡ true
@@ -30,16 +31,6 @@ printed_shown octet = on (is_printed octet) refl
 pub all_shown : (octets : List ℕ) → list_all is_printed (map shown octets) ≡ true
 all_shown [] = refl
 all_shown (octet ∷ octets) = rw (printed_shown octet) (all_shown octets)
-
--- one more octet is shown
-pub one_more : (octets : List ℕ) (place : ℕ) → place < length octets
-    → map shown (take (place + 1) octets) ≡ map shown (take place octets) ++ shown (get_or octets place 0) ∷ []
-one_more octets place h = rw add-one (on octets place h)
-  where
-    on : (os : List ℕ) (n : ℕ) → n < length os → map shown (take (suc n) os) ≡ map shown (take n os) ++ shown (get_or os n 0) ∷ []
-    on [] n h = absurd (omega arith)
-    on (o ∷ os) zero h = refl
-    on (o ∷ os) (suc n) h = ap (λ xs. shown o ∷ xs) (on os n (omega arith))
 
 pub fraction_words : (v : Value) (number : Float) → v ≡ value.Float number → single_words (view v) ≡ codes "a number with a fraction"
 fraction_words v number is = ap (λ (w : Value). single_words (view w)) is ∙ ap single_words (view-Float number)

@@ -1,5 +1,5 @@
 -- The line that says where a fault of a configuration is.
-use Rattle.std.specs.Prelude.{◌≡◌, ◌≢◌, ℕ, ◌<◌, ◌≤◌, Bool, ◌&&◌, ◌==◌, not, nat_lt, if◌then◌else◌, List, ◌++◌}
+use Rattle.std.specs.Prelude.{◌≡◌, ◌≢◌, ℕ, ◌<◌, ◌≤◌, ◌==◌, not, nat_lt, if◌then◌else◌, List, ◌++◌}
 use Rattle.std.specs.Prelude.{length, map, codes, count_by, reverse, take, Option, Some, None, Ok, Err}
 use Rattle.std.specs.List.{take_while}
 use Rattle.std.specs.Str.{IsUtf8}
@@ -7,21 +7,12 @@ use Rattle.toml.specs.Data.{Members, no_members}
 use Rattle.gw_configuration.specs.declared.fault.ConfigFault.{ConfigFault}
 use Rattle.gw_configuration.specs.declared.fault.ConfigFault.TheVariants.{TooMany}
 use Rattle.gw_configuration.specs.Configuration.{Configuration}
+use Rattle.gw_configuration.specs.Shown.{shown}
 use Rattle.gw_configuration.specs.Located.{Find, Located, Read, numbered, without_place}
 use Rattle.gw_policy_text.specs.Document.{document, located_configuration}
 use Rattle.gw_config_faults.specs.Place.{place_words, value_at}
 use Rattle.gw_config_faults.specs.FaultWords.{fault_words}
 use Rattle.gw_config_faults.specs.Wanted.{wanted_words}
-
--- the octets
-
--- no control character of ASCII
-abbrev pub is_printed : ℕ → Bool
-is_printed octet = nat_lt 31 octet && not (octet == 127)
-
--- an octet as a line shows it: `?` for a control character
-abbrev pub shown : ℕ → ℕ
-shown octet = if is_printed octet then octet else 63
 
 -- what a text as a whole lacks
 

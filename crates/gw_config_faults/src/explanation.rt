@@ -1,15 +1,11 @@
 //! The line that says where a fault of a configuration is.
 ghost use Rattle.std.specs.Prelude.{◌≡◌, map, IfOk, IsTrue};
 ghost use Rattle.std.specs.List.{list_all};
-ghost use Rattle.gw_config_faults.specs.Explanation.{is_printed, shown};
+ghost use Rattle.gw_configuration.specs.Shown.{is_printed, shown};
 
+use gw_configuration::put_shown;
 use std::alloc::{AllocError, Global};
 use std::marker::Model;
-
-/// The greatest control character below the space.
-const LAST_CONTROL: u8 = 31;
-/// The control character after the others.
-const DELETE: u8 = 127;
 
 /// A line for an operator, without its line feed. It has no control character. Contracts see its octets.
 #[derive(Drop)]
@@ -20,7 +16,7 @@ pub struct Explanation {
 impl Model for Explanation {
     ghost use Rattle.std.specs.Prelude.{ℕ, List, IsTrue};
     ghost use Rattle.std.specs.List.{list_all};
-    ghost use Rattle.gw_config_faults.specs.Explanation.{is_printed};
+    ghost use Rattle.gw_configuration.specs.Shown.{is_printed};
 
     ghost Value = { List ℕ };
 
@@ -37,9 +33,7 @@ impl Explanation {
         ensures { IfOk result (λ line. line ≡ map shown words.now) }
     {
         let mut octets = Vec::new(alloc);
-        for octet in words {
-            octets.push(shown(*octet))?;
-        }
+        put_shown(&mut octets, words)?;
         Ok(Explanation { octets })
     }
 
@@ -49,16 +43,5 @@ impl Explanation {
         ensures printed { IsTrue (list_all is_printed self.now) }
     {
         self.octets.as_slice()
-    }
-}
-
-/// The octet, or `?` for a control character.
-fn shown(octet: u8) -> u8
-    ensures { result ≡ shown octet }
-{
-    if octet <= LAST_CONTROL || octet == DELETE {
-        b'?'
-    } else {
-        octet
     }
 }

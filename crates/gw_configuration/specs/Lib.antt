@@ -3,6 +3,7 @@ pub mod Duplicates
 pub mod Kinds
 pub mod Located
 pub mod Reading
+pub mod Shown
 pub mod States
 pub mod Subnet
 pub mod Text

@@ -4,6 +4,7 @@
 
 mod config;
 mod device;
+mod display;
 mod duplicates;
 mod fault;
 mod instance;
@@ -22,6 +23,7 @@ mod text;
 
 pub use config::Config;
 pub use device::Device;
+pub use display::{put_shown, shown};
 pub use fault::ConfigFault;
 pub use gw_rules::Format;
 pub use instance::{Instance, MAX_INSTANCE};

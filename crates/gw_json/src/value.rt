@@ -2,11 +2,11 @@
 
 ghost use Rattle.std.specs.Prelude.{◌≡◌, ◌++◌, decimal, string_bytes, IfOk, OnOk};
 ghost use Rattle.json.specs.Print.{quoted};
-ghost use Rattle.gw_audit.specs.Line.{key_octets, operation_named, operation_of};
+ghost use Rattle.gw_audit.specs.Line.{key_octets};
 ghost use Rattle.gw_json.specs.Text.{named_text, number_text, operation_text, station_text, station_word};
 
 use gw_addr::{Mac, bip_from_slice, put_decimal, put_slice};
-use gw_rules::Operation;
+use gw_audit::operation_named;
 use json::Writer;
 use std::alloc::{AllocError, Global};
 
@@ -83,24 +83,6 @@ fn put_named(
         Some(operation) => put_quoted(alloc, out, operation.name()),
         None => put_decimal(out, number),
     }
-}
-
-/// The operation that a line names by this number: [`Operation::Enter`] and [`Operation::Claim`] if
-/// the ask has a sender only.
-fn operation_named(number: u64, has_sender: bool) -> Option<Operation>
-    ensures { result ≡ operation_named has_sender number }
-{
-    if has_sender || number < Operation::Enter.number() {
-        operation_of(number)
-    } else {
-        None
-    }
-}
-
-fn operation_of(number: u64) -> Option<Operation>
-    ensures { result ≡ operation_of number }
-{
-    Operation::from_number(number)
 }
 
 /// Appends a station.

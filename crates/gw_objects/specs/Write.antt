@@ -4,6 +4,7 @@ use Rattle.std.specs.Prelude.{◌≡◌, ◌≢◌, ℕ, ◌==◌, ◌&&◌, nat
 use Rattle.std.specs.Prelude.{◌∷◌, length, slice_get, IsTrue, Option, Some, None, Result, Ok, Err}
 use Rattle.std.specs.Option.{ok_or}
 use Rattle.gw_addr.specs.Reading.{◌>>=◌}
+use Rattle.gw_configuration.specs.declared.text.TheConstants.{MAX_TEXT}
 use Rattle.gw_priority.specs.declared.array.TheConstants.{RESERVED}
 use Rattle.gw_priority.specs.Commandable.{IsPriority}
 use Rattle.gw_priority.specs.History.{Act, Command, Relinquish, SetDefault}
@@ -77,11 +78,11 @@ whole (Err Short) = Err WrongKind
 whole (Err BadTag) = Err WrongKind
 whole (Err BadLength) = Err WrongKind
 
--- a text that is written: in character set 0, and of at most 255 octets
+-- a text that is written: in character set 0, and no longer than a text may be
 abbrev pub text_in : ℕ → List ℕ → Result PropertyValue WriteFault
 text_in charset octets =
     if not (charset == 0) then Err CharacterSet
-    else if nat_lt 255 (length octets) then Err NoSpace
+    else if nat_lt MAX_TEXT (length octets) then Err NoSpace
     else Ok (Text octets)
 
 -- a number that is written to a Binary Value is 0 or 1, and to a Multi-state Value one of so many

@@ -1,12 +1,13 @@
 -- Who may do what under a configuration: the lines that `check --explain` has of it. In format 3 they are about its ports, its
 -- networks, what rules let others do, its objects and its rules' notes; in formats 1 and 2 about its objects alone.
-use Rattle.std.specs.Prelude.{ℕ, ◌-◌, ◌==◌, Bool, true, false, if◌then◌else◌, List, [], ◌∷◌, ◌++◌, length, map, take, slice_get}
+use Rattle.std.specs.Prelude.{ℕ, ◌-◌, ◌==◌, Bool, if◌then◌else◌, List, [], ◌++◌, length, map, take, slice_get}
 use Rattle.std.specs.Prelude.{codes, decimal}
 use Rattle.std.specs.List.{flat_map}
 use Rattle.std.specs.Option.{option_map_or}
 use Rattle.gw_addr.specs.Address.{text_of}
 use Rattle.gw_configuration.specs.Configuration.{Configuration}
 use Rattle.gw_configuration.specs.Kinds.{type_number}
+use Rattle.gw_configuration.specs.Shown.{shown}
 use Rattle.gw_configuration.specs.Subnet.{Subnet, subnet_text}
 use Rattle.gw_configuration.specs.declared.device.Device.{Device}
 use Rattle.gw_configuration.specs.declared.object.Object.{Object}
@@ -19,7 +20,7 @@ use Rattle.gw_script.specs.Order.{in_order}
 use Rattle.gw_shapes.specs.Shape.{Shape}
 use Rattle.gw_permissions.specs.Passing.{decides_all, may_allow, may_pass, reached}
 use Rattle.gw_permissions.specs.Questions.{claiming, entering, reading}
-use Rattle.gw_permissions.specs.Words.{rule_words, shown}
+use Rattle.gw_permissions.specs.Words.{rule_words}
 use Rattle.gw_permissions.specs.declared.grants.Deed.{Deed}
 use Rattle.gw_permissions.specs.declared.grants.Deed.TheVariants.{Enter, Claim}
 use Rattle.gw_permissions.specs.declared.questions.Point.{Point}

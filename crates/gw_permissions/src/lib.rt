@@ -13,4 +13,4 @@ mod questions;
 mod words;
 
 pub use permissions::put_permissions;
-pub use words::{put_number, put_shown};
+pub use words::put_number;

@@ -4,8 +4,8 @@ ghost use Rattle.gw_rules.specs.declared.rule_list.TheConstants.{MAX_RULES};
 ghost use Rattle.gw_script.specs.Order.{in_order};
 ghost use Rattle.gw_permissions.specs.Permissions.{named_note, note_line};
 
-use crate::words::{put_rule, put_shown};
-use gw_configuration::Text;
+use crate::words::put_rule;
+use gw_configuration::{Text, put_shown};
 use gw_rules::Rule;
 use std::alloc::AllocError;
 

@@ -6,8 +6,8 @@ ghost use Rattle.gw_permissions.specs.Permissions.{hidden_line, hidden_words, id
 
 use crate::passing::may_pass;
 use crate::questions::{Point, reading};
-use crate::words::{put_number, put_shown};
-use gw_configuration::{Config, Device, Object, Port};
+use crate::words::put_number;
+use gw_configuration::{Config, Device, Object, Port, put_shown};
 use gw_rules::RuleList;
 use std::alloc::AllocError;
 

@@ -1,14 +1,11 @@
 //! Words that the lines have in common.
-ghost use Rattle.std.specs.Prelude.{◌≡◌, ◌++◌, map, OnOk};
-ghost use Rattle.gw_permissions.specs.Words.{rule_words, shown};
+ghost use Rattle.std.specs.Prelude.{◌≡◌, ◌++◌, OnOk};
+ghost use Rattle.gw_permissions.specs.Words.{rule_words};
 
 use gw_addr::put_decimal;
 use gw_rules::Rule;
 use itoa::Integer;
 use std::alloc::AllocError;
-
-/// The one control character of ASCII after the printed ones.
-const DELETE: u8 = 127;
 
 /// Appends a text and a number after it in decimal digits. An `Err` only if a growth of memory was
 /// refused; then a front of them may follow what the buffer held.
@@ -17,28 +14,6 @@ pub fn put_number<N: Integer>(out: &mut Vec<u8>, text: &str, number: N) -> Resul
 {
     out.extend_from_slice(text.as_bytes())?;
     put_decimal(out, number)
-}
-
-/// Appends a text, with a question mark in the place of each control character. An `Err` only if a
-/// growth of memory was refused; then a front of it may follow what the buffer held.
-pub fn put_shown(out: &mut Vec<u8>, text: &[u8]) -> Result<(), AllocError>
-    ensures { OnOk result (out.new.items ≡ out.old.items ++ map shown text.now) }
-{
-    for octet in text {
-        out.push(shown(*octet))?;
-    }
-    Ok(())
-}
-
-/// An octet as it is shown on a line.
-fn shown(octet: u8) -> u8
-    ensures { result ≡ shown octet }
-{
-    if octet < b' ' || octet == DELETE {
-        b'?'
-    } else {
-        octet
-    }
 }
 
 /// Appends a rule by its number, from 1, and its name.

@@ -4,7 +4,7 @@ use Rattle.std.specs.Option.{option_map_or}
 use Rattle.gw_audit.specs.Entry.{ShowsAsk, ask_shown}
 use Rattle.gw_audit.specs.declared.entry.ShownAsk.{ShownAsk}
 use Rattle.gw_rules.specs.Ask.{Ask}
-use Rattle.gw_permissions.specs.Words.{shown}
+use Rattle.gw_configuration.specs.Shown.{shown}
 use Rattle.gw_rules.specs.RuleList.{first}
 use Rattle.gw_rules.specs.declared.rule.Rule.{Rule}
 use Rattle.gw_core.specs.Explained.{verdict_text}

@@ -7,9 +7,8 @@ ghost use Rattle.gw_script.specs.Known.{OnKnown};
 ghost use Rattle.gw_verdicts.specs.Why.{IsAnswered, LeavesAnswers, ShowsNoAsk, answer, answer_to, note_text, noted};
 
 use gw_audit::{ShownAsk, read_ask};
-use gw_configuration::{Config, Text};
+use gw_configuration::{Config, Text, put_shown};
 use gw_core::put_verdict;
-use gw_permissions::put_shown;
 use gw_rules::{Ask, RuleList};
 use gw_script::{LineTranslator, LinesFault, OctetSink, OctetSource, translate_lines};
 use std::alloc::{AllocError, Global};

@@ -1,7 +1,7 @@
 use Rattle.std.proofs.Common.{rules, ◌≡◌, ◌≢◌, ◌++◌, ℕ, List, map, refl}
 use Rattle.toml.specs.View.{table_view}
 use Rattle.gw_configuration.specs.declared.fault.ConfigFault.TheVariants.{Memory}
-use Rattle.gw_config_faults.specs.Explanation.{shown}
+use Rattle.gw_configuration.specs.Shown.{shown}
 use Rattle.gw_config_faults.specs.Place.{place_words, value_at}
 use Rattle.gw_config_faults.specs.FaultWords.{fault_words}
 use Rattle.gw_config_faults.specs.Wanted.{wanted_words}

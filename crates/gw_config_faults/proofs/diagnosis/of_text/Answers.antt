@@ -1,6 +1,7 @@
 use Rattle.std.proofs.Common.{rules, ◌≡◌, ◌++◌, ℕ, List, map, codes, None}
 use Rattle.gw_configuration.specs.Located.{Located, of_text}
-use Rattle.gw_config_faults.specs.Explanation.{IsTextWanted, shown}
+use Rattle.gw_configuration.specs.Shown.{shown}
+use Rattle.gw_config_faults.specs.Explanation.{IsTextWanted}
 use Rattle.gw_config_faults.specs.FaultWords.{fault_words}
 use Rattle.gw_config_faults.proofs.Explanations.{explained}
 use Rattle.gw_config_faults.proofs.diagnosis.of_text.Goals as goal
