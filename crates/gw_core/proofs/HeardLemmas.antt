@@ -7,6 +7,7 @@ use Rattle.gw_npdu.specs.Npdu.{Fields}
 use Rattle.gw_npdu.specs.Numbers.{max_len}
 use Rattle.gw_npdu.specs.Reading.{npdu_at}
 use Rattle.gw_npdu.specs.declared.fault.NpduFault.{NpduFault}
+use Rattle.gw_npdu.specs.declared.fault.NpduFault.TheVariants.{Short}
 use Rattle.gw_relay.specs.Cast.{accepts, is_unregistered}
 use Rattle.gw_relay.specs.Message.{message_of}
 use Rattle.gw_relay.specs.declared.port.PortState.{PortState}
@@ -15,16 +16,16 @@ use Rattle.gw_core.specs.declared.drops.DropReason.TheVariants.{Ignored, Malform
 use Rattle.gw_core.specs.Drops.{either_drop, npdu_drop, payload_drop, unheard_drop}
 use Rattle.gw_core.specs.Receive.{Received, claims_direct, dropped, message, npdu_of, payload_of, receive_npdu, receive_payload, unregistered}
 use Rattle.gw_core.specs.internal.View.{judged}
-use Rattle.gw_core.specs.internal.Frame.{frame_npdu, payload_npdu}
+use Rattle.gw_core.specs.internal.Frame.{frame_npdu, payload_npdu, payload_unread, unread_drop}
 
 -- what is received if the frame is heard, and if not
-abbrev received_by : List PortState → ℕ → PortState → BipAddr → Frame → Bool → Result Fields DropReason → Received
+abbrev received_by : List PortState → ℕ → PortState → BipAddr → Frame → Bool → Result Fields NpduFault → Received
 received_by ports device on from frame heard (Ok npdu) =
     if claims_direct ports device npdu.source then dropped
     else if not heard then dropped
     else if is_unregistered on from frame then unregistered (message_of on from frame npdu)
     else message (message_of on from frame npdu)
-received_by ports device on from frame heard (Err why) = dropped
+received_by ports device on from frame heard (Err fault) = dropped
 
 payload_as : (ports : List PortState) (device : ℕ) (on : PortState) (from : BipAddr) (frame : Frame)
     → receive_payload ports device on from frame ≡ received_by ports device on from frame (accepts on from frame) (frame_npdu frame)
@@ -35,9 +36,9 @@ payload_as ports device on from frame = by (accepts on from frame) (payload_of f
     nothing true = refl
     nothing false = refl
 
-    unheard : (r : Result Fields DropReason) → dropped ≡ received_by ports device on from frame false r
+    unheard : (r : Result Fields NpduFault) → dropped ≡ received_by ports device on from frame false r
     unheard (Ok npdu) = nothing (claims_direct ports device npdu.source)
-    unheard (Err why) = refl
+    unheard (Err fault) = refl
 
     read : (npdu : Fields) (b : Bool) → (elim (if b then None else Some npdu) [
       | Some npdu ↦
@@ -58,10 +59,7 @@ payload_as ports device on from frame = by (accepts on from frame) (payload_of f
           if is_unregistered on from frame then unregistered (message_of on from frame npdu)
           else message (message_of on from frame npdu)
       | None ↦ dropped
-    ]) ≡ received_by ports device on from frame true (if b then (elim r [
-      | Ok npdu ↦ Ok npdu
-      | Err fault ↦ Err Malformed
-    ]) else Err Malformed)
+    ]) ≡ received_by ports device on from frame true (if b then r else Err Short)
     of true (Ok npdu) = read npdu (claims_direct ports device npdu.source)
     of true (Err fault) = refl
     of false r = refl
@@ -92,20 +90,21 @@ claimed_as ports device on from frame npdu is own =
     ∙ ap (received_by ports device on from frame (accepts on from frame)) is
     ∙ ap (λ (b : Bool). if b then dropped else judged (message_of on from frame npdu)) own)
 
--- or if it brings none
-pub unheard_as : (ports : List PortState) (device : ℕ) (on : PortState) (from : BipAddr) (frame : Frame) (why : DropReason)
-    → frame_npdu frame ≡ Err why → dropped ≡ receive_payload ports device on from frame
-unheard_as ports device on from frame why is =
+-- or if none is read of it
+pub unheard_as : (ports : List PortState) (device : ℕ) (on : PortState) (from : BipAddr) (frame : Frame) (fault : NpduFault)
+    → frame_npdu frame ≡ Err fault → dropped ≡ receive_payload ports device on from frame
+unheard_as ports device on from frame fault is =
     sym (payload_as ports device on from frame ∙ ap (received_by ports device on from frame (accepts on from frame)) is)
 
 -- ---- why it is dropped
 
-abbrev drop_by : List PortState → ℕ → Option DropReason → Result Fields DropReason → Option DropReason
-drop_by ports device unheard (Ok npdu) = if claims_direct ports device npdu.source then Some OwnNetwork else unheard
-drop_by ports device unheard (Err why) = Some why
+abbrev drop_by : List PortState → ℕ → Option DropReason → DropReason → Result Fields NpduFault → Option DropReason
+drop_by ports device unheard unread (Ok npdu) = if claims_direct ports device npdu.source then Some OwnNetwork else unheard
+drop_by ports device unheard unread (Err fault) = Some unread
 
 drop_as : (ports : List PortState) (device : ℕ) (on : PortState) (from : BipAddr) (frame : Frame)
-    → payload_drop ports device on from frame ≡ drop_by ports device (unheard_drop on from frame) (frame_npdu frame)
+    → payload_drop ports device on from frame
+    ≡ drop_by ports device (unheard_drop on from frame) (unread_drop frame) (frame_npdu frame)
 unfolding npdu_drop
 drop_as ports device on from frame = by (payload_of frame) (unheard_drop on from frame)
   where
@@ -117,10 +116,7 @@ drop_as ports device on from frame = by (payload_of frame) (unheard_drop on from
     of : (b : Bool) (r : Result Fields NpduFault) (unheard : Option DropReason) → either_drop (if b then (elim r [
       | Ok npdu ↦ if claims_direct ports device npdu.source then Some OwnNetwork else None
       | Err fault ↦ Some Malformed
-    ]) else Some Malformed) unheard ≡ drop_by ports device unheard (if b then (elim r [
-      | Ok npdu ↦ Ok npdu
-      | Err fault ↦ Err Malformed
-    ]) else Err Malformed)
+    ]) else Some Malformed) unheard ≡ drop_by ports device unheard Malformed (if b then r else Err Short)
     of true (Ok npdu) unheard = read (claims_direct ports device npdu.source) unheard
     of true (Err fault) unheard = refl
     of false r unheard = refl
@@ -128,7 +124,7 @@ drop_as ports device on from frame = by (payload_of frame) (unheard_drop on from
     by : (p : Option (List ℕ)) (unheard : Option DropReason) → (elim p [
       | Some octets ↦ either_drop (npdu_drop ports device octets) unheard
       | None ↦ Some Ignored
-    ]) ≡ drop_by ports device unheard (payload_npdu p)
+    ]) ≡ drop_by ports device unheard (payload_unread p) (payload_npdu p)
     by (Some octets) unheard = of (nat_le (length octets) max_len) (npdu_at octets) unheard
     by None unheard = refl
 
@@ -137,7 +133,7 @@ pub heard_drop : (ports : List PortState) (device : ℕ) (on : PortState) (from 
     → unheard_drop on from frame ≡ payload_drop ports device on from frame
 heard_drop ports device on from frame npdu is other =
     sym (drop_as ports device on from frame
-    ∙ ap (drop_by ports device (unheard_drop on from frame)) is
+    ∙ ap (drop_by ports device (unheard_drop on from frame) (unread_drop frame)) is
     ∙ ap (λ (b : Bool). if b then Some OwnNetwork else unheard_drop on from frame) other)
 
 pub claimed_drop : (ports : List PortState) (device : ℕ) (on : PortState) (from : BipAddr) (frame : Frame) (npdu : Fields)
@@ -145,10 +141,10 @@ pub claimed_drop : (ports : List PortState) (device : ℕ) (on : PortState) (fro
     → Some OwnNetwork ≡ payload_drop ports device on from frame
 claimed_drop ports device on from frame npdu is own =
     sym (drop_as ports device on from frame
-    ∙ ap (drop_by ports device (unheard_drop on from frame)) is
+    ∙ ap (drop_by ports device (unheard_drop on from frame) (unread_drop frame)) is
     ∙ ap (λ (b : Bool). if b then Some OwnNetwork else unheard_drop on from frame) own)
 
-pub why_drop : (ports : List PortState) (device : ℕ) (on : PortState) (from : BipAddr) (frame : Frame) (why : DropReason)
-    → frame_npdu frame ≡ Err why → Some why ≡ payload_drop ports device on from frame
-why_drop ports device on from frame why is =
-    sym (drop_as ports device on from frame ∙ ap (drop_by ports device (unheard_drop on from frame)) is)
+pub not_read_drop : (ports : List PortState) (device : ℕ) (on : PortState) (from : BipAddr) (frame : Frame) (fault : NpduFault)
+    → frame_npdu frame ≡ Err fault → Some (unread_drop frame) ≡ payload_drop ports device on from frame
+not_read_drop ports device on from frame fault is =
+    sym (drop_as ports device on from frame ∙ ap (drop_by ports device (unheard_drop on from frame) (unread_drop frame)) is)

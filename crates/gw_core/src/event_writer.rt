@@ -160,6 +160,7 @@ impl EventText for Plain {
         self.alloc
     }
 
+    #[inline(always)]
     fn make_text(
         &self,
         gateway: &mut Gateway,

@@ -20,13 +20,14 @@ use crate::effects::Effects;
 use crate::event::Counts;
 use crate::explaining::put_verdicts;
 use crate::fault::StepFault;
-use crate::receive::{Arrival, npdu_in, receive};
+use crate::receive::{Arrival, read_npdu, receive};
 use crate::respond::{network_of, respond};
 use crate::saving::saved_ports;
 use gw_addr::BipAddr;
 use gw_audit::Denials;
 use gw_configuration::Config;
 use gw_device::{Change, Device};
+use gw_npdu::NpduFault;
 use gw_relay::{Change as RelayChange, Relay, Sends, Turn};
 use gw_rule_index::Policy;
 use gw_rules::{Authorizer, Recorder, RuleList};
@@ -298,7 +299,8 @@ impl Gateway {
         ensures silent { NeedsNoMemory self.now (event_of arrival.now) → IsOk result }
     {
         let frame = gw_bvll::decode(arrival.octets);
-        let npdu = npdu_in(&frame);
+        let mut npdu = Err(NpduFault::Short);
+        read_npdu(&frame, &mut npdu);
         let network = network_of(&self.device);
         let received = receive(self.relay.ports(), network, arrival, &frame, &npdu);
         let drop = received.drop_reason();
@@ -333,6 +335,7 @@ impl Gateway {
     /// Moves on by a datagram: makes its change of the relay and its write to the device, where there
     /// is one, and counts its denials. The only fault is want of memory for the change; then nothing
     /// changed.
+    #[inline(always)]
     fn move_on(
         &mut self,
         change: Option<RelayChange>,
@@ -482,7 +485,8 @@ impl Gateway {
         ensures capacity { vec_capacity out.old ≤ vec_capacity out.new }
     {
         let frame = gw_bvll::decode(arrival.octets);
-        let npdu = npdu_in(&frame);
+        let mut npdu = Err(NpduFault::Short);
+        read_npdu(&frame, &mut npdu);
         let network = network_of(&self.device);
         let received = receive(self.relay.ports(), network, arrival, &frame, &npdu);
         let mut turn = Turn::new(Recorder::new(alloc, &self.policy));

@@ -8,7 +8,7 @@ ghost use Rattle.gw_addr.specs.Reading.{Gives};
 ghost use Rattle.gw_bvll.specs.Reading.{bvll_at};
 ghost use Rattle.gw_npdu.specs.Npdu.{address_view, view as npdu_view};
 ghost use Rattle.gw_core.specs.Receive.{claims_direct, comes_in, is_direct, manages, payload_of, receive_on, receive_payload};
-ghost use Rattle.gw_core.specs.internal.Frame.{frame_npdu, heard_npdu, npdu_in};
+ghost use Rattle.gw_core.specs.internal.Frame.{frame_npdu, npdu_in, unread_drop};
 ghost use Rattle.gw_core.specs.Drops.{drop_on, length_drop, payload_drop};
 ghost use Rattle.gw_core.specs.internal.View.{drop_view, received_view};
 
@@ -16,7 +16,7 @@ use crate::drops::DropReason;
 use gw_addr::laws::one_to_one;
 use gw_addr::{BipAddr, NetNum};
 use gw_bvll::{Bvll, BvllFault};
-use gw_npdu::{AddressRef, Npdu};
+use gw_npdu::{AddressRef, Npdu, NpduFault};
 use gw_relay::{Message, PortState, TableMessage, port_at};
 
 /// The longest datagram that is heard, in octets.
@@ -127,43 +127,43 @@ impl OwnNetworks<'_> {
     }
 }
 
-/// Reads octets as an NPDU that is heard: one of at most 1497 octets.
+/// Reads the NPDU that a frame brings into its place, where it stays. It is an `Err` if there is no frame, if the frame
+/// brings none, and if the NPDU has more than 1497 octets or can't be read.
 #[inline(always)]
-fn heard_npdu(octets: &[u8]) -> Result<Npdu<'_>, DropReason>
-    ensures { Gives npdu_view result (heard_npdu octets.now) }
+pub(crate) fn read_npdu<'a>(
+    frame: &Result<Bvll<'a>, BvllFault>,
+    npdu: &mut Result<Npdu<'a>, NpduFault>,
+)
+    ensures { Gives npdu_view npdu.new (npdu_in frame.now) }
 {
-    if octets.len() > MAX_NPDU {
-        return Err(DropReason::Malformed);
-    }
-    match gw_npdu::decode(octets) {
-        Ok(npdu) => Ok(npdu),
-        Err(_) => Err(DropReason::Malformed),
+    match frame {
+        Ok(frame) => match payload_of(frame) {
+            Some(octets) if octets.len() <= MAX_NPDU => *npdu = gw_npdu::decode(octets),
+            _ => *npdu = Err(NpduFault::Short),
+        },
+        Err(_) => *npdu = Err(NpduFault::Short),
     }
 }
 
-/// The NPDU that a frame brings, or why it is dropped if it manages no table: it brings none, or is no frame, or the
-/// NPDU is too long or unreadable.
-#[inline(always)]
-pub(crate) fn npdu_in<'a>(frame: &Result<Bvll<'a>, BvllFault>) -> Result<Npdu<'a>, DropReason>
-    ensures { Gives npdu_view result (npdu_in frame.now) }
+/// Why a frame is dropped that manages no table and whose NPDU isn't read: it brings none, or one that is too long or
+/// unreadable.
+fn unread_drop(frame: &Bvll<'_>) -> DropReason
+    ensures { result ≡ unread_drop (frame_view frame.now) }
 {
-    let Ok(frame) = frame else {
-        return Err(DropReason::Malformed);
-    };
     match payload_of(frame) {
-        Some(octets) => heard_npdu(octets),
-        None => Err(DropReason::Ignored),
+        Some(_) => DropReason::Malformed,
+        None => DropReason::Ignored,
     }
 }
 
-/// What a frame is received as that manages no table, with the NPDU that it brings, or why it is dropped.
+/// What a frame is received as that manages no table, with the NPDU that it brings if it was read.
 #[inline(always)]
 fn receive_payload<'a>(
     own: &OwnNetworks<'_>,
     here: &'a PortState,
     from: BipAddr,
     frame: &'a Bvll<'a>,
-    npdu: &'a Result<Npdu<'a>, DropReason>,
+    npdu: &'a Result<Npdu<'a>, NpduFault>,
 ) -> Received<'a>
     requires { Gives npdu_view npdu.now (frame_npdu (frame_view frame.now)) }
     ensures received { let frame = frame_view frame.now in
@@ -179,7 +179,7 @@ fn receive_payload<'a>(
             npdu,
         }),
         Ok(_) => Received::Dropped(DropReason::OwnNetwork),
-        Err(why) => Received::Dropped(*why),
+        Err(_) => Received::Dropped(unread_drop(frame)),
     }
 }
 
@@ -191,7 +191,7 @@ pub(crate) fn receive<'a>(
     device: NetNum,
     arrival: &Arrival<'_>,
     frame: &'a Result<Bvll<'a>, BvllFault>,
-    npdu: &'a Result<Npdu<'a>, DropReason>,
+    npdu: &'a Result<Npdu<'a>, NpduFault>,
 ) -> Received<'a>
     requires frame { Gives frame_view frame.now (bvll_at arrival.now.octets.now) }
     requires npdu { Gives npdu_view npdu.now (npdu_in frame.now) }

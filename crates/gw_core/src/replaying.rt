@@ -147,7 +147,9 @@ pub fn replay_explaining<R: OctetSource, W: OctetSink>(
     replay_with(&Explaining { alloc }, config, reader, writer, flaw)
 }
 
-/// Runs the events of a script through a fresh gateway, and reports each by `event_writer`.
+/// Runs the events of a script through a fresh gateway, and reports each by `event_writer`. It is a function of its own, so
+/// that what calls it takes none of its loop's registers.
+#[inline(never)]
 fn replay_with<T: EventText, R: OctetSource, W: OctetSink>(
     event_writer: &T,
     config: Config,

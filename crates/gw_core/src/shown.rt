@@ -13,6 +13,7 @@ use std::alloc::AllocError;
 
 /// Appends the lines of what one event does. Refused only if the buffer had no room for them. The text of an address
 /// that is at hand is not made again.
+#[inline(always)]
 pub(crate) fn append_effects(
     out: &mut Vec<u8>,
     effects: &Effects,
