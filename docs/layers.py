@@ -33,6 +33,7 @@ NOTES = {
     "gw_watching": "a trial, an audit, counts",
     "gw_watch_files": "their files",
     "gw_notices": "what an operator reads",
+    "gw_ending": "how the program ends",
     "gw_named_log": "a log that is renamed",
     "gw_rule_changes": "rules new, gone, moved",
     "gw_suggest": "rules from what was seen",

@@ -457,7 +457,16 @@ printf 'bacgw state 1\ncounts 0 0 0\nport 1 nowhere\nend\n' > "$work/bad"
 ran 2 'bacgw: state: line 3: no line that may be here' --config "$work/served.toml" --state "$work/bad" --turns 1
 same 'a faulty state stays' "$(sed -n 3p "$work/bad")" 'port 1 nowhere'
 mkdir "$work/folder"
-ran 1 'bacgw: cannot read state' --config "$work/served.toml" --state "$work/folder" --turns 1
+ran 1 "bacgw: cannot read state $work/folder: is a directory" --config "$work/served.toml" --state "$work/folder" --turns 1
+ran 1 "bacgw: cannot read state /dev/null: it can't be read" --config "$work/served.toml" --state /dev/null --turns 1
+# unkept NAME REASON: `state` can't read the file of this name, and the line names it
+unkept() {
+    "$program" state --config "$work/served.toml" --state "$work/$1" > "$work/out" 2> "$work/err"
+    status=$?
+    tells "a state that can't be read: $1" 1 "bacgw: cannot read state $work/$1: $2"
+}
+unkept folder 'is a directory'
+unkept unmade 'no such file'
 ran 1 "bacgw: state isn't kept: refused by the system" --config "$work/served.toml" --state "$work/nowhere/state" --turns 1
 ln -s "$work/state" "$work/link"
 ran 1 "bacgw: state isn't kept: not permitted" --config "$work/served.toml" --state "$work/link" --turns 1
@@ -521,7 +530,8 @@ untried() {
     ran "$1" "bacgw: trial: $2" --config "$work/audited.toml" --audit "$work/unmade" \
         --trial "$3" --trial-log "$work/unmade" --turns 1
 }
-untried 1 'cannot read configuration' "$work/nowhere.toml"
+untried 1 "cannot read configuration $work/nowhere.toml: no such file" "$work/nowhere.toml"
+untried 1 "cannot read configuration $work/folder: is a directory" "$work/folder"
 untried 2 'configuration: NotToml' "$work/faulty.toml"
 untried 2 "it isn't of the configuration's format" "$work/served.toml"
 untried 2 "its ports aren't the configuration's" "$work/other_ports.toml"

@@ -5,7 +5,7 @@ use Rattle.gw_addr.specs.Address.{text_of}
 use Rattle.gw_configuration.specs.Configuration.{Configuration}
 use Rattle.gw_configuration.specs.declared.device.Device.{Device}
 use Rattle.gw_configuration.specs.declared.port.Port.{Port}
-use Rattle.gw_permissions.specs.Words.{shown}
+use Rattle.gw_configuration.specs.Shown.{shown}
 use Rattle.gw_script.specs.Order.{in_order}
 
 -- a port by its number, and its two addresses

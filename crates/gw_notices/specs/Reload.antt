@@ -9,6 +9,7 @@ use Rattle.gw_rule_changes.specs.Changes.{changes_of, changes_text}
 use Rattle.gw_saved.specs.Saved.{Saved}
 use Rattle.gw_serving.specs.Keeping.{one_more}
 use Rattle.gw_state_words.specs.Words.{take_over_words}
+use Rattle.gw_system.specs.Obstacle.{obstacle_words}
 use Rattle.gw_system.specs.declared.reading.ReadFailure.{ReadFailure}
 use Rattle.gw_system.specs.declared.reading.ReadFailure.TheVariants as reading
 use Rattle.gw_takeover.specs.Findings.{take_over}
@@ -30,8 +31,7 @@ name_of config.TooMany = codes "TooMany"
 name_of config.Memory = codes "Memory"
 
 abbrev pub refusal_words : ReloadFault → List ℕ
-refusal_words fault.Absent = codes "cannot read configuration: no such file"
-refusal_words fault.Unreadable = codes "cannot read configuration"
+refusal_words (fault.Unreadable why) = codes "cannot read configuration: " ++ obstacle_words why
 refusal_words (fault.Configuration f) = codes "configuration: " ++ name_of f
 refusal_words fault.Ports = codes "the ports differ: restart for them"
 refusal_words fault.Memory = codes "out of memory"
@@ -41,7 +41,7 @@ fault_of_configuration config.Memory = fault.Memory
 fault_of_configuration f = fault.Configuration f
 
 abbrev pub fault_of_reading : ReadFailure → ReloadFault
-fault_of_reading reading.Unreadable = fault.Unreadable
+fault_of_reading (reading.Unreadable why) = fault.Unreadable why
 fault_of_reading reading.Memory = fault.Memory
 
 -- ---- what is reported

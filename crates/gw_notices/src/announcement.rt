@@ -8,8 +8,8 @@ ghost use Rattle.gw_script.specs.Order.{in_order};
 ghost use Rattle.gw_notices.specs.Announcement.{IsWarning, routing_note};
 
 use gw_addr::{BipAddr, put_decimal};
-use gw_configuration::{Config, Device, Port};
-use gw_permissions::{put_number, put_shown};
+use gw_configuration::{Config, Device, Port, put_shown};
+use gw_permissions::put_number;
 use gw_system::Host;
 use std::alloc::{AllocError, Global};
 

@@ -12,7 +12,7 @@ use gw_core::Gateway;
 use gw_rule_changes::{changes_of, put_changes};
 use gw_saved::Saved;
 use gw_state_words::put_take_over;
-use gw_system::ReadFailure;
+use gw_system::{Obstacle, ReadFailure};
 use gw_takeover::take_over;
 use std::alloc::{AllocError, Global};
 
@@ -72,13 +72,24 @@ fn refusal_of_text(fault: ConfigFault) -> &'static str
     }
 }
 
+/// The line of a configuration that isn't taken over, by why its file can't be read.
+fn refusal_of_reading(why: Obstacle) -> &'static str
+    ensures { result.now ≡ refusal_line (ReloadFault.Unreadable why) }
+{
+    match why {
+        Obstacle::Absent => "reload refused: cannot read configuration: no such file\n",
+        Obstacle::NotPermitted => "reload refused: cannot read configuration: permission denied\n",
+        Obstacle::Folder => "reload refused: cannot read configuration: is a directory\n",
+        Obstacle::Other => "reload refused: cannot read configuration: it can't be read\n",
+    }
+}
+
 /// The line of a configuration that isn't taken over. It takes no memory.
 pub fn refusal_line(fault: ReloadFault) -> &'static str
     ensures { result.now ≡ refusal_line fault }
 {
     match fault {
-        ReloadFault::Absent => "reload refused: cannot read configuration: no such file\n",
-        ReloadFault::Unreadable => "reload refused: cannot read configuration\n",
+        ReloadFault::Unreadable(why) => refusal_of_reading(why),
         ReloadFault::Configuration(fault) => refusal_of_text(fault),
         ReloadFault::Ports => "reload refused: the ports differ: restart for them\n",
         ReloadFault::Memory => "reload refused: out of memory\n",

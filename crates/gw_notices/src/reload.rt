@@ -5,21 +5,19 @@ ghost use Rattle.gw_serving.specs.Keeping.{one_more};
 ghost use Rattle.gw_notices.specs.Reload.{counts_since, with_refused, with_taken_over};
 
 use gw_configuration::ConfigFault;
-use gw_system::ReadFailure;
+use gw_system::{Obstacle, ReadFailure};
 use std::alloc::AllocError;
 
 /// Why a configuration that was read again isn't taken over. The gateway then goes on as it is.
 #[derive(Clone, Copy)]
 pub enum ReloadFault {
-    /// 1: there is no file of its name.
-    Absent,
-    /// 2: its file can't be read.
-    Unreadable,
-    /// 3: what the file says is none, and why.
+    /// 1: its file can't be read, and why.
+    Unreadable(Obstacle),
+    /// 2: what the file says is none, and why.
     Configuration(ConfigFault),
-    /// 4: its ports aren't those that are served: in this order, with these networks, own and broadcast addresses.
+    /// 3: its ports aren't those that are served: in this order, with these networks, own and broadcast addresses.
     Ports,
-    /// 5: a growth was refused.
+    /// 4: a growth was refused.
     Memory,
 }
 
@@ -45,7 +43,7 @@ impl From<ReadFailure> for ReloadFault {
 
     fn from(failure: ReadFailure) -> ReloadFault {
         match failure {
-            ReadFailure::Unreadable => ReloadFault::Unreadable,
+            ReadFailure::Unreadable(why) => ReloadFault::Unreadable(why),
             ReadFailure::Memory => ReloadFault::Memory,
         }
     }

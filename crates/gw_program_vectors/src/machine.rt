@@ -74,7 +74,7 @@ impl<'a> ConfigFiles for MemFiles<'a> {
 
     fn read_state(&self, alloc: Global, name: &str) -> Result<Vec<u8>, Fault> {
         if name == UNREADABLE {
-            return Err(Fault::StateUnreadable);
+            return Err(Fault::StateUnreadable(Obstacle::Folder));
         }
         Ok(Vec::from_slice(alloc, self.text.as_bytes())?)
     }
@@ -303,7 +303,7 @@ impl<'a> Host for MemHost<'a> {
         _most: usize,
     ) -> Result<Option<Vec<u8>>, ReadFailure> {
         if name == UNREADABLE {
-            return Err(ReadFailure::Unreadable);
+            return Err(ReadFailure::Unreadable(Obstacle::NotPermitted));
         }
         let text = if name == TRIAL {
             &self.trial
@@ -341,7 +341,7 @@ impl<'a> Host for MemHost<'a> {
     ) -> Result<MemRequests, AllocError> {
         match &self.reload {
             Some(text) if text.is_empty() => Ok(MemRequests {
-                read: Some(Err(ReadFailure::Unreadable)),
+                read: Some(Err(ReadFailure::Unreadable(Obstacle::Folder))),
             }),
             Some(text) if text.as_slice() == ABSENT => Ok(MemRequests {
                 read: Some(Ok(None)),

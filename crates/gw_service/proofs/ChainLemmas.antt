@@ -129,8 +129,7 @@ refused_so Adopts o w k read fault first middle last line counts then Never held
 -- the line without a place says why
 short_line : (read : Result (Option (List ℕ)) ReadFailure) (fault : ReloadFault) → IsRefusalLine read fault (refusal_line fault)
 short_line (Ok (Some text)) (faults.Configuration f) = inr refl
-short_line (Ok (Some text)) faults.Absent = refl
-short_line (Ok (Some text)) faults.Unreadable = refl
+short_line (Ok (Some text)) (faults.Unreadable why) = refl
 short_line (Ok (Some text)) faults.Ports = refl
 short_line (Ok (Some text)) faults.Memory = refl
 short_line (Ok None) fault = refl

@@ -51,7 +51,7 @@ IsStateUnder FileReads (Some name) outcome =
 
 -- the fault of a log whose last line can't be read
 abbrev pub fault_of_log_reading : ReadFailure → ServiceFault
-fault_of_log_reading reading.Unreadable = fault.Log
+fault_of_log_reading (reading.Unreadable why) = fault.Log
 fault_of_log_reading reading.Memory = fault.Memory
 
 abbrev pub line_outcome : Result (Option (List ℕ)) ReadFailure → Result (Option (List ℕ)) ServiceFault

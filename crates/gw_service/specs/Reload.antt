@@ -10,6 +10,7 @@ use Rattle.gw_core.specs.State.{State}
 use Rattle.gw_policy_text.specs.Document.{configuration}
 use Rattle.gw_relay.specs.declared.port.PortState.{PortState}
 use Rattle.gw_saved.specs.Saved.{Origin, origin_of}
+use Rattle.gw_system.specs.declared.obstacle.Obstacle.TheVariants as obstacle
 use Rattle.gw_system.specs.declared.reading.ReadFailure.{ReadFailure}
 use Rattle.gw_system.specs.declared.reading.ReadFailure.TheVariants as reading
 use Rattle.gw_service.specs.Keeping.{IsSuccessor}
@@ -32,12 +33,12 @@ have_same_ports states ports = pointwise same_port states ports
 
 -- ---- why it isn't taken over
 
--- Why a gateway in this state doesn't take over what was read: there is no file; it can't be read; the text is no
+-- Why a gateway in this state doesn't take over what was read: there is no file, or it can't be read, and why; the text is no
 -- configuration; or its ports are others. Memory may run out at any text.
 abbrev pub IsRefused : State → Result (Option (List ℕ)) ReadFailure → ReloadFault → Type 0
 IsRefused w text fault.Memory = ⊤
-IsRefused w (Ok None) fault.Absent = ⊤
-IsRefused w (Err reading.Unreadable) fault.Unreadable = ⊤
+IsRefused w (Ok None) (fault.Unreadable why) = why ≡ obstacle.Absent
+IsRefused w (Err (reading.Unreadable found)) (fault.Unreadable why) = why ≡ found
 IsRefused w (Ok (Some text)) (fault.Configuration f) = (configuration text ≡ Err f) × (f ≢ config.Memory)
 IsRefused w (Ok (Some text)) fault.Ports =
     (c : Configuration) × (configuration text ≡ Ok c) × (have_same_ports w.relay.ports c.ports ≡ false)

@@ -6,7 +6,7 @@ use Rattle.gw_core.specs.Replay.{no_counts}
 use Rattle.gw_core.specs.Resumed.{carried}
 use Rattle.gw_core.specs.State.{State}
 use Rattle.gw_core.specs.declared.event.Counts.{Counts}
-use Rattle.gw_permissions.specs.Words.{shown}
+use Rattle.gw_configuration.specs.Shown.{shown}
 use Rattle.gw_saved.specs.Saved.{Saved}
 use Rattle.gw_state_text.specs.Place.{IsPlaceOf}
 use Rattle.gw_state_text.specs.Text.{state_text}
@@ -27,7 +27,7 @@ IsStateRead read (Err fault.Memory) = ⊤
 IsStateRead (Ok None) (Ok None) = ⊤
 IsStateRead (Ok (Some text)) (Ok (Some s)) = text ≡ state_text s
 IsStateRead (Ok (Some text)) (Err (fault.State f)) = IsPlaceOf text f.line
-IsStateRead (Err reading.Unreadable) (Err fault.StateUnreadable) = ⊤
+IsStateRead (Err (reading.Unreadable found)) (Err (fault.StateUnreadable why)) = why ≡ found
 IsStateRead read outcome = ⊥
 
 -- memory is no fault of the text
@@ -41,7 +41,7 @@ fault_of_text f = by_kind f.kind f
 
 -- the fault of a file that can't be read
 abbrev pub fault_of_reading : ReadFailure → ServiceFault
-fault_of_reading reading.Unreadable = fault.StateUnreadable
+fault_of_reading (reading.Unreadable why) = fault.StateUnreadable why
 fault_of_reading reading.Memory = fault.Memory
 
 -- the state in which a gateway of this configuration begins with what was saved, if something was

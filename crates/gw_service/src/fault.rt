@@ -2,7 +2,7 @@
 
 use gw_serving::{ServeFault, StoreFault};
 use gw_state_text::StateFault;
-use gw_system::{LogFailure, OpenFailure, SocketFailure};
+use gw_system::{LogFailure, Obstacle, OpenFailure, SocketFailure};
 use gw_watch_files::{TrialFault, WatchFault};
 use std::alloc::AllocError;
 
@@ -17,8 +17,8 @@ pub enum ServiceFault {
     Memory,
     /// 4: the count of ticks or the number of the last denial is at its end.
     CountEnd,
-    /// 5: the file of the state is there and can't be read, or is none that a state can be in.
-    StateUnreadable,
+    /// 5: the file of the state is there and can't be read, or is none that a state can be in, and why.
+    StateUnreadable(Obstacle),
     /// 6: what the file of the state says is none, at this line, and why.
     State(StateFault),
     /// 7: the place of the state can't be opened, and why.

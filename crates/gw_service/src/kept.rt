@@ -89,7 +89,7 @@ fn last_line<H: Host>(
         (Some(_), Some(log)) => match host.last_line(alloc, log) {
             Ok(line) => Ok(line),
             Err(ReadFailure::Memory) => Err(ServiceFault::Memory),
-            Err(ReadFailure::Unreadable) => Err(ServiceFault::Log),
+            Err(ReadFailure::Unreadable(_)) => Err(ServiceFault::Log),
         },
         _ => Ok(None),
     }

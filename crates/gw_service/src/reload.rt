@@ -16,7 +16,7 @@ use gw_notices::{ReloadFault, reload_line};
 use gw_policy_text::read_config;
 use gw_relay::PortState;
 use gw_saved::{Origin, Saved};
-use gw_system::ReadFailure;
+use gw_system::{Obstacle, ReadFailure};
 use std::alloc::{AllocError, Global};
 
 /// Whether a port has the network and the addresses that another one is configured with.
@@ -145,7 +145,7 @@ pub fn reloaded(
 {
     match read {
         Ok(Some(text)) => adopt_ports(alloc, gateway, origin, read_config(alloc, text)?),
-        Ok(None) => Err(ReloadFault::Absent),
+        Ok(None) => Err(ReloadFault::Unreadable(Obstacle::Absent)),
         Err(failure) => Err(ReloadFault::from(*failure)),
     }
 }

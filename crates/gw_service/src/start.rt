@@ -6,9 +6,8 @@ ghost use Rattle.gw_system.specs.Requests.{text_found};
 
 use crate::counts::go_on_from;
 use crate::fault::ServiceFault;
-use gw_configuration::Config;
+use gw_configuration::{Config, put_shown};
 use gw_core::{Counts, Gateway};
-use gw_permissions::put_shown;
 use gw_saved::Saved;
 use gw_state_text::{FaultKind, StateFault, read_state};
 use gw_state_words::put_dropped;
@@ -33,12 +32,12 @@ fn fault_of_reading(failure: ReadFailure) -> ServiceFault
     ensures { result ≡ fault_of_reading failure }
 {
     match failure {
-        ReadFailure::Unreadable => ServiceFault::StateUnreadable,
+        ReadFailure::Unreadable(why) => ServiceFault::StateUnreadable(why),
         ReadFailure::Memory => ServiceFault::Memory,
     }
 }
 
-/// What was saved, by what its file gave: nothing if there is no file. Faults: `StateUnreadable`, `State` with the
+/// What was saved, by what its file gave: nothing if there is no file. Faults: `StateUnreadable` with why, `State` with the
 /// line at which the text isn't that of a state, and `Memory`.
 pub(crate) fn saved_in(
     alloc: Global,

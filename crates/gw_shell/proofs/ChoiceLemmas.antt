@@ -2,7 +2,7 @@
 use Rattle.std.proofs.Common.{◌≡◌, ℕ, List, [], Result, sym, subst}
 use Rattle.gw_shell.specs.Program.{IsFollowed, IsQuiet}
 use Rattle.gw_command_line.specs.declared.command_line.Choice.{Choice}
-use Rattle.gw_shell.specs.declared.fault.Fault.{Fault}
+use Rattle.gw_ending.specs.declared.fault.Fault.{Fault}
 
 -- one that reports nothing
 pub followed : (Leaves : List ℕ → Result Choice Fault → Result (Unit {0}) Fault → Type 0) (Adds : List ℕ → Type 0)

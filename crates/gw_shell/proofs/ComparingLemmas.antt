@@ -1,5 +1,5 @@
 -- What a printed comparison leaves, from what is known of its text, and what is reported of it on the way.
-use Rattle.std.proofs.Common.{◌≡◌, ◌∙◌, ◌++◌, [], ◌∷◌, ap, refl, subst, sym, ℕ, List, Option, Result, Ok, Err}
+use Rattle.std.proofs.Common.{◌∙◌, ◌++◌, [], ◌∷◌, ap, refl, subst, sym, ℕ, List, Option, Result, Ok, Err}
 use Rattle.std.specs.Prelude.{IfOk}
 use Rattle.std.specs.Io.KnownBytes.{Appends}
 use Rattle.std.specs.List.{flat_map}
@@ -9,9 +9,10 @@ use Rattle.gw_compare.specs.declared.comparison.Compared.{Compared}
 use Rattle.gw_shell.specs.Comparing.{AreProgress, progress_line}
 use Rattle.gw_shell.specs.Program.{LeavesLines, LeavesSome}
 use Rattle.gw_shell.specs.declared.comparing.Lines.{Lines}
-use Rattle.gw_shell.specs.declared.fault.Fault.{Fault}
-use Rattle.gw_shell.specs.declared.fault.Fault.TheVariants as fault
-use Rattle.gw_shell.proofs.AppendLemmas.{appends_nothing, appends_two, nothing_behind}
+use Rattle.gw_ending.specs.declared.fault.Fault.{Fault}
+use Rattle.gw_ending.specs.declared.fault.Fault.TheVariants as fault
+use Rattle.gw_notices.proofs.AppendLemmas.{appends_nothing, appends_two}
+use Rattle.gw_shell.proofs.AppendLemmas.{nothing_behind}
 
 module _ (Is : Compared → List ℕ → Type 0) (held holds : Option (List ℕ)) where
   printed : (lines : Lines) (f : Fault) → Is lines.made lines.text.items → LeavesLines (Ok lines) held holds (Err f)
@@ -31,7 +32,7 @@ module _ (Is : Compared → List ℕ → Type 0) (held holds : Option (List ℕ)
   printed lines (fault.Socket _) is leaves = elim leaves [ ]
   printed lines fault.Memory is leaves = elim leaves [ ]
   printed lines fault.CountEnd is leaves = elim leaves [ ]
-  printed lines fault.StateUnreadable is leaves = elim leaves [ ]
+  printed lines (fault.StateUnreadable _) is leaves = elim leaves [ ]
   printed lines (fault.State _) is leaves = elim leaves [ ]
   printed lines (fault.Store _) is leaves = elim leaves [ ]
   printed lines (fault.Trial _) is leaves = elim leaves [ ]

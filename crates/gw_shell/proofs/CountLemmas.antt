@@ -6,9 +6,9 @@ use Rattle.gw_script.specs.declared.lines.LinesFault.{LinesFault}
 use Rattle.gw_script.specs.declared.lines.LinesFault.TheVariants as lines
 use Rattle.gw_tally.specs.Counting.{IsCounted}
 use Rattle.gw_shell.specs.Asking.{Counts, ReportsUnread, asks_in}
-use Rattle.gw_shell.specs.Lines.{fault_of_lines}
+use Rattle.gw_ending.specs.Lines.{fault_of_lines}
 use Rattle.gw_shell.specs.Program.{LeavesAnswered}
-use Rattle.gw_shell.specs.declared.fault.Fault.{Fault}
+use Rattle.gw_ending.specs.declared.fault.Fault.{Fault}
 
 pub uncounted : (rules : List Rule) (text : List ℕ) (f : LinesFault) → IsCounted rules text (Err f) → Counts rules text (Err (fault_of_lines f))
 uncounted rules text (lines.Line n) is = is

@@ -10,8 +10,7 @@ use Rattle.gw_shell.specs.Configured.{IsConfigurationOf}
 use Rattle.gw_shell.specs.Deciding.{IsDecidedAt, IsUnread, ReportsAsks}
 use Rattle.gw_shell.specs.Program.{LeavesCounted}
 use Rattle.gw_shell.specs.Replay.{Plays, translating}
-use Rattle.gw_shell.specs.declared.fault.Fault.{Fault}
-use Rattle.gw_shell.specs.declared.fault.Fault.TheVariants as fault
+use Rattle.gw_ending.specs.declared.fault.Fault.{Fault}
 
 -- a text is one configuration
 pub same_configuration : (text : Result (List ℕ) Fault) (a b : Configuration) → IsConfigurationOf text (Ok a) → IsConfigurationOf text (Ok b)

@@ -5,7 +5,7 @@ use Rattle.gw_state_text.specs.Place.{IsPlaceOf}
 use Rattle.gw_state_text.specs.declared.fault.FaultKind.{FaultKind}
 use Rattle.gw_state_text.specs.declared.fault.FaultKind.TheVariants as state_fault
 use Rattle.gw_state_text.specs.declared.fault.StateFault.{StateFault}
-use Rattle.gw_shell.specs.Ending.{fault_of_state}
+use Rattle.gw_ending.specs.Ending.{fault_of_state}
 use Rattle.gw_shell.specs.Kept.{IsSaidOf}
 
 pub said_fault : (c : Configuration) (text : List ℕ) (f : StateFault) (kind : FaultKind) → IsPlaceOf text f.line

@@ -4,6 +4,5 @@ mod ComparingLemmas
 mod CountLemmas
 mod DecidingLemmas
 mod KeptLemmas
-mod LinesLemmas
 mod ReplayLemmas
 mod SuggestLemmas

@@ -12,10 +12,9 @@ use Rattle.gw_core.specs.Explained.{explained_text}
 use Rattle.gw_core.specs.Flawed.{HasFlaw}
 use Rattle.gw_core.specs.Shown.{event_text}
 use Rattle.gw_script.specs.declared.flaw.LineFlaw.{LineFlaw}
-use Rattle.gw_shell.specs.declared.fault.Fault.{Fault}
-use Rattle.gw_shell.specs.declared.fault.Fault.TheVariants as fault
+use Rattle.gw_ending.specs.declared.fault.Fault.{Fault}
 use Rattle.gw_shell.specs.Replay.{Plays, translating}
-use Rattle.gw_shell.specs.Ending.{first_fault, outcome_of}
+use Rattle.gw_ending.specs.Ending.{first_fault, outcome_of}
 
 -- what always holds, beside a fact of known bytes
 both : (P Q : List ℕ → Type 0) (held : Option (List ℕ)) → ((bytes : List ℕ) → P bytes) → IsSomeAnd held Q

@@ -1,5 +1,5 @@
 -- What a suggestion leaves written, and the flush after it.
-use Rattle.std.proofs.Common.{◌≡◌, ◌⊎◌, ◌++◌, ℕ, List, [], Bool, true, false, Result, Ok, Err, inl, inr, refl, rules, sym}
+use Rattle.std.proofs.Common.{◌≡◌, ◌⊎◌, ℕ, List, [], Bool, true, false, Result, Ok, Err, inl, inr, rules, sym}
 use Rattle.std.proofs.lemmas.List.{append-nil}
 use Rattle.gw_configuration.specs.declared.fault.ConfigFault.TheVariants as config
 use Rattle.gw_suggest.specs.Suggestion.{LeavesMade, LeavesSuggestion}

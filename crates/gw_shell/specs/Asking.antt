@@ -1,13 +1,14 @@
 -- What `why` leaves written, at each outcome: over the definitions of `gw_verdicts`.
-use Rattle.std.specs.Prelude.{◌≡◌, ◌==◌, ⊤, ℕ, Bool, true, false, List, [], ◌++◌, Option, Result, Ok, Err, codes, decimal, if◌then◌else◌, option_map}
+use Rattle.std.specs.Prelude.{◌≡◌, ⊤, ℕ, Bool, true, false, List, [], Option, Result, Ok, Err, option_map}
 use Rattle.gw_asks.specs.Asks.{ask_lines}
 use Rattle.gw_verdicts.specs.Why.{IsAnswered, ShowsNoAsk}
 use Rattle.gw_rules.specs.declared.rule.Rule.{Rule}
-use Rattle.gw_shell.specs.Lines.{Leaves}
+use Rattle.gw_ending.specs.Lines.{Leaves}
+use Rattle.gw_ending.specs.Unread.{unread_after}
 use Rattle.gw_tally.specs.Counting.{CountsAll, EndsAtLine}
 use Rattle.gw_tally.specs.Tally.{tally_text}
-use Rattle.gw_shell.specs.declared.fault.Fault.{Fault}
-use Rattle.gw_shell.specs.declared.fault.Fault.TheVariants as fault
+use Rattle.gw_ending.specs.declared.fault.Fault.{Fault}
+use Rattle.gw_ending.specs.declared.fault.Fault.TheVariants as fault
 
 -- `before` was written before the asks of this text were answered by these rules, with these notes and this outcome,
 -- and `after` when that ended
@@ -28,18 +29,6 @@ Counts rules text (Err _) = ⊥
 abbrev pub asks_in : (strict : Bool) → Option (List ℕ) → Option (List ℕ)
 asks_in true input = input
 asks_in false input = option_map ask_lines input
-
--- what is reported of so many lines that show no ask
-abbrev pub unread_text : ℕ → List ℕ
-unread_text n =
-    if n == 0 then []
-    else if n == 1 then codes "bacgw: 1 line shows no ask\n"
-    else codes "bacgw: " ++ (decimal n ++ codes " lines show no ask\n")
-
--- the same after an outcome: nothing after a fault
-abbrev pub unread_after : ℕ → Result (Unit {0}) Fault → List ℕ
-unread_after n (Ok done) = unread_text n
-unread_after n (Err f) = []
 
 -- What is reported of the lines that show no ask: strictly nothing, since one is a fault then.
 abbrev pub ReportsUnread : (strict : Bool) → Result (Unit {0}) Fault → (said : List ℕ) → Type 0

@@ -5,8 +5,8 @@ use Rattle.gw_decisions.specs.Decisions.{IsReport}
 use Rattle.gw_policy_text.specs.declared.setting.TheConstants.{SETTING}
 use Rattle.gw_shell.specs.declared.deciding.Decisions.{Decisions}
 use Rattle.gw_shell.specs.declared.deciding.Decisions.TheVariants.{Counted, Silent, Uncounted}
-use Rattle.gw_shell.specs.declared.fault.Fault.{Fault}
-use Rattle.gw_shell.specs.declared.fault.Fault.TheVariants as fault
+use Rattle.gw_ending.specs.declared.fault.Fault.{Fault}
+use Rattle.gw_ending.specs.declared.fault.Fault.TheVariants as fault
 
 -- what is written of the asks of a script
 abbrev pub decisions_text : Decisions → List ℕ

@@ -1,7 +1,7 @@
 -- What the files give that configurations are read from.
 use Rattle.std.specs.Prelude.{⊤, ℕ, List, Option, Result, Ok, Err}
-use Rattle.gw_shell.specs.declared.fault.Fault.{Fault}
-use Rattle.gw_shell.specs.declared.fault.Fault.TheVariants as fault
+use Rattle.gw_ending.specs.declared.fault.Fault.{Fault}
+use Rattle.gw_ending.specs.declared.fault.Fault.TheVariants as fault
 
 -- what was made of what an `Ok` has
 abbrev pub result_map : {A B E : Type 0} → (A → B) → Result A E → Result B E
@@ -25,6 +25,6 @@ IsLogFaultShown (Err _) = ⊥
 -- Nor of what a state's file holds.
 abbrev pub IsStateFaultShown : Result (List ℕ) Fault → Type 0
 IsStateFaultShown (Ok octets) = ⊤
-IsStateFaultShown (Err fault.StateUnreadable) = ⊤
+IsStateFaultShown (Err (fault.StateUnreadable why)) = ⊤
 IsStateFaultShown (Err fault.Memory) = ⊤
 IsStateFaultShown (Err _) = ⊥

@@ -10,12 +10,11 @@ use Rattle.gw_config_faults.specs.Explanation.{ExplainsText}
 use Rattle.gw_json.specs.Check.{checked_value, fault_value}
 use Rattle.gw_json.specs.Comparison.{found_value, summary_value}
 use Rattle.gw_json.specs.Document.{line_of}
-use Rattle.gw_points.specs.Points.{points_text}
 use Rattle.gw_regions.specs.Comparing.{IsSummary}
 use Rattle.gw_regions.specs.Regions.{Region}
 use Rattle.gw_regions.specs.declared.comparison.Found.{Found}
-use Rattle.gw_shell.specs.declared.fault.Fault.{Fault}
-use Rattle.gw_shell.specs.declared.fault.Fault.TheVariants as fault
+use Rattle.gw_ending.specs.declared.fault.Fault.{Fault}
+use Rattle.gw_ending.specs.declared.fault.Fault.TheVariants as fault
 
 -- a text that was made, or memory was refused for it
 abbrev pub IsMade : List ℕ → Result (List ℕ) Fault → Type 0

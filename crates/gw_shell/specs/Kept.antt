@@ -5,8 +5,8 @@ use Rattle.gw_saved.specs.Saved.{Saved}
 use Rattle.gw_state_text.specs.Place.{IsPlaceOf}
 use Rattle.gw_state_text.specs.Text.{state_text}
 use Rattle.gw_state_words.specs.Words.{state_words}
-use Rattle.gw_shell.specs.declared.fault.Fault.{Fault}
-use Rattle.gw_shell.specs.declared.fault.Fault.TheVariants as fault
+use Rattle.gw_ending.specs.declared.fault.Fault.{Fault}
+use Rattle.gw_ending.specs.declared.fault.Fault.TheVariants as fault
 
 -- what a state of this text holds, and what of it the configuration takes over; or the line up to which the text is
 -- that of a state; memory may run out at any text

@@ -3,13 +3,12 @@ pub mod Checked
 pub mod Comparing
 pub mod Configured
 pub mod Deciding
-pub mod Ending
 pub mod Files
 pub mod Json
 pub mod Kept
-pub mod Lines
 pub mod Objects
 pub mod Program
+pub mod Reloading
 pub mod Replay
 pub mod Reporting
 pub mod Serving

@@ -7,8 +7,8 @@ use Rattle.gw_json.specs.Why.{IsAnswerIn, SaysNoAsk}
 use Rattle.gw_rules.specs.declared.rule.Rule.{Rule}
 use Rattle.gw_script.specs.Known.{OnKnown}
 use Rattle.gw_shell.specs.Configured.{IsConfigured}
-use Rattle.gw_shell.specs.Lines.{Leaves}
-use Rattle.gw_shell.specs.declared.fault.Fault.{Fault}
+use Rattle.gw_ending.specs.Lines.{Leaves}
+use Rattle.gw_ending.specs.declared.fault.Fault.{Fault}
 
 -- `before` was written before the lines of this log were written as objects with this outcome, and `after` when that ended
 abbrev pub Lists : List ℕ → List ℕ → Result (Unit {0}) Fault → List ℕ → Type 0

@@ -21,13 +21,14 @@ use Rattle.gw_shell.specs.declared.asking.Answering.{Answering}
 use Rattle.gw_shell.specs.declared.comparing.Limits.{Limits}
 use Rattle.gw_shell.specs.declared.comparing.Lines.{Lines}
 use Rattle.gw_shell.specs.declared.deciding.Playing.{Playing}
-use Rattle.gw_shell.specs.declared.fault.Fault.{Fault}
-use Rattle.gw_shell.specs.declared.fault.Fault.TheVariants as fault
+use Rattle.gw_ending.specs.declared.fault.Fault.{Fault}
+use Rattle.gw_ending.specs.declared.fault.Fault.TheVariants as fault
 use Rattle.gw_shell.specs.Asking.{Answers, Counts, ReportsUnread, asks_in}
 use Rattle.gw_shell.specs.Comparing.{AreProgress, IsCompared}
-use Rattle.gw_shell.specs.Configured.{IsConfigurationOf, IsConfigured}
+use Rattle.gw_shell.specs.Configured.{FaultNote, IsConfigurationOf, IsConfigured}
 use Rattle.gw_shell.specs.Deciding.{ReportsAsks}
-use Rattle.gw_shell.specs.Ending.{FaultNote, IsAnswerTo, chosen, error_text_by, is_different, of_other, outcome_of_answer, status_by, usage_of}
+use Rattle.gw_shell.specs.Reloading.{IsAnswerTo, outcome_of_answer}
+use Rattle.gw_ending.specs.Ending.{chosen, error_text_by, is_different, of_other, status_by, usage_of}
 use Rattle.gw_shell.specs.Checked.{IsChecked}
 use Rattle.gw_shell.specs.Json.{AreComparisonLines, FaultLine, IsMade, checked_line}
 use Rattle.gw_shell.specs.Kept.{IsSaidOfText}

@@ -5,8 +5,8 @@ use Rattle.gw_core.specs.Replay.{RunsFront, RunsPart, RunsToEnd, RunsToLine, Run
 use Rattle.gw_core.specs.Shown.{event_text}
 use Rattle.gw_core.specs.Flawed.{HasFlaw}
 use Rattle.gw_configuration.specs.Configuration.{Configuration}
-use Rattle.gw_shell.specs.declared.fault.Fault.{Fault}
-use Rattle.gw_shell.specs.declared.fault.Fault.TheVariants as fault
+use Rattle.gw_ending.specs.declared.fault.Fault.{Fault}
+use Rattle.gw_ending.specs.declared.fault.Fault.TheVariants as fault
 
 -- how a replay reports an event: what it does, and before that what it asks if it explains
 abbrev pub translating : Bool → EventText

@@ -2,8 +2,8 @@
 use Rattle.std.specs.Prelude.{◌≡◌, ⊤, ℕ, List, Result, Ok, Err}
 use Rattle.gw_configuration.specs.Configuration.{Configuration}
 use Rattle.gw_page.specs.Page.{IsPage}
-use Rattle.gw_shell.specs.declared.fault.Fault.{Fault}
-use Rattle.gw_shell.specs.declared.fault.Fault.TheVariants as fault
+use Rattle.gw_ending.specs.declared.fault.Fault.{Fault}
+use Rattle.gw_ending.specs.declared.fault.Fault.TheVariants as fault
 
 -- a page, in which every foreign text is escaped; or the log can't be opened or read, or memory ran out
 abbrev pub IsPageMade : Result (List ℕ) Fault → Type 0

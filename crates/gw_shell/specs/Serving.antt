@@ -1,11 +1,32 @@
--- What `run` leaves of a configuration that was read, over the definitions of `gw_service`.
+-- What `run` leaves of a configuration that was read, and how its end is reported, over the definitions of `gw_service`.
 use Rattle.std.specs.Prelude.{◌≡◌, ℕ, List, Option, Result, Ok, Err}
 use Rattle.gw_command_line.specs.declared.options.RunOptions.{RunOptions}
 use Rattle.gw_configuration.specs.Configuration.{Configuration}
 use Rattle.gw_service.specs.StampedRun.{LeavesTimed, TimedMachine}
 use Rattle.gw_service.specs.declared.fault.ServiceFault.{ServiceFault}
-use Rattle.gw_shell.specs.Ending.{FaultNote, served}
-use Rattle.gw_shell.specs.declared.fault.Fault.{Fault}
+use Rattle.gw_service.specs.declared.fault.ServiceFault.TheVariants as service
+use Rattle.gw_shell.specs.Configured.{FaultNote}
+use Rattle.gw_ending.specs.Ending.{fault_of_metrics, fault_of_state, fault_of_store}
+use Rattle.gw_ending.specs.declared.fault.Fault.{Fault}
+use Rattle.gw_ending.specs.declared.fault.Fault.TheVariants as fault
+
+-- why a configuration isn't served, or not to the end, as the program reports it
+abbrev pub fault_of_service : ServiceFault → Fault
+fault_of_service service.Log = fault.Log
+fault_of_service (service.Socket port) = fault.Socket port
+fault_of_service service.Memory = fault.Memory
+fault_of_service service.CountEnd = fault.CountEnd
+fault_of_service (service.StateUnreadable why) = fault.StateUnreadable why
+fault_of_service (service.State f) = fault_of_state f f.kind
+fault_of_service (service.Store f) = fault_of_store f
+fault_of_service (service.Trial f) = fault.Trial f
+fault_of_service service.Audit = fault.Audit
+fault_of_service (service.Metrics f) = fault_of_metrics f
+
+-- how serving ends, as the program reports it
+abbrev pub served : Result (Unit {0}) ServiceFault → Result (Unit {0}) Fault
+served (Ok done) = Ok done
+served (Err f) = Err (fault_of_service f)
 
 -- What `run` leaves under the configuration that was read from a text. If there is none nothing
 -- is opened, the outcome is why, and it may be written where its fault is.

@@ -3,9 +3,9 @@ use Rattle.std.specs.Prelude.{◌≡◌, ◌⊎◌, ℕ, Bool, true, false, List
 use Rattle.gw_suggest.specs.Suggestion.{IsSuggested}
 use Rattle.gw_suggest.specs.declared.fault.SuggestFault.{SuggestFault}
 use Rattle.gw_suggest.specs.declared.suggestion.Manner.{Manner}
-use Rattle.gw_shell.specs.Ending.{fault_of_suggestion}
-use Rattle.gw_shell.specs.declared.fault.Fault.{Fault}
-use Rattle.gw_shell.specs.declared.fault.Fault.TheVariants as fault
+use Rattle.gw_ending.specs.Ending.{fault_of_suggestion}
+use Rattle.gw_ending.specs.declared.fault.Fault.{Fault}
+use Rattle.gw_ending.specs.declared.fault.Fault.TheVariants as fault
 
 -- a text of rules that are suggested for a log was made, and a front of it was written
 pub record WritesFront (text : List ℕ) (manner : Manner) (log before after : List ℕ) : Type 0 where

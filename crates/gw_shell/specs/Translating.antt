@@ -3,8 +3,8 @@ use Rattle.std.specs.Prelude.{ℕ, List, Option, Result}
 use Rattle.gw_audit.specs.Translation.{RefusesNone}
 use Rattle.gw_audit.specs.declared.moment.Moment.{Moment}
 use Rattle.gw_stamping.specs.Translating.{IsTranslatedAfterFront}
-use Rattle.gw_shell.specs.Lines.{Leaves}
-use Rattle.gw_shell.specs.declared.fault.Fault.{Fault}
+use Rattle.gw_ending.specs.Lines.{Leaves}
+use Rattle.gw_ending.specs.declared.fault.Fault.{Fault}
 
 -- `before` was written before this log, which began at a moment that may be known, was put into words with this
 -- outcome, and `after` when that ended

@@ -10,13 +10,11 @@ ghost use Rattle.gw_shell.specs.Program.{LeavesAnswered, LeavesAnsweredIn, Leave
 ghost use Rattle.gw_tally.specs.Tally.{tally_text};
 
 use crate::configured::configuration_in;
-use crate::fault::Fault;
 use crate::files::ConfigFiles;
-use crate::lines::first_lines_fault;
 use crate::program::print_made;
-use crate::unread::report_unread;
 use gw_asks::{AskLines, Lent};
 use gw_configuration::Config;
+use gw_ending::{Fault, first_lines_fault, report_unread};
 use gw_rules::RuleList;
 use gw_script::{OctetSink, OctetSource};
 use gw_tally::{Tally, count_asks, put_tally};

@@ -4,16 +4,14 @@ ghost use Rattle.std.specs.Prelude.{◌≡◌, [], ℕ, List, IfOk, IsOk, OnOk};
 ghost use Rattle.std.specs.Io.Buffered.{writer_buffer, writer_contents};
 ghost use Rattle.std.specs.Io.KnownBytes.{Appends};
 ghost use Rattle.gw_compare.specs.Comparing.{IsUnderWay};
-ghost use Rattle.gw_shell.specs.Comparing.{AreProgress, IsCompared, progress_line};
-ghost use Rattle.gw_shell.specs.Ending.{outcome_of_comparison};
+ghost use Rattle.gw_shell.specs.Comparing.{AreProgress, IsCompared, outcome_of_comparison, progress_line};
 ghost use Rattle.gw_shell.specs.Program.{LeavesCompared, LeavesComparison, LeavesLines};
 
-use crate::ending::write_number;
-use crate::fault::Fault;
 use crate::program::print;
 use gw_audit::Moment;
 use gw_compare::{Compared, Comparing, put_steps};
 use gw_configuration::Config;
+use gw_ending::{Fault, write_number};
 use gw_script::{OctetSink, WriteFailed};
 use gw_stamping::Calendar;
 use std::alloc::{AllocError, Global};

@@ -4,10 +4,10 @@ ghost use Rattle.std.specs.Prelude.{◌≡◌, Some, option_map, string_bytes, I
 ghost use Rattle.gw_shell.specs.Configured.{IsConfigurationOf, IsConfigured, summary};
 ghost use Rattle.gw_shell.specs.Files.{result_map};
 
-use crate::fault::Fault;
 use crate::files::ConfigFiles;
 use gw_configuration::Config;
 use gw_core::setting_s;
+use gw_ending::Fault;
 use gw_policy_text::read_config;
 use itoa::Buffer;
 use std::alloc::{AllocError, Global};

@@ -12,11 +12,11 @@ ghost use Rattle.gw_shell.specs.Program.{LeavesCounted, LeavesPlayed, LeavesPlay
 ghost use Rattle.gw_shell.specs.Replay.{Plays};
 
 use crate::configured::{configuration, configuration_of};
-use crate::fault::Fault;
 use crate::files::ConfigFiles;
 use crate::replaying::replay;
 use gw_configuration::Config;
 use gw_decisions::count_script;
+use gw_ending::Fault;
 use gw_notices::write_note;
 use gw_policy_text::SETTING;
 use gw_script::{OctetSink, OctetSource};

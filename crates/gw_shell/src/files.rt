@@ -2,11 +2,12 @@
 
 ghost use Rattle.std.specs.Prelude.{ℕ, List, Option, Result};
 ghost use Rattle.gw_shell.specs.Files.{IsFaultShown, IsLogFaultShown, IsStateFaultShown, result_map};
-ghost use Rattle.gw_shell.specs.declared.fault.Fault.{Fault};
+ghost use Rattle.gw_ending.specs.declared.fault.Fault.{Fault};
 
-use crate::fault::{Fault, Obstacle};
+use gw_ending::Fault;
 use gw_policy_text::MAX_OCTETS;
 use gw_script::OctetSource;
+use gw_system::Obstacle;
 use std::alloc::Global;
 use std::io::{ErrorKind, Read};
 use std::rt::Files;
@@ -85,7 +86,7 @@ impl<R: Files> ConfigFiles for SystemFiles<'_, R> {
             Ok(octets) => Ok(octets),
             Err(error) => match error.kind() {
                 ErrorKind::OutOfMemory => Err(Fault::Memory),
-                _ => Err(Fault::StateUnreadable),
+                kind => Err(Fault::StateUnreadable(Obstacle::of(kind))),
             },
         }
     }

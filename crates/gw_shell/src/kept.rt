@@ -5,8 +5,8 @@ ghost use Rattle.gw_state_words.specs.Words.{state_words};
 ghost use Rattle.gw_shell.specs.Files.{result_map};
 ghost use Rattle.gw_shell.specs.Kept.{IsSaidOf, IsSaidOfText};
 
-use crate::fault::Fault;
 use gw_configuration::Config;
+use gw_ending::Fault;
 use gw_saved::Saved;
 use gw_state_text::read_state;
 use gw_state_words::put_state_words;

@@ -9,27 +9,23 @@ mod checked;
 mod comparing;
 mod configured;
 mod deciding;
-mod ending;
-mod fault;
 mod files;
 mod json;
 mod kept;
-mod lines;
 mod objects;
 mod program;
 mod reloading;
 mod replaying;
 mod reporting;
+mod serving;
 mod suggesting;
 mod translating;
-mod unread;
 
-pub use ending::end;
-pub use fault::{Fault, Obstacle, words_of};
 pub use files::{ConfigFiles, SystemFiles};
 pub use gw_command_line::{Choice, RunOptions, Shown, WordsFault, choice_of};
+pub use gw_ending::{Fault, end, words_of};
 pub use gw_system::{
-    FailedStep, Host, LogFailure, OpenFailure, PollWaiter, Reason, SocketFailure, Step,
+    FailedStep, Host, LogFailure, Obstacle, OpenFailure, PollWaiter, Reason, SocketFailure, Step,
     SystemClock, SystemHost, UdpSock,
 };
 pub use program::run;

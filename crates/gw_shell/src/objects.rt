@@ -10,12 +10,10 @@ ghost use Rattle.gw_shell.specs.Objects.{Judges, LeavesJudged, LeavesJudgedIn, L
 ghost use Rattle.gw_shell.specs.Program.{LeavesOfLog, LeavesOpened};
 
 use crate::configured::configuration_in;
-use crate::fault::Fault;
 use crate::files::ConfigFiles;
-use crate::lines::first_lines_fault;
-use crate::unread::report_unread;
 use gw_asks::{AskLines, Lent};
 use gw_configuration::Config;
+use gw_ending::{Fault, first_lines_fault, report_unread};
 use gw_json::{log_in_json, why_in_json};
 use gw_script::{OctetSink, OctetSource};
 use std::alloc::Global;

@@ -7,37 +7,36 @@ ghost use Rattle.std.specs.Process.{exit_status};
 ghost use Rattle.gw_configuration.specs.Configuration.{Configuration};
 ghost use Rattle.gw_migration.specs.declared.fault.MigrationFault.TheVariants as migration;
 ghost use Rattle.gw_rules.specs.declared.format.Format.TheVariants as formats;
-ghost use Rattle.gw_shell.specs.Configured.{IsConfigurationOf};
-ghost use Rattle.gw_shell.specs.Ending.{outcome_of_comparison, served};
-ghost use Rattle.gw_shell.specs.Ending.{FaultNote, IsExplainedBy, answers_by};
+ghost use Rattle.gw_shell.specs.Configured.{FaultNote, IsConfigurationOf, IsExplainedBy};
+ghost use Rattle.gw_shell.specs.Serving.{LeavesRun, served};
+ghost use Rattle.gw_shell.specs.Reloading.{answers_by};
 ghost use Rattle.gw_shell.specs.Files.{result_map};
 ghost use Rattle.gw_system.specs.Host.{OpensAtLine};
 ghost use Rattle.gw_shell.specs.Program.{AppendsFront, IsChoiceOf, IsFlushed, IsFollowed, IsRun, LeavesAnswer, LeavesAnswered, LeavesAsked, LeavesCompared, LeavesComparison, LeavesConfigured, LeavesCounts, LeavesInFormatThree, LeavesMigrated, LeavesOfText, LeavesOutput, LeavesPlayed, LeavesPrinted, LeavesReload, LeavesReloadIn, LeavesSaid, LeavesState, LeavesStateIn, LeavesSuggested, LeavesSuggestedIn, LeavesText};
 ghost use Rattle.gw_service.specs.Kept.{state_machine, whole_machine};
 ghost use Rattle.gw_service.specs.Serving.{IsFlushedFor, machine};
 ghost use Rattle.gw_service.specs.StampedRun.{timed_machine};
-ghost use Rattle.gw_shell.specs.Serving.{LeavesRun};
-ghost use Rattle.gw_shell.specs.declared.fault.Fault.{Fault};
-ghost use Rattle.gw_shell.specs.declared.fault.Fault.TheVariants as fault;
+ghost use Rattle.gw_ending.specs.declared.fault.Fault.{Fault};
+ghost use Rattle.gw_ending.specs.declared.fault.Fault.TheVariants as fault;
 
 use crate::asking::{Answering, answer_in};
 use crate::checked::checked_text;
 use crate::comparing::{Both, Limits, Seconds, compare};
 use crate::configured::{configuration_in, configuration_of};
 use crate::deciding::{Playing, play_in};
-use crate::ending::{end_by, usage_of};
-use crate::fault::Fault;
 use crate::files::ConfigFiles;
 use crate::json::{check_in_json, compare_in_json, print_points};
 use crate::kept::words_of_text;
 use crate::objects;
 use crate::reloading::{Asking, reload_in};
 use crate::reporting::print_report_in;
+use crate::serving::fault_of_service;
 use crate::suggesting::suggest_shown;
 use crate::translating::{Translating, translate_in};
 use gw_command_line::{Choice, RunOptions, choice_of};
 use gw_config_faults::{Explanation, explain};
 use gw_configuration::{Config, ConfigFault};
+use gw_ending::{Fault, end_by, usage_of};
 use gw_migration::migrate;
 use gw_notices::write_note;
 use gw_script::{OctetSink, OctetSource, write_whole};
@@ -271,7 +270,7 @@ fn served(done: Result<(), ServiceFault>) -> Result<(), Fault>
 {
     match done {
         Ok(()) => Ok(()),
-        Err(fault) => Err(Fault::from(fault)),
+        Err(fault) => Err(fault_of_service(fault)),
     }
 }
 

@@ -4,17 +4,18 @@ ghost use Rattle.std.specs.Prelude.{◌≡◌, [], ℕ, List, MatchResult, OnOk}
 ghost use Rattle.std.specs.Io.Buffered.{writer_buffer, writer_contents};
 ghost use Rattle.std.specs.Io.KnownBytes.{Appends};
 ghost use Rattle.gw_shell.specs.Comparing.{AreProgress};
-ghost use Rattle.gw_shell.specs.Ending.{IsAnswerTo, IsUnanswered, answers_by, outcome_of_answer};
+ghost use Rattle.gw_shell.specs.Reloading.{IsAnswerTo, answers_by, outcome_of_answer};
+ghost use Rattle.gw_ending.specs.Ending.{IsUnanswered};
 ghost use Rattle.gw_shell.specs.Files.{result_map};
 ghost use Rattle.gw_shell.specs.Program.{LeavesAfter, LeavesAnswer, LeavesAsked, LeavesReload, LeavesReloadIn, LeavesReloadShown, LeavesText};
 
 use crate::comparing::{Both, Limits, Seconds, print_compared};
 use crate::configured::configuration_in;
-use crate::fault::Fault;
 use crate::files::ConfigFiles;
 use crate::program::print;
 use gw_command_line::Shown;
 use gw_configuration::Config;
+use gw_ending::Fault;
 use gw_script::OctetSink;
 use gw_system::{Host, ReadFailure};
 use std::alloc::Global;
@@ -40,7 +41,7 @@ fn answer<H: Host>(alloc: Global, asked: &H::Asked, host: &H) -> Result<Vec<u8>,
 {
     match host.await_answer(alloc, asked, MAX_WAIT) {
         Ok(Some(answer)) => Ok(answer),
-        Ok(None) | Err(ReadFailure::Unreadable) => Err(Fault::NoAnswer),
+        Ok(None) | Err(ReadFailure::Unreadable(_)) => Err(Fault::NoAnswer),
         Err(ReadFailure::Memory) => Err(Fault::Memory),
     }
 }

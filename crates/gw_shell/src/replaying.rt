@@ -4,11 +4,11 @@ ghost use Rattle.std.specs.Prelude.{◌≡◌, [], OnOk};
 ghost use Rattle.std.specs.Io.Buffered.{writer_buffer, writer_contents};
 ghost use Rattle.gw_script.specs.Known.{OnKnown};
 ghost use Rattle.gw_shell.specs.Replay.{Plays};
-ghost use Rattle.gw_shell.specs.Ending.{first_fault, outcome_of};
+ghost use Rattle.gw_ending.specs.Ending.{first_fault, outcome_of};
 
-use crate::fault::Fault;
 use gw_configuration::Config;
 use gw_core::RunFault;
+use gw_ending::Fault;
 use gw_script::{LineFlaw, OctetSource};
 use std::alloc::Global;
 use std::io::{BufWriter, Write};

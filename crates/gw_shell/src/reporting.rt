@@ -7,10 +7,10 @@ ghost use Rattle.gw_shell.specs.Program.{LeavesReport, LeavesReportIn};
 ghost use Rattle.gw_shell.specs.Reporting.{IsPageMade, IsReported};
 
 use crate::configured::configuration_in;
-use crate::fault::Fault;
 use crate::files::ConfigFiles;
 use crate::program::print_made;
 use gw_configuration::Config;
+use gw_ending::Fault;
 use gw_report::{ReportFault, report, report_with_log};
 use gw_script::OctetSource;
 use std::alloc::{AllocError, Global};

@@ -9,10 +9,9 @@ ghost use Rattle.gw_shell.specs.Files.{result_map};
 ghost use Rattle.gw_shell.specs.Program.{LeavesSuggested, LeavesSuggestedIn};
 ghost use Rattle.gw_shell.specs.Suggesting.{Suggests, first_suggestion_fault};
 
-use crate::fault::Fault;
 use crate::files::ConfigFiles;
-use crate::unread::report_unread;
 use gw_asks::{AskLines, Lent};
+use gw_ending::{Fault, report_unread};
 use gw_script::{OctetSink, OctetSource};
 use gw_suggest::{Manner, SuggestFault};
 use std::alloc::Global;

@@ -7,10 +7,9 @@ ghost use Rattle.gw_shell.specs.Files.{result_map};
 ghost use Rattle.gw_shell.specs.Program.{LeavesOfLog, LeavesOpened};
 ghost use Rattle.gw_shell.specs.Translating.{Translates};
 
-use crate::fault::Fault;
 use crate::files::ConfigFiles;
-use crate::lines::first_lines_fault;
 use gw_audit::Moment;
+use gw_ending::{Fault, first_lines_fault};
 use gw_script::OctetSource;
 use gw_stamping::translate_log;
 use std::alloc::Global;

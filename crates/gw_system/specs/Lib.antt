@@ -1,5 +1,6 @@
 pub mod Folder
 pub mod Host
+pub mod Obstacle
 pub mod Opening
 pub mod Waiting
 pub mod Requests

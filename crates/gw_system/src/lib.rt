@@ -8,6 +8,7 @@
 mod file_log;
 mod folder;
 mod host;
+mod obstacle;
 mod opening;
 mod poll_waiter;
 mod reading;
@@ -20,6 +21,7 @@ mod udp;
 pub use file_log::{FileLog, LogFile, LogFiles};
 pub use folder::{Folder, SystemFolder};
 pub use host::{Host, SystemHost, open_at_line};
+pub use obstacle::{Obstacle, obstacle_words};
 pub use opening::{FailedStep, LogFailure, OpenFailure, Reason, SocketFailure, Step, note_of};
 pub use poll_waiter::PollWaiter;
 pub use reading::{MAX_LOG_END, ReadFailure};

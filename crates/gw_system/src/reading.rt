@@ -1,7 +1,14 @@
 //! Files that are read whole, and the last line of a log.
 
+ghost use Rattle.std.specs.Fs.{IsDir, file_type};
+ghost use Rattle.std.specs.Prelude.{◌≡◌, ◌≢◌};
+ghost use Rattle.gw_system.specs.declared.obstacle.Obstacle.TheVariants.{Absent, Folder, NotPermitted, Other};
+ghost use Rattle.gw_system.specs.declared.reading.ReadFailure.TheVariants.{Memory, Unreadable};
+
+use crate::obstacle::Obstacle;
 use memchr::memrchr;
 use std::alloc::{AllocError, Global};
+use std::fs::Metadata;
 use std::io::{ErrorKind, Read, Seek, SeekFrom};
 use std::rt::Files;
 use std::{fs, io};
@@ -9,18 +16,25 @@ use std::{fs, io};
 /// Why what a file holds isn't known.
 #[derive(Clone, Copy)]
 pub enum ReadFailure {
-    /// It can't be read, is no regular file, or is longer than what is read of it.
-    Unreadable,
+    /// It can't be read, and why: also if it is no regular file, or is longer than what is read of it.
+    Unreadable(Obstacle),
     /// A growth was refused.
     Memory,
 }
 
 impl ReadFailure {
     /// The failure of a call, by what the system reports.
-    fn of(error: &io::Error) -> Self {
-        match error.kind() {
+    fn of(kind: ErrorKind) -> Self
+        ensures memory { kind ≡ ErrorKind.OutOfMemory → result ≡ Memory }
+        ensures absent { kind ≡ ErrorKind.NotFound → result ≡ Unreadable Absent }
+        ensures not_permitted { kind ≡ ErrorKind.PermissionDenied → result ≡ Unreadable NotPermitted }
+        ensures folder { kind ≡ ErrorKind.IsADirectory → result ≡ Unreadable Folder }
+        ensures other { kind ≢ ErrorKind.OutOfMemory → kind ≢ ErrorKind.NotFound → kind ≢ ErrorKind.PermissionDenied
+            → kind ≢ ErrorKind.IsADirectory → result ≡ Unreadable Other }
+    {
+        match kind {
             ErrorKind::OutOfMemory => ReadFailure::Memory,
-            _ => ReadFailure::Unreadable,
+            _ => ReadFailure::Unreadable(Obstacle::of(kind)),
         }
     }
 }
@@ -39,6 +53,18 @@ impl From<AllocError> for ReadFailure {
 /// How many octets the end of a log has in which its last whole line is looked for.
 pub const MAX_LOG_END: u64 = 65_536;
 
+/// Why what has this metadata can't be read as a file.
+fn obstacle_by(metadata: &Metadata) -> Obstacle
+    ensures folder { IsDir (file_type metadata.now) → result ≡ Folder }
+    ensures other { (IsDir (file_type metadata.now) → ⊥) → result ≡ Other }
+{
+    if metadata.is_dir() {
+        Obstacle::Folder
+    } else {
+        Obstacle::Other
+    }
+}
+
 /// The octets of the regular file of this name, of which there are at most so many, or `None` if there is no
 /// such file.
 pub(crate) fn read_file<R: Files>(
@@ -49,12 +75,12 @@ pub(crate) fn read_file<R: Files>(
 ) -> Result<Option<Vec<u8>>, ReadFailure> {
     match rt.metadata(name) {
         Ok(metadata) if metadata.is_file() => {}
-        Ok(_) => return Err(ReadFailure::Unreadable),
+        Ok(metadata) => return Err(ReadFailure::Unreadable(obstacle_by(&metadata))),
         Err(error) => return absent_by(&error),
     }
     match read_front(rt, alloc, name, most) {
         Ok(octets) if octets.len() <= most => Ok(Some(octets)),
-        Ok(_) => Err(ReadFailure::Unreadable),
+        Ok(_) => Err(ReadFailure::Unreadable(Obstacle::Other)),
         Err(error) => absent_by(&error),
     }
 }
@@ -63,7 +89,7 @@ pub(crate) fn read_file<R: Files>(
 fn absent_by(error: &io::Error) -> Result<Option<Vec<u8>>, ReadFailure> {
     match error.kind() {
         ErrorKind::NotFound => Ok(None),
-        _ => Err(ReadFailure::of(error)),
+        kind => Err(ReadFailure::of(kind)),
     }
 }
 

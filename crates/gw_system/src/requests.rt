@@ -5,6 +5,7 @@ ghost use Rattle.gw_system.specs.Folder.{Holds, IsAnswer, IsTakenAway};
 ghost use Rattle.gw_system.specs.Requests.{Asking, GoesOn, IsAsking, answered, asked_by, silent, recorded_by};
 
 use crate::folder::Folder;
+use crate::obstacle::Obstacle;
 use crate::reading::ReadFailure;
 use crate::store::name_with;
 use gw_serving::StoreFault;
@@ -185,14 +186,14 @@ pub(crate) fn wait_for_answer<F: Folder, R: Net>(
         (F.known folder.now (string_bytes asked.now.answer)) text.items)) }
 {
     let (Ok(mut poll), Ok(mut events)) = (Poll::new(rt), Events::with_capacity(alloc, 1)) else {
-        return Err(ReadFailure::Unreadable);
+        return Err(ReadFailure::Unreadable(Obstacle::Other));
     };
     for _ in 0..u32::from(seconds) * LOOKS {
         if let Some(text) = answer_to(folder, alloc, asked)? {
             return Ok(Some(text));
         }
         if wait(&mut poll, &mut events).is_err() {
-            return Err(ReadFailure::Unreadable);
+            return Err(ReadFailure::Unreadable(Obstacle::Other));
         }
     }
     answer_to(folder, alloc, asked)

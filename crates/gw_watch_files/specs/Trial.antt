@@ -11,6 +11,8 @@ use Rattle.gw_rules.specs.declared.format.Format.TheVariants as formats
 use Rattle.gw_rules.specs.declared.rule.Rule.{Rule}
 use Rattle.gw_system.specs.Host.{LogOpening}
 use Rattle.gw_system.specs.declared.opening.LogFailure.TheVariants as log_failure
+use Rattle.gw_system.specs.declared.obstacle.Obstacle.{Obstacle}
+use Rattle.gw_system.specs.declared.obstacle.Obstacle.TheVariants as obstacle
 use Rattle.gw_system.specs.declared.reading.ReadFailure.{ReadFailure}
 use Rattle.gw_system.specs.declared.reading.ReadFailure.TheVariants as reading
 use Rattle.gw_watching.specs.declared.beside.Beside.{Beside}
@@ -39,6 +41,11 @@ are_same_ports some others = pointwise is_same_port some others
 abbrev pub IsRead : (FileReads : List ℕ → Result (Option (List ℕ)) ReadFailure → Type 0) → List ℕ → Configuration → Type 0
 IsRead FileReads name new = (text : List ℕ) × FileReads name (Ok (Some text)) × (configuration text ≡ Ok new)
 
+-- why the file of this name can't be read, also if it isn't there
+abbrev pub IsUnreadable : (FileReads : List ℕ → Result (Option (List ℕ)) ReadFailure → Type 0) → List ℕ → Obstacle → Type 0
+IsUnreadable FileReads name why =
+    (FileReads name (Ok None) × (why ≡ obstacle.Absent)) ⊎ FileReads name (Err (reading.Unreadable why))
+
 -- ---- a log beside the log
 
 -- The log of this name is open, and its lines, which have this front, are numbered on from its last whole line; none is lost.
@@ -56,7 +63,8 @@ pub record IsOpened {C Log : Type 0} (LastLines : List ℕ → Result (Option (L
 abbrev pub IsUnopened : {Log : Type 0} → (LastLines : List ℕ → Result (Option (List ℕ)) ReadFailure → Type 0)
     → LogOpening Log → List ℕ
     → Type 0
-IsUnopened LastLines LogOpens name = LastLines name (Err reading.Unreadable) ⊎ LogOpens name (Err log_failure.Failed)
+IsUnopened LastLines LogOpens name =
+    ((why : Obstacle) × LastLines name (Err (reading.Unreadable why))) ⊎ LogOpens name (Err log_failure.Failed)
 
 -- ---- a trial
 
@@ -71,14 +79,13 @@ pub record IsOnTrial {Log : Type 0} (FileReads LastLines : List ℕ → Result (
   pub choice : b.choice ≡ config.rules
   pub opened : IsOpened LastLines LogOpens [] log b
 
--- Why they aren't: the file isn't there or can't be read; it has no configuration; one of another format, or with other ports; or
+-- Why they aren't: the file can't be read, and why; it has no configuration; one of another format, or with other ports; or
 -- the log can't be had. Memory may run out at any.
 abbrev pub IsNoTrial : {Log : Type 0} → (FileReads LastLines : List ℕ → Result (Option (List ℕ)) ReadFailure → Type 0)
     → LogOpening Log
     → Configuration → (rules log : List ℕ) → WatchFault → Type 0
 IsNoTrial FileReads LastLines LogOpens c rules log fault.Memory = ⊤
-IsNoTrial FileReads LastLines LogOpens c rules log (fault.Trial trial.Unreadable) =
-    FileReads rules (Ok None) ⊎ FileReads rules (Err reading.Unreadable)
+IsNoTrial FileReads LastLines LogOpens c rules log (fault.Trial (trial.Unreadable why)) = IsUnreadable FileReads rules why
 IsNoTrial FileReads LastLines LogOpens c rules log (fault.Trial (trial.Configuration f)) =
     (text : List ℕ) × FileReads rules (Ok (Some text)) × (configuration text ≡ Err f)
 IsNoTrial FileReads LastLines LogOpens c rules log (fault.Trial trial.Format) =

@@ -1,13 +1,14 @@
 //! Why a gateway can't be watched.
 
 use gw_configuration::ConfigFault;
+use gw_system::Obstacle;
 use std::alloc::AllocError;
 
 /// Why a policy isn't on trial.
 #[derive(Clone, Copy)]
 pub enum TrialFault {
-    /// 1: there is no such file, or it can't be read.
-    Unreadable,
+    /// 1: its file can't be read, and why.
+    Unreadable(Obstacle),
     /// 2: what the file says is no configuration, and why.
     Configuration(ConfigFault),
     /// 3: it is of another format than the configuration in force.

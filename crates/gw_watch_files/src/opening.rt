@@ -13,7 +13,7 @@ use gw_configuration::{Config, ConfigFault};
 use gw_policy_text::{MAX_OCTETS, read_config};
 use gw_rule_index::Policy;
 use gw_script::OctetSink;
-use gw_system::{Host, LogFailure, ReadFailure, open_at_line};
+use gw_system::{Host, LogFailure, Obstacle, ReadFailure, open_at_line};
 use gw_watching::{Beside, Marks};
 use std::alloc::Global;
 
@@ -36,15 +36,16 @@ fn config_in(alloc: Global, text: &[u8]) -> Result<Config, WatchFault>
     }
 }
 
-/// The configuration of the file of this name. `Unreadable` if there is no such file or it can't be read, `Configuration`, and
-/// `Memory`.
+/// The configuration of the file of this name. `Unreadable` with why it can't be read, also if there is no such file;
+/// `Configuration`, and `Memory`.
 fn read_trial<H: Host>(alloc: Global, name: &str, host: &H) -> Result<Config, WatchFault>
     ensures found { IfOk result (IsRead (H.FileReads host.now) name.now) }
     ensures fault { IfErr result (IsUnread (H.FileReads host.now) name.now) }
 {
     match host.read_file(alloc, name, MAX_OCTETS) {
         Ok(Some(text)) => config_in(alloc, &text),
-        Ok(None) | Err(ReadFailure::Unreadable) => Err(WatchFault::Trial(TrialFault::Unreadable)),
+        Ok(None) => Err(WatchFault::Trial(TrialFault::Unreadable(Obstacle::Absent))),
+        Err(ReadFailure::Unreadable(why)) => { Err(WatchFault::Trial(TrialFault::Unreadable(why))) }
         Err(ReadFailure::Memory) => Err(WatchFault::Memory),
     }
 }
@@ -78,7 +79,7 @@ fn open_after<H: Host>(
     let line = match host.last_line(alloc, name) {
         Ok(line) => line,
         Err(ReadFailure::Memory) => return Err(LogFailure::Memory),
-        Err(ReadFailure::Unreadable) => return Err(LogFailure::Failed),
+        Err(ReadFailure::Unreadable(_)) => return Err(LogFailure::Failed),
     };
     match open_at_line(alloc, name, host) {
         Ok(sink) => Ok(Opened {

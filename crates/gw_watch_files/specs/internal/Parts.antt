@@ -1,14 +1,13 @@
 -- What the parts of opening a trial give. It only helps proofs.
-use Rattle.std.specs.Prelude.{◌≡◌, ◌⊎◌, ⊤, ℕ, true, false, List, Option, None, Some, Result, Ok, Err}
+use Rattle.std.specs.Prelude.{◌≡◌, ⊤, ℕ, true, false, List, Option, Some, Result, Ok, Err}
 use Rattle.gw_configuration.specs.Configuration.{Configuration}
 use Rattle.gw_policy_text.specs.Document.{configuration}
 use Rattle.gw_system.specs.Host.{LogOpening}
 use Rattle.gw_system.specs.declared.opening.LogFailure.{LogFailure}
 use Rattle.gw_system.specs.declared.opening.LogFailure.TheVariants as log_failure
 use Rattle.gw_system.specs.declared.reading.ReadFailure.{ReadFailure}
-use Rattle.gw_system.specs.declared.reading.ReadFailure.TheVariants as reading
 use Rattle.gw_watch_files.specs.Numbers.{IsNumberAfter}
-use Rattle.gw_watch_files.specs.Trial.{IsUnopened, are_same_ports, is_same_format}
+use Rattle.gw_watch_files.specs.Trial.{IsUnopened, IsUnreadable, are_same_ports, is_same_format}
 use Rattle.gw_watch_files.specs.declared.fault.TrialFault.TheVariants as trial
 use Rattle.gw_watch_files.specs.declared.fault.WatchFault.{WatchFault}
 use Rattle.gw_watch_files.specs.declared.fault.WatchFault.TheVariants as fault
@@ -22,7 +21,7 @@ IsNoText text _ = ⊥
 
 -- a file has none
 abbrev pub IsUnread : (FileReads : List ℕ → Result (Option (List ℕ)) ReadFailure → Type 0) → List ℕ → WatchFault → Type 0
-IsUnread FileReads name (fault.Trial trial.Unreadable) = FileReads name (Ok None) ⊎ FileReads name (Err reading.Unreadable)
+IsUnread FileReads name (fault.Trial (trial.Unreadable why)) = IsUnreadable FileReads name why
 IsUnread FileReads name (fault.Trial (trial.Configuration f)) =
     (text : List ℕ) × FileReads name (Ok (Some text)) × (configuration text ≡ Err f)
 IsUnread FileReads name fault.Memory = ⊤

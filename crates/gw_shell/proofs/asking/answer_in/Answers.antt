@@ -1,5 +1,5 @@
 use Rattle.std.proofs.Common.{[]}
-use Rattle.gw_shell.proofs.AppendLemmas.{appends_nothing}
+use Rattle.gw_notices.proofs.AppendLemmas.{appends_nothing}
 use Rattle.gw_shell.proofs.CountLemmas.{strict_leaves}
 use Rattle.gw_shell.proofs.asking.answer_in.Goals as goal
 

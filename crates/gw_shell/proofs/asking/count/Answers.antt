@@ -1,6 +1,6 @@
 use Rattle.std.proofs.Common.{Err, subst, sym}
 use Rattle.gw_shell.specs.Asking.{Counts}
-use Rattle.gw_shell.specs.declared.fault.Fault.{Fault}
+use Rattle.gw_ending.specs.declared.fault.Fault.{Fault}
 use Rattle.gw_shell.proofs.CountLemmas.{uncounted}
 use Rattle.gw_shell.proofs.asking.count.Goals as goal
 

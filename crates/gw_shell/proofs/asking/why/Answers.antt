@@ -1,10 +1,10 @@
 use Rattle.std.proofs.Common.{sym, subst, Result, IsSomeAnd}
 use Rattle.std.specs.Io.Buffered.{writer_contents}
-use Rattle.gw_shell.specs.declared.fault.Fault.{Fault}
+use Rattle.gw_ending.specs.declared.fault.Fault.{Fault}
 use Rattle.gw_verdicts.specs.Why.{IsAnswered, LeavesAnswers, ShowsNoAsk}
 use Rattle.gw_shell.specs.Asking.{Answers}
-use Rattle.gw_shell.specs.Lines.{first_lines_fault}
-use Rattle.gw_shell.proofs.LinesLemmas.{flushed_lines}
+use Rattle.gw_ending.specs.Lines.{first_lines_fault}
+use Rattle.gw_ending.proofs.LinesLemmas.{flushed_lines}
 use Rattle.gw_shell.proofs.ReplayLemmas.{kept, weaker}
 use Rattle.gw_shell.proofs.asking.why.Goals as goal
 

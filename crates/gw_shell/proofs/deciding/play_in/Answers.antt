@@ -1,5 +1,5 @@
 use Rattle.std.proofs.Common.{[]}
-use Rattle.gw_shell.proofs.AppendLemmas.{appends_nothing}
+use Rattle.gw_notices.proofs.AppendLemmas.{appends_nothing}
 use Rattle.gw_shell.proofs.DecidingLemmas.{uncounted_reports}
 use Rattle.gw_shell.proofs.deciding.play_in.Goals as goal
 

@@ -1,10 +1,10 @@
-use Rattle.std.proofs.Common.{Err, ℕ, Result, subst, sym}
+use Rattle.std.proofs.Common.{ℕ, Result, subst, sym}
 use Rattle.std.specs.Global.{Vec}
 use Rattle.std.specs.Io.Buffered.{writer_contents}
 use Rattle.gw_shell.specs.Deciding.{decisions_text}
 use Rattle.gw_shell.specs.Files.{result_map}
 use Rattle.gw_shell.specs.Program.{LeavesCounted}
-use Rattle.gw_shell.specs.declared.fault.Fault.{Fault}
+use Rattle.gw_ending.specs.declared.fault.Fault.{Fault}
 use Rattle.gw_shell.proofs.DecidingLemmas.{unread_leaves}
 use Rattle.gw_shell.proofs.deciding.replay_counting.Goals as goal
 

@@ -1,6 +1,6 @@
-use Rattle.std.proofs.Common.{List, ℕ, Result, Err, subst, sym}
+use Rattle.std.proofs.Common.{Err, subst, sym}
 use Rattle.gw_shell.specs.Kept.{IsSaidOf}
-use Rattle.gw_shell.specs.declared.fault.Fault.{Fault}
+use Rattle.gw_ending.specs.declared.fault.Fault.{Fault}
 use Rattle.gw_shell.proofs.KeptLemmas.{said_fault}
 use Rattle.gw_shell.proofs.kept.words_of_state.Goals as goal
 

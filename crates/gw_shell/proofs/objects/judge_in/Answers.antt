@@ -3,7 +3,7 @@ use Rattle.std.specs.Io.Buffered.{writer_contents}
 use Rattle.std.specs.Io.KnownBytes.{Appends}
 use Rattle.gw_shell.specs.Asking.{ReportsUnread, asks_in}
 use Rattle.gw_shell.specs.Objects.{LeavesJudgedIn}
-use Rattle.gw_shell.proofs.AppendLemmas.{appends_nothing}
+use Rattle.gw_notices.proofs.AppendLemmas.{appends_nothing}
 use Rattle.gw_shell.proofs.objects.judge_in.Goals as goal
 
 pub returns-then-strict-clause-judged : goal.returns-then-strict-clause-judged

@@ -4,7 +4,7 @@ use Rattle.std.specs.Io.Buffered.{writer_contents}
 use Rattle.std.specs.Prelude.{string_bytes}
 use Rattle.gw_shell.specs.Asking.{asks_in}
 use Rattle.gw_shell.specs.Configured.{IsConfigured}
-use Rattle.gw_shell.specs.Ending.{answers_by}
+use Rattle.gw_shell.specs.Reloading.{answers_by}
 use Rattle.gw_shell.specs.Files.{result_map}
 use Rattle.gw_command_line.specs.declared.command_line.Choice.TheVariants as choice
 use Rattle.gw_shell.specs.Objects.{LeavesJudgedIn}
@@ -12,7 +12,7 @@ use Rattle.gw_shell.specs.Program.{LeavesAnsweredIn, LeavesReloadIn, LeavesRepor
 use Rattle.gw_shell.specs.declared.asking.Answering.{Answering}
 use Rattle.gw_suggest.specs.declared.suggestion.Manner.{Manner}
 use Rattle.gw_shell.proofs.ChoiceLemmas.{followed, reported}
-use Rattle.gw_shell.proofs.AppendLemmas.{appends_nothing}
+use Rattle.gw_notices.proofs.AppendLemmas.{appends_nothing}
 use Rattle.gw_shell.proofs.program.follow.Goals as goal
 
 pub returns-in-Ok-Check-clause-followed : goal.returns-in-Ok-Check-clause-followed

@@ -1,9 +1,10 @@
 use Rattle.std.proofs.Common.{ℕ, List, Result, Ok, Err}
 use Rattle.std.specs.Global.{Vec}
 use Rattle.std.specs.Prelude.{MatchResult}
-use Rattle.gw_shell.specs.Ending.{IsAnswerTo, IsUnanswered, answers_by}
+use Rattle.gw_shell.specs.Reloading.{IsAnswerTo, answers_by}
+use Rattle.gw_ending.specs.Ending.{IsUnanswered}
 use Rattle.gw_shell.specs.Files.{result_map}
-use Rattle.gw_shell.specs.declared.fault.Fault.{Fault}
+use Rattle.gw_ending.specs.declared.fault.Fault.{Fault}
 use Rattle.gw_shell.proofs.reloading.ask.Goals as goal
 
 -- what is answered to the request that was made, or why nothing is

@@ -3,9 +3,9 @@ use Rattle.std.specs.Io.Buffered.{writer_contents}
 use Rattle.std.specs.Prelude.{string_bytes}
 use Rattle.gw_command_line.specs.declared.options.Shown.{Shown}
 use Rattle.gw_shell.specs.Configured.{IsConfigured}
-use Rattle.gw_shell.specs.Ending.{answers_by}
+use Rattle.gw_shell.specs.Reloading.{answers_by}
 use Rattle.gw_shell.specs.Program.{LeavesReloadIn}
-use Rattle.gw_shell.proofs.AppendLemmas.{appends_nothing}
+use Rattle.gw_notices.proofs.AppendLemmas.{appends_nothing}
 use Rattle.gw_shell.proofs.reloading.reload_in.Goals as goal
 
 pub returns-in-Some-clause-reloaded : goal.returns-in-Some-clause-reloaded

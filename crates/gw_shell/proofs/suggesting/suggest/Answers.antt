@@ -2,7 +2,7 @@ use Rattle.std.proofs.Common.{sym, subst, Result, IsSomeAnd}
 use Rattle.std.specs.Io.Buffered.{writer_contents}
 use Rattle.gw_suggest.specs.Suggestion.{LeavesSuggestion}
 use Rattle.gw_shell.specs.Suggesting.{Suggests, first_suggestion_fault}
-use Rattle.gw_shell.specs.declared.fault.Fault.{Fault}
+use Rattle.gw_ending.specs.declared.fault.Fault.{Fault}
 use Rattle.gw_shell.proofs.ReplayLemmas.{kept, weaker}
 use Rattle.gw_shell.proofs.SuggestLemmas.{flushed_suggestion}
 use Rattle.gw_shell.proofs.suggesting.suggest.Goals as goal

@@ -1,11 +1,11 @@
 use Rattle.std.proofs.Common.{sym, subst, Result, IsSomeAnd}
 use Rattle.std.specs.Io.Buffered.{writer_contents}
-use Rattle.gw_shell.specs.declared.fault.Fault.{Fault}
+use Rattle.gw_ending.specs.declared.fault.Fault.{Fault}
 use Rattle.gw_audit.specs.Translation.{RefusesNone}
 use Rattle.gw_stamping.specs.Translating.{IsTranslatedAfterFront, LeavesTranslated}
-use Rattle.gw_shell.specs.Lines.{first_lines_fault}
+use Rattle.gw_ending.specs.Lines.{first_lines_fault}
 use Rattle.gw_shell.specs.Translating.{Translates}
-use Rattle.gw_shell.proofs.LinesLemmas.{flushed_lines}
+use Rattle.gw_ending.proofs.LinesLemmas.{flushed_lines}
 use Rattle.gw_shell.proofs.ReplayLemmas.{kept, weaker}
 use Rattle.gw_shell.proofs.translating.translate.Goals as goal
 

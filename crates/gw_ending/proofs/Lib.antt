@@ -1,0 +1,2 @@
+mod AppendLemmas
+pub mod LinesLemmas
