@@ -143,7 +143,7 @@ fn put_rule(out: &mut Vec<u8>, rule: &RuleName) -> Result<(), AllocError>
     ensures { IsAppended (rule_text rule.now) out.old out.new result }
 {
     put_slice(out, b" rule=")?;
-    put_slice(out, rule.as_str().as_bytes())
+    put_slice(out, rule.as_bytes())
 }
 
 /// The stations that a line names of an ask: none, unless it has a sender.

@@ -31,16 +31,16 @@ fn rule_at(rules: &RuleList, number: u16) -> Option<&Rule>
     rules.rules().get(usize::from(number.checked_sub(1)?))
 }
 
-/// A copy of the name of the rule that decided an ask, or of `default`.
-pub fn rule_name(alloc: Global, rules: &RuleList, by: Option<u16>) -> Result<RuleName, AllocError>
-    ensures { IfOk result (λ name. name ≡ rule_name rules.now by) }
+/// The name of the rule that decided an ask, or `default`.
+pub fn rule_name(rules: &RuleList, by: Option<u16>) -> RuleName
+    ensures { result ≡ rule_name rules.now by }
 {
     match by {
         Some(number) => match rule_at(rules, number) {
-            Some(rule) => rule.name.copy(alloc),
-            None => RuleName::of_no_rule(alloc),
+            Some(rule) => rule.name.copy(),
+            None => RuleName::of_no_rule(),
         },
-        None => RuleName::of_no_rule(alloc),
+        None => RuleName::of_no_rule(),
     }
 }
 
@@ -155,14 +155,13 @@ fn denials_from(
     let first = counts.denials + 1;
     let mut denials = Denials::from_vec(empty_list(alloc, refusals)?);
     for (place, refusal) in refusals.iter().enumerate() {
-        let rule = rule_name(alloc, rules, refusal.by)?;
         denials.push(Denial {
             number: first + place as u64,
             tick: counts.ticks,
             port: from.port,
             source: from.source_of(&refusal.ask),
             ask: refusal.ask,
-            rule,
+            rule: rule_name(rules, refusal.by),
         })?;
     }
     Ok(denials)

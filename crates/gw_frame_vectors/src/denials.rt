@@ -3,7 +3,7 @@
 use gw_addr::{Mac, NetNum, Source};
 use gw_audit::Denial;
 use gw_cases::{number, number_or_none, octets_of, wanted};
-use gw_rules::{Ask, Operation, RuleFault, RuleName};
+use gw_rules::{Ask, FieldName, Operation, RuleName};
 use std::alloc::Global;
 use std::io;
 use std::io::ErrorKind;
@@ -20,18 +20,14 @@ fn number_if_any(word: Option<&str>) -> io::Result<Option<u64>> {
 /// station if there are such.
 fn ask(fields: &str) -> io::Result<Ask> {
     let mut words = fields.split(' ');
-    Ok(Ask {
-        operation: number_or_none(words.next())?,
-        destination_network: number_or_none(words.next())?,
-        service: number_or_none(words.next())?,
-        object_type: number_or_none(words.next())?,
-        instance: number_or_none(words.next())?,
-        property: number_or_none(words.next())?,
-        priority: number_or_none(words.next())?,
-        sender: number_if_any(words.next())?,
-        station: number_if_any(words.next())?,
-        ..Ask::new(Operation::Cast)
-    })
+    let mut ask = Ask::new(Operation::Cast);
+    ask.operation = number_or_none(words.next())?;
+    for field in &FieldName::ALL[4..10] {
+        ask.set(*field, number_or_none(words.next())?);
+    }
+    ask.sender = number_if_any(words.next())?;
+    ask.station = number_if_any(words.next())?;
+    Ok(ask)
 }
 
 /// The station of a network.
@@ -44,10 +40,9 @@ fn station(alloc: Global, network: Option<&str>, digits: Option<&str>) -> io::Re
 }
 
 /// The name of a rule.
-fn rule(alloc: Global, name: Option<&str>) -> io::Result<RuleName> {
-    match RuleName::new(alloc, wanted(name)?) {
+fn rule(name: Option<&str>) -> io::Result<RuleName> {
+    match RuleName::new(wanted(name)?) {
         Ok(name) => Ok(name),
-        Err(RuleFault::Memory) => Err(ErrorKind::OutOfMemory.into()),
         Err(_) => Err(ErrorKind::InvalidData.into()),
     }
 }
@@ -62,7 +57,7 @@ pub fn denial(alloc: Global, case: &str, out: &mut Vec<u8>) -> io::Result<()> {
         port: number(words.next())?,
         source: station(alloc, words.next(), words.next())?,
         ask: ask(fields)?,
-        rule: rule(alloc, words.next())?,
+        rule: rule(words.next())?,
     };
     gw_audit::line(&denial, out)?;
     out.pop();

@@ -3,6 +3,7 @@
 use gw_addr::Source;
 use gw_audit::{Moment, ShownAsk, read_ask, read_line, translate_log};
 use gw_cases::{MemReader, Streams, put_end, put_octets, put_word};
+use gw_rules::FieldName;
 use std::alloc::Global;
 use std::io;
 use std::io::Write;
@@ -19,12 +20,10 @@ fn put_field(value: Option<u64>, out: &mut Vec<u8>) -> io::Result<()> {
 fn put_fields(ask: &ShownAsk, out: &mut Vec<u8>) -> io::Result<()> {
     write!(out, ";")?;
     put_field(ask.operation, out)?;
-    put_field(ask.destination_network, out)?;
-    put_field(ask.service, out)?;
-    put_field(ask.object_type, out)?;
-    put_field(ask.instance, out)?;
-    put_field(ask.property, out)?;
-    put_field(ask.priority, out)?;
+    let judged = ask.ask();
+    for field in &FieldName::ALL[4..10] {
+        put_field(*judged.get(*field), out)?;
+    }
     match &ask.stations {
         Some(stations) => {
             put_field(Some(stations.sender), out)?;

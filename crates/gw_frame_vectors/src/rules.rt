@@ -52,20 +52,11 @@ fn list(alloc: Global, kind: &str, text: &str) -> io::Result<Result<RuleList, Ru
 /// The ask of twelve fields, in the order of their numbers.
 fn ask(fields: &str) -> io::Result<Ask> {
     let mut words = fields.split(' ');
-    Ok(Ask {
-        operation: number_or_none(words.next())?,
-        port: number_or_none(words.next())?,
-        source_network: number_or_none(words.next())?,
-        source_key: number_or_none(words.next())?,
-        destination_network: number_or_none(words.next())?,
-        service: number_or_none(words.next())?,
-        object_type: number_or_none(words.next())?,
-        instance: number_or_none(words.next())?,
-        property: number_or_none(words.next())?,
-        priority: number_or_none(words.next())?,
-        sender: number_or_none(words.next())?,
-        station: number_or_none(words.next())?,
-    })
+    let mut ask = Ask::new(Operation::List);
+    for field in FieldName::ALL {
+        ask.set(field, number_or_none(words.next())?);
+    }
+    Ok(ask)
 }
 
 /// The text of a case whose repeated parts are written out.

@@ -32,40 +32,35 @@ pub(crate) fn sets<'a>(
 {
     let mut all = Sequence::new(alloc);
     for (place, value) in values.iter().enumerate() {
-        all.push(set(alloc, rules, place, value)?)?;
+        all.push(set(rules, place, value)?)?;
     }
     Ok(all)
 }
 
 /// The set that a value says, at this position.
-fn set<'a>(alloc: Global, rules: &[Value], set: usize, value: &'a Value) -> Result<Set, Located<'a>>
+fn set<'a>(rules: &[Value], set: usize, value: &'a Value) -> Result<Set, Located<'a>>
     ensures { Finds (λ s. s) result (set_in (map view rules.now) set (view value.now)) }
 {
-    set_of_table(alloc, rules, set, table(value)?)
+    set_of_table(rules, set, table(value)?)
 }
 
 #[tactic(auto, unfolding(crate::specs::Policy::set_of))]
-fn set_of_table<'a>(
-    alloc: Global,
-    rules: &[Value],
-    set: usize,
-    table: &'a Table,
-) -> Result<Set, Located<'a>>
+fn set_of_table<'a>(rules: &[Value], set: usize, table: &'a Table) -> Result<Set, Located<'a>>
     ensures { Finds (λ s. s) result (set_of (map view rules.now) set (table_view table.now)) }
 {
     match located_in(Place::Set(set), &set_fields(), table) {
         Some(located) => Err(located),
-        None => Ok(set_parts(alloc, rules, table)?),
+        None => Ok(set_parts(rules, table)?),
     }
 }
 
 /// The parts of a table without a fault.
-fn set_parts(alloc: Global, rules: &[Value], table: &Table) -> Result<Set, ConfigFault>
+fn set_parts(rules: &[Value], table: &Table) -> Result<Set, ConfigFault>
     ensures { Gives (λ s. s) result (set_parts (map view rules.now) (table_view table.now)) }
 {
     let text = value::rule_name(at("name", table)?)?;
     let used = is_used(rules, text);
-    let name = RuleName::new(alloc, text)?;
+    let name = RuleName::new(text)?;
     Ok(Set { name, used })
 }
 

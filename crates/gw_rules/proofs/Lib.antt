@@ -6,5 +6,6 @@ pub mod First
 pub mod Hiding
 pub mod Limits
 pub mod Matching
+pub mod Names
 pub mod Numbers
 pub mod Operations

@@ -14,3 +14,4 @@ pub mod Range
 pub mod Rule
 pub mod RuleList
 pub mod Service
+pub mod internal

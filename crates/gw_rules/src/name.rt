@@ -1,11 +1,11 @@
 //! The name of a rule.
-ghost use Rattle.std.specs.Prelude.{◌≡◌, ◌↔◌, codes, IfOk, IsErrOf, IsFalse, IsTrue};
+ghost use Rattle.std.specs.Prelude.{◌≡◌, ◌↔◌, codes, IfOk, IsErrOf, IsFalse, IsOkUnless, IsTrue};
 ghost use Rattle.std.specs.List.{list_all};
 ghost use Rattle.gw_rules.specs.Name.{is_name, is_name_character, is_no_rule};
 
 use crate::RuleFault;
-use std::alloc::{AllocError, Global};
 use std::marker::Model;
+use std::str;
 
 /// How many characters a rule's name has at most.
 pub const MAX_NAME: usize = 32;
@@ -13,54 +13,52 @@ pub const MAX_NAME: usize = 32;
 pub const NO_RULE: &str = "default";
 
 /// The name of a rule, which the log shows if the rule denies: 1 to 32 of the characters `a` to `z`,
-/// `0` to `9` and `-`. Contracts see its octets.
+/// `0` to `9` and `-`, kept in place. Contracts see its octets.
 #[derive(Drop)]
 pub struct RuleName {
-    text: String,
+    octets: [u8; MAX_NAME],
+    len: u8,
 }
 
 impl Model for RuleName {
-    ghost use Rattle.std.specs.Prelude.{List, ℕ, IsTrue, string_bytes};
-    ghost use Rattle.gw_rules.specs.Name.{is_name};
+    ghost use Rattle.std.specs.Prelude.{List, ℕ, take};
+    ghost use Rattle.gw_rules.specs.internal.Name.{IsKept};
 
     ghost Value = { List ℕ };
 
-    ghost view = { λ name. string_bytes name.text };
+    ghost view = { λ name. take name.len name.octets };
 
-    ghost invariant = { λ name. IsTrue (is_name (string_bytes name.text)) };
+    ghost invariant = { IsKept };
 }
 
 impl RuleName {
-    /// A name of this text. The faults: `Range` if it is no name; else `Memory` if there is none for it.
-    pub fn new(alloc: Global, text: &str) -> Result<Self, RuleFault>
+    /// A name of this text. `Range`, its only fault, if it is no name.
+    pub fn new(text: &str) -> Result<Self, RuleFault>
         ensures text { IfOk result (λ name. name ≡ text.now) }
         ensures range { IsErrOf result RuleFault.Range ↔ IsFalse (is_name text.now) }
-        ensures few { ¬ (IsErrOf result RuleFault.TooMany) }
+        ensures only { IsOkUnless result RuleFault.Range }
     {
         if !RuleName::is_name(text) {
             return Err(RuleFault::Range);
         }
-        Ok(RuleName {
-            text: String::from_str(alloc, text)?,
-        })
+        Ok(kept(text.as_bytes()))
     }
 
     /// The name [`NO_RULE`].
-    pub fn of_no_rule(alloc: Global) -> Result<Self, AllocError>
-        ensures { IfOk result (λ name. name ≡ codes "default") }
+    pub fn of_no_rule() -> Self
+        ensures { result ≡ codes "default" }
     {
-        Ok(RuleName {
-            text: String::from_str(alloc, NO_RULE)?,
-        })
+        kept(NO_RULE.as_bytes())
     }
 
     /// A copy of the name.
-    pub fn copy(&self, alloc: Global) -> Result<Self, AllocError>
-        ensures { IfOk result (λ copy. copy ≡ self.now) }
+    pub fn copy(&self) -> Self
+        ensures { result ≡ self.now }
     {
-        Ok(RuleName {
-            text: String::from_str(alloc, self.as_str())?,
-        })
+        RuleName {
+            octets: self.octets,
+            len: self.len,
+        }
     }
 
     /// Whether a text is a name: 1 to 32 of the characters `a` to `z`, `0` to `9` and `-`.
@@ -78,11 +76,33 @@ impl RuleName {
     }
 
     /// The text of the name.
+    #[tactic(auto, using(crate::proofs::Names::name_is_text))]
     pub fn as_str(&self) -> &str
         ensures text { result.now ≡ self.now }
         ensures name { IsTrue (is_name self.now) }
     {
-        self.text.as_str()
+        str::from_utf8(self.as_bytes()).unwrap()
+    }
+
+    /// Its octets.
+    pub fn as_bytes(&self) -> &[u8]
+        ensures octets { result.now ≡ self.now }
+        ensures name { IsTrue (is_name self.now) }
+    {
+        &self.octets[..usize::from(self.len)]
+    }
+}
+
+/// The name of these octets.
+fn kept(octets: &[u8]) -> RuleName
+    requires { IsTrue (is_name octets.now) }
+    ensures { result ≡ octets.now }
+{
+    let mut kept = [0; MAX_NAME];
+    kept[..octets.len()].copy_from_slice(octets);
+    RuleName {
+        octets: kept,
+        len: octets.len() as u8,
     }
 }
 

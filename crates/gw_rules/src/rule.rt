@@ -42,15 +42,15 @@ impl Drop for Rule {
 }
 
 impl Rule {
-    /// A rule that names no field, and so matches every ask. The faults: `Range` if its name is none, as
-    /// [`RuleName`] says; else `Memory` if there is none for it.
+    /// A rule that names no field, and so matches every ask. `Range`, its only fault, if its name is none, as
+    /// [`RuleName`] says.
     pub fn new(alloc: Global, name: &str, allow: bool) -> Result<Self, RuleFault>
         ensures rule { IfOk result (λ rule. rule ≡ rule_without_fields name.now allow) }
         ensures range { IsErrOf result RuleFault.Range ↔ IsFalse (is_name name.now) }
-        ensures few { ¬ (IsErrOf result RuleFault.TooMany) }
+        ensures only { IsOkUnless result RuleFault.Range }
     {
         Ok(Rule {
-            name: RuleName::new(alloc, name)?,
+            name: RuleName::new(name)?,
             allow,
             ranges: no_ranges(alloc),
         })

@@ -7,7 +7,7 @@ ghost use Rattle.gw_suggest.specs.Suggestion.{matched};
 
 use crate::fault::SuggestFault;
 use crate::group::{Group, copy};
-use gw_rules::{Rule, RuleFault, RuleName};
+use gw_rules::{Rule, RuleName};
 use itoa::Buffer;
 use std::alloc::{AllocError, Global};
 
@@ -19,9 +19,8 @@ fn name_of(alloc: Global, number: usize) -> Result<RuleName, SuggestFault> {
     let mut text = String::new(alloc);
     text.push_str(NAME)?;
     text.push_str(Buffer::new().format(number))?;
-    match RuleName::new(alloc, text.as_str()) {
+    match RuleName::new(text.as_str()) {
         Ok(name) => Ok(name),
-        Err(RuleFault::Memory) => Err(SuggestFault::Memory),
         Err(_) => Err(SuggestFault::Unlike),
     }
 }

@@ -74,13 +74,8 @@ impl Choice for Marks {
         }
     }
 
-    fn name(
-        &self,
-        alloc: Global,
-        rules: &RuleList,
-        by: Option<u16>,
-    ) -> Result<RuleName, AllocError> {
-        rule_name(alloc, rules, by)
+    fn name(&self, rules: &RuleList, by: Option<u16>) -> RuleName {
+        rule_name(rules, by)
     }
 
     fn put_front(&self, out: &mut Vec<u8>) -> Result<(), AllocError> {

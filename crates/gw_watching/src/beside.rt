@@ -9,7 +9,6 @@ use crate::choice::Choice;
 use crate::writing::{Put, Writing};
 use gw_core::{Asked, Gateway};
 use gw_script::{OctetSink, write_whole};
-use std::alloc::Global;
 
 /// A log beside the log of denials: of what was asked it has a line for each ask that is chosen. If a line can't be made
 /// or written, it is counted as lost, and nothing else happens.
@@ -46,13 +45,7 @@ impl<C: Choice, S: OctetSink> Beside<C, S> {
     }
 
     /// Records the asks that are chosen. The text is only a place to make their lines.
-    pub(crate) fn record_asks(
-        &mut self,
-        alloc: Global,
-        gateway: &Gateway,
-        asked: &[Asked],
-        text: &mut Vec<u8>,
-    )
+    pub(crate) fn record_asks(&mut self, gateway: &Gateway, asked: &[Asked], text: &mut Vec<u8>)
         ensures { let rules = C.naming self.old.choice gateway.now.rules in
             let due = records (C.chosen self.old.choice) rules self.old.number gateway.now.ticks asked.now in
             IsRecorded S.held C.front due self.old self.new }
@@ -60,7 +53,6 @@ impl<C: Choice, S: OctetSink> Beside<C, S> {
         text.clear();
         let is_begun = self.begin_text(text);
         let writing = Writing {
-            alloc,
             choice: &self.choice,
             rules: gateway.rules(),
             tick: gateway.counts().ticks,

@@ -1,13 +1,13 @@
 //! Which asks are recorded beside the log, and how.
 
-ghost use Rattle.std.specs.Prelude.{◌≡◌, ◌++◌, ℕ, IfOk, List, OnOk, Option};
+ghost use Rattle.std.specs.Prelude.{◌≡◌, ◌++◌, ℕ, List, OnOk, Option};
 ghost use Rattle.gw_core.specs.Denials.{rule_name};
 ghost use Rattle.gw_core.specs.declared.asked.Asked.{Asked};
 ghost use Rattle.gw_rules.specs.declared.rule.Rule.{Rule};
 
 use gw_core::Asked;
 use gw_rules::{RuleList, RuleName};
-use std::alloc::{AllocError, Global};
+use std::alloc::AllocError;
 
 /// Which asks are recorded beside the log, and how their lines begin.
 pub trait Choice {
@@ -24,9 +24,9 @@ pub trait Choice {
     fn chosen(&self, asked: &Asked) -> Option<Option<u16>>
         ensures { result ≡ chosen self.now asked.now };
 
-    /// A copy of the name of the rule of this number, or of `default`. These rules are in force.
-    fn name(&self, alloc: Global, rules: &RuleList, by: Option<u16>) -> Result<RuleName, AllocError>
-        ensures { IfOk result (λ name. name ≡ rule_name (naming self.now rules.now) by) };
+    /// The name of the rule of this number, or `default`. These rules are in force.
+    fn name(&self, rules: &RuleList, by: Option<u16>) -> RuleName
+        ensures { result ≡ rule_name (naming self.now rules.now) by };
 
     /// Appends how a line begins.
     fn put_front(&self, out: &mut Vec<u8>) -> Result<(), AllocError>

@@ -7,7 +7,7 @@ use crate::choice::Choice;
 use gw_core::{Asked, rule_name};
 use gw_rule_index::Policy;
 use gw_rules::{Decision, Judge, RuleList, RuleName};
-use std::alloc::{AllocError, Global};
+use std::alloc::AllocError;
 
 impl Choice for Policy {
     ghost chosen = { denied_by };
@@ -23,13 +23,8 @@ impl Choice for Policy {
         }
     }
 
-    fn name(
-        &self,
-        alloc: Global,
-        _rules: &RuleList,
-        by: Option<u16>,
-    ) -> Result<RuleName, AllocError> {
-        rule_name(alloc, self.rules(), by)
+    fn name(&self, _rules: &RuleList, by: Option<u16>) -> RuleName {
+        rule_name(self.rules(), by)
     }
 
     fn put_front(&self, _out: &mut Vec<u8>) -> Result<(), AllocError> {

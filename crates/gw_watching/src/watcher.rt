@@ -112,14 +112,14 @@ impl<T: OctetSink + Drop, A: OctetSink + Drop> Watcher<T, A> {
     }
 
     /// Watches what an event asked.
-    fn watch(&mut self, alloc: Global, gateway: &Gateway, asked: &[Asked])
+    fn watch(&mut self, gateway: &Gateway, asked: &[Asked])
         ensures { Watches T.held A.held self.old gateway.now asked.now self.new }
     {
         if let Some(trial) = &mut self.trial {
-            trial.record_asks(alloc, gateway, asked, &mut self.text);
+            trial.record_asks(gateway, asked, &mut self.text);
         }
         if let Some(audit) = &mut self.audit {
-            audit.record_asks(alloc, gateway, asked, &mut self.text);
+            audit.record_asks(gateway, asked, &mut self.text);
         }
         if let Some(counts) = &mut self.counts {
             count_each(counts, asked);
@@ -147,13 +147,13 @@ impl<T: OctetSink + Drop, A: OctetSink + Drop> Guard for Watcher<T, A> {
 
     fn pass(
         &mut self,
-        alloc: Global,
+        _alloc: Global,
         gateway: &Gateway,
         _taken: &Taken,
         asked: Option<&AllAsked>,
     ) -> bool {
         match asked {
-            Some(asked) => self.watch(alloc, gateway, asked.as_slice()),
+            Some(asked) => self.watch(gateway, asked.as_slice()),
             None => self.miss(),
         }
         true

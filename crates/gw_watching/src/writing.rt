@@ -9,13 +9,11 @@ use crate::choice::Choice;
 use gw_audit::line;
 use gw_core::{Asked, Denial};
 use gw_rules::RuleList;
-use std::alloc::{AllocError, Global};
+use std::alloc::AllocError;
 
 /// How asks are recorded: which, under whose names, and at which tick.
 #[derive(Drop)]
 pub(crate) struct Writing<'a, C> {
-    /// The allocator of names.
-    pub alloc: Global,
     /// Which asks are recorded.
     pub choice: &'a C,
     /// The rules in force.
@@ -49,14 +47,13 @@ impl<C: Choice> Writing<'_, C> {
             ++ (C.front ++ line_text (record_of rules number self.now.tick asked.now by))) }
     {
         self.choice.put_front(text)?;
-        let rule = self.choice.name(self.alloc, self.rules, by)?;
         let denial = Denial {
             number,
             tick: self.tick,
             port: asked.port,
             source: asked.source,
             ask: asked.verdict.ask,
-            rule,
+            rule: self.choice.name(self.rules, by),
         };
         line(&denial, text)
     }
