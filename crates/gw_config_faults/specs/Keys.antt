@@ -45,18 +45,14 @@ fields_at (Rule rule) top = rule_fields (format_in top)
 
 -- their keys in words
 
--- the keys, one after the other
-unfoldable pub listed : List Field → List ℕ
-listed [] = []
-listed (field ∷ others) = field.key ++ flat_map (λ other. codes ", " ++ other.key) others
+-- a key after another one
+abbrev pub one_more : Field → List ℕ
+one_more field = codes ", " ++ field.key
 
--- where there are any
-abbrev pub known_words : List ℕ → List ℕ
-known_words [] = []
-known_words keys = codes "; known keys here: " ++ keys
-
+-- the keys, if there are any
 abbrev pub keys_words : List Field → List ℕ
-keys_words fields = known_words (listed fields)
+keys_words [] = []
+keys_words (field ∷ others) = codes "; known keys here: " ++ (field.key ++ flat_map one_more others)
 
 -- law: the first key of a table that isn't listed is the unknown key that the reader answers
 

@@ -1,89 +1,35 @@
 //! The keys of the table where a fault is, in words.
-ghost use Rattle.std.specs.Prelude.{◌≡◌, ◌++◌, [], codes, OnOk};
+ghost use Rattle.std.specs.Prelude.{◌≡◌, ◌++◌, codes, OnOk};
+ghost use Rattle.std.specs.List.{flat_map};
 ghost use Rattle.toml.specs.View.{table_view};
 ghost use Rattle.gw_config_tables.specs.Tables as spec;
-ghost use Rattle.gw_config_faults.specs.Keys.{fields_at, keys_words, kind_fields, kind_in_table, known_words, listed};
+ghost use Rattle.gw_config_faults.specs.Keys.{fields_at, keys_words, kind_fields, kind_in_table, one_more};
 ghost use Rattle.gw_config_faults.specs.Place.{table_at};
 
 use crate::near::put_text;
 use crate::words::table_at;
-use gw_config_tables::tables::format_of;
+use gw_config_tables::Field;
+use gw_config_tables::tables::{self, COMMON_RULE_FIELDS, format_of};
 use gw_config_tables::value::{kind, member};
 use gw_configuration::{Format, ObjectKind, Place};
 use std::alloc::AllocError;
 use toml::Table;
-
-const TOP: &str = "format, device, port, route, object, rule";
-/// Those of format 3.
-const LONG_TOP: &str = "format, device, port, route, object, rule, set";
-
-const DEVICE: &str =
-    "network, instance, name, vendor, vendor_name, model, firmware, software, revision, database, description";
-
-const PORT: &str = "network, address, broadcast, peer";
-/// Those of format 3.
-const LONG_PORT: &str = "network, address, broadcast, peer, stations";
-
-const PEER: &str = "address, mask";
-
-const ROUTE: &str = "network, port, next";
-
-const BINARY: &str = "type, instance, name, default, description, active, inactive";
-
-const MULTI_STATE: &str = "type, instance, name, default, description, states";
-
-const CHARACTER_STRING: &str = "type, instance, name, default, description";
-/// Those of an Integer Value, positive or not.
-const INTEGER: &str = "type, instance, name, default, description, units";
-
-const SET: &str = "name, items";
-
-const RULE: &str =
-    "name, allow, operation, port, source_network, source, destination, service, object_type, instance, property, priority";
-/// Those of format 3.
-const LONG_RULE: &str =
-    "name, allow, operation, port, source_network, source, destination, service, object_type, instance, \
-     property, priority, sender, station, note, audit";
 
 /// Puts the keys of the table at a place. `AllocError` where memory was refused.
 pub(crate) fn put_keys(line: &mut Vec<u8>, place: Place, top: &Table) -> Result<(), AllocError>
     ensures { let words = keys_words (fields_at place (table_view top.now)) in
         OnOk result (line.new.items ≡ line.old.items ++ words) }
 {
-    put_known(line, keys_at(place, top))
-}
-
-/// Puts keys, where there are any.
-fn put_known(line: &mut Vec<u8>, keys: &str) -> Result<(), AllocError>
-    ensures { OnOk result (line.new.items ≡ line.old.items ++ known_words keys.now) }
-{
-    if keys.is_empty() {
-        return Ok(());
-    }
-    put_list(line, keys)
-}
-
-fn put_list(line: &mut Vec<u8>, keys: &str) -> Result<(), AllocError>
-    ensures { OnOk result (line.new.items ≡ line.old.items ++ (codes "; known keys here: " ++ keys.now)) }
-{
-    line.extend_from_slice(b"; known keys here: ")?;
-    put_text(line, keys)
-}
-
-/// The keys of the table at a place.
-fn keys_at(place: Place, top: &Table) -> &'static str
-    ensures { result.now ≡ listed (fields_at place (table_view top.now)) }
-{
     match place {
-        Place::Text => no_keys(),
-        Place::Top => top_keys(format_of(top)),
-        Place::Device => device_keys(),
-        Place::Port(_) => port_keys(format_of(top)),
-        Place::Peer { .. } => peer_keys(),
-        Place::Route(_) => route_keys(),
-        Place::Object(_) => object_keys(kind_at(place, top)),
-        Place::Set(_) => set_keys(),
-        Place::Rule(_) => rule_keys(format_of(top)),
+        Place::Text => Ok(()),
+        Place::Top => put_keys_of_top(line, format_of(top)),
+        Place::Device => put_keys_of(line, &tables::device_fields()),
+        Place::Port(_) => put_keys_of_port(line, format_of(top)),
+        Place::Peer { .. } => put_keys_of(line, &tables::peer_fields()),
+        Place::Route(_) => put_keys_of(line, &tables::route_fields(0)),
+        Place::Object(_) => put_keys_of_object(line, kind_at(place, top)),
+        Place::Set(_) => put_keys_of(line, &tables::set_fields()),
+        Place::Rule(_) => put_keys_of_rule(line, format_of(top)),
     }
 }
 
@@ -94,81 +40,83 @@ fn kind_at(place: Place, top: &Table) -> Option<ObjectKind>
     kind(member(table_at(place, top)?, "type")?).ok()
 }
 
-/// Where there is no table.
-#[tactic(auto, unfolding(crate::specs::Keys::listed))]
-fn no_keys() -> &'static str
-    ensures { result.now ≡ listed [] }
+/// Puts the keys of the fields of a table, if it has any.
+fn put_keys_of(line: &mut Vec<u8>, fields: &[Field]) -> Result<(), AllocError>
+    ensures { OnOk result (line.new.items ≡ line.old.items ++ keys_words fields.now) }
 {
-    ""
-}
-
-#[tactic(auto, unfolding(crate::specs::Keys::listed))]
-fn top_keys(format: Format) -> &'static str
-    ensures { result.now ≡ listed (spec.top_fields format) }
-{
-    match format {
-        Format::Three => LONG_TOP,
-        Format::One | Format::Two => TOP,
+    match fields.split_first() {
+        Some((first, others)) => put_list(line, first.key(), others),
+        None => Ok(()),
     }
 }
 
-#[tactic(auto, unfolding(crate::specs::Keys::listed))]
-fn device_keys() -> &'static str
-    ensures { result.now ≡ listed spec.device_fields }
+fn put_list(line: &mut Vec<u8>, first: &str, others: &[Field]) -> Result<(), AllocError>
+    ensures { let list = first.now ++ flat_map one_more others.now in
+        OnOk result (line.new.items ≡ line.old.items ++ (codes "; known keys here: " ++ list)) }
 {
-    DEVICE
+    line.extend_from_slice(b"; known keys here: ")?;
+    put_text(line, first)?;
+    put_others(line, others)
 }
 
-#[tactic(auto, unfolding(crate::specs::Keys::listed))]
-fn port_keys(format: Format) -> &'static str
-    ensures { result.now ≡ listed (spec.port_fields format) }
+fn put_others(line: &mut Vec<u8>, others: &[Field]) -> Result<(), AllocError>
+    ensures { OnOk result (line.new.items ≡ line.old.items ++ flat_map one_more others.now) }
+{
+    for other in others {
+        put_one_more(line, other)?;
+    }
+    Ok(())
+}
+
+fn put_one_more(line: &mut Vec<u8>, other: &Field) -> Result<(), AllocError>
+    ensures { OnOk result (line.new.items ≡ line.old.items ++ one_more other.now) }
+{
+    line.extend_from_slice(b", ")?;
+    put_text(line, other.key())
+}
+
+fn put_keys_of_top(line: &mut Vec<u8>, format: Format) -> Result<(), AllocError>
+    ensures { OnOk result (line.new.items ≡ line.old.items ++ keys_words (spec.top_fields format)) }
 {
     match format {
-        Format::Three => LONG_PORT,
-        Format::One | Format::Two => PORT,
+        Format::Three => put_keys_of(line, &tables::top_fields_with_sets()),
+        Format::One | Format::Two => put_keys_of(line, &tables::top_fields()),
     }
 }
 
-#[tactic(auto, unfolding(crate::specs::Keys::listed))]
-fn peer_keys() -> &'static str
-    ensures { result.now ≡ listed spec.peer_fields }
+fn put_keys_of_port(line: &mut Vec<u8>, format: Format) -> Result<(), AllocError>
+    ensures { OnOk result (line.new.items ≡ line.old.items ++ keys_words (spec.port_fields format)) }
 {
-    PEER
+    match format {
+        Format::Three => put_keys_of(line, &tables::port_fields_with_stations()),
+        Format::One | Format::Two => put_keys_of(line, &tables::port_fields()),
+    }
 }
 
-#[tactic(auto, unfolding(crate::specs::Keys::listed))]
-fn route_keys() -> &'static str
-    ensures { result.now ≡ listed (spec.route_fields 0) }
-{
-    ROUTE
-}
-
-#[tactic(auto, unfolding(crate::specs::Keys::listed))]
-fn object_keys(kind: Option<ObjectKind>) -> &'static str
-    ensures { result.now ≡ listed (kind_fields kind) }
+/// Puts the keys of an object of this type.
+fn put_keys_of_object(line: &mut Vec<u8>, kind: Option<ObjectKind>) -> Result<(), AllocError>
+    ensures { OnOk result (line.new.items ≡ line.old.items ++ keys_words (kind_fields kind)) }
 {
     match kind {
-        Some(ObjectKind::BinaryValue) => BINARY,
-        Some(ObjectKind::MultiStateValue) => MULTI_STATE,
-        Some(ObjectKind::CharacterStringValue) => CHARACTER_STRING,
-        Some(ObjectKind::IntegerValue | ObjectKind::PositiveIntegerValue) => INTEGER,
-        None => "",
+        Some(ObjectKind::BinaryValue) => put_keys_of(line, &tables::binary_fields()),
+        Some(ObjectKind::MultiStateValue) => put_keys_of(line, &tables::multi_state_fields(0)),
+        Some(ObjectKind::CharacterStringValue) => {
+            put_keys_of(line, &tables::character_string_fields())
+        }
+        Some(ObjectKind::IntegerValue) => put_keys_of(line, &tables::integer_fields()),
+        Some(ObjectKind::PositiveIntegerValue) => {
+            put_keys_of(line, &tables::positive_integer_fields())
+        }
+        None => Ok(()),
     }
 }
 
-#[tactic(auto, unfolding(crate::specs::Keys::listed))]
-fn set_keys() -> &'static str
-    ensures { result.now ≡ listed spec.set_fields }
+fn put_keys_of_rule(line: &mut Vec<u8>, format: Format) -> Result<(), AllocError>
+    ensures { OnOk result (line.new.items ≡ line.old.items ++ keys_words (spec.rule_fields format)) }
 {
-    SET
-}
-
-#[tactic(auto, unfolding(crate::specs::Keys::listed))]
-fn rule_keys(format: Format) -> &'static str
-    ensures { result.now ≡ listed (spec.rule_fields format) }
-{
+    let fields = tables::rule_fields(format);
     match format {
-        Format::Three => LONG_RULE,
-        Format::One | Format::Two => RULE,
+        Format::Three => put_keys_of(line, &fields),
+        Format::One | Format::Two => put_keys_of(line, &fields[..COMMON_RULE_FIELDS]),
     }
 }

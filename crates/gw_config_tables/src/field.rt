@@ -58,6 +58,13 @@ impl Field {
         }
     }
 
+    /// Its key.
+    pub fn key(&self) -> &'static str
+        ensures { result.now ≡ self.now.key }
+    {
+        self.key
+    }
+
     /// The fault of the field in a table, beside the tables of the text's sets.
     pub fn fault(&self, sets: &[Value], table: &Table) -> Option<ConfigFault>
         ensures { result ≡ field_fault (map view sets.now) (table_view table.now) self.now }

@@ -22,7 +22,7 @@ use gw_rules::{FieldName, Format, MAX_RULES, Range};
 use toml::{Table, Value};
 
 /// How many fields a rule may have in formats 1 and 2: the first ones of all.
-const COMMON_RULE_FIELDS: usize = 12;
+pub const COMMON_RULE_FIELDS: usize = 12;
 
 /// How many sets a text may have: as many as it may have octets.
 const MAX_SETS: usize = 1 << 20;
@@ -97,7 +97,7 @@ pub fn top_located<'a>(format: Format, table: &'a Table) -> Option<Located<'a>>
 }
 
 /// The fields of the top table in formats 1 and 2.
-fn top_fields() -> [Field; 6]
+pub fn top_fields() -> [Field; 6]
     ensures { result ≡ spec.common_top_fields }
 {
     [
@@ -110,8 +110,8 @@ fn top_fields() -> [Field; 6]
     ]
 }
 
-/// Those of format 3.
-fn top_fields_with_sets() -> [Field; 7]
+/// The fields of the top table in format 3.
+pub fn top_fields_with_sets() -> [Field; 7]
     ensures { result ≡ spec.top_fields Format.Three }
 {
     [
@@ -166,7 +166,7 @@ pub fn port_located<'a>(format: Format, port: usize, table: &'a Table) -> Option
 }
 
 /// The fields of a port in format 3.
-fn port_fields_with_stations() -> [Field; 5]
+pub fn port_fields_with_stations() -> [Field; 5]
     ensures { result ≡ spec.port_fields Format.Three }
 {
     [
@@ -186,7 +186,7 @@ fn port_fields_with_stations() -> [Field; 5]
 }
 
 /// The fields of a port in formats 1 and 2.
-fn port_fields() -> [Field; 4]
+pub fn port_fields() -> [Field; 4]
     ensures { result ≡ spec.common_port_fields }
 {
     [
@@ -277,7 +277,7 @@ pub fn character_string_fields() -> [Field; 5]
     ]
 }
 
-/// The fields of a Integer Value.
+/// The fields of an Integer Value.
 pub fn integer_fields() -> [Field; 6]
     ensures { result ≡ spec.object_fields ObjectKind.IntegerValue 0 }
 {
@@ -383,7 +383,7 @@ pub fn rule_located<'a>(
 }
 
 /// All that a rule of this format may have, of which the last four are format 3's alone.
-fn rule_fields(format: Format) -> [Field; 16]
+pub fn rule_fields(format: Format) -> [Field; 16]
     ensures { result ≡ spec.every_rule_field format }
 {
     [
