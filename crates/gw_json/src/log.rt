@@ -7,15 +7,12 @@ ghost use Rattle.gw_json.specs.Log.{IsDenialIn, IsEntryIn, IsFrontMember, IsOthe
 ghost use Rattle.gw_stamping.specs.Fields.{is_denial};
 
 use crate::ask::put_ask;
-use crate::value::{put_number, put_quoted};
+use crate::value::{empty_object, put_number, put_quoted};
 use gw_addr::put_slice;
 use gw_audit::{Shown, read_line};
 use gw_script::{LineTranslator, LinesFault, OctetSink, OctetSource, translate_lines};
 use gw_stamping::denial_front;
 use std::alloc::{AllocError, Global};
-
-/// How many octets of an object there is room for at the start.
-const OBJECT_ROOM: usize = 512;
 
 /// Writes each line of a log as a JSON object, in order, before it takes up the next line: one that ends in the line of a
 /// denial by what it shows, and by what is in front, such as a stamp; another as a text. What isn't UTF-8 is hexadecimal
@@ -143,7 +140,7 @@ fn denial(alloc: Global, shown: &Shown<'_>, member: &[u8]) -> Result<Vec<u8>, Al
     ensures { IfOk result (λ text. text.items
         ≡ shown_line member.now shown.now.number shown.now.tick shown.now.ask shown.now.rule.now) }
 {
-    let mut text = Vec::with_capacity(alloc, OBJECT_ROOM)?;
+    let mut text = empty_object(alloc)?;
     put_number(&mut text, b"{\"number\":", shown.number)?;
     put_number(&mut text, b",\"tick\":", shown.tick)?;
     put_ask(alloc, &mut text, &shown.ask)?;

@@ -1,6 +1,6 @@
 //! Values of a JSON object, each after its key.
 
-ghost use Rattle.std.specs.Prelude.{◌≡◌, ◌++◌, decimal, string_bytes, IfOk, OnOk};
+ghost use Rattle.std.specs.Prelude.{◌≡◌, ◌++◌, [], decimal, string_bytes, vec_capacity, IfOk, OnOk};
 ghost use Rattle.json.specs.Print.{quoted};
 ghost use Rattle.gw_audit.specs.Line.{key_octets};
 ghost use Rattle.gw_json.specs.Text.{named_text, number_text, operation_text, station_text, station_word};
@@ -13,8 +13,19 @@ use std::alloc::{AllocError, Global};
 /// How many keys of 48 bits there are.
 const KEYS: u64 = 1 << 48;
 
+/// How many octets of an object there is room for at the start.
+const OBJECT_ROOM: usize = 512;
+
 /// What replaces a value that there isn't.
 pub(crate) const NULL: &[u8] = b"null";
+
+/// No octet of an object, with the room that there is for one at the start.
+pub(crate) fn empty_object(alloc: Global) -> Result<Vec<u8>, AllocError>
+    ensures empty { IfOk result (λ text. text.items ≡ []) }
+    ensures room { IfOk result (λ text. vec_capacity text ≡ 512) }
+{
+    Vec::with_capacity(alloc, OBJECT_ROOM)
+}
 
 /// Appends a text in quotes, with the escapes of RFC 8259.
 pub(crate) fn put_quoted(alloc: Global, out: &mut Vec<u8>, text: &str) -> Result<(), AllocError>

@@ -7,16 +7,13 @@ ghost use Rattle.gw_json.specs.Text.{number_text};
 ghost use Rattle.gw_json.specs.Why.{IsAnswerIn, LeavesVerdicts, SaysNoAsk, answer_line, grounds_text, name_text, noted_text, ruling_text, shown_note, truth_text, verdict_text};
 
 use crate::ask::put_ask;
-use crate::value::{NULL, put_field, put_quoted};
+use crate::value::{NULL, empty_object, put_field, put_quoted};
 use gw_addr::put_slice;
 use gw_audit::{ShownAsk, read_ask};
 use gw_configuration::{Config, Text};
 use gw_rules::{NO_RULE, Rule, RuleList};
 use gw_script::{LineTranslator, LinesFault, OctetSink, OctetSource, translate_lines};
 use std::alloc::{AllocError, Global};
-
-/// How many octets of an object there is room for at the start.
-const OBJECT_ROOM: usize = 512;
 
 /// Writes for each line, in order, which rule of the configuration is the first to match the ask that the line has, and
 /// what it says, before it takes up the next line. The writer isn't flushed.
@@ -83,7 +80,7 @@ impl Answers<'_> {
             ≡ answer_line self.now.rules.now self.now.notes.now ask.now) }
     {
         let judged = ask.ask();
-        let mut text = Vec::with_capacity(alloc, OBJECT_ROOM)?;
+        let mut text = empty_object(alloc)?;
         self.put_verdict(
             alloc,
             &mut text,

@@ -71,7 +71,7 @@ pub fn findings_of(
     ensures { IfOk result (λ findings. AreTrue shapes.now rules.now findings.items) }
 {
     let all = rules.rules();
-    let mut findings = Vec::with_capacity(alloc, all.len())?;
+    let mut findings = Vec::new(alloc);
     for place in 0..all.len() {
         findings.push(finding_of(alloc, shapes, rules, place as u16 + 1, &all[place])?)?;
     }

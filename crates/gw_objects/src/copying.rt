@@ -105,7 +105,7 @@ pub(crate) fn states(
     ensures { IfOk result (λ states.
         states.items ≡ map (λ object. no_command (default_of object.value)) objects.now) }
 {
-    let mut states = Vec::with_capacity(alloc, objects.len())?;
+    let mut states = Vec::new(alloc);
     for one in objects {
         states.push(PriorityArray::new(PropertyValue::default_of(alloc, &one.value)?))?;
     }

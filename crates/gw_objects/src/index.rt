@@ -15,7 +15,7 @@ pub(crate) fn places_by_id(
 ) -> Result<IndexMap<ObjectId, usize>, AllocError>
     ensures { IfOk result (λ places. FindsIds places.entries objects.now) }
 {
-    let mut places = IndexMap::with_capacity(alloc, objects.len())?;
+    let mut places = IndexMap::new(alloc);
     for place in 0..objects.len() {
         note(&mut places, objects[place].id(), place)?;
     }
@@ -29,7 +29,7 @@ pub(crate) fn places_by_name(
 ) -> Result<IndexMap<Vec<u8>, usize>, AllocError>
     ensures { IfOk result (λ places. FindsNames places.entries objects.now) }
 {
-    let mut places = IndexMap::with_capacity(alloc, objects.len())?;
+    let mut places = IndexMap::new(alloc);
     for place in 0..objects.len() {
         note(&mut places, name(alloc, &objects[place])?, place)?;
     }

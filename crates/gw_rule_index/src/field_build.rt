@@ -82,7 +82,7 @@ fn rows_of(
     ensures len { IfOk result (λ rows. length rows.items ≡ length numbers.now + 1) }
     ensures rows { IfOk result (λ rows. HasRows rules.now field numbers.now rows.items) }
 {
-    let mut rows = Vec::with_capacity(alloc, numbers.len().saturating_add(1))?;
+    let mut rows = Vec::new(alloc);
     rows.push(Row::admitting(rules, field, Some(0)))?;
     for number in numbers {
         rows.push(Row::admitting(rules, field, Some(*number)))?;

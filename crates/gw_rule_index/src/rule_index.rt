@@ -217,7 +217,7 @@ fn index_fields(alloc: Global, rules: &[Rule]) -> Result<Fields<FieldIndex>, All
 fn verdicts_of(alloc: Global, rules: &[Rule]) -> Result<Vec<bool>, AllocError>
     ensures { IfOk result (λ verdicts. verdicts.items ≡ map (λ rule. rule.allow) rules.now) }
 {
-    let mut verdicts = Vec::with_capacity(alloc, rules.len())?;
+    let mut verdicts = Vec::new(alloc);
     for rule in rules {
         verdicts.push(rule.allow)?;
     }

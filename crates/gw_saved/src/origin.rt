@@ -162,7 +162,7 @@ fn saved_objects(
 ) -> Result<Vec<SavedObject>, AllocError>
     ensures { IfOk result (λ saved. saved.items ≡ saved_objects objects.now states.now) }
 {
-    let mut saved = Vec::with_capacity(alloc, objects.len())?;
+    let mut saved = Vec::new(alloc);
     for (place, object) in objects.iter().enumerate() {
         let Some(slots) = states.get(place) else {
             return Ok(saved);
@@ -176,7 +176,7 @@ fn saved_objects(
 fn ports_of(alloc: Global, ports: &[Port]) -> Result<Vec<OriginPort>, AllocError>
     ensures { IfOk result (λ origins. origins.items ≡ map origin_port ports.now) }
 {
-    let mut origins = Vec::with_capacity(alloc, ports.len())?;
+    let mut origins = Vec::new(alloc);
     for port in ports {
         origins.push(OriginPort {
             network: port.network,
@@ -191,7 +191,7 @@ fn ports_of(alloc: Global, ports: &[Port]) -> Result<Vec<OriginPort>, AllocError
 fn objects_of(alloc: Global, objects: &[Object]) -> Result<Vec<OriginObject>, AllocError>
     ensures { IfOk result (λ origins. origins.items ≡ map origin_object objects.now) }
 {
-    let mut origins = Vec::with_capacity(alloc, objects.len())?;
+    let mut origins = Vec::new(alloc);
     for object in objects {
         origins.push(OriginObject {
             object: id_of(object),

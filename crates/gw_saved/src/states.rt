@@ -37,7 +37,7 @@ fn states_of(
 ) -> Result<Vec<PriorityArray<PropertyValue>>, AllocError>
     ensures { IfOk result (λ states. states.items ≡ states_carried objects.now saved.now) }
 {
-    let mut states = Vec::with_capacity(alloc, objects.len())?;
+    let mut states = Vec::new(alloc);
     for object in objects {
         states.push(slots_for(alloc, object, object_saved(saved, object))?)?;
     }

@@ -38,7 +38,7 @@ fn tables_of(
     requires once { AllByRecursion (λ p. IsFalse (has_twice p.peers)) ports.now }
     ensures { IfOk result (λ tables. tables.items ≡ tables_carried ticks ports.now saved.now) }
 {
-    let mut tables = Vec::with_capacity(alloc, ports.len())?;
+    let mut tables = Vec::new(alloc);
     for port in ports {
         tables.push(tables_for(alloc, ticks, port, port_saved(saved, port))?)?;
     }

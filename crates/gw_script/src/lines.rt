@@ -1,6 +1,6 @@
 //! A text for each line of a text.
 
-ghost use Rattle.std.specs.Prelude.{◌≡◌, ◌+◌, ◌*◌, ◌<◌, ℕ, List, [], length, Ok, Some, IsErrOf, true};
+ghost use Rattle.std.specs.Prelude.{◌≡◌, ◌+◌, ◌*◌, ◌<◌, ℕ, List, [], length, Ok, Some, vec_capacity, IfOk, IsErrOf, true};
 ghost use Rattle.std.specs.Io.KnownBytes.{prepend_known};
 ghost use Rattle.gw_script.specs.Known.{IsShorter, OnKnown};
 ghost use Rattle.gw_script.specs.Lines.{LeavesLines, OnKnownLine};
@@ -10,7 +10,7 @@ use crate::reader::{LineReader, NextLine};
 use crate::sink::{OctetSink, write_whole};
 use crate::source::OctetSource;
 use crate::translator::LineTranslator;
-use std::alloc::Global;
+use std::alloc::{AllocError, Global};
 use thiserror::Error;
 
 /// How many octets of text there is room for at the start.
@@ -33,6 +33,14 @@ pub enum LinesFault {
     Memory,
 }
 
+/// An empty text with the room that there is at the start.
+fn empty_text(alloc: Global) -> Result<Vec<u8>, AllocError>
+    ensures empty { IfOk result (λ text. text.items ≡ []) }
+    ensures room { IfOk result (λ text. vec_capacity text ≡ 256) }
+{
+    Vec::with_capacity(alloc, TEXT_ROOM)
+}
+
 /// Writes the text for each line, in order, before it takes up the next line. The writer isn't flushed.
 ///
 /// A line ends with a line feed, which the last may lack. It has at most 4096 octets without it.
@@ -51,7 +59,7 @@ pub fn translate_lines<T: LineTranslator, R: OctetSource, W: OctetSink>(
         ¬ (IsErrOf result LinesFault.Read) }
     ensures sure_writer { W.NeverFails writer.old → ¬ (IsErrOf result LinesFault.Write) }
 {
-    let Ok(text) = Vec::with_capacity(alloc, TEXT_ROOM) else {
+    let Ok(text) = empty_text(alloc) else {
         return Err(LinesFault::Memory);
     };
     let mut translating = Translating {

@@ -1,6 +1,6 @@
 //! ReadPropertyMultiple (clause 15.7).
 
-ghost use Rattle.std.specs.Prelude.{◌≡◌, ◌≢◌, ◌≤◌, ◌/◌, ◌⊎◌, List, [], map, min, None, vec_len, IfOk, MatchResult, OnOk, Ok, Err};
+ghost use Rattle.std.specs.Prelude.{◌≡◌, ◌≢◌, ◌≤◌, ◌/◌, ◌⊎◌, List, [], length, map, min, None, vec_capacity, vec_len, IfOk, MatchResult, OnOk, Ok, Err};
 ghost use Rattle.std.specs.Option.{option_map};
 ghost use Rattle.gw_addr.specs.Appending.{IsAppended, IsAppendedWhole};
 ghost use Rattle.gw_addr.specs.Reading.{Gives};
@@ -146,6 +146,14 @@ fn references(
     }
 }
 
+/// No reference, with memory for as many as these octets can have.
+fn no_references(alloc: Global, octets: &[u8]) -> Result<Vec<Reference>, AllocError>
+    ensures empty { IfOk result (λ list. list.items ≡ []) }
+    ensures room { IfOk result (λ list. vec_capacity list ≡ min (length octets.now / 2) most_references) }
+{
+    Vec::with_capacity(alloc, most_of(octets.len()))
+}
+
 /// The references of a body. A first one that is refused takes no memory.
 fn list_of(alloc: Global, octets: &[u8]) -> Result<Vec<Reference>, BodyFault>
     ensures nothing { octets.now ≡ [] → result ≡ Err BodyFault.Missing }
@@ -157,7 +165,7 @@ fn list_of(alloc: Global, octets: &[u8]) -> Result<Vec<Reference>, BodyFault>
         → multi_at octets.now ≡ Err fault }
 {
     let (first, next) = read_reference(MAX_REFERENCES, None, octets)?;
-    let Ok(mut list) = Vec::with_capacity(alloc, most_of(octets.len())) else {
+    let Ok(mut list) = no_references(alloc, octets) else {
         return Err(BodyFault::Memory);
     };
     let Ok(()) = list.push(first) else {

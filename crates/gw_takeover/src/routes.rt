@@ -41,7 +41,7 @@ fn first_table(alloc: Global, config: &Config) -> Result<Routes, AllocError>
 fn own_networks(alloc: Global, ports: &[Port], device: NetNum) -> Result<Vec<NetNum>, AllocError>
     ensures { IfOk result (λ nets. nets.items ≡ map (λ p. p.network) ports.now ++ device ∷ []) }
 {
-    let mut nets = Vec::with_capacity(alloc, ports.len() + 1)?;
+    let mut nets = Vec::new(alloc);
     add_networks(&mut nets, ports)?;
     nets.push(device)?;
     Ok(nets)
@@ -60,7 +60,7 @@ fn add_networks(nets: &mut Vec<NetNum>, ports: &[Port]) -> Result<(), AllocError
 fn routed(alloc: Global, routes: &[ConfiguredRoute]) -> Result<Vec<(NetNum, Route)>, AllocError>
     ensures { IfOk result (λ routed. routed.items ≡ map routed_of routes.now) }
 {
-    let mut routed = Vec::with_capacity(alloc, routes.len())?;
+    let mut routed = Vec::new(alloc);
     for route in routes {
         let way = Route {
             port: route.port,

@@ -33,7 +33,7 @@ returns-clause-ok c =
     let r = reference_view first in
     let octets = c.args.octets.now in
     let read : map reference_view c.push.new.self.items ≡ r ∷ [] =
-    ap (map reference_view) (c.in-Ok-push.ensures.items ∙ ap (λ held. held ++ first ∷ []) c.in-Ok.ensures.items) in
+    ap (map reference_view) (c.in-Ok-push.ensures.items ∙ ap (λ held. held ++ first ∷ []) c.in-Ok.ensures.empty) in
     elim c.match-next.branch [
       | in-More+in_ok-references w ↦
           let place = option_map object_view w.in-More.current in
