@@ -6,7 +6,8 @@ ghost use Rattle.gw_addr.specs.Reading.{AreOctets};
 ghost use Rattle.gw_addr.specs.Text.{Lacks};
 ghost use Rattle.gw_rules.specs.Name.{is_name};
 ghost use Rattle.gw_audit.specs.Entry.{IsShowable};
-ghost use Rattle.gw_audit.specs.Laws.{EndsOnce, IsDenial, IsKept, NamesOneDenial, StaysShort};
+ghost use Rattle.gw_audit.specs.Laws.{EndsOnce, IsDenial, IsKept, IsOneLine, NamesOneDenial, StaysShort};
+ghost use Rattle.gw_audit.specs.Line.{line_text};
 ghost use Rattle.gw_audit.specs.Translation.{TranslatesEach, TranslatesOnce, TranslatesWords};
 
 use crate::denial::Denial;
@@ -55,6 +56,14 @@ pub fn fits(denial: &Denial)
     field(ask.priority);
     field(ask.sender);
     field(ask.station);
+}
+
+/// The line of a denial has one line feed, at its end.
+#[tactic(auto, using(crate::proofs::LineLemmas::ends_once))]
+pub fn line(denial: &Denial)
+    ensures { IsOneLine (line_text denial.now) }
+{
+    fits(denial);
 }
 
 /// A number fits 64 bits.

@@ -1,5 +1,5 @@
 //! Who puts asks to a policy, and what is kept of them.
-ghost use Rattle.std.specs.Prelude.{◌≡◌, [], ◌∷◌, ◌++◌, IfOk, List, OnErr, OnOk};
+ghost use Rattle.std.specs.Prelude.{◌≡◌, [], ◌∷◌, ◌++◌, IfOk, IsOk, List, OnErr, OnOk};
 ghost use Rattle.gw_rules.specs.declared.rule.Rule.{Rule};
 ghost use Rattle.gw_rules.specs.declared.verdict.Verdict.{Verdict};
 ghost use Rattle.gw_rules.specs.Ask.{Ask};
@@ -27,12 +27,14 @@ pub trait Asker {
     fn alloc(&self) -> Global;
 
     /// Whether the policy allows the ask. What is to be kept of it is added after what was kept
-    /// before. With `AllocError` the ask counts as not put, and nothing changed.
+    /// before: only that may want memory. With `AllocError` the ask counts as not put, and nothing changed.
     fn authorize(&mut self, ask: &Ask) -> Result<bool, AllocError>
         ensures answer { (rules : List Rule) → StandsFor self.old rules →
             IfOk result (λ yes. yes ≡ allows rules ask.now) }
         ensures kept { (rules : List Rule) → StandsFor self.old rules →
             OnOk result (kept self.new ≡ kept self.old ++ kept_of rules (ask.now ∷ [])) }
+        ensures unkept { (rules : List Rule) → StandsFor self.old rules →
+            kept_of rules (ask.now ∷ []) ≡ [] → IsOk result }
         ensures stays { (rules : List Rule) → StandsFor self.old rules → StandsFor self.new rules }
         ensures err { OnErr result (self.new ≡ self.old) };
 
