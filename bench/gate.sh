@@ -1,6 +1,8 @@
 #!/usr/bin/env bash
-# Runs the gate, `rt ci --anew`, on a clean clone of HEAD and, where it is green, adds its row to docs/GATE.md. That page says what the
-# columns are and how they are measured. A run that fails one writes no row.
+# Runs the gate from nothing on a clean clone of HEAD and, if it is green, adds its row to docs/GATE.md. That page says what the
+# columns are and how they are measured. A run that fails writes no row.
+#
+# A kit whose gate keeps what has passed knows the word `--anew`; one that doesn't proves everything at each `rt ci`.
 #
 #     bench/gate.sh [PAGE]      # docs/GATE.md by default
 #
@@ -97,10 +99,17 @@ class Cost:
         return sums
 
 
+def knows_anew():
+    """Whether the kit knows the word `--anew`. One that doesn't says how it is called; no gate runs in a folder that is no repository."""
+    ran = subprocess.run(["rt", "ci", "--anew"], cwd="/", stdin=subprocess.DEVNULL, capture_output=True)
+    return not ran.stderr.lstrip().startswith(b"usage:")
+
+
 clone, report = sys.argv[1:]
+words = ["rt", "ci", *(["--anew"] if knows_anew() else [])]
 cost, start, text, ended = Cost(), time.monotonic(), b"", None
 with open(report + ".log", "wb") as log, open(report + ".log", "rb") as told:
-    ran = subprocess.Popen(["rt", "ci", "--anew"], cwd=clone, stdin=subprocess.DEVNULL, stdout=log, stderr=subprocess.STDOUT)
+    ran = subprocess.Popen(words, cwd=clone, stdin=subprocess.DEVNULL, stdout=log, stderr=subprocess.STDOUT)
     while ended is None:
         try:
             ended = ran.wait(PAUSE)

@@ -21,6 +21,8 @@
 #     clause   a goal that doesn't hold; where answers were left out, one that the function as it is meets without them
 #     goal     a goal that the function as it is doesn't meet without those answers either; its name follows
 #     proof    only the text of a hand-written proof, which says less
+#     case     what a program of cases prints, of a slip that gives up as a want of memory would, which every contract allows. Its file
+#              names that program in a line `case: CRATE`; the program is tried unproved
 #
 # Last comes how many were refused by each, and how many weren't. The status is 0 where all were refused.
 #
@@ -48,7 +50,7 @@ crates = [it for it in sys.argv[4:] if it not in options] or sorted({it.parent.p
 PARTS = ["src", "specs", "proofs"]
 TURNS = 6
 RECORD = top / "bench" / "slips.tsv"
-REFUSED = ("clause", "goal", "proof")
+REFUSED = ("clause", "goal", "proof", "case")
 FUNCTION = re.compile(r"(\s*)(?:pub(?:\([a-z]+\))? )?(?:const )?fn (\w+)")
 
 
@@ -149,6 +151,12 @@ def read_slip(edit):
         elif kind == "new":
             pairs.append((path, old, text))
     return pairs
+
+
+def case_of(edit):
+    """The program whose cases refuse a slip that its crate's contracts allow, or None."""
+    found = re.search(r"^case: (\w+)$", edit.read_text(encoding="utf-8"), re.MULTILINE)
+    return found[1] if found else None
 
 
 def write_slip(pairs, crate):
@@ -424,7 +432,7 @@ class Trial:
                 return self.tell(slip, "NOT TRIED", fault)
             status, said = self.check()
             if status == 0:
-                return self.tell(slip, "NOT REFUSED", "the check proves it")
+                return self.try_cases(slip)
             if not is_verdict(status, said):
                 return self.tell(slip, "NOT TRIED", short(said))
             left = re.findall(r"^fn (\S+): (?!proved$)", said, re.MULTILINE)
@@ -445,6 +453,22 @@ class Trial:
             verdict = "clause" if judged(said, re.escape(name))[0] == "proved" else "goal"
         more = f", and {len(left) - 1} more" if len(left) > 1 else ""
         return self.tell(slip, verdict, f"{name.partition('::')[2]}: {goals}{more}")
+
+    def try_cases(self, slip):
+        """Runs the cases over a slip that the check proves, if its file names a program of them."""
+        program = case_of(top / "crates" / self.name / "slips" / f"{slip}.edit")
+        if not program:
+            return self.tell(slip, "NOT REFUSED", "the check proves it")
+        folder = self.crate.parent / program
+        with open(folder / "stdin", "rb") as given:
+            done = subprocess.run(["rt", "try", "--seconds", "1000"], cwd=folder, stdin=given, capture_output=True)
+        if b"run=ended status=0" not in done.stderr:
+            return self.tell(slip, "NOT TRIED", f"{program} gave no answer")
+        wanted = (folder / "stdout").read_bytes().splitlines()
+        rows = [row for row, both in enumerate(zip(wanted, done.stdout.splitlines()), 1) if both[0] != both[1]]
+        if not rows:
+            return self.tell(slip, "NOT REFUSED", f"the check proves it, and {program} prints what it should")
+        return self.tell(slip, "case", f"{program}: line {rows[0]} of its output differs")
 
     def drop(self, left_out):
         """Leaves these answers out of the crate's proofs."""
