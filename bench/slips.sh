@@ -32,6 +32,7 @@ set -euo pipefail
 top=$(cd "$(dirname "$0")/.." && pwd)
 cd "$top"
 exec python3 - "$top" "${JOBS:-$((($(nproc) + 1) / 2))}" "${LOGS:-}" "$@" <<'PYTHON'
+import fcntl
 import hashlib
 import re
 import shutil
@@ -68,11 +69,15 @@ class Record:
     def __init__(self):
         self.lock = threading.Lock()
         self.sums = {}
-        self.rows = {}
-        if RECORD.exists():
-            for line in RECORD.read_text(encoding="utf-8").splitlines():
-                crate, slip, *rest = line.split("\t")
-                self.rows[crate, slip] = rest
+        self.rows = self.read()
+
+    def read(self):
+        """The rows of the file."""
+        rows = {}
+        for line in RECORD.read_text(encoding="utf-8").splitlines() if RECORD.exists() else []:
+            crate, slip, *rest = line.split("\t")
+            rows[crate, slip] = rest
+        return rows
 
     def sum(self, crate, slip):
         """The checksum of a slip and of what it is tried on."""
@@ -87,7 +92,10 @@ class Record:
         return verdict if tried == self.sum(crate, slip) else None
 
     def note(self, crate, slip, verdict, goal):
-        with self.lock:
+        # Several runs may write to the file, so each takes what the others wrote.
+        with self.lock, open(top / "bench" / "slips.sh", encoding="utf-8") as held:
+            fcntl.flock(held, fcntl.LOCK_EX)
+            self.rows = self.read()
             if verdict in REFUSED:
                 self.rows[crate, slip] = [verdict, goal, self.sum(crate, slip)]
             else:

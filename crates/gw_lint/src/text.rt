@@ -1,7 +1,7 @@
 //! The line that a rule has in a lint.
 ghost use Rattle.std.specs.Prelude.{◌≡◌, ◌++◌, codes, length, OnOk};
 ghost use Rattle.std.specs.List.{flat_map};
-ghost use Rattle.gw_audit.specs.Line.{operation_of, operation_text};
+ghost use Rattle.gw_audit.specs.Line.{operation_text};
 ghost use Rattle.gw_rules.specs.RuleList.{allows_at};
 ghost use Rattle.gw_script.specs.Order.{in_order};
 ghost use Rattle.gw_lint.specs.Text.{found_text, is_shown, is_listed, item_text, likeness_text, line_text, rule_text};
@@ -9,7 +9,8 @@ ghost use Rattle.gw_lint.specs.Text.{says_same, source_text, value_text};
 
 use crate::Finding;
 use gw_addr::{BipAddr, put_decimal};
-use gw_rules::{Ask, FieldName, Operation, RuleList};
+use gw_audit::operation_named;
+use gw_rules::{Ask, FieldName, RuleList};
 use gw_shapes::rule_at;
 use std::alloc::AllocError;
 
@@ -203,19 +204,10 @@ fn put_value(out: &mut Vec<u8>, field: FieldName, value: Option<u64>) -> Result<
 fn put_operation(out: &mut Vec<u8>, number: u64) -> Result<(), AllocError>
     ensures { OnOk result (out.new.items ≡ out.old.items ++ operation_text (Some number)) }
 {
-    match operation_of(number) {
+    match operation_named(number, true) {
         Some(operation) => out.extend_from_slice(operation.name().as_bytes()),
         None => put_decimal(out, number),
     }
-}
-
-fn operation_of(number: u64) -> Option<Operation>
-    ensures { result ≡ operation_of number }
-{
-    Operation::ALL
-        .iter()
-        .copied()
-        .find(|operation| operation.number() == number)
 }
 
 /// Appends the key of a station as the address that it is, or as its number where it has more than the
