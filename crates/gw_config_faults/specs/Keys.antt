@@ -61,9 +61,14 @@ abbrev pub Knows : {A : Type 0} → Place → List Field → (Members → Find A
 Knows place fields read = (table : Members) (key : List ℕ) →
     stranger fields table ≡ Some key → read table ≡ Err (at_key place UnknownKey (Some key))
 
--- in a text whose top table is this one
+-- the reader of a text whose top table is this one
+abbrev pub KnowsTop : Members → Type 0
+KnowsTop top = (key : List ℕ) →
+    stranger (fields_at Top top) top ≡ Some key → configuration_of top ≡ Err (at_key Top UnknownKey (Some key))
+
+-- in such a text
 pub record AreKnown (top : Members) : Type 0 where
-  pub whole : (key : List ℕ) → stranger (fields_at Top top) top ≡ Some key → configuration_of top ≡ Err (at_key Top UnknownKey (Some key))
+  pub whole : KnowsTop top
   pub device : Knows Device (fields_at Device top) device_of
   pub port : (port : ℕ) → Knows (Port port) (fields_at (Port port) top) (port_of (format_in top) port)
   pub peer : (port peer : ℕ) → Knows (Peer port peer) (fields_at (Peer port peer) top) (peer_of port peer)
