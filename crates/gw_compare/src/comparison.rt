@@ -116,7 +116,7 @@ pub(crate) fn summary_of(
     ensures in_order { IfOk result (λ s. IsNonDecreasingBy rank s.found.items) }
 {
     let mut summary = gw_regions::summary_of(alloc, asks, comparison)?;
-    put_in_order(&mut summary.found)?;
+    sort_found(&mut summary.found)?;
     Ok(summary)
 }
 
@@ -127,8 +127,8 @@ fn rank(found: &Found) -> u8
     if found.allows { 0 } else { 1 }
 }
 
-/// Puts what is newly allowed first.
-fn put_in_order(found: &mut Vec<Found>) -> Result<(), AllocError>
+/// Sorts them: what is newly allowed comes first.
+fn sort_found(found: &mut Vec<Found>) -> Result<(), AllocError>
     ensures permutation { IsPermutation found.old.items found.new.items }
     ensures in_order { OnOk result (IsNonDecreasingBy rank found.new.items) }
 {

@@ -356,13 +356,13 @@ pub fn ranges(
 {
     let mut all = Ranges::new(alloc);
     for item in items {
-        put_item(&mut all, sets, of, item)?;
+        add_item(&mut all, sets, of, item)?;
     }
     Ok(all)
 }
 
-/// Puts the ranges that an item names after those that are there.
-fn put_item(all: &mut Ranges, sets: &[Value], of: Scalar, item: &Value) -> Result<(), ConfigFault>
+/// Adds the ranges that an item names to those that are there.
+fn add_item(all: &mut Ranges, sets: &[Value], of: Scalar, item: &Value) -> Result<(), ConfigFault>
     ensures ranges { Gives (λ _. all.new) result
         (added_to all.old (items_in (map view sets.now) of (view item.now))) }
     ensures within { OnOk result (IsTrue (list_all (is_within (bounds_of of)) all.old)
@@ -370,7 +370,7 @@ fn put_item(all: &mut Ranges, sets: &[Value], of: Scalar, item: &Value) -> Resul
 {
     match set_name(item) {
         Some(name) => match items_named(sets, name) {
-            Some(items) => put_spans(all, of, items),
+            Some(items) => add_spans(all, of, items),
             None => Err(ConfigFault::Range),
         },
         None => {
@@ -380,9 +380,9 @@ fn put_item(all: &mut Ranges, sets: &[Value], of: Scalar, item: &Value) -> Resul
     }
 }
 
-/// Puts the ranges of the items of a set after those that are there.
+/// Adds the ranges of the items of a set to those that are there.
 #[tactic(auto, using(crate::proofs::Values::any_view))]
-fn put_spans(all: &mut Ranges, of: Scalar, items: &[Value]) -> Result<(), ConfigFault>
+fn add_spans(all: &mut Ranges, of: Scalar, items: &[Value]) -> Result<(), ConfigFault>
     ensures ranges { Gives (λ _. all.new) result (added_to all.old (spans_in of (map view items.now))) }
     ensures within { OnOk result (IsTrue (list_all (is_within (bounds_of of)) all.old)
         → IsTrue (list_all (is_within (bounds_of of)) all.new)) }

@@ -96,12 +96,12 @@ fn rule_parts(
     let name = value::rule_name(at("name", table)?)?;
     let allow = value::boolean(at("allow", table)?)?;
     let mut rule = Rule::new(alloc, name, allow)?;
-    put_ranges(alloc, format, sets, &mut rule.ranges, table)?;
+    set_ranges(alloc, format, sets, &mut rule.ranges, table)?;
     Ok(rule)
 }
 
-/// Puts the ranges for each field of the rule in the place of what is there.
-fn put_ranges(
+/// Sets the ranges for each field of the rule.
+fn set_ranges(
     alloc: Global,
     format: Format,
     sets: &[Value],

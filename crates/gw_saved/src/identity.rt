@@ -9,7 +9,7 @@ use gw_objects::ObjectType;
 use gw_tags::ObjectId;
 
 /// The identifier of a configured object.
-pub(crate) fn id_of(object: &Object) -> ObjectId
+pub fn id_of(object: &Object) -> ObjectId
     ensures { object_view result ≡ id_of object.now }
 {
     ObjectId {

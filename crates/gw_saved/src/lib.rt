@@ -17,7 +17,11 @@ mod tables;
 
 pub use counts::{MAX_COUNT, SavedCounts};
 pub use fault::SavedFault;
+pub use identity::id_of;
 pub use object::SavedObject;
 pub use origin::{Origin, OriginObject, OriginPort};
 pub use port::SavedPort;
+pub use routes::route_from;
 pub use saved::Saved;
+pub use states::{is_object, object_saved};
+pub use tables::{is_port, port_saved};

@@ -46,7 +46,7 @@ fn routes_of(
 }
 
 /// A route by the same port under the number that it has now, or none if the port isn't there any more.
-fn route_from(
+pub fn route_from(
     ports: &[Port],
     saved: &[SavedPort],
     learned: (NetNum, Route),

@@ -45,14 +45,14 @@ fn states_of(
 }
 
 /// Whether an object is the one that was saved.
-fn is_object(object: &Object, saved: &SavedObject) -> bool
+pub fn is_object(object: &Object, saved: &SavedObject) -> bool
     ensures { result ≡ is_object object.now saved.now }
 {
     id_of(object) == saved.object()
 }
 
 /// The object as it was saved.
-fn object_saved<'a>(saved: &'a [SavedObject], object: &Object) -> Option<&'a SavedObject>
+pub fn object_saved<'a>(saved: &'a [SavedObject], object: &Object) -> Option<&'a SavedObject>
     ensures { option_copied result ≡ find (is_object object.now) saved.now }
 {
     saved.iter().find(|saved| is_object(object, saved))

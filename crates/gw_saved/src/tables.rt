@@ -46,14 +46,14 @@ fn tables_of(
 }
 
 /// Whether a port is the one that was saved.
-pub(crate) fn is_port(port: &Port, saved: &SavedPort) -> bool
+pub fn is_port(port: &Port, saved: &SavedPort) -> bool
     ensures { result ≡ is_port port.now saved.now }
 {
     port.network == saved.network && port.address == saved.address
 }
 
 /// The port as it was saved.
-fn port_saved<'a>(saved: &'a [SavedPort], port: &Port) -> Option<&'a SavedPort>
+pub fn port_saved<'a>(saved: &'a [SavedPort], port: &Port) -> Option<&'a SavedPort>
     ensures { option_copied result ≡ find (is_port port.now) saved.now }
 {
     saved.iter().find(|saved| is_port(port, saved))

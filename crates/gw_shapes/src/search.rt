@@ -76,8 +76,8 @@ fn earlier(rules: &RuleList, number: u16, by: Option<u16>) -> Option<&Rule>
     }
 }
 
-/// Puts the asks of a region that the rule doesn't match after the regions, or all of them if there is no rule.
-fn put_back(
+/// Adds the asks of a region that the rule doesn't match to the regions, or all of them if there is no rule.
+fn give_back(
     alloc: Global,
     left: &mut Vec<Region>,
     rule: Option<&Rule>,
@@ -115,7 +115,7 @@ fn narrow(
     if by == Some(number) {
         return Ok(Some(ask));
     }
-    put_back(alloc, left, earlier(rules, number, by), region)?;
+    give_back(alloc, left, earlier(rules, number, by), region)?;
     Ok(None)
 }
 

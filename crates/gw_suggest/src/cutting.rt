@@ -23,9 +23,9 @@ fn push_with(
     Ok(())
 }
 
-/// Puts one after the others, cut into those that have at most four ranges for the field.
+/// Adds one to the others, cut into those that have at most four ranges for the field.
 #[tactic(auto, using(crate::proofs::GroupLaw::cut_begins))]
-fn put_cut(
+fn add_cut(
     alloc: Global,
     field: FieldName,
     done: &mut Vec<Group>,
@@ -50,7 +50,7 @@ fn cut_by(alloc: Global, field: FieldName, groups: &[Group]) -> Result<Vec<Group
 {
     let mut done = Vec::new(alloc);
     for group in groups {
-        put_cut(alloc, field, &mut done, group)?;
+        add_cut(alloc, field, &mut done, group)?;
     }
     Ok(done)
 }

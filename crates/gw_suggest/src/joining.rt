@@ -105,8 +105,8 @@ fn try_join(
     }
 }
 
-/// Puts one after the others, or makes one of it and one that differs from it in this field alone.
-fn put_joined(
+/// Adds one to the others, or makes one of it and one that differs from it in this field alone.
+fn add_joined(
     alloc: Global,
     field: FieldName,
     done: &mut Vec<Group>,
@@ -135,7 +135,7 @@ fn join_by(alloc: Global, field: FieldName, groups: &[Group]) -> Result<Vec<Grou
     let mut places = Places::new(alloc, groups.len())?;
     let mut done = Vec::new(alloc);
     for group in groups {
-        put_joined(alloc, field, &mut done, &mut places, group)?;
+        add_joined(alloc, field, &mut done, &mut places, group)?;
     }
     Ok(done)
 }

@@ -1,17 +1,14 @@
 //! Which ports and which objects are the same.
-ghost use Rattle.std.specs.Prelude.{◌≡◌, find, option_copied};
+ghost use Rattle.std.specs.Prelude.{◌≡◌};
 ghost use Rattle.std.specs.List.{list_any};
-ghost use Rattle.gw_objects.specs.Objects.{details_of, type_of};
 ghost use Rattle.gw_saved.specs.Carried.{is_object, is_port};
-ghost use Rattle.gw_saved.specs.Saved.{id_of};
 ghost use Rattle.gw_takeover.specs.Findings.{absence_of, is_same_object, is_same_port, object_name, object_absence, port_absence, port_name};
 ghost use Rattle.gw_tags.specs.Object.{object_view};
 
 use crate::{Absence, ObjectName, PortName};
 use gw_addr::{BipAddr, NetNum};
-use gw_configuration::{Object, ObjectValue, Port};
-use gw_objects::ObjectType;
-use gw_saved::{SavedObject, SavedPort};
+use gw_configuration::{Object, Port};
+use gw_saved::{SavedObject, SavedPort, is_object, is_port};
 use gw_tags::ObjectId;
 
 impl PortName {
@@ -53,20 +50,6 @@ fn absence_of(configured: bool, repeated: bool) -> Option<Absence>
 
 // ---- ports
 
-/// Whether a port is the one that was saved.
-pub(crate) fn is_port(port: &Port, saved: &SavedPort) -> bool
-    ensures { result ≡ is_port port.now saved.now }
-{
-    port.network == saved.network && port.address == saved.address
-}
-
-/// The port as it was saved.
-pub(crate) fn port_saved<'a>(saved: &'a [SavedPort], port: &Port) -> Option<&'a SavedPort>
-    ensures { option_copied result ≡ find (is_port port.now) saved.now }
-{
-    saved.iter().find(|saved| is_port(port, saved))
-}
-
 fn is_same_port(a: &SavedPort, b: &SavedPort) -> bool
     ensures { result ≡ is_same_port a.now b.now }
 {
@@ -100,42 +83,6 @@ pub(crate) fn port_absence(
 }
 
 // ---- objects
-
-/// The identifier of a configured object.
-pub(crate) fn id_of(object: &Object) -> ObjectId
-    ensures { object_view result ≡ id_of object.now }
-{
-    ObjectId {
-        kind: type_of(&object.value).number(),
-        instance: object.instance.get(),
-    }
-}
-
-/// The type of a value object.
-fn type_of(value: &ObjectValue) -> ObjectType
-    ensures { result ≡ type_of (details_of value.now) }
-{
-    match value {
-        ObjectValue::BinaryValue { .. } => ObjectType::BinaryValue,
-        ObjectValue::MultiStateValue(_) => ObjectType::MultiStateValue,
-        ObjectValue::CharacterStringValue { .. } => ObjectType::CharacterStringValue,
-        ObjectValue::IntegerValue { .. } => ObjectType::IntegerValue,
-        ObjectValue::PositiveIntegerValue { .. } => ObjectType::PositiveIntegerValue,
-    }
-}
-
-fn is_object(object: &Object, saved: &SavedObject) -> bool
-    ensures { result ≡ is_object object.now saved.now }
-{
-    id_of(object) == saved.object()
-}
-
-/// The object as it was saved.
-pub(crate) fn object_saved<'a>(saved: &'a [SavedObject], object: &Object) -> Option<&'a SavedObject>
-    ensures { option_copied result ≡ find (is_object object.now) saved.now }
-{
-    saved.iter().find(|saved| is_object(object, saved))
-}
 
 fn is_same_object(a: &SavedObject, b: &SavedObject) -> bool
     ensures { result ≡ is_same_object a.now b.now }

@@ -5,12 +5,11 @@ ghost use Rattle.gw_objects.specs.Objects.{details_of};
 ghost use Rattle.gw_saved.specs.Saved.{id_of};
 ghost use Rattle.gw_takeover.specs.Findings.{default_fate_by, default_finding, object_finding, object_findings, object_name, slot_finding, slot_findings, value_fate, value_finding};
 
-use crate::identity::{id_of, object_saved};
 use crate::lost::is_written;
 use crate::{Finding, Held, ObjectName, ValueFate, ValueFinding};
 use gw_configuration::{Object, ObjectValue};
 use gw_objects::PropertyValue;
-use gw_saved::SavedObject;
+use gw_saved::{SavedObject, id_of, object_saved};
 use std::alloc::AllocError;
 
 /// Adds what is found of the configured objects, in order.

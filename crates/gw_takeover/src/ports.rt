@@ -4,11 +4,10 @@ ghost use Rattle.gw_addr.specs.declared.TheConstants.{MAX_PORTS};
 ghost use Rattle.gw_saved.specs.Carried.{same_entry};
 ghost use Rattle.gw_takeover.specs.Findings.{are_same, device_count, devices_kept, port_finding, port_findings, sizes_of, table_fate};
 
-use crate::identity::port_saved;
 use crate::{Finding, PortName, Sizes, TableFate};
 use gw_addr::BdtEntry;
 use gw_configuration::Port;
-use gw_saved::SavedPort;
+use gw_saved::{SavedPort, port_saved};
 use std::alloc::AllocError;
 
 /// Adds what is found of the configured ports, in order.

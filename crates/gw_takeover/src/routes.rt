@@ -1,16 +1,13 @@
 //! What is found of learned routes.
-ghost use Rattle.std.specs.Prelude.{◌≡◌, ◌≤◌, ◌++◌, ◌∷◌, [], find, length, map, nat_eq, option_copied, IfOk, OnOk};
+ghost use Rattle.std.specs.Prelude.{◌≡◌, ◌++◌, ◌∷◌, [], find, map, nat_eq, option_copied, IfOk, OnOk};
 ghost use Rattle.std.specs.List.{list_any};
-ghost use Rattle.gw_addr.specs.declared.TheConstants.{MAX_PORTS};
-ghost use Rattle.gw_saved.specs.Carried.{number_now, port_then, route_from};
 ghost use Rattle.gw_takeover.specs.Findings.{fate_beside, finding_of_route, first_table, is_own, is_routed, is_same_route, refusal, route_fate, route_finding, routed_of, routes_kept};
 
-use crate::identity::is_port;
 use crate::{Finding, RouteFate, RouteFinding};
 use gw_addr::NetNum;
 use gw_configuration::{Config, Port, Route as ConfiguredRoute};
 use gw_routes::{Route, Routes};
-use gw_saved::{Saved, SavedPort};
+use gw_saved::{Saved, SavedPort, route_from};
 use std::alloc::{AllocError, Global};
 
 /// The learned routes that a gateway of this configuration has once it has taken over those of the state.
@@ -96,7 +93,7 @@ fn finding_of_route(
 ) -> Finding
     ensures { result ≡ finding_of_route config.now ports.now kept.now learned.now }
 {
-    let now = route_from(config.ports(), ports, learned);
+    let now = route_from(config.ports(), ports, *learned);
     Finding::Route(route_finding(config, kept, learned, now))
 }
 
@@ -188,42 +185,4 @@ fn is_routed(routes: &[ConfiguredRoute], network: NetNum) -> bool
     ensures { result ≡ list_any (λ r. nat_eq network r.network) routes.now }
 {
     routes.iter().any(|route| network == route.network)
-}
-
-/// A route by the same port under the number that it has now, or none if the port isn't there any more.
-fn route_from(
-    ports: &[Port],
-    saved: &[SavedPort],
-    learned: &(NetNum, Route),
-) -> Option<(NetNum, Route)>
-    requires { length ports.now ≤ MAX_PORTS }
-    ensures { result ≡ route_from ports.now saved.now learned.now }
-{
-    let (network, route) = *learned;
-    let port = number_now(ports, port_then(saved, usize::from(route.port))?)?;
-    let next = route.next;
-    Some((network, Route { port, next }))
-}
-
-/// The port that had this number, counted from 1.
-fn port_then(saved: &[SavedPort], number: usize) -> Option<&SavedPort>
-    ensures { option_copied result ≡ port_then saved.now number }
-{
-    if number == 0 {
-        return None;
-    }
-    saved.get(number - 1)
-}
-
-/// The number, counted from 1, that the port has now which was saved so.
-fn number_now(ports: &[Port], saved: &SavedPort) -> Option<u8>
-    requires { length ports.now ≤ MAX_PORTS }
-    ensures { result ≡ number_now 1 ports.now saved.now }
-{
-    for (place, port) in ports.iter().enumerate() {
-        if is_port(port, saved) {
-            return Some(place as u8 + 1);
-        }
-    }
-    None
 }

@@ -6,6 +6,6 @@ use Rattle.gw_shapes.proofs.search.narrow.Goals as goal
 
 pub returns-clause-left : goal.returns-clause-left
 returns-clause-left c = λ e shapes was.
-    narrowed shapes c.args.rules.now c.args.number _ c.in-Some.region c.pop.new.self.items c.put_back.new.left.items
-    c.earlier.ensures c.in_ok-put_back.ensures
+    narrowed shapes c.args.rules.now c.args.number _ c.in-Some.region c.pop.new.self.items c.give_back.new.left.items
+    c.earlier.ensures c.in_ok-give_back.ensures
     (subst (λ (all : List Region). IsLeft shapes c.args.rules.now c.args.number all) c.in-Some.ensures.items was)

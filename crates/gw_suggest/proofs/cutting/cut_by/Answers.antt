@@ -10,7 +10,7 @@ loop-group-preserved c = λ ask.
     let index = c.loop-group.group-index in
     let item = c.group-item.result in
     let here : get_or groups index item ≡ item = search rules in
-    covered_step groups index item c.loop-group.done.items c.put_cut.new.done.items ask c.loop-group-test.true (c.in_ok-put_cut.ensures ask) here
+    covered_step groups index item c.loop-group.done.items c.add_cut.new.done.items ask c.loop-group-test.true (c.in_ok-add_cut.ensures ask) here
     (c.loop-group.invariant ask)
 
 pub returns : goal.returns

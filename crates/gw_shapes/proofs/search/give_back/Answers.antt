@@ -2,7 +2,7 @@ use Rattle.std.proofs.Common.{subst, sym}
 use Rattle.std.specs.Prelude.{option_copied}
 use Rattle.gw_shapes.specs.Search.{IsPutBack}
 use Rattle.gw_shapes.proofs.Narrowing.{put_parts}
-use Rattle.gw_shapes.proofs.search.put_back.Goals as goal
+use Rattle.gw_shapes.proofs.search.give_back.Goals as goal
 
 pub returns-in_ok-part-in-Some : goal.returns-in_ok-part-in-Some
 returns-in_ok-part-in-Some c =

@@ -2,7 +2,7 @@ use Rattle.std.proofs.Common.{rules, ◌≡◌, Err, map, arith}
 use Rattle.toml.specs.View.{view}
 use Rattle.gw_config_tables.specs.Items.{added_to, spans_in}
 use Rattle.gw_config_tables.proofs.Each.{spans_end, spans_stop}
-use Rattle.gw_config_tables.proofs.items.put_spans.Goals as goal
+use Rattle.gw_config_tables.proofs.items.add_spans.Goals as goal
 
 pub returns-in_err-span-clause-ranges : goal.returns-in_err-span-clause-ranges
 returns-in_err-span-clause-ranges c =

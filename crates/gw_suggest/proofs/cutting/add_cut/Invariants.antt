@@ -2,7 +2,7 @@ use Rattle.std.proofs.Common.{◌≡◌, ◌||◌, length}
 use Rattle.gw_rules.specs.Ask.{Ask}
 use Rattle.gw_rules.specs.Fields.{with_value}
 use Rattle.gw_suggest.specs.Own.{covered, covers}
-use Rattle.gw_suggest.proofs.cutting.put_cut.Given as goal
+use Rattle.gw_suggest.proofs.cutting.add_cut.Given as goal
 
 abbrev pub invariant-loop-rest : goal.invariant-loop-rest
 invariant-loop-rest l = (ask : Ask) →

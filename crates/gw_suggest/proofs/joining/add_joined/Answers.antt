@@ -1,5 +1,5 @@
 use Rattle.gw_suggest.proofs.GroupLaw.{put_last}
-use Rattle.gw_suggest.proofs.joining.put_joined.Goals as goal
+use Rattle.gw_suggest.proofs.joining.add_joined.Goals as goal
 
 pub returns : goal.returns
 returns c = λ ask.

@@ -4,7 +4,7 @@ use Rattle.gw_rules.specs.Bounds.{is_within}
 use Rattle.gw_config_tables.specs.Items.{span_in}
 use Rattle.gw_config_tables.specs.Range.{bounds_of}
 use Rattle.gw_config_tables.proofs.Each.{IsPutTo}
-use Rattle.gw_config_tables.proofs.items.put_spans.Given as goal
+use Rattle.gw_config_tables.proofs.items.add_spans.Given as goal
 
 abbrev pub invariant-loop-item : goal.invariant-loop-item
 invariant-loop-item l = record {

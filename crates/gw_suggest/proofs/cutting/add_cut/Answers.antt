@@ -1,6 +1,6 @@
 use Rattle.gw_rules.specs.Fields.{with_value}
 use Rattle.gw_suggest.proofs.GroupLaw.{cut_ends, cut_step}
-use Rattle.gw_suggest.proofs.cutting.put_cut.Goals as goal
+use Rattle.gw_suggest.proofs.cutting.add_cut.Goals as goal
 
 pub loop-rest-preserved : goal.loop-rest-preserved
 loop-rest-preserved c = λ ask.
