@@ -16,7 +16,7 @@ use Rattle.indexmap.specs.IndexMap.{insert_entry}
 use Rattle.gw_addr.specs.declared.bip.BipAddr.{BipAddr}
 use Rattle.gw_bdt_fdt.specs.declared.leases.Lease.{Lease}
 use Rattle.gw_bdt_fdt.specs.Registrations.{same}
-use Rattle.gw_bdt_fdt.specs.Internal.{LeaseList, End, end_of, address_cmp, end_cmp, tied, AreEnds, holds_at}
+use Rattle.gw_bdt_fdt.specs.internal.Leases.{LeaseList, End, end_of, address_cmp, end_cmp, tied, AreEnds, holds_at}
 use Rattle.gw_bdt_fdt.proofs.Same.{own, equal_of}
 
 -- ---- two ends are one if the order ties them

@@ -11,7 +11,7 @@ use Rattle.gw_bdt_fdt.specs.declared.kept.KeptDevice.{KeptDevice}
 use Rattle.gw_bdt_fdt.specs.declared.fdt.TheConstants.{GRACE, MAX_REGISTRATIONS}
 use Rattle.gw_bdt_fdt.specs.Registrations.{Registration, Registrations, same}
 use Rattle.gw_bdt_fdt.specs.declared.leases.Lease.{Lease}
-use Rattle.gw_bdt_fdt.specs.Internal.{LeaseList, AreKept, holds_at, is_granted, lease_kept, row_at, table_at}
+use Rattle.gw_bdt_fdt.specs.internal.Leases.{LeaseList, AreKept, holds_at, is_granted, lease_kept, row_at, table_at}
 use Rattle.gw_bdt_fdt.specs.Kept.{kept, row_of, restored, is_due, is_of_device, repeat_address, are_restorable}
 use Rattle.gw_bdt_fdt.proofs.Same.{flipped}
 

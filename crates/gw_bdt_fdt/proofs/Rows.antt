@@ -9,7 +9,7 @@ use Rattle.gw_addr.specs.declared.bip.BipAddr.{BipAddr}
 use Rattle.gw_bdt_fdt.specs.declared.leases.Lease.{Lease}
 use Rattle.gw_bdt_fdt.specs.declared.fdt.TheConstants.{GRACE, MAX_REGISTRATIONS}
 use Rattle.gw_bdt_fdt.specs.Registrations.{Registration, same, contains, has_room, with_registration, without, with_less, row_later, with_tick}
-use Rattle.gw_bdt_fdt.specs.Internal.{LeaseList, row_at, table_at, holds_at, is_granted, AreKept}
+use Rattle.gw_bdt_fdt.specs.internal.Leases.{LeaseList, row_at, table_at, holds_at, is_granted, AreKept}
 
 pub keyed : (t : ℕ) (es : LeaseList) → keys_of (map (row_at t) es) ≡ keys_of es
 keyed t [] = refl

@@ -2,5 +2,5 @@ pub mod Registrations
 pub mod History
 pub mod Peers
 pub mod Laws
-pub mod Internal
+pub mod internal
 pub mod Kept

@@ -4,7 +4,7 @@ ghost use Rattle.std.specs.Prelude.{position, find, take, drop, option_copied};
 ghost use Rattle.std.specs.Prelude.{IsTrue, IsFalse, IfOk, IfSome, IsOk, IsErrOf};
 ghost use Rattle.std.specs.List.{list_any};
 ghost use Rattle.std.specs.Iterator.{YieldsFirstRef, item_count};
-ghost use Rattle.gw_bdt_fdt.specs.Internal.{peers_left};
+ghost use Rattle.gw_bdt_fdt.specs.internal.Iterators.{peers_left};
 ghost use Rattle.gw_bdt_fdt.specs.Peers.{are_too_many, has_twice, is_of, own_mask, peers};
 
 use crate::fault::BdtFault;
@@ -137,7 +137,7 @@ pub struct Peers<'a> {
 }
 
 impl<'a> Iterator for Peers<'a> {
-    ghost use Rattle.gw_bdt_fdt.specs.Internal.{peers_left};
+    ghost use Rattle.gw_bdt_fdt.specs.internal.Iterators.{peers_left};
 
     type Item = &'a BdtEntry;
 

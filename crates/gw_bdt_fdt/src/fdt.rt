@@ -4,7 +4,8 @@ ghost use Rattle.std.specs.Prelude.{true, IsTrue, IsFalse, IfOk, IsOk, OnOk, OnE
 ghost use Rattle.std.specs.List.{IsDistinct};
 ghost use Rattle.std.specs.Map.{keys_of};
 ghost use Rattle.std.specs.Iterator.{YieldsFirstRef, item_count};
-ghost use Rattle.gw_bdt_fdt.specs.Internal.{AreKept, addresses_left, lease_kept, table_at};
+ghost use Rattle.gw_bdt_fdt.specs.internal.Leases.{AreKept, lease_kept, table_at};
+ghost use Rattle.gw_bdt_fdt.specs.internal.Iterators.{addresses_left};
 ghost use Rattle.gw_bdt_fdt.specs.Registrations.{contains, has_room, no_registration, same, shown};
 ghost use Rattle.gw_bdt_fdt.specs.Registrations.{with_registration, with_tick, without};
 ghost use Rattle.gw_bdt_fdt.specs.Kept.{are_restorable, kept, restored};
@@ -38,7 +39,7 @@ pub struct Fdt {
 
 impl Model for Fdt {
     ghost use Rattle.gw_bdt_fdt.specs.Registrations.{Registrations};
-    ghost use Rattle.gw_bdt_fdt.specs.Internal.{AreKept, table_at};
+    ghost use Rattle.gw_bdt_fdt.specs.internal.Leases.{AreKept, table_at};
 
     ghost Value = { Registrations };
 
@@ -236,7 +237,7 @@ pub struct Addresses<'a> {
 }
 
 impl<'a> Iterator for Addresses<'a> {
-    ghost use Rattle.gw_bdt_fdt.specs.Internal.{addresses_left};
+    ghost use Rattle.gw_bdt_fdt.specs.internal.Iterators.{addresses_left};
 
     type Item = &'a BipAddr;
 

@@ -5,7 +5,7 @@ ghost use Rattle.std.specs.Prelude.{is_some, Some, None, IsTrue, IsFalse, OnOk, 
 ghost use Rattle.std.specs.List.{AllByRecursion, IsDistinct, list_any};
 ghost use Rattle.std.specs.Map.{keys_of, lookup, remove_entry};
 ghost use Rattle.indexmap.specs.IndexMap.{get, insert_entry};
-ghost use Rattle.gw_bdt_fdt.specs.Internal.{AreTied, End, holds_at, tied};
+ghost use Rattle.gw_bdt_fdt.specs.internal.Leases.{AreTied, End, holds_at, tied};
 ghost use Rattle.gw_bdt_fdt.specs.Registrations.{same};
 
 use gw_addr::BipAddr;
@@ -31,7 +31,7 @@ pub(crate) struct Leases {
 }
 
 impl Model for Leases {
-    ghost use Rattle.gw_bdt_fdt.specs.Internal.{AreTied, LeaseList};
+    ghost use Rattle.gw_bdt_fdt.specs.internal.Leases.{AreTied, LeaseList};
 
     ghost Value = { LeaseList };
 

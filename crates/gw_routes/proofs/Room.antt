@@ -8,7 +8,7 @@ use Rattle.indexmap.specs.IndexMap.{insert_entry}
 use Rattle.gw_routes.specs.declared.route.Route.{Route}
 use Rattle.gw_routes.specs.declared.routes.TheConstants.{MAX_ROUTES}
 use Rattle.gw_routes.specs.Table.{Table, Routed, routes_held, is_fixed, is_learned, is_new, growth, with_learned, with_granted, with_each, learned_by}
-use Rattle.gw_routes.specs.Internal.{places}
+use Rattle.gw_routes.specs.internal.Fixed.{places}
 
 -- a network that is learned stays learned
 still_learned : (es : Routed) (n : ℕ) (r : Route) (m : ℕ) → is_some (lookup (nat_eq m) es) ≡ true

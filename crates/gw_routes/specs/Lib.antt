@@ -1,4 +1,4 @@
 pub mod Table
 pub mod History
-pub mod Internal
+pub mod internal
 pub mod Laws

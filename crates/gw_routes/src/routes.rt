@@ -6,7 +6,7 @@ ghost use Rattle.std.specs.Prelude.{IsTrue, IsOk, IfOk, OnOk, OnErr, IfSome, IsE
 ghost use Rattle.std.specs.Map.{keys_of};
 ghost use Rattle.std.specs.Option.{option_or};
 ghost use Rattle.indexmap.specs.IndexMap.{get, spare, insert_entry, insert_all};
-ghost use Rattle.gw_routes.specs.Internal.{IsWithinLimit, has_fixed, places, table_with};
+ghost use Rattle.gw_routes.specs.internal.Fixed.{IsWithinLimit, has_fixed, places, table_with};
 ghost use Rattle.gw_routes.specs.Table.{are_distinct, direct_but, routed_but};
 ghost use Rattle.gw_routes.specs.Table.{grants, growth, has_room, is_fixed, is_full_for, is_new};
 ghost use Rattle.gw_routes.specs.Table.{learned_by, route_by, routes_held, with_each, with_granted, with_learned};
@@ -39,7 +39,7 @@ struct Fixed {
 
 impl Model for Routes {
     ghost use Rattle.gw_routes.specs.Table.{Table};
-    ghost use Rattle.gw_routes.specs.Internal.{IsWithinLimit, table_with};
+    ghost use Rattle.gw_routes.specs.internal.Fixed.{IsWithinLimit, table_with};
 
     ghost Value = { Table };
 

@@ -2,7 +2,7 @@ use Rattle.std.proofs.Common.{[], ap, ◌∙◌, arith, slice_index_or}
 use Rattle.indexmap.specs.IndexMap.{insert_entry}
 use Rattle.gw_bdt_fdt.specs.declared.kept.KeptDevice.{KeptDevice}
 use Rattle.gw_bdt_fdt.specs.Registrations.{same}
-use Rattle.gw_bdt_fdt.specs.Internal.{lease_kept}
+use Rattle.gw_bdt_fdt.specs.internal.Leases.{lease_kept}
 use Rattle.gw_bdt_fdt.proofs.Restoring.{due_at, one_more, parts, within}
 use Rattle.gw_bdt_fdt.proofs.fdt.leases_of.Goals as goal
 

@@ -1,5 +1,5 @@
 use Rattle.std.proofs.Common.{◌≡◌, map, take}
-use Rattle.gw_bdt_fdt.specs.Internal.{lease_kept}
+use Rattle.gw_bdt_fdt.specs.internal.Leases.{lease_kept}
 use Rattle.gw_bdt_fdt.proofs.fdt.leases_of.Given as goal
 
 -- the leases of the first devices

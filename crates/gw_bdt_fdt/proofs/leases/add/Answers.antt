@@ -2,7 +2,7 @@ use Rattle.std.proofs.Common.{sym, ap, ◌∙◌, cond, true, map}
 use Rattle.std.specs.List.{list_any}
 use Rattle.indexmap.specs.IndexMap.{insert_entry}
 use Rattle.gw_bdt_fdt.specs.Registrations.{same}
-use Rattle.gw_bdt_fdt.specs.Internal.{tied, end_of}
+use Rattle.gw_bdt_fdt.specs.internal.Leases.{tied, end_of}
 use Rattle.gw_bdt_fdt.proofs.Ends.{end_added, on_ok}
 use Rattle.gw_bdt_fdt.proofs.leases.add.Goals as goal
 

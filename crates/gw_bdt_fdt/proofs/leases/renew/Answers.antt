@@ -1,6 +1,6 @@
 use Rattle.std.proofs.Common.{sym, ap, ◌∙◌, cond, not, ◌&&◌, true, false, map, nat_eq}
 use Rattle.std.specs.List.{list_any}
-use Rattle.gw_bdt_fdt.specs.Internal.{tied, end_of}
+use Rattle.gw_bdt_fdt.specs.internal.Leases.{tied, end_of}
 use Rattle.gw_bdt_fdt.proofs.Ends.{end_renewed, end_moved, on_ok}
 use Rattle.gw_bdt_fdt.proofs.leases.renew.Goals as goal
 

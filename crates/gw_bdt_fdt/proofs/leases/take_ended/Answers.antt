@@ -2,7 +2,7 @@ use Rattle.std.proofs.Common.{rules, sym, ap, ◌≡◌, ◌∙◌, map, nat_lt,
 use Rattle.std.specs.List.{list_any}
 use Rattle.std.proofs.lemmas.Fn.{filter_same}
 use Rattle.indexmap.proofs.CallerLemmas.{filter-RetainsPairs}
-use Rattle.gw_bdt_fdt.specs.Internal.{tied, end_of, holds_at}
+use Rattle.gw_bdt_fdt.specs.internal.Leases.{tied, end_of, holds_at}
 use Rattle.gw_bdt_fdt.proofs.Ends.{ends_left}
 use Rattle.gw_bdt_fdt.proofs.leases.take_ended.Goals as goal
 

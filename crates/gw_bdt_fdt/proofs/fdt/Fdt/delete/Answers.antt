@@ -1,5 +1,5 @@
 use Rattle.std.proofs.Common.{sym, ap, ◌∙◌, subst}
-use Rattle.gw_bdt_fdt.specs.Internal.{table_at, AreKept}
+use Rattle.gw_bdt_fdt.specs.internal.Leases.{table_at, AreKept}
 use Rattle.gw_bdt_fdt.specs.Registrations.{without}
 use Rattle.gw_bdt_fdt.proofs.Rows.{kept_deleted, rows_deleted}
 use Rattle.gw_bdt_fdt.proofs.Order.{after_deletion}

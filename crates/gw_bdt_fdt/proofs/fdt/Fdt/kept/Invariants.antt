@@ -1,6 +1,6 @@
 use Rattle.std.proofs.Common.{◌≡◌, ◌++◌, map}
 use Rattle.gw_bdt_fdt.specs.Kept.{kept}
-use Rattle.gw_bdt_fdt.specs.Internal.{row_at}
+use Rattle.gw_bdt_fdt.specs.internal.Leases.{row_at}
 use Rattle.gw_bdt_fdt.proofs.fdt.Fdt.kept.Given as goal
 
 -- what is pushed and what is left give every row

@@ -1,5 +1,5 @@
 use Rattle.std.proofs.Common.{ap}
-use Rattle.gw_bdt_fdt.specs.Internal.{table_at}
+use Rattle.gw_bdt_fdt.specs.internal.Leases.{table_at}
 use Rattle.gw_bdt_fdt.specs.History.{table_after, order_after, ticks_in}
 use Rattle.gw_bdt_fdt.proofs.fdt.Fdt.new.Goals as goal
 

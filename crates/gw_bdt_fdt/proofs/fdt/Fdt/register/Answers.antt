@@ -1,7 +1,7 @@
 use Rattle.std.proofs.Common.{sym, ap, ◌≡◌, ◌∙◌, ◌+◌, subst}
 use Rattle.indexmap.specs.IndexMap.{insert_entry}
 use Rattle.gw_bdt_fdt.specs.Registrations.{same, has_room, with_registration}
-use Rattle.gw_bdt_fdt.specs.Internal.{table_at, AreKept}
+use Rattle.gw_bdt_fdt.specs.internal.Leases.{table_at, AreKept}
 use Rattle.gw_bdt_fdt.proofs.Rows.{lease_with, lease_of, kept_registered, rows_registered}
 use Rattle.gw_bdt_fdt.proofs.Order.{after_registration}
 use Rattle.gw_bdt_fdt.proofs.fdt.Fdt.register.Goals.{In-Ok}

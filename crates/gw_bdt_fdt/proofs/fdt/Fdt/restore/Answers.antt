@@ -1,5 +1,5 @@
 use Rattle.std.proofs.Common.{◌≡◌, ◌∙◌, sym, ap, map, subst}
-use Rattle.gw_bdt_fdt.specs.Internal.{AreKept, lease_kept, table_at}
+use Rattle.gw_bdt_fdt.specs.internal.Leases.{AreKept, lease_kept, table_at}
 use Rattle.gw_bdt_fdt.proofs.Restoring.{are_kept, restored_is}
 use Rattle.gw_bdt_fdt.proofs.fdt.Fdt.restore.Goals as goal
 

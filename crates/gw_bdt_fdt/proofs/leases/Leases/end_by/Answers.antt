@@ -1,5 +1,5 @@
 use Rattle.std.proofs.Common.{subst, ◌≡◌, filter}
-use Rattle.gw_bdt_fdt.specs.Internal.{holds_at}
+use Rattle.gw_bdt_fdt.specs.internal.Leases.{holds_at}
 use Rattle.gw_bdt_fdt.proofs.Ends.{none_ends}
 use Rattle.gw_bdt_fdt.proofs.leases.Leases.end_by.Goals as goal
 

@@ -1,6 +1,6 @@
 use Rattle.std.proofs.Common.{◌≡◌, ◌∙◌, ℕ, ◌+◌, List, ◌∷◌, drop, arith}
 use Rattle.gw_routes.specs.Table.{Table}
-use Rattle.gw_routes.specs.Internal.{table_with}
+use Rattle.gw_routes.specs.internal.Fixed.{table_with}
 use Rattle.gw_routes.proofs.Room.{first_left, room_left, rows_left}
 use Rattle.gw_routes.proofs.routes.Fixed.learn_each.Goals as goal
 

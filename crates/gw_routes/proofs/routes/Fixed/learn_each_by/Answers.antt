@@ -2,7 +2,7 @@ use Rattle.std.proofs.Common.{◌≡◌, ◌∙◌, ℕ, ◌+◌, ◌∷◌, dro
 use Rattle.std.specs.Map.{keys_of}
 use Rattle.gw_routes.specs.declared.route.Route.{Route}
 use Rattle.gw_routes.specs.Table.{Table, Routed}
-use Rattle.gw_routes.specs.Internal.{table_with}
+use Rattle.gw_routes.specs.internal.Fixed.{table_with}
 use Rattle.gw_routes.proofs.Room.{first_by, by_left, room_left}
 use Rattle.gw_routes.proofs.routes.Fixed.learn_each_by.Goals as goal
 

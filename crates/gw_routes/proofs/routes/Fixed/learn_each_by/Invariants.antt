@@ -2,7 +2,7 @@ use Rattle.std.proofs.Common.{◌≡◌, ◌≤◌, drop}
 use Rattle.std.specs.Map.{keys_of}
 use Rattle.indexmap.specs.IndexMap.{spare}
 use Rattle.gw_routes.specs.Table.{growth, learned_by}
-use Rattle.gw_routes.specs.Internal.{IsWithinLimit, table_with}
+use Rattle.gw_routes.specs.internal.Fixed.{IsWithinLimit, table_with}
 use Rattle.gw_routes.proofs.routes.Fixed.learn_each_by.Given as goal
 
 -- what is left gives the table that all give, and there is room for it

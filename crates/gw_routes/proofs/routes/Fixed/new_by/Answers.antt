@@ -1,5 +1,5 @@
 use Rattle.std.proofs.Common.{rules, ◌≡◌, ◌∙◌, sym, count_by}
-use Rattle.gw_routes.specs.Internal.{table_with}
+use Rattle.gw_routes.specs.internal.Fixed.{table_with}
 use Rattle.gw_routes.specs.Table.{Table, is_new}
 use Rattle.gw_routes.proofs.Room.{count_keys}
 use Rattle.gw_routes.proofs.routes.Fixed.new_by.Goals as goal

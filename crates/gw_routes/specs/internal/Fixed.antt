@@ -1,4 +1,4 @@
--- What only private functions say.
+-- How a table is kept: what is fixed apart from what is learned.
 use Rattle.std.specs.Prelude.{ℕ, ◌≤◌, Bool, [], not, ◌&&◌, if◌then◌else◌}
 use Rattle.indexmap.specs.IndexMap.{IndexMap}
 use Rattle.gw_routes.specs.declared.route.Route.{Route}

@@ -1,14 +1,11 @@
 -- How registrations are kept: by the tick with which each ends.
-use Rattle.std.specs.Prelude.{◌≡◌, ℕ, ◌+◌, ◌-◌, ◌^◌, ◌≤◌, ◌++◌, Bool, nat_lt, List, length, map, IsTrue}
+use Rattle.std.specs.Prelude.{◌≡◌, ℕ, ◌+◌, ◌-◌, ◌^◌, ◌≤◌, Bool, nat_lt, List, length, map, IsTrue}
 use Rattle.std.specs.List.{AllByRecursion, IsDistinct, list_any}
 use Rattle.std.specs.Map.{keys_of}
 use Rattle.std.specs.Cmp.Lexicographic.{slice_cmp}
 use Rattle.std.specs.Ordering.{is_eq, nat_cmp, ordering_then}
 use Rattle.std.specs.declared.cmp.Ordering.{Ordering}
 use Rattle.gw_addr.specs.declared.bip.BipAddr.{BipAddr}
-use Rattle.gw_addr.specs.declared.entry.BdtEntry.{BdtEntry}
-use Rattle.gw_bdt_fdt.specs.declared.bdt.Peers.{Peers}
-use Rattle.gw_bdt_fdt.specs.declared.fdt.Addresses.{Addresses}
 use Rattle.gw_bdt_fdt.specs.declared.leases.Lease.{Lease}
 use Rattle.gw_bdt_fdt.specs.declared.kept.KeptDevice.{KeptDevice}
 use Rattle.gw_bdt_fdt.specs.declared.fdt.TheConstants.{GRACE, MAX_REGISTRATIONS}
@@ -40,14 +37,6 @@ pub record AreKept (ticks : ℕ) (leases : LeaseList) : Type 0 where
   pub below : ticks ≤ 2 ^ 63
   pub hold : AllByRecursion (λ e. IsTrue (holds_at ticks e)) leases
   pub granted : AllByRecursion (is_granted ticks) leases
-
--- the entries that peers still give
-abbrev pub peers_left : Peers → List BdtEntry
-peers_left p = p.before.now ++ p.behind.now
-
--- the addresses that an iterator still gives
-abbrev pub addresses_left : Addresses → List BipAddr
-addresses_left a = a.keys
 
 -- an address with the lease of a device that was kept after so many ticks
 abbrev pub lease_kept : ℕ → KeptDevice → BipAddr × Lease
