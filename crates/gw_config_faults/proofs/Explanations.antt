@@ -19,18 +19,11 @@ use Rattle.gw_config_faults.specs.Place.{place_words, value_at}
 use Rattle.gw_config_faults.specs.FaultWords.{fault_words, single_words}
 use Rattle.gw_configuration.specs.Shown.{is_printed, shown}
 use Rattle.gw_configuration.specs.Located.{Find, Located, Read, of_text}
-
-printed_shown : (octet : ℕ) → is_printed (shown octet) ≡ true
-printed_shown octet = on (is_printed octet) refl
-  where
-    on : (b : Bool) → is_printed octet ≡ b → is_printed (if b then octet else 63) ≡ true
-    on true is = is
-    on false isnt = refl
+use Rattle.gw_configuration.proofs.Showing.{all_printed}
 
 -- no octet that is shown is a control character
-pub all_shown : (octets : List ℕ) → list_all is_printed (map shown octets) ≡ true
-all_shown [] = refl
-all_shown (octet ∷ octets) = rw (printed_shown octet) (all_shown octets)
+pub all_shown : (octets : List ℕ) → list_all is_printed (shown octets) ≡ true
+all_shown octets = all_printed octets
 
 pub fraction_words : (v : Value) (number : Float) → v ≡ value.Float number → single_words (view v) ≡ codes "a number with a fraction"
 fraction_words v number is = ap (λ (w : Value). single_words (view w)) is ∙ ap single_words (view-Float number)
@@ -38,7 +31,7 @@ fraction_words v number is = ap (λ (w : Value). single_words (view w)) is ∙ a
 -- the line of a fault that was found
 pub explained : (located : Located) (top : Members) (Wanted : Located → List ℕ → Type 0) (fault : ConfigFault) (line last : List ℕ)
     (found : Find Configuration) → located.fault ≡ fault
-    → line ≡ map shown (place_words located top ++ fault_words fault (value_at located top) ++ last) → Wanted located last
+    → line ≡ shown (place_words located top ++ fault_words fault (value_at located top) ++ last) → Wanted located last
     → found ≡ Err located → IsExplanation found top Wanted fault line
 explained located top Wanted fault line last found same words wanted first =
     record { located = located; first = first; same = same; last = last; wanted = wanted; words = words }

@@ -59,7 +59,7 @@ pub record IsExplanation (found : Find Configuration) (top : Members) (Wanted : 
   pub same : located.fault ≡ fault
   pub last : List ℕ
   pub wanted : Wanted located last
-  pub words : line ≡ map shown (place_words located top ++ fault_words fault (value_at located top) ++ last)
+  pub words : line ≡ shown (place_words located top ++ fault_words fault (value_at located top) ++ last)
 
 -- the line of this fault, or none where the first fault that was found isn't this one
 abbrev pub Explains : Find Configuration → Members → (Located → List ℕ → Type 0) → ConfigFault → Option (List ℕ) → Type 0

@@ -30,7 +30,7 @@ impl Explanation {
     /// where memory was refused.
     #[tactic(auto, using(crate::proofs::Explanations::all_shown))]
     pub(crate) fn of_words(alloc: Global, words: &[u8]) -> Result<Self, AllocError>
-        ensures { IfOk result (λ line. line ≡ map shown words.now) }
+        ensures { IfOk result (λ line. line ≡ shown words.now) }
     {
         let mut octets = Vec::new(alloc);
         put_shown(&mut octets, words)?;

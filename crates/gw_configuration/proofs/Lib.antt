@@ -2,3 +2,4 @@ pub mod Repeats
 pub mod Twice
 pub mod Prefixes
 pub mod Keys
+pub mod Showing

@@ -1,7 +1,7 @@
 //! Laws of the limits, of the numbers that contracts cite, and of what appears twice. Each function does
 //! nothing: its contract is the laws.
 
-ghost use Rattle.std.specs.Prelude.{◌≡◌};
+ghost use Rattle.std.specs.Prelude.{◌≡◌, ◌∷◌, []};
 ghost use Rattle.gw_addr.specs.declared.bip.BipAddr.{BipAddr};
 ghost use Rattle.gw_addr.specs.Address.{IsAddress, big_endian, octets_of};
 ghost use Rattle.gw_rules.specs.Range.{holds};
@@ -9,6 +9,7 @@ ghost use Rattle.gw_configuration.specs.Configuration.{format_of};
 ghost use Rattle.gw_configuration.specs.Subnet as spec;
 ghost use Rattle.gw_configuration.specs.Subnet.{IsSubnet, keys_of, subnet_holds};
 ghost use Rattle.gw_configuration.specs.Duplicates.{RepetitionsAreNamed};
+ghost use Rattle.gw_configuration.specs.Shown.{IsShownWhole, ShowsNoneHidden, hidden, shown};
 ghost use Rattle.gw_rules.specs.declared.format.Format.TheVariants.{One, Three, Two};
 
 use crate::Subnet;
@@ -57,4 +58,16 @@ pub fn subnets()
 #[tactic(auto, using(crate::proofs::Repeats::repetition_found))]
 pub fn repetitions()
     ensures { RepetitionsAreNamed }
+{}
+
+/// What a line shows of a text has no character that a line doesn't show; a text without one is shown as it is.
+/// U+009B, which begins a command to a terminal, and U+202E, which turns the direction of writing, are such
+/// characters; the degree sign isn't.
+#[tactic(auto, using(crate::proofs::Showing::shows_none_hidden, crate::proofs::Showing::shown_whole))]
+pub fn showing()
+    ensures none { ShowsNoneHidden }
+    ensures whole { IsShownWhole }
+    ensures command { hidden (194 ∷ 155 ∷ []) ≡ 2 }
+    ensures turn { hidden (226 ∷ 128 ∷ 174 ∷ []) ≡ 3 }
+    ensures degree { hidden (194 ∷ 176 ∷ []) ≡ 0 }
 {}

@@ -23,7 +23,7 @@ mod text;
 
 pub use config::Config;
 pub use device::Device;
-pub use display::{put_shown, shown};
+pub use display::{ShownOctets, put_shown, shown};
 pub use fault::ConfigFault;
 pub use gw_rules::Format;
 pub use instance::{Instance, MAX_INSTANCE};

@@ -158,7 +158,7 @@ trial_file _ = []
 
 -- The line of a file that can't be read: its name, with `?` in the place of each control character, and why.
 abbrev pub unread_line : (text name : List ℕ) → Obstacle → List ℕ
-unread_line text name why = text ++ (map shown name ++ (codes ": " ++ (obstacle_words why ++ 10 ∷ [])))
+unread_line text name why = text ++ (shown name ++ (codes ": " ++ (obstacle_words why ++ 10 ∷ [])))
 
 -- why a policy isn't on trial after a choice, with the name of its file if that can't be read
 abbrev pub trial_line : Result Choice Fault → TrialFault → List ℕ

@@ -279,14 +279,14 @@ fn trial_file(choice: &Result<Choice, Fault>) -> &str
     }
 }
 
-/// Writes the name of a file, with a `?` in the place of each control character.
+/// Writes the name of a file as a line shows it.
 fn write_name<E: OctetSink>(name: &[u8], errors: &mut E) -> Result<(), WriteFailed>
-    ensures ok { OnOk result (Appends (E.held errors.old) (E.held errors.new) (map shown name.now)) }
+    ensures ok { OnOk result (Appends (E.held errors.old) (E.held errors.new) (shown name.now)) }
     ensures sure { E.NeverFails errors.old → IsOk result }
     ensures lasts { E.NeverFails errors.old → E.NeverFails errors.new }
 {
-    for octet in name {
-        write_whole(errors, &[shown(*octet)])?;
+    for octet in shown(name) {
+        write_whole(errors, &[octet])?;
     }
     Ok(())
 }

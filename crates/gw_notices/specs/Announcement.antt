@@ -28,7 +28,7 @@ device_text device = codes "device " ++ decimal device.instance ++ codes " on ne
 
 -- where the log goes: to the file of this name, or to standard output
 abbrev pub log_text : Option (List ℕ) → List ℕ
-log_text (Some name) = map shown name
+log_text (Some name) = shown name
 log_text None = codes "standard output"
 
 -- the line

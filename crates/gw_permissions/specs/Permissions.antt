@@ -111,7 +111,7 @@ identifier_words number object =
     ++ decimal object.instance ++ codes ") \""
 
 abbrev pub name_words : Object → List ℕ
-name_words object = map shown object.name ++ codes "\""
+name_words object = shown object.name ++ codes "\""
 
 abbrev pub object_words : ℕ → Object → List ℕ
 object_words number object = identifier_words number object ++ name_words object
@@ -176,7 +176,7 @@ object_lines c number object = flat_map (reading_lines c number object) c.ports
 -- ---- notes
 
 abbrev pub named_note : ℕ → List ℕ → List ℕ → List ℕ
-named_note number name note = rule_words number name ++ codes ": " ++ map shown note ++ codes "\n"
+named_note number name note = rule_words number name ++ codes ": " ++ shown note ++ codes "\n"
 
 -- the note of the rule of this number, if it has one
 abbrev pub note_line : List Rule → ℕ → List ℕ → List ℕ

@@ -60,6 +60,6 @@ pub record BeginsAs (c : Configuration) (saved : Option Saved) (line : Option (L
 
 -- what is said of a state at the start: that it is new, if more is asked for, or what of it isn't taken over
 abbrev pub start_text : Bool → List ℕ → Configuration → Option Saved → List ℕ
-start_text true name c None = codes "state: " ++ map shown name ++ codes " is new\n"
+start_text true name c None = codes "state: " ++ shown name ++ codes " is new\n"
 start_text false name c None = []
 start_text verbose name c (Some s) = dropped_words c s

@@ -15,7 +15,7 @@ use Rattle.gw_script.specs.declared.lines.LinesFault.{LinesFault}
 
 -- a note as it is shown, and nothing if it is empty
 abbrev pub noted : List ℕ → List ℕ
-noted note = if length note == 0 then [] else codes ": " ++ map shown note
+noted note = if length note == 0 then [] else codes ": " ++ shown note
 
 -- the note of the rule of a number, counted from 1
 abbrev pub note_text : (notes : List (List ℕ)) → Option ℕ → List ℕ

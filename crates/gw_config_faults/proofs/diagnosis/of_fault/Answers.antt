@@ -18,6 +18,6 @@ returns c found is =
     let place : c.put_place.new.line.items ≡ place_words located top = search rules in
     let fault_named : c.put_fault.new.line.items ≡ place_words located top ++ fault_words c.args.fault (value_at located top) = search rules in
     let whole : c.put_wanted.new.line.items ≡ place_words located top ++ fault_words c.args.fault (value_at located top) ++ wanted_words located top = search rules in
-    let words : c.in_ok-of_words.field-0 ≡ map shown (place_words located top ++ fault_words c.args.fault (value_at located top) ++ wanted_words located top) = search rules in
+    let words : c.in_ok-of_words.field-0 ≡ shown (place_words located top ++ fault_words c.args.fault (value_at located top) ++ wanted_words located top) = search rules in
     explained located top (λ (at : Located) (w : List ℕ). w ≡ wanted_words at top) c.args.fault c.in_ok-of_words.field-0 (wanted_words located top) found
     same words refl (is other)

@@ -1,6 +1,5 @@
-use Rattle.std.proofs.Common.{◌≡◌, ◌++◌, map, take}
-use Rattle.gw_configuration.specs.Shown.{shown}
+use Rattle.std.proofs.Common.{◌≡◌, ◌++◌}
 use Rattle.gw_configuration.proofs.display.put_shown.Given as goal
 
 abbrev pub invariant-loop-octet : goal.invariant-loop-octet
-invariant-loop-octet l = l.out.items ≡ l.fn.out.items ++ map shown (take l.octet-index l.text)
+invariant-loop-octet l = l.out.items ≡ l.fn.out.items ++ l.yielded
