@@ -9,7 +9,7 @@ ghost use Rattle.gw_relay.specs.Claim.{link_source, local_source, remote_source}
 ghost use Rattle.gw_relay.specs.Message.{message_view};
 
 use crate::port::PortState;
-use gw_addr::{BipAddr, Mac, NetNum, Source};
+use gw_addr::{BipAddr, Mac, NetNum, Source, bip_from_slice};
 use gw_bvll::Bvll;
 use gw_npdu::{AddressRef, Npdu};
 
@@ -113,8 +113,6 @@ fn remote_source(address: &AddressRef<'_>) -> Source
 pub(crate) fn key_of(address: &[u8]) -> Option<u64>
     ensures { result ≡ key_of address.now }
 {
-    match address {
-        [a, b, c, d, high, low] => Some(u64::from_be_bytes([0, 0, *a, *b, *c, *d, *high, *low])),
-        _ => None,
-    }
+    let address = bip_from_slice(address).ok()?;
+    Some(address.key48())
 }
