@@ -1,5 +1,5 @@
 //! What a gateway is configured with.
-ghost use Rattle.std.specs.Prelude.{◌≡◌, ◌≤◌, ◌||◌, length, IsFalse, IsTrue};
+ghost use Rattle.std.specs.Prelude.{◌≡◌, ◌≤◌, ◌||◌, ◌++◌, ◌∷◌, [], length, map, IfOk, IsFalse, IsTrue};
 ghost use Rattle.std.specs.List.{list_all};
 ghost use Rattle.gw_addr.specs.declared.TheConstants.{MAX_PORTS};
 ghost use Rattle.gw_rules.specs.Format.{names_stations};
@@ -9,8 +9,9 @@ ghost use Rattle.gw_configuration.specs.Reading.{Finds};
 
 use crate::duplicates::repetition;
 use crate::{Device, Located, Object, Parts, Port, Route, Set, Text};
+use gw_addr::NetNum;
 use gw_rules::{Format, RuleList};
-use std::alloc::Global;
+use std::alloc::{AllocError, Global};
 use std::marker::Model;
 
 /// What a gateway is configured with: its parts, each in the order of the text, in which nothing
@@ -81,6 +82,21 @@ impl Config {
         ensures once { IsFalse (has_duplicates self.now) }
     {
         self.parts.ports()
+    }
+
+    /// The networks that the gateway reaches itself: those of the ports in order, and that of the device.
+    pub fn own_networks(&self, alloc: Global) -> Result<Vec<NetNum>, AllocError>
+        ensures networks { IfOk result (λ networks.
+            networks.items ≡ map (λ port. port.network) self.now.ports ++ self.now.device.network ∷ []) }
+        // No network, address, identifier or name appears twice in the whole configuration.
+        ensures once { IsFalse (has_duplicates self.now) }
+    {
+        let mut networks = Vec::new(alloc);
+        for port in self.ports() {
+            networks.push(port.network)?;
+        }
+        networks.push(self.device().network)?;
+        Ok(networks)
     }
 
     /// The routes in order, at most 512, each by one of the ports.

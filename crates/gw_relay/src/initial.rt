@@ -1,6 +1,6 @@
 //! A relay as it is configured, and one that goes on.
 
-ghost use Rattle.std.specs.Prelude.{◌≡◌, ◌++◌, ◌∷◌, ◌≤◌, [], length, map, IsFalse, IfOk, OnOk};
+ghost use Rattle.std.specs.Prelude.{◌≡◌, ◌≤◌, [], length, map, IsFalse, IfOk};
 ghost use Rattle.std.specs.List.{AllByRecursion};
 ghost use Rattle.gw_addr.specs.declared.TheConstants.{MAX_PORTS};
 ghost use Rattle.gw_bdt_fdt.specs.Peers.{has_twice};
@@ -88,34 +88,10 @@ pub(crate) fn routes_of(alloc: Global, config: &Config) -> Result<Routes, AllocE
     ensures { IfOk result (λ routes.
         routes ≡ table_of (direct_of config.now) (map routed_of config.now.routes) []) }
 {
-    let direct = direct_of(alloc, config.ports(), config.device().network)?;
+    let direct = config.own_networks(alloc)?;
     let configured = routed_of(alloc, config.routes())?;
     let routes = Routes::new(alloc, direct, configured)?;
     Ok(routes)
-}
-
-/// The networks that the gateway reaches itself: the ports', then the device's.
-fn direct_of(
-    alloc: Global,
-    ports: &[ConfiguredPort],
-    device: NetNum,
-) -> Result<Vec<NetNum>, AllocError>
-    ensures { IfOk result (λ nets. nets.items ≡ map (λ p. p.network) ports.now ++ device ∷ []) }
-{
-    let mut nets = Vec::new(alloc);
-    add_networks(ports, &mut nets)?;
-    nets.push(device)?;
-    Ok(nets)
-}
-
-/// Adds the networks of the ports.
-fn add_networks(ports: &[ConfiguredPort], nets: &mut Vec<NetNum>) -> Result<(), AllocError>
-    ensures { OnOk result (nets.new.items ≡ nets.old.items ++ map (λ p. p.network) ports.now) }
-{
-    for port in ports {
-        nets.push(port.network)?;
-    }
-    Ok(())
 }
 
 /// The configured routes, by their networks.

@@ -1,5 +1,5 @@
 //! What is found of learned routes.
-ghost use Rattle.std.specs.Prelude.{◌≡◌, ◌++◌, ◌∷◌, [], find, map, nat_eq, option_copied, IfOk, OnOk};
+ghost use Rattle.std.specs.Prelude.{◌≡◌, ◌++◌, find, map, nat_eq, option_copied, IfOk, OnOk};
 ghost use Rattle.std.specs.List.{list_any};
 ghost use Rattle.gw_takeover.specs.Findings.{fate_beside, finding_of_route, first_table, is_own, is_routed, is_same_route, refusal, route_fate, route_finding, routed_of, routes_kept};
 
@@ -28,29 +28,10 @@ pub(crate) fn routes_kept(
 fn first_table(alloc: Global, config: &Config) -> Result<Routes, AllocError>
     ensures { IfOk result (λ table. table ≡ first_table config.now) }
 {
-    let direct = own_networks(alloc, config.ports(), config.device().network)?;
+    let direct = config.own_networks(alloc)?;
     let configured = routed(alloc, config.routes())?;
     let table = Routes::new(alloc, direct, configured)?;
     Ok(table)
-}
-
-/// The networks of the ports in order, and of the device.
-fn own_networks(alloc: Global, ports: &[Port], device: NetNum) -> Result<Vec<NetNum>, AllocError>
-    ensures { IfOk result (λ nets. nets.items ≡ map (λ p. p.network) ports.now ++ device ∷ []) }
-{
-    let mut nets = Vec::new(alloc);
-    add_networks(&mut nets, ports)?;
-    nets.push(device)?;
-    Ok(nets)
-}
-
-fn add_networks(nets: &mut Vec<NetNum>, ports: &[Port]) -> Result<(), AllocError>
-    ensures { OnOk result (nets.new.items ≡ nets.old.items ++ map (λ p. p.network) ports.now) }
-{
-    for port in ports {
-        nets.push(port.network)?;
-    }
-    Ok(())
 }
 
 /// The configured routes, by their networks.

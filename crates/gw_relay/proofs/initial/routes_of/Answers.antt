@@ -6,17 +6,15 @@ use Rattle.gw_relay.proofs.initial.routes_of.Goals as goal
 pub new-requires-clause-distinct : goal.new-requires-clause-distinct
 new-requires-clause-distinct c =
     let config = c.args.config.now in
-    let direct : c.in_ok-direct.direct.items ≡ direct_of config = rw
-    (c.in_ok-direct.ensures, c.ports.ensures.ports, c.device.ensures.device) refl in
+    let direct : c.in_ok-direct.direct.items ≡ direct_of config = c.in_ok-direct.ensures.networks in
     let routed : c.in_ok-configured.configured.items ≡ map routed_of config.routes = rw
     (c.in_ok-configured.ensures, c.routes.ensures.routes) refl in
-    rw (direct, routed) (distinct_networks config c.device.ensures.once)
+    rw (direct, routed) (distinct_networks config c.in_ok-direct.ensures.once)
 
 pub returns : goal.returns
 returns c =
     let config = c.args.config.now in
-    let direct : c.in_ok-direct.direct.items ≡ direct_of config = rw
-    (c.in_ok-direct.ensures, c.ports.ensures.ports, c.device.ensures.device) refl in
+    let direct : c.in_ok-direct.direct.items ≡ direct_of config = c.in_ok-direct.ensures.networks in
     let routed : c.in_ok-configured.configured.items ≡ map routed_of config.routes = rw
     (c.in_ok-configured.ensures, c.routes.ensures.routes) refl in
     let made = rw (direct, routed, nothing_learned) at c.in_ok-routes.ensures.made in
