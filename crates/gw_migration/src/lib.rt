@@ -12,4 +12,4 @@ mod subnets;
 
 pub use fault::MigrationFault;
 pub use migration::migrate;
-pub use rules::put_field;
+pub use rules::{put_field, put_operation, put_station};

@@ -64,7 +64,8 @@ fn put_item(out: &mut Vec<u8>, field: FieldName, low: u64, high: u64) -> Result<
     }
 }
 
-fn put_operation(out: &mut Vec<u8>, number: u64) -> Result<(), AllocError> {
+/// Appends the name of an operation, in quotes, or its number if it has none. An `Err` if there is no memory.
+pub fn put_operation(out: &mut Vec<u8>, number: u64) -> Result<(), AllocError> {
     match Operation::from_number(number) {
         Some(operation) => put_quoted(out, operation.name()),
         None => put_decimal(out, number),
@@ -99,20 +100,20 @@ fn put_numbers(out: &mut Vec<u8>, low: u64, high: u64) -> Result<(), AllocError>
 /// Appends a range of addresses: of every UDP port as an address or a subnet where it is one.
 fn put_addresses(out: &mut Vec<u8>, low: u64, high: u64) -> Result<(), AllocError> {
     if low == high {
-        return put_end(out, low);
+        return put_station(out, low);
     }
     if low % PORTS == 0 && high % PORTS == PORTS - 1 {
         return put_hosts(out, low / PORTS, high / PORTS);
     }
     out.extend_from_slice(b"[")?;
-    put_end(out, low)?;
+    put_station(out, low)?;
     out.extend_from_slice(b", ")?;
-    put_end(out, high)?;
+    put_station(out, high)?;
     out.extend_from_slice(b"]")
 }
 
-/// Appends an address and its UDP port.
-fn put_end(out: &mut Vec<u8>, key: u64) -> Result<(), AllocError> {
+/// Appends the address of the station with this key, and its UDP port, in quotes. An `Err` if there is no memory.
+pub fn put_station(out: &mut Vec<u8>, key: u64) -> Result<(), AllocError> {
     let [_, _, a, b, c, d, e, f] = key.to_be_bytes();
     out.extend_from_slice(b"\"")?;
     BipAddr::from_octets(&[a, b, c, d, e, f]).put_text(out)?;

@@ -1,10 +1,10 @@
 //! The text of the rules that are suggested.
 
 use crate::given::Given;
-use gw_addr::{BipAddr, put_decimal};
+use gw_addr::put_decimal;
 use gw_configuration::Format;
-use gw_migration::put_field;
-use gw_rules::{Ask, FieldName, Operation, Range, Rule};
+use gw_migration::{put_field, put_operation, put_station};
+use gw_rules::{Ask, FieldName, Range, Rule};
 use std::alloc::AllocError;
 
 /// The text of the rules: a table for each, with comments; and how many lines show no ask.
@@ -132,28 +132,7 @@ fn put_item(out: &mut Vec<u8>, field: FieldName, range: Range) -> Result<(), All
 fn put_value(out: &mut Vec<u8>, field: FieldName, number: u64) -> Result<(), AllocError> {
     match field {
         FieldName::Operation => put_operation(out, number),
-        FieldName::SourceKey | FieldName::Sender | FieldName::Station => put_address(out, number),
+        FieldName::SourceKey | FieldName::Sender | FieldName::Station => put_station(out, number),
         _ => put_decimal(out, number),
     }
-}
-
-fn put_operation(out: &mut Vec<u8>, number: u64) -> Result<(), AllocError> {
-    match Operation::from_number(number) {
-        Some(operation) => put_quoted(out, operation.name()),
-        None => put_decimal(out, number),
-    }
-}
-
-fn put_quoted(out: &mut Vec<u8>, text: &str) -> Result<(), AllocError> {
-    out.extend_from_slice(b"\"")?;
-    out.extend_from_slice(text.as_bytes())?;
-    out.extend_from_slice(b"\"")
-}
-
-/// Appends the address that a key is.
-fn put_address(out: &mut Vec<u8>, key: u64) -> Result<(), AllocError> {
-    let [_, _, a, b, c, d, e, f] = key.to_be_bytes();
-    out.extend_from_slice(b"\"")?;
-    BipAddr::from_octets(&[a, b, c, d, e, f]).put_text(out)?;
-    out.extend_from_slice(b"\"")
 }
