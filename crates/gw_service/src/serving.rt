@@ -26,7 +26,7 @@ use gw_core::{Counts, Gateway};
 use gw_notices::{startup_line, warning_of, write_note};
 use gw_script::OctetSink;
 use gw_serving::{ServeStop, Served, Wire, serve, serve_with_reports};
-use gw_system::{Host, LogFailure, OpenFailure, SocketFailure, note_of, open_at_line};
+use gw_system::{Host, LogFailure, OpenFailure, note_of, open_at_line};
 use std::alloc::Global;
 use std::io::{BufWriter, Write};
 
@@ -145,18 +145,6 @@ pub(crate) struct Opening<L, S> {
     pub sockets: S,
 }
 
-/// Opens the sockets of a configuration.
-fn open_sockets<H: Host>(
-    alloc: Global,
-    config: &Config,
-    host: &H,
-) -> Result<H::Sockets, SocketFailure>
-    ensures opens { H.SocketsOpen host.now config.now.ports result }
-    ensures fresh { IfOk result (λ sockets. H.Sockets.failure_count sockets ≡ 0) }
-{
-    host.open_sockets(alloc, config.ports())
-}
-
 /// Makes the line that is reported at the start, opens the log and then the sockets.
 pub(crate) fn open<H: Host, W: Write + Drop>(
     alloc: Global,
@@ -185,7 +173,7 @@ pub(crate) fn open<H: Host, W: Write + Drop>(
         Ok(log) => log,
         Err(failure) => return Err(OpenFailure::Log(failure)),
     };
-    match open_sockets(alloc, config, host) {
+    match host.open_sockets(alloc, config.ports()) {
         Ok(sockets) => Ok(Opening { line, log, sockets }),
         Err(failure) => Err(OpenFailure::Sockets(failure)),
     }
