@@ -1,12 +1,10 @@
--- What becomes of a log whose lines are written in words.
-use Rattle.std.specs.Prelude.{◌≡◌, ◌⊎◌, ℕ, List, [], ◌∷◌, ◌++◌, Option, None, Result}
+-- What becomes of a line of a log that is written in words.
+use Rattle.std.specs.Prelude.{◌≡◌, ◌⊎◌, ℕ, List, [], ◌∷◌, ◌++◌, Option, None}
 use Rattle.gw_audit.specs.Entry.{IsLineOf, IsShowable}
 use Rattle.gw_audit.specs.declared.denial.Denial.{Denial}
 use Rattle.gw_audit.specs.declared.moment.Moment.{Moment}
 use Rattle.gw_audit.specs.Moment.{IsMomentOf, front_text}
 use Rattle.gw_audit.specs.Words.{words}
-use Rattle.gw_script.specs.Lines.{LeavesLines}
-use Rattle.gw_script.specs.declared.lines.LinesFault.{LinesFault}
 
 -- ---- a line
 
@@ -51,7 +49,3 @@ TranslatesWords = (d : Denial) (text : List ℕ) → IsTranslation None d text �
 -- no line is refused
 abbrev pub RefusesNone : List ℕ → Type 0
 RefusesNone line = ⊥
-
--- what the writing leaves, by its outcome; only a line of more than 4096 octets ends it
-abbrev pub LeavesTranslated : Option Moment → Result (Unit {0}) LinesFault → (log before after : List ℕ) → Type 0
-LeavesTranslated start = LeavesLines (IsTranslatedAs start) RefusesNone

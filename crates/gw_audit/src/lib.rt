@@ -10,7 +10,6 @@ pub mod laws;
 mod moment;
 mod reading;
 mod text;
-mod translating;
 mod words;
 
 pub use denial::{Denial, Denials};
@@ -18,5 +17,4 @@ pub use entry::{Shown, ShownAsk, Stations};
 pub use moment::Moment;
 pub use reading::{read_ask, read_line};
 pub use text::{line, operation_named, put_ask};
-pub use translating::translate_log;
 pub use words::translate_line;
