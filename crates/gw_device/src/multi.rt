@@ -27,13 +27,6 @@ use gw_services::{MultiReq, READ_PROPERTY_MULTIPLE, Reference, list_ends};
 use gw_tags::ObjectId;
 use std::alloc::AllocError;
 
-/// An object, and the ask for one of its properties, of which those for the others are made.
-#[derive(Clone, Copy)]
-struct AskedObject {
-    object: ObjectId,
-    ask: Ask,
-}
-
 impl Access<'_> {
     /// The ask for a property.
     fn multi_ask(&self, object: ObjectId, property: u32) -> Ask
@@ -49,6 +42,7 @@ impl Access<'_> {
     }
 
     /// Asks for a property by its ask, and appends its item.
+    #[inline(always)]
     fn put_property<A: Asker>(
         &self,
         of: PropertyReference,
@@ -83,41 +77,38 @@ impl Access<'_> {
         }
     }
 
-    /// Asks for properties in their order, and appends their items.
+    /// Asks for properties of an object in their order, and appends their items.
     fn put_properties<A: Asker>(
         &self,
-        of: &AskedObject,
+        object: ObjectId,
         properties: &[Property],
         asker: &mut A,
         out: &mut Limited,
     ) -> Result<(), AllocError>
-        requires { of.now.ask ≡ multi_ask self.now.objects.now self.now.context.now
-            (object_view of.now.object) 0 }
         ensures octets { (rules : List Rule) → A.StandsFor asker.old rules →
             let part = properties_part rules self.now.objects.now self.now.context.now
-            (object_view of.now.object) properties.now in
+            (object_view object) properties.now in
             OnOk result (out.new ≡ extended out.old part.octets) }
         ensures asks { (rules : List Rule) → A.StandsFor asker.old rules →
             let part = properties_part rules self.now.objects.now self.now.context.now
-            (object_view of.now.object) properties.now in
+            (object_view object) properties.now in
             OnOk result (A.kept asker.new ≡ A.kept asker.old ++ A.kept_of rules part.asks) }
         ensures stays { (rules : List Rule) → A.StandsFor asker.old rules →
             A.StandsFor asker.new rules }
     {
-        let Some((first, others)) = properties.split_first() else {
-            return Ok(());
-        };
-        let member = PropertyReference {
-            object: of.object,
-            property: first.number(),
-            index: None,
-        };
-        let ask = Ask {
-            property: Some(u64::from(first.number())),
-            ..of.ask
-        };
-        self.put_property(member, &ask, asker, out)?;
-        self.put_properties(of, others, asker, out)
+        // The asks differ in the property alone, so one is made and set for each.
+        let mut ask = self.multi_ask(object, 0);
+        for property in properties {
+            let property = property.number();
+            ask.property = Some(u64::from(property));
+            let member = PropertyReference {
+                object,
+                property,
+                index: None,
+            };
+            self.put_property(member, &ask, asker, out)?;
+        }
+        Ok(())
     }
 
     /// Appends the items of a set that is allowed.
@@ -146,11 +137,7 @@ impl Access<'_> {
         match self.objects.find(of.object) {
             Some(kind) => {
                 let properties = ObjectDb::properties(kind, set);
-                let asked = AskedObject {
-                    object: of.object,
-                    ask: self.multi_ask(of.object, 0),
-                };
-                self.put_properties(&asked, properties, asker, out)
+                self.put_properties(of.object, properties, asker, out)
             }
             None => out.put(
                 self.objects,
