@@ -1,6 +1,6 @@
 use Rattle.std.proofs.Common.{◌≡◌}
 use Rattle.std.specs.List.{list_any}
-use Rattle.gw_bdt_fdt.specs.Internal.{peers_left}
+use Rattle.gw_bdt_fdt.specs.internal.Iterators.{peers_left}
 use Rattle.gw_bdt_fdt.specs.Peers.{is_of, peers}
 use Rattle.gw_relay.proofs.port.PortState.is_peer.Given as goal
 
