@@ -8,7 +8,7 @@ use Rattle.gw_device.specs.Multi.{Part, multi_ask, properties_part}
 use Rattle.gw_device.specs.internal.Limit.{extended}
 use Rattle.gw_device.proofs.access.Access.put_properties.Given as goal
 
--- what is put and what is left are all properties
+-- what is put and what is left are all properties; the ask becomes that for any property once that is set in it
 abbrev pub invariant-loop-property : goal.invariant-loop-property
 invariant-loop-property g l =
     let d = l.self.objects.now in
@@ -19,7 +19,8 @@ invariant-loop-property g l =
     λ rules properties. g.A.Asker.kept_of rules (part rules properties).asks in
     let left = drop l.property-index l.properties in
     record {
-      ask : (property : ℕ) → ◌≡◌ {A = Ask} (record l.ask { property = Some property }) (multi_ask d context object property);
+      ask : (property number : ℕ) → property ≡ number
+          → ◌≡◌ {A = Ask} (record l.ask { property = Some property }) (multi_ask d context object number);
       octets : (rules : List Rule) → g.A.Asker.StandsFor l.fn.asker rules
           → extended l.out (part rules left).octets ≡ extended l.fn.out (part rules l.properties).octets;
       kept : (rules : List Rule) → g.A.Asker.StandsFor l.fn.asker rules
