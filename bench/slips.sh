@@ -1,8 +1,8 @@
 #!/usr/bin/env bash
 # Tries the wrong bodies that the gate leaves out, crates/*/slips/*.edit: the check must refuse each.
 #
-#     bench/slips.sh [CRATE...]      # every crate that has some by default
-#     bench/slips.sh --anew          # also those that were tried on these sources
+#     bench/slips.sh [CRATE...]      # those that weren't tried on these sources, of every crate by default
+#     bench/slips.sh --anew          # all, also those that were tried on these sources
 #     bench/slips.sh --count         # tries nothing: says how many were refused by what, and which weren't tried on these sources
 #     JOBS=2 bench/slips.sh          # so many crates side by side; else one for each two processors
 #     LOGS=FOLDER bench/slips.sh     # keeps what each check said
@@ -358,7 +358,8 @@ class Trial:
 
     def __init__(self, name, crate):
         self.name, self.crate = name, crate
-        self.slips = {it.stem: read_slip(it) for it in sorted((top / "crates" / name / "slips").glob("*.edit"))}
+        wanted = [it for it in slips_of(name) if "--anew" in options or record.verdict(name, it) is None]
+        self.slips = {it: read_slip(top / "crates" / name / "slips" / f"{it}.edit") for it in wanted}
         self.found = {}
         self.checks = 0
 
