@@ -171,8 +171,9 @@ head -1 "$work/hostile" | "$program" why --config "$here/routed.toml" --json > "
 status=$?
 same 'an answer as an object' "$status $(jq -c '[.allow, .rule, .source]' "$work/out")" '0 [false,"no-doors","192.168.1.5:47808"]'
 
-# A page of a configuration and a log: nothing of a note, a name or a line ends an element, and what is counted is what is there.
-sed 's/^name = "door"$/name = "<b>door<\/b>"/; s/^name = "hide-door"$/&\nnote = "<script>alert(\x27\&\x27)<\/script>"/' "$here/refusals.toml" \
+# A page of a configuration and a log: nothing of a note, a name or a line ends an element or turns the direction of writing, and
+# what is counted is what is there.
+sed 's/^name = "door"$/name = "<b>door\\u202E<\/b>"/; s/^name = "hide-door"$/&\nnote = "<script>alert(\x27\&\x27)<\/script>"/' "$here/refusals.toml" \
     > "$work/marked.toml"
 {
     sed -n 's/^deny //p' "$here/refusals.out"
@@ -186,7 +187,7 @@ status=$?
 same 'a page of hostile texts' "$status $(python3 "$here/page.py" "$work/out")" "$(cat "$here/page.out")"
 "$program" report --config "$work/marked.toml" --log "$work/nowhere" > "$work/out" 2> "$work/err"
 status=$?
-echo 'bacgw: log failed' > "$work/line"
+echo "bacgw: cannot read log $work/nowhere: no such file" > "$work/line"
 agrees 'a page of a log that is not there' 1 /dev/null "$work/line"
 
 # refused_alone WORDS...: the words are refused by the line alone

@@ -143,6 +143,7 @@ other_file _ = []
 abbrev pub log_file : Result Choice Fault → List ℕ
 log_file (Ok (choice.Log (Some file) start)) = string_bytes file
 log_file (Ok (choice.Objects (Some file))) = string_bytes file
+log_file (Ok (choice.Report file log)) = option_map_or string_bytes log []
 log_file _ = []
 
 -- the file of the state

@@ -244,6 +244,7 @@ fn log_file(choice: &Result<Choice, Fault>) -> &str
             },
         ) => file.as_str(),
         Ok(Choice::Objects(Some(file))) => file.as_str(),
+        Ok(Choice::Report { log, .. }) => name_if(log),
         _ => "",
     }
 }

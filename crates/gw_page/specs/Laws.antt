@@ -7,8 +7,7 @@ use Rattle.gw_page.specs.Escape.{escaped}
 
 -- the entities that are written
 abbrev pub entities : List (List ℕ)
-entities =
-    codes "&amp;" ∷ codes "&lt;" ∷ codes "&gt;" ∷ codes "&quot;" ∷ codes "&#39;" ∷ codes "&#65533;" ∷ []
+entities = codes "&amp;" ∷ codes "&lt;" ∷ codes "&gt;" ∷ codes "&quot;" ∷ codes "&#39;" ∷ []
 
 abbrev pub is_entity : List ℕ → Bool
 is_entity part = list_any (pointwise nat_eq part) entities

@@ -1,21 +1,18 @@
 //! Texts as HTML and SVG show them.
 
 ghost use Rattle.std.specs.Prelude.{◌≡◌, ◌++◌, OnOk};
-ghost use Rattle.gw_page.specs.Escape.{escaped, escaped_octet, is_control};
+ghost use Rattle.gw_page.specs.Escape.{escaped, escaped_octet};
 
 use gw_addr::{put_octet, put_slice};
+use gw_configuration::shown;
 use std::alloc::AllocError;
 
-/// The one control character of ASCII after the printed ones.
-const DELETE: u8 = 127;
-
-/// Appends a text with an entity in the place of each octet that HTML gives a meaning, and in that of each control
-/// character the entity of U+FFFD.
+/// Appends a text as [`shown`] says, with an entity in the place of each octet that HTML gives a meaning.
 pub(crate) fn put_escaped(out: &mut Vec<u8>, text: &[u8]) -> Result<(), AllocError>
     ensures { OnOk result (out.new.items ≡ out.old.items ++ escaped text.now) }
 {
-    for octet in text {
-        put_escaped_octet(out, *octet)?;
+    for octet in shown(text) {
+        put_escaped_octet(out, octet)?;
     }
     Ok(())
 }
@@ -33,15 +30,7 @@ fn put_escaped_octet(out: &mut Vec<u8>, octet: u8) -> Result<(), AllocError>
         put_slice(out, b"&quot;")
     } else if octet == b'\'' {
         put_slice(out, b"&#39;")
-    } else if is_control(octet) {
-        put_slice(out, b"&#65533;")
     } else {
         put_octet(out, octet)
     }
-}
-
-fn is_control(octet: u8) -> bool
-    ensures { result ≡ is_control octet }
-{
-    octet < b' ' || octet == DELETE
 }

@@ -209,16 +209,19 @@ LeavesStateIn Reads ReadsState config state held holds outcome =
     (c : Result Configuration Fault) × IsConfigured Reads (Some config) c
     × (text : Result (List ℕ) Fault) × ReadsState state text × LeavesState held holds c text outcome
 
--- What `report` leaves of the configuration that was read: a page, or why there is none.
-abbrev pub LeavesReport : Option (List ℕ) → Option (List ℕ) → Result Configuration Fault → Result (Unit {0}) Fault → Type 0
-LeavesReport held holds c outcome =
-    (made : Result (List ℕ) Fault) × IsReported c made × LeavesPrinted made held holds outcome
+-- What `report` leaves of the configuration that was read, and of the log of this name if there is one: a page, or why
+-- there is none.
+abbrev pub LeavesReport : (ReadsLog : List ℕ → Result (Option (List ℕ)) Fault → Type 0) → Option (List ℕ)
+    → Option (List ℕ) → Option (List ℕ) → Result Configuration Fault → Result (Unit {0}) Fault → Type 0
+LeavesReport ReadsLog log held holds c outcome =
+    (made : Result (List ℕ) Fault) × IsReported ReadsLog log c made × LeavesPrinted made held holds outcome
 
 -- What it leaves of that of the file of this name.
-abbrev pub LeavesReportIn : (Reads : List ℕ → Result (List ℕ) Fault → Type 0) → List ℕ → Option (List ℕ) → Option (List ℕ)
-    → Result (Unit {0}) Fault → Type 0
-LeavesReportIn Reads file held holds outcome =
-    (c : Result Configuration Fault) × IsConfigured Reads (Some file) c × LeavesReport held holds c outcome
+abbrev pub LeavesReportIn : (Reads : List ℕ → Result (List ℕ) Fault → Type 0)
+    → (ReadsLog : List ℕ → Result (Option (List ℕ)) Fault → Type 0) → List ℕ → Option (List ℕ)
+    → Option (List ℕ) → Option (List ℕ) → Result (Unit {0}) Fault → Type 0
+LeavesReportIn Reads ReadsLog file log held holds outcome =
+    (c : Result Configuration Fault) × IsConfigured Reads (Some file) c × LeavesReport ReadsLog log held holds c outcome
 
 -- What `suggest` leaves under the configuration of a text that was read. If there is none, the outcome is why.
 abbrev pub LeavesSuggested : Manner → Option (List ℕ) → Option (List ℕ) → Option (List ℕ) → Result (List ℕ) Fault
@@ -374,7 +377,7 @@ LeavesOutput Reads ReadsState ReadsLog Answers machine input held holds said (Ok
 LeavesOutput Reads ReadsState ReadsLog Answers machine input held holds said (Ok (choice.Judge file strict)) outcome =
     LeavesJudgedIn Reads (string_bytes file) (asks_in strict input) held holds outcome × ReportsUnread strict outcome said
 LeavesOutput Reads ReadsState ReadsLog Answers machine input held holds said (Ok (choice.Report file log)) outcome =
-    LeavesReportIn Reads (string_bytes file) held holds outcome
+    LeavesReportIn Reads ReadsLog (string_bytes file) (option_map string_bytes log) held holds outcome
 LeavesOutput Reads ReadsState ReadsLog Answers machine input held holds said (Ok (choice.Help text)) (Ok done) =
     Appends held holds (string_bytes text)
 LeavesOutput Reads ReadsState ReadsLog Answers machine input held holds said (Ok (choice.Help text)) (Err f) =

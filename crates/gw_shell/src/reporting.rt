@@ -1,10 +1,10 @@
 //! A page that shows a configuration and a log.
 
-ghost use Rattle.std.specs.Prelude.{◌≡◌, [], OnOk};
+ghost use Rattle.std.specs.Prelude.{◌≡◌, [], option_map, string_bytes, OnOk};
 ghost use Rattle.std.specs.Io.Buffered.{writer_buffer, writer_contents};
 ghost use Rattle.gw_shell.specs.Files.{result_map};
 ghost use Rattle.gw_shell.specs.Program.{LeavesReport, LeavesReportIn};
-ghost use Rattle.gw_shell.specs.Reporting.{IsPageMade, IsReported};
+ghost use Rattle.gw_shell.specs.Reporting.{IsPageAlone, IsPageOf, IsPageWith, IsReported};
 
 use crate::configured::configuration_in;
 use crate::files::ConfigFiles;
@@ -16,24 +16,25 @@ use gw_script::OctetSource;
 use std::alloc::{AllocError, Global};
 use std::io::{BufWriter, Write};
 
-/// The page of a configuration, and of the log of this name if there is one. Faults: `Log` if it can't be opened,
-/// `Read` and `Memory`.
+/// The page of a configuration, and of the log of this name if there is one. Faults: `LogUnreadable` if it can't be
+/// opened, `Read` and `Memory`.
 fn make_page<F: ConfigFiles>(
     alloc: Global,
     files: &F,
     config: &Config,
     log: &Option<String>,
 ) -> Result<Vec<u8>, Fault>
-    ensures { IsPageMade (result_map (λ octets. octets.items) result) }
+    ensures { IsPageOf (F.ReadsLog files.now) (option_map string_bytes log.now)
+        (result_map (λ octets. octets.items) result) }
 {
     match log {
-        Some(name) => make_page_with(alloc, files, config, name.as_str()),
+        Some(name) => make_page_with(alloc, config, files.open_log(name)),
         None => make_page_alone(alloc, config),
     }
 }
 
 fn make_page_alone(alloc: Global, config: &Config) -> Result<Vec<u8>, Fault>
-    ensures { IsPageMade (result_map (λ octets. octets.items) result) }
+    ensures { IsPageAlone (result_map (λ octets. octets.items) result) }
 {
     match report(alloc, config) {
         Ok(page) => Ok(page),
@@ -41,27 +42,15 @@ fn make_page_alone(alloc: Global, config: &Config) -> Result<Vec<u8>, Fault>
     }
 }
 
-fn make_page_with<F: ConfigFiles>(
-    alloc: Global,
-    files: &F,
-    config: &Config,
-    log: &str,
-) -> Result<Vec<u8>, Fault>
-    ensures { IsPageMade (result_map (λ octets. octets.items) result) }
-{
-    match files.open_log(log) {
-        Ok(reader) => make_page_of(alloc, config, reader),
-        Err(_) => Err(Fault::Log),
-    }
-}
-
-fn make_page_of<R: OctetSource + Drop>(
+/// The page of a configuration and of a log that was opened, if it was.
+fn make_page_with<L: OctetSource + Drop>(
     alloc: Global,
     config: &Config,
-    mut log: R,
+    opened: Result<L, Fault>,
 ) -> Result<Vec<u8>, Fault>
-    ensures { IsPageMade (result_map (λ octets. octets.items) result) }
+    ensures { IsPageWith (result_map L.left opened) (result_map (λ octets. octets.items) result) }
 {
+    let mut log = opened?;
     match report_with_log(alloc, config, &mut log) {
         Ok(page) => Ok(page),
         Err(ReportFault::Read) => Err(Fault::Read),
@@ -76,7 +65,8 @@ fn page_of<F: ConfigFiles>(
     config: Result<Config, Fault>,
     log: &Option<String>,
 ) -> Result<Vec<u8>, Fault>
-    ensures { IsReported config (result_map (λ octets. octets.items) result) }
+    ensures { IsReported (F.ReadsLog files.now) (option_map string_bytes log.now) config
+        (result_map (λ octets. octets.items) result) }
 {
     let config = config?;
     make_page(alloc, files, &config, log)
@@ -90,8 +80,8 @@ fn print_report<F: ConfigFiles, W: Write + Drop>(
     log: &Option<String>,
     output: &mut BufWriter<W>,
 ) -> Result<(), Fault>
-    ensures output { LeavesReport (writer_contents W.contents output.old)
-        (writer_contents W.contents output.new) config result }
+    ensures output { LeavesReport (F.ReadsLog files.now) (option_map string_bytes log.now)
+        (writer_contents W.contents output.old) (writer_contents W.contents output.new) config result }
     ensures flush { OnOk result (writer_buffer output.new ≡ []) }
 {
     print_made(page_of(alloc, files, config, log), output)
@@ -105,7 +95,8 @@ pub fn print_report_in<F: ConfigFiles, W: Write + Drop>(
     log: &Option<String>,
     output: &mut BufWriter<W>,
 ) -> Result<(), Fault>
-    ensures output { LeavesReportIn (F.Reads files.now) file.now (writer_contents W.contents output.old)
+    ensures output { LeavesReportIn (F.Reads files.now) (F.ReadsLog files.now) file.now
+        (option_map string_bytes log.now) (writer_contents W.contents output.old)
         (writer_contents W.contents output.new) result }
     ensures flush { OnOk result (writer_buffer output.new ≡ []) }
 {

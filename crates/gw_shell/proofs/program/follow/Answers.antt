@@ -1,7 +1,7 @@
 use Rattle.std.proofs.Common.{◌≡◌, Ok, Some, false, refl, rules, subst, ℕ, List}
 use Rattle.std.specs.Global.{Vec}
 use Rattle.std.specs.Io.Buffered.{writer_contents}
-use Rattle.std.specs.Prelude.{string_bytes}
+use Rattle.std.specs.Prelude.{option_map, string_bytes}
 use Rattle.gw_shell.specs.Asking.{asks_in}
 use Rattle.gw_shell.specs.Configured.{IsConfigured}
 use Rattle.gw_shell.specs.Reloading.{answers_by}
@@ -66,7 +66,8 @@ returns-in-Ok-Report-clause-followed g c =
     let is : c.args.choice.now ≡ Ok chosen = search rules in
     let held = writer_contents g.W.Write.contents c.args.output.now in
     let holds = writer_contents g.W.Write.contents c.print_report_in.new.output in
-    let named = subst (λ (name : List ℕ). LeavesReportIn (g.F.ConfigFiles.Reads c.args.files.now) name held holds c.print_report_in.result)
+    let named = subst (λ (name : List ℕ). LeavesReportIn (g.F.ConfigFiles.Reads c.args.files.now)
+    (g.F.ConfigFiles.ReadsLog c.args.files.now) name (option_map string_bytes c.in-Ok-Report.log) held holds c.print_report_in.result)
     c.deref-in-Ok-Report.ensures c.print_report_in.ensures.output in
     followed _ _ c.args.choice.now (Ok chosen) c.print_report_in.result is refl named (λ never. appends_nothing (g.E.OctetSink.held c.args.errors.now))
 
