@@ -183,7 +183,8 @@ def judge_of(section):
     narrow = re.search(r"(?m)^errors (\d+)$", "\n".join(others))
     most = int(narrow[1]) if narrow else None
     told = b"err " + OUT_OF_MEMORY[:most]
-    turns = int(words[words.index("--turns") + 1]) if "--turns" in words[:-1] else None
+    counted = re.search(r"(?:^|\|)--turns\|(\d+)(?:\||$)", others[0])
+    turns = int(counted[1]) if counted else None
     # `compare` ends with 2 at a fault, but before the command is read a want of memory is one of any call.
     at_end = (b"status 1", b"status 2") if words[0] == "compare" else (b"status 1",)
 
