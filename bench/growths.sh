@@ -121,6 +121,13 @@ def is_note(line):
     return line.startswith((b"out ", b"err ")) and not line.startswith(b"err bacgw: ")
 
 
+def is_uncounted(words, lines, wanted):
+    """Whether a replay that counts its asks says in the place of the counts that there was no memory for them."""
+    left = [line for line in wanted if not line.startswith((b"err rule ", b"err default: "))]
+    told = [line for line in lines if line != b"err bacgw: asks aren't counted: out of memory"]
+    return words[0] == "replay" and "--stats" in words and len(told) + 1 == len(lines) and told == left
+
+
 def is_told_without_note(lines, wanted):
     """Whether a fault is told without its note, or with one that says that there was no memory."""
     left = [line for line in lines if not (is_note(line) and line.endswith(b"out of memory"))]
@@ -141,6 +148,65 @@ def is_served_without(turns, most, lines, wanted):
     told = [line for line in others if line not in (b"status 0", b"receives %d sends 0" % turns)]
     is_told = all(DROPPED.match(line) or most is not None and len(line) == len(b"err ") + most for line in reports)
     return told == kept and len(others) == len(kept) + 2 and is_told
+
+
+# What counts the events and the writes that found no memory.
+COUNT = re.compile(rb"\b(?:memory_drops|unseen|unkept)=(\d+)|bacgw_(?:drops_total\{reason=\"memory\"\}|unwatched_events_total"
+                   rb"|unkept_states_total|lost_metrics_total) (\d+)")
+
+
+def counted(lines):
+    return sum(int(number) for numbers in COUNT.findall(b"\n".join(lines)) for number in numbers if number)
+
+
+def tells_of_memory(lines, wanted):
+    """Whether a run says that there was no memory for something: by a line, or by a count."""
+    told = (b"out of memory", b": lines are lost")
+    return counted(lines) > counted(wanted) or any(line.endswith(told) and line not in wanted for line in lines)
+
+
+def is_within(lines, wanted):
+    left = iter(wanted)
+    return all(line in left for line in lines)
+
+
+def does_no_more(lines, wanted):
+    """Whether a run received as often as it should, sent no more, and has no line of a denial or an allowed ask that it shouldn't have."""
+    ends = re.compile(rb"receives (\d+) sends (\d+)")
+    ended, should = (ends.fullmatch(them[-1]) for them in (lines, wanted))
+    asks, right = ([line for line in them if b" rule=" in line] for them in (lines, wanted))
+    return ended and should and ended[1] == should[1] and int(ended[2]) <= int(should[2]) and is_within(asks, right)
+
+
+def has_metrics(lines, wanted):
+    """Whether the metrics are those that should be there, whatever they count, or there are none."""
+    names, right = ([re.sub(rb" \d+$", b"", line) for line in them if line.startswith(b"metrics ")] for them in (lines, wanted))
+    return names in ([], right)
+
+
+# What a run may do less than it should without a word: tell why it refused a configuration, write a note into a stamped log, and
+# replace the text of its metrics.
+REFUSAL = re.compile(rb"(err reload refused: configuration: \w+).*")
+LEFT_OUT = re.compile(rb"metrics |log (?!.* rule=)")
+
+
+def done_by(lines):
+    return [REFUSAL.sub(rb"\1", line) for line in lines if not LEFT_OUT.match(line)]
+
+
+def is_unreported(turns, lines, wanted):
+    """Whether a run that reports nothing did all but its one datagram, which found no memory and was dropped; its log doesn't fail then."""
+    dropped = b"receives %d sends 0" % turns
+    fails = b"err bacgw: log failed" in wanted
+    left = [line for line in done_by(wanted) if b" rule=" not in line and not line.startswith((b"receives ", b"err bacgw: log failed"))]
+    right = [b"status 0" if fails and line == b"status 1" else line for line in left] + [dropped]
+    return done_by(lines) == right and not any(line.startswith(REPORT) for line in wanted)
+
+
+def is_unstamped(words, lines, wanted):
+    """Whether a run ended since a line of its log found no memory for the time in front of it: then the log failed."""
+    logs, right = ([line for line in them if line.startswith(b"log ")] for them in (lines, wanted))
+    return "--stamp" in words and b"status 1" in lines and b"err bacgw: log failed" in lines and is_within(logs, right)
 
 
 def has_no_room(most, lines):
@@ -190,10 +256,18 @@ def judge_of(section):
 
     def is_well_run(answer, right):
         lines, wanted = answer[1].splitlines(), right[1].splitlines()
-        explains = words[0] == "check" and "--explain" in words or "--verbose" in words or b"err bacgw: bad command line" in wanted
-        return (is_well_answered(answer, right, told, at_end) or answer[0] == 0 and explains and is_told_without_note(lines, wanted)
-                or answer[0] == 0 and turns is not None and is_served_without(turns, most, lines, wanted)
-                or answer[0] == 0 and has_no_room(most, lines))
+        if is_well_answered(answer, right, told, at_end):
+            return True
+        if answer[0] != 0 or not lines or not has_metrics(lines, wanted):
+            return False
+        if turns is None:
+            explains = words[0] == "check" or b"err bacgw: bad command line" in wanted
+            explained = [re.sub(rb'"explanation":".*"\}', b'"explanation":null}', line) for line in wanted]
+            return explains and (is_told_without_note(lines, wanted) or lines == explained) or is_uncounted(words, lines, wanted)
+        return (is_served_without(turns, most, lines, wanted) or has_no_room(most, lines) or is_unreported(turns, lines, wanted)
+                or is_unstamped(words, lines, wanted) or done_by(lines) == done_by(wanted)
+                or tells_of_memory(lines, wanted) and does_no_more(lines, wanted)
+                or "--verbose" in words and is_told_without_note(lines, wanted))
 
     return is_well_run
 
