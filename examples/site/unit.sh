@@ -98,8 +98,11 @@ with socket.socket(socket.AF_INET, socket.SOCK_DGRAM) as line:
 print({2: "done", 3: "active" if answer[-2] else "inactive", 5: "denied"}.get(answer[10] >> 4, answer.hex()))
 PYTHON
 
+# The interpreter itself: a wrapper that chooses one may not run in the container.
+python=$(python3 -c 'import sys; print(sys.executable)')
+
 # panel WORD ANSWER: whether the panel's read or write is answered so
-panel() { [ "$(inside python3 /panel.py "$1" 2> /dev/null)" = "$2" ]; }
+panel() { [ "$(inside "$python" /panel.py "$1" 2> /dev/null)" = "$2" ]; }
 
 # said TEXT: whether the unit's journal has it
 said() {
