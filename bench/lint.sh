@@ -7,7 +7,7 @@
 #     pieces    rules whose ranges one earlier rule takes in pieces alone, so that their searches use up all their steps; the rules
 #               between them differ only in the last field but one
 #
-#     bench/lint.sh              # prints a line for each: seconds, the least of three runs, and how many lines of each kind
+#     bench/lint.sh              # prints a line for each: seconds, the least of three runs, and how many lines of each kind; or over 60 s
 #     bench/lint.sh FOLDER       # and keeps the texts there
 #
 # It wants python3 and the program built, as `./bacgw prove` leaves it; LINT names another program, with its words.
@@ -28,6 +28,7 @@ top, words = Path(sys.argv[1]), sys.argv[2].split()
 RULES = 512
 RANGES = 4
 RUNS = 3
+MOST = 60  # seconds for a run
 OPERATIONS = ["cast", "route", "register", "delete", "read-table", "write-table", "learn", "network", "read", "list"]
 # The keys that have numbers, each with its least and its greatest one.
 LIMITS = {
@@ -140,7 +141,7 @@ def seconds(path):
     least, out = float("inf"), ""
     for _ in range(RUNS):
         start = time.perf_counter()
-        done = subprocess.run([*words, str(path)], check=True, stdin=subprocess.DEVNULL, stdout=subprocess.PIPE, text=True)
+        done = subprocess.run([*words, str(path)], check=True, stdin=subprocess.DEVNULL, stdout=subprocess.PIPE, text=True, timeout=MOST)
         least, out = min(least, time.perf_counter() - start), done.stdout
     return least, out
 
@@ -150,6 +151,9 @@ with tempfile.TemporaryDirectory() as folder:
     for name, rules in [("narrow", random_rules(0.01)), ("wide", random_rules(1.0)), ("pieces", pieces_rules())]:
         path = room / f"{name}.toml"
         path.write_text(head() + "\n" + "\n".join(rules), encoding="utf-8")
-        taken, said = seconds(path)
-        print(f"{name}: {taken:.2f} s ({kinds(said)})")
+        try:
+            taken, said = seconds(path)
+            print(f"{name}: {taken:.2f} s ({kinds(said)})", flush=True)
+        except subprocess.TimeoutExpired:
+            print(f"{name}: over {MOST} s", flush=True)
 PYTHON
