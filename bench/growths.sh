@@ -170,12 +170,28 @@ def is_within(lines, wanted):
     return all(line in left for line in lines)
 
 
+# The lines of a run that may be other ones where there was no memory: what it counts, what it says of that, what it did in its place,
+# and a note in a stamped log.
+VARIES = re.compile(rb"err (?:stats|rule \d+|default:) |err default: |metrics |receives |err reload(?: refused)?: |log (?!.* rule=)|log $"
+                    rb"|err bacgw: state is kept again$|.*out of memory$|.*: lines are lost$|.* rule=")
+FIELD = re.compile(rb"(seconds|datagrams|denials|sends|registrations|peers|learned_routes)=(\d+)")
+
+
+def counts_no_more(lines, wanted):
+    """Whether no report counts more of what was done than the one in its place should."""
+    reports, right = ([FIELD.findall(line) for line in them if line.startswith(REPORT)] for them in (lines, wanted))
+    return len(reports) == len(right) and all(
+        len(some) == len(most) and all(a[0] == b[0] and int(a[1]) <= int(b[1]) for a, b in zip(some, most)) for some, most in zip(reports, right))
+
+
 def does_no_more(lines, wanted):
-    """Whether a run received as often as it should, sent no more, and has no line of a denial or an allowed ask that it shouldn't have."""
+    """Whether a run received as often as it should, sent, logged and counted no more, and is else as it should be, line for line."""
     ends = re.compile(rb"receives (\d+) sends (\d+)")
     ended, should = (ends.fullmatch(them[-1]) for them in (lines, wanted))
     asks, right = ([line for line in them if b" rule=" in line] for them in (lines, wanted))
-    return ended and should and ended[1] == should[1] and int(ended[2]) <= int(should[2]) and is_within(asks, right)
+    others, same = ([line for line in them if not VARIES.match(line)] for them in (lines, wanted))
+    return (ended and should and ended[1] == should[1] and int(ended[2]) <= int(should[2]) and is_within(asks, right)
+            and others == same and counts_no_more(lines, wanted))
 
 
 def has_metrics(lines, wanted):
