@@ -18,7 +18,6 @@ mod replaying;
 mod reply;
 mod respond;
 mod saving;
-mod setting;
 mod shown;
 mod whole_run;
 
@@ -32,9 +31,7 @@ pub use fault::StepFault;
 pub use gateway::{Gateway, Taken, Watched};
 pub use gw_audit::{Denial, Denials};
 pub use gw_configuration::{Config, ConfigFault};
-pub use gw_policy_text::read_config;
 pub use gw_relay::{Batch, Sends};
 pub use gw_script::{Event, script_laws};
 pub use replaying::{RunFault, replay, replay_explaining};
-pub use setting::setting_s;
 pub use whole_run::{run, take_event, take_event_watched};

@@ -20,4 +20,4 @@ pub use gw_configuration::{
     Peers, Port, Route, Text,
 };
 pub use read::{MAX_OCTETS, config_of, document, read_config};
-pub use setting::SETTING;
+pub use setting::{SETTING, setting_s};

@@ -1,5 +1,12 @@
 //! The built-in configuration.
 
+ghost use Rattle.gw_configuration.specs.Reading.{Gives};
+ghost use Rattle.gw_policy_text.specs.Document.{configuration};
+
+use crate::read::read_config;
+use gw_configuration::{Config, ConfigFault};
+use std::alloc::Global;
+
 /// The text of the built-in configuration, with which worked examples are run: two ports, a route,
 /// an object of each type and one more, and three rules.
 pub const SETTING: &str = "format = 1
@@ -76,3 +83,12 @@ property = [28]
 name = \"all\"
 allow = true
 ";
+
+/// The built-in configuration: what its text says, of ports 192.168.1.10 on network 1 and
+/// 192.168.2.10 on network 2, the device with instance 1234 on network 100, an object of each type
+/// and one more, and three rules. Faults: those of [`read_config`], of which `Memory` alone can come.
+pub fn setting_s(alloc: Global) -> Result<Config, ConfigFault>
+    ensures { Gives (λ c. c) result (configuration SETTING.now) }
+{
+    read_config(alloc, SETTING.as_bytes())
+}

@@ -6,9 +6,8 @@ ghost use Rattle.gw_shell.specs.Files.{result_map};
 
 use crate::files::ConfigFiles;
 use gw_configuration::Config;
-use gw_core::setting_s;
 use gw_ending::Fault;
-use gw_policy_text::read_config;
+use gw_policy_text::{read_config, setting_s};
 use itoa::Buffer;
 use std::alloc::{AllocError, Global};
 
