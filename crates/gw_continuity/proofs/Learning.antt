@@ -23,7 +23,7 @@ use Rattle.gw_core.specs.State.{State, device_network}
 use Rattle.gw_continuity.specs.StateOf.{IsTableOf}
 use Rattle.gw_continuity.proofs.PortMoves.{IsOneOf}
 use Rattle.gw_continuity.proofs.Routes.{each_stays}
-use Rattle.gw_core.proofs.Whence.{Heard, heard_at}
+use Rattle.gw_core_laws.proofs.Whence.{Heard, heard_at}
 
 -- the port that a change learns by
 abbrev port_learned : Option Change → ℕ

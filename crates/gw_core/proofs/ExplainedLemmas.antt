@@ -1,25 +1,19 @@
 -- The lines of what is asked.
-use Rattle.std.proofs.Common.{◌≡◌, ◌∙◌, sym, ap, refl, ℕ, ◌+◌, Bool, true, false, List, [], ◌∷◌, ◌++◌, filter, map, not, Option, Some, None}
+use Rattle.std.proofs.Common.{◌≡◌, ◌∙◌, sym, ap, refl, ℕ, ◌+◌, Bool, true, false, List, [], ◌∷◌, ◌++◌, Option, Some, None}
 use Rattle.std.specs.List.{flat_map}
 use Rattle.gw_rules.specs.Ask.{Ask}
-use Rattle.gw_rules.specs.Authorizer.{denied_of}
-use Rattle.gw_rules.specs.RuleList.{allows}
-use Rattle.gw_rules.specs.declared.refusal.Refusal.{Refusal}
 use Rattle.gw_rules.specs.declared.rule.Rule.{Rule}
 use Rattle.gw_rules.specs.declared.verdict.Verdict.{Verdict}
 use Rattle.gw_rules.specs.Asker.{verdicts_of}
 use Rattle.gw_core.specs.internal.Verdicts.{verdict_lines}
-use Rattle.gw_rules.proofs.Denials.{refused_asks}
 use Rattle.gw_objects.specs.Objects.{Database}
 use Rattle.gw_relay.specs.Cast.{accepts, is_unregistered}
 use Rattle.gw_relay.specs.Message.{Message, message_view}
 use Rattle.gw_relay.specs.State.{Relay}
 use Rattle.gw_script.specs.Event.{Event, Tick}
 use Rattle.gw_core.specs.Asks.{asks, asks_for}
-use Rattle.gw_core.specs.Denials.{denials_from, denials_of}
-use Rattle.gw_core.specs.Effects.{NeedsNoMemory, effects_at}
+use Rattle.gw_core.specs.Effects.{NeedsNoMemory}
 use Rattle.gw_core.specs.Explained.{ask_line, ask_lines, asks_text}
-use Rattle.gw_core.specs.Laws.{DeniedLinesAreLogged}
 use Rattle.gw_core.specs.Receive.{Origin, Received, admit, dropped, unregistered, message, message_origin, origin, receive, source_of}
 use Rattle.gw_core.specs.State.{State}
 use Rattle.gw_core.specs.internal.View.{judged, origin_of, received_view}
@@ -81,27 +75,6 @@ pub text_received : (w : State) (e : Event) (received : Received) → received �
     → ask_lines w.rules (origin received) (asks_for w.rules w.relay w.device received) ≡ asks_text w e
 unfolding asks_text asks
 text_received w e received is = ap (λ (r : Received). ask_lines w.rules (origin r) (asks_for w.rules w.relay w.device r)) is
-
--- ---- the lines of the asks that are denied
-
-lines_from : (rules : List Rule) (number tick : ℕ) (from : Origin) (refusals : List Refusal)
-    → flat_map (λ d. ask_line rules d.source d.ask) (denials_from rules number tick from refusals)
-    ≡ flat_map (λ ask. ask_line rules (source_of from ask) ask) (map (λ r. r.ask) refusals)
-lines_from rules number tick from [] = refl
-lines_from rules number tick from (r ∷ refusals) =
-    ap (λ (t : List ℕ). ask_line rules (source_of from r.ask) r.ask ++ t) (lines_from rules (number + 1) tick from refusals)
-
-lines_of : (rules : List Rule) (number tick : ℕ) (from : Option Origin) (asked : List Ask)
-    → ask_lines rules from (filter (λ ask. not (allows rules ask)) asked)
-    ≡ flat_map (λ d. ask_line rules d.source d.ask) (denials_of rules number tick from (denied_of rules asked))
-lines_of rules number tick None asked = refl
-lines_of rules number tick (Some from) asked =
-    sym (lines_from rules number tick from (denied_of rules asked) ∙ ap (flat_map (λ ask. ask_line rules (source_of from ask) ask)) (refused_asks rules asked))
-
-pub denied_lines_are_logged : DeniedLinesAreLogged
-unfolding effects_at asks
-denied_lines_are_logged w e =
-    lines_of w.rules (w.denials + 1) w.ticks (origin (receive w e)) (asks_for w.rules w.relay w.device (receive w e))
 
 -- ---- the lines of the verdicts that were kept
 

@@ -24,7 +24,6 @@ use Rattle.gw_relay.specs.State as move
 use Rattle.gw_core.specs.Denials.{denials_at}
 use Rattle.gw_core.specs.Effects.{change_at, changed, effects_at, move_at, passes_end, relay_change_for, ticks_of}
 use Rattle.gw_core.specs.History.{acts_of, state_after, with_granted, with_move, written, next, IsStateAfter, run_after, run_from, state_from, history_after, StopsAtEnd}
-use Rattle.gw_core.specs.Laws.{ConfigurationStays, StepsExtendHistories, RunsExtendHistories}
 use Rattle.gw_core.specs.Receive.{receive}
 use Rattle.gw_core.specs.State.{State}
 
@@ -213,22 +212,6 @@ pub history_more : (h l : List Event) (e : Event) → history_after h (l ++ e �
 unfolding history_after
 history_more h [] e = refl
 history_more h (d ∷ l) e = history_more (d ∷ h) l e
-
-pub steps_extend : StepsExtendHistories
-steps_extend before event given after step c k h is =
-    (step.effects ∙ ap (λ (w : State). effects_at w event) is, after_next before after c k h event step.state is)
-
-pub runs_extend : RunsExtendHistories
-runs_extend c k h l = (run_from-after c k h l, state_from-after c k h l)
-
--- what is configured of the device stays, whatever is written
-written_stays : (writes : List Write) (d : Database) → (written writes d).configured ≡ d.configured
-unfolding written
-written_stays [] d = refl
-written_stays (write ∷ writes) d = written_stays writes d
-
-pub configuration_stays : ConfigurationStays
-configuration_stays c k h = written_stays (acts_of c k h).writes (database_of c)
 
 -- ---- the states
 

@@ -40,16 +40,14 @@ use Rattle.gw_device.specs.Write.{write_response}
 use Rattle.gw_addr.specs.declared.bip.BipAddr.{BipAddr}
 use Rattle.gw_bvll.specs.Bvll as bvll
 use Rattle.gw_relay.specs.Sends.{sending}
-use Rattle.gw_relay.specs.State.{Commit, Relay}
+use Rattle.gw_relay.specs.State.{Relay}
 use Rattle.gw_relay.specs.Steps.{npdu_octets, unicast}
 use Rattle.gw_relay.proofs.Asking.{unasked_change}
 use Rattle.gw_relay.proofs.Learning.{unasked_learning}
-use Rattle.gw_script.specs.Event.{Datagram}
 use Rattle.gw_core.specs.Asks.{apdu_asks, asks, asks_for, cast_asks_for, first_asks_for, manage_asks_for, message_asks, route_asks_for}
-use Rattle.gw_core.specs.Effects.{answer_sends, apdu_change, change_at, change_for, message_sends, move_at, relay_change_for, sends, sends_for}
-use Rattle.gw_core.specs.Laws.{DroppedNeedsNoMemory, NothingAskedIsChanged, NothingAskedIsWritten}
+use Rattle.gw_core.specs.Effects.{answer_sends, apdu_change, change_for, message_sends, relay_change_for, sends}
 use Rattle.gw_relay.specs.Message.{Message}
-use Rattle.gw_core.specs.Receive.{Received, barred, dropped, managed, unregistered, message, receive}
+use Rattle.gw_core.specs.Receive.{Received, barred, dropped, managed, unregistered, message}
 use Rattle.gw_core.specs.Reply.{apdu_for, context_of, reply_npdu, reply_sends, max_reply_apdu}
 use Rattle.gw_core.specs.State.{device_network}
 use Rattle.gw_core.proofs.DenialLemmas.{answer_put, asks_put}
@@ -251,7 +249,7 @@ unwritten_apdu : (rules : List Rule) (d : Database) (context : Context) (apdu : 
 unwritten_apdu rules d context None none = refl
 unwritten_apdu rules d context (Some octets) none = (brief_device rules d context octets none).1
 
-unwritten : (rules : List Rule) (relay : Relay) (d : Database) (received : Received) → asks_for rules relay d received ≡ []
+pub unwritten : (rules : List Rule) (relay : Relay) (d : Database) (received : Received) → asks_for rules relay d received ≡ []
     → change_for rules relay.format d received ≡ None
 unwritten rules relay d dropped none = refl
 unwritten rules relay d (managed on from frame) none = refl
@@ -261,10 +259,6 @@ unwritten rules relay d (message m) none =
     let parts = five_empty (first_asks_for rules relay (message m)) (cast_asks_for relay (message m)) (route_asks_for relay (message m))
     (manage_asks_for relay (message m)) (message_asks rules relay.format d m) none in
     unwritten_apdu rules d (context_of relay.format (device_network d) m) (apdu_for (device_network d) m.npdu) parts.4
-
-pub nothing_asked_is_written : NothingAskedIsWritten
-unfolding asks change_at
-nothing_asked_is_written w e none = unwritten w.rules w.relay w.device (receive w e) none
 
 -- what asks nothing changes no table and no route
 pub unchanged : (rules : List Rule) (relay : Relay) (d : Database) (received : Received) → asks_for rules relay d received ≡ []
@@ -279,14 +273,3 @@ unchanged rules relay d (message m) none =
     let parts = five_empty (first_asks_for rules relay (message m)) (cast_asks_for relay (message m)) (route_asks_for relay (message m))
     (manage_asks_for relay (message m)) (message_asks rules relay.format d m) none in
     unasked_learning rules relay m parts.3
-
-pub nothing_asked_is_changed : NothingAskedIsChanged
-unfolding asks move_at
-nothing_asked_is_changed w port from octets none =
-    ap (option_map Commit) (unchanged w.rules w.relay w.device (receive w (Datagram port from octets)) none)
-
--- what is dropped asks and sends nothing
-pub dropped_needs_no_memory : DroppedNeedsNoMemory
-unfolding asks sends
-dropped_needs_no_memory w e is =
-    (ap (λ (r : Received). asks_for w.rules w.relay w.device r) is, ap (λ (r : Received). sends_for w.rules w.relay w.device r) is)

@@ -1,10 +1,11 @@
 -- What an event asks, with what the policy says of each ask.
-use Rattle.std.specs.Prelude.{List, [], Option, Some, None, filter, map, not}
+use Rattle.std.specs.Prelude.{List, [], ◌∷◌, ◌++◌, Option, Some, None, filter, map, not}
 use Rattle.gw_rules.specs.Asker.{verdicts_of}
 use Rattle.gw_rules.specs.declared.refusal.Refusal.{Refusal}
 use Rattle.gw_rules.specs.declared.verdict.Verdict.{Verdict}
 use Rattle.gw_script.specs.Event.{Event}
 use Rattle.gw_core.specs.Asks.{asks}
+use Rattle.gw_core.specs.History.{next}
 use Rattle.gw_core.specs.Receive.{Origin, origin, receive, source_of}
 use Rattle.gw_core.specs.State.{State}
 use Rattle.gw_core.specs.declared.asked.Asked.{Asked}
@@ -21,6 +22,11 @@ asked_of (Some from) verdicts = map (asked_from from) verdicts
 -- what an event asks in this state, in order, with the verdicts of the state's rules
 unfoldable pub asked_at : State → Event → List Asked
 asked_at w e = asked_of (origin (receive w e)) (verdicts_of w.rules (asks w e))
+
+-- what these events ask, one after the other
+unfoldable pub run_asked : State → List Event → List Asked
+run_asked w [] = []
+run_asked w (e ∷ events) = asked_at w e ++ run_asked (next w e) events
 
 -- a verdict that denies, as a refusal
 abbrev pub refused : Verdict → Refusal

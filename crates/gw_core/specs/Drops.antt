@@ -1,5 +1,5 @@
 -- Why a datagram is dropped before any policy is asked.
-use Rattle.std.specs.Prelude.{◌≡◌, ℕ, Bool, true, false, if◌then◌else◌, nat_le, List, length, Option, Some, None, Ok, Err}
+use Rattle.std.specs.Prelude.{ℕ, if◌then◌else◌, nat_le, List, length, Option, Some, None, Ok, Err}
 use Rattle.gw_addr.specs.declared.bip.BipAddr.{BipAddr}
 use Rattle.gw_bvll.specs.Bvll.{Message as Frame}
 use Rattle.gw_bvll.specs.Reading.{bvll_at}
@@ -11,7 +11,7 @@ use Rattle.gw_relay.specs.declared.port.PortState.{PortState}
 use Rattle.gw_script.specs.Event.{Event, Datagram, Tick}
 use Rattle.gw_core.specs.declared.drops.DropReason.{DropReason}
 use Rattle.gw_core.specs.declared.drops.DropReason.TheVariants.{Ignored, Malformed, OwnNetwork, NoPeer}
-use Rattle.gw_core.specs.Receive.{Received, claims_direct, comes_in, dropped, is_same_address, manages, payload_of, receive}
+use Rattle.gw_core.specs.Receive.{claims_direct, comes_in, is_same_address, manages, payload_of}
 use Rattle.gw_core.specs.State.{State, device_network}
 
 -- ---- why it is dropped
@@ -62,18 +62,3 @@ drop_on ports device number from octets = elim (port_at ports number) [
 unfoldable pub drop_at : State → Event → Option DropReason
 drop_at w (Datagram port from octets) = drop_on w.relay.ports (device_network w.device) port from octets
 drop_at w Tick = None
-
--- ---- a reason is given exactly of what is dropped
-
-abbrev pub is_dropped : Received → Bool
-is_dropped dropped = true
-is_dropped _ = false
-
-abbrev pub has_reason : Option DropReason → Bool
-has_reason None = false
-has_reason (Some why) = true
-
--- A datagram is dropped exactly if it has a reason.
-abbrev pub DropsHaveReasons : Type 0
-DropsHaveReasons = (w : State) (port : ℕ) (from : BipAddr) (octets : List ℕ) →
-    is_dropped (receive w (Datagram port from octets)) ≡ has_reason (drop_at w (Datagram port from octets))

@@ -12,7 +12,6 @@ use Rattle.gw_script.specs.Event.{Event}
 use Rattle.gw_core.specs.Asks.{asks}
 use Rattle.gw_core.specs.Denials.{name_at}
 use Rattle.gw_core.specs.Receive.{Origin, origin, receive, source_of}
-use Rattle.gw_core.specs.Shown.{event_text}
 use Rattle.gw_core.specs.State.{State}
 
 -- the rule by which the policy decides, its number from 1 and its name; or that none matches
@@ -41,7 +40,3 @@ ask_lines rules (Some from) asks = flat_map (λ ask. ask_line rules (source_of f
 -- a line for each ask of an event, in their order
 unfoldable pub asks_text : State → Event → List ℕ
 asks_text w e = ask_lines w.rules (origin (receive w e)) (asks w e)
-
--- the lines of an event that is explained: those of its asks, and after them those of what it does
-abbrev pub explained_text : State → Event → List ℕ
-explained_text w e = asks_text w e ++ event_text w e

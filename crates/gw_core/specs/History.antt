@@ -1,6 +1,8 @@
 -- The state of a gateway after a history, which is the list of the events that it took, newest first; and
 -- what it does then.
 use Rattle.std.specs.Prelude.{◌≡◌, ℕ, ◌+◌, true, false, List, [], ◌∷◌, length, map, take, Option, Some, None, slice_get}
+use Rattle.std.specs.List.{flat_map}
+use Rattle.gw_audit.specs.declared.denial.Denial.{Denial}
 use Rattle.gw_core.specs.declared.effects.Effects.{Effects}
 use Rattle.gw_core.specs.declared.event.Counts.{Counts}
 use Rattle.gw_script.specs.Event.{Event}
@@ -74,6 +76,10 @@ acts_of c k (e ∷ h) = grants (state_of c k (acts_of c k h)) e (acts_of c k h)
 abbrev pub state_after : Configuration → Counts → List Event → State
 state_after c k h = state_of c k (acts_of c k h)
 
+-- a gateway that nothing came to
+abbrev pub no_counts : Counts
+no_counts = record { ticks = 0; denials = 0 }
+
 -- a gateway is in the state after a history
 abbrev pub IsStateAfter : State → Configuration → Counts → List Event → Type 0
 IsStateAfter w c k h = w ≡ state_after c k h
@@ -90,6 +96,10 @@ run_after c k h (e ∷ l) = effects c k h e ∷ run_after c k (e ∷ h) l
 -- what each event of a list does to a fresh gateway
 abbrev pub run : Configuration → Counts → List Event → List Effects
 run c k l = run_after c k [] l
+
+-- the log of a run: its denials, one after the other
+abbrev pub log : List Effects → List Denial
+log given = flat_map (λ x. x.denials) given
 
 -- the history once the events of a list have come after it, in order
 unfoldable pub history_after : List Event → List Event → List Event

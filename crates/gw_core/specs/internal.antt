@@ -2,7 +2,6 @@
 pub mod Arrivals
 pub mod Frame
 pub mod Kept
-pub mod LineOutcome
 pub mod Replies
 pub mod Reports
 pub mod Respond

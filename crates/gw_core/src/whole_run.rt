@@ -1,10 +1,11 @@
 //! A run: what a gateway answers to a list of events.
 
-ghost use Rattle.std.specs.Prelude.{◌≡◌, ℕ, IfOk, IsOk, IsErrOf, OnOk, OnErr, map, false, true};
+ghost use Rattle.std.specs.Prelude.{◌≡◌, ◌≤◌, ◌++◌, ℕ, IfOk, IsOk, IsErrOf, OnOk, OnErr, map, false, true, vec_capacity};
 ghost use Rattle.gw_script.specs.Event.{event_view};
 ghost use Rattle.gw_core.specs.Asked.{asked_at};
 ghost use Rattle.gw_core.specs.Drops.{drop_at};
 ghost use Rattle.gw_core.specs.Effects.{NeedsNoMemory, effects_at, passes_end};
+ghost use Rattle.gw_core.specs.Explained.{asks_text};
 ghost use Rattle.gw_core.specs.Lasting.{lasts};
 ghost use Rattle.gw_core.specs.History.{HasTaken, StopsAtEnd, next, run_from, state_from};
 
@@ -12,8 +13,9 @@ use crate::asked::AllAsked;
 use crate::effects::Effects;
 use crate::fault::StepFault;
 use crate::gateway::{Gateway, Taken, Watched};
+use crate::receive::Arrival;
 use gw_script::Event;
-use std::alloc::Global;
+use std::alloc::{AllocError, Global};
 
 /// Takes one event of either kind: what it does, why it was dropped, if it was, and whether it lasts. The
 /// faults are those of [`Gateway::step`] and [`Gateway::tick`]; then nothing changed.
@@ -82,6 +84,32 @@ pub fn take_event_watched(
                 asked: AllAsked::new(alloc),
             })
         }
+    }
+}
+
+/// Appends a line for each ask that an event raises, allowed or denied, with the rule that decides it. The event isn't
+/// taken. `AllocError` if a growth was refused; a part of the lines may then be there.
+pub fn append_asked(
+    alloc: Global,
+    gateway: &Gateway,
+    event: &Event<'_>,
+    text: &mut Vec<u8>,
+) -> Result<(), AllocError>
+    ensures ok { let due = asks_text gateway.now (event_view event.now) in
+        OnOk result (text.new.items ≡ text.old.items ++ due) }
+    ensures silent { NeedsNoMemory gateway.now (event_view event.now) → IsOk result }
+    ensures capacity { vec_capacity text.old ≤ vec_capacity text.new }
+{
+    match event {
+        Event::Datagram { port, from, octets } => {
+            let arrival = Arrival {
+                port: *port,
+                from: *from,
+                octets,
+            };
+            gateway.append_asks(alloc, &arrival, text)
+        }
+        Event::Tick => Ok(()),
     }
 }
 

@@ -1,8 +1,6 @@
-//! How many asks of a script each rule of a configuration decides (`replay --stats`).
-//!
-//! [`count_script`] plays the script's events in a fresh gateway, and counts what they ask.
+//! How many of the asks of events each rule of a policy decides.
 #![tactic(auto)]
 
-mod counting;
+mod counted;
 
-pub use counting::count_script;
+pub use counted::count_asked;

@@ -24,8 +24,8 @@ use Rattle.gw_configuration.specs.declared.fault.ConfigFault.{ConfigFault}
 use Rattle.gw_configuration.specs.declared.fault.ConfigFault.TheVariants as config
 use Rattle.gw_migration.specs.declared.fault.MigrationFault.{MigrationFault}
 use Rattle.gw_migration.specs.declared.fault.MigrationFault.TheVariants as migration
-use Rattle.gw_core.specs.declared.replaying.RunFault.{RunFault}
-use Rattle.gw_core.specs.declared.replaying.RunFault.TheVariants as run
+use Rattle.gw_replay.specs.declared.replaying.RunFault.{RunFault}
+use Rattle.gw_replay.specs.declared.replaying.RunFault.TheVariants as run
 use Rattle.gw_script.specs.declared.flaw.LineFlaw.{LineFlaw}
 use Rattle.gw_script.specs.declared.flaw.LineFlaw.TheVariants as flaw
 

@@ -7,9 +7,9 @@ ghost use Rattle.gw_ending.specs.declared.fault.Fault.TheVariants.{CommandLine, 
 
 use gw_command_line::WordsFault;
 use gw_configuration::ConfigFault;
-use gw_core::RunFault;
 use gw_migration::MigrationFault;
 use gw_notices::name_of;
+use gw_replay::RunFault;
 use gw_script::{LineFlaw, LinesFault};
 use gw_serving::StoreFault;
 use gw_state_text::{FaultKind, StateFault};

@@ -2,8 +2,8 @@
 
 use gw_cases::{event_lines, made, put_end};
 use gw_configuration::ConfigFault;
-use gw_core::{RunFault, replay_explaining};
 use gw_policy_text::read_config;
+use gw_replay::{RunFault, replay_explaining};
 use gw_script::LineFlaw;
 use gw_shell::words_of;
 use gw_verdicts::why;

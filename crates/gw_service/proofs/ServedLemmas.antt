@@ -5,8 +5,7 @@ use Rattle.std.proofs.lemmas.List.Elements.{All-from_recursion}
 use Rattle.std.specs.List.{AllByRecursion}
 use Rattle.std.specs.Prelude.{Result, Ok, Err}
 use Rattle.gw_configuration.specs.Configuration.{Configuration}
-use Rattle.gw_core.specs.History.{state_after, state_from}
-use Rattle.gw_core.specs.Replay.{no_counts}
+use Rattle.gw_core.specs.History.{state_after, state_from, no_counts}
 use Rattle.gw_core.specs.Resumed.{saved}
 use Rattle.gw_core.specs.State.{State}
 use Rattle.gw_core.specs.declared.event.Counts.{Counts}

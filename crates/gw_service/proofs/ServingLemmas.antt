@@ -1,8 +1,7 @@
 -- What serving leaves, from what is opened and what serving a wire leads to.
 use Rattle.std.proofs.Common.{◌≡◌, ◌∙◌, sym, ap, ℕ, List, [], Option, Some, None, Result, Ok, Err, IsOk, IfOk, IfErr, OnOk, inl, inr, refl, rules, subst}
 use Rattle.std.specs.Io.KnownBytes.{Appends, append_known}
-use Rattle.gw_core.specs.History.{state_after}
-use Rattle.gw_core.specs.Replay.{no_counts}
+use Rattle.gw_core.specs.History.{state_after, no_counts}
 use Rattle.gw_serving.specs.Reports.{IsRunWith, reported_of}
 use Rattle.gw_serving.specs.Serve.{Scene, ServesAll, Stops, counts_of_answer, scene}
 use Rattle.gw_core.specs.State.{State}

@@ -2,8 +2,7 @@
 -- over the definitions of `gw_core`.
 use Rattle.std.specs.Prelude.{◌≡◌, ◌⊎◌, ⊤, ℕ, Bool, List, [], ◌++◌, Option, Some, None, Result, Ok, Err}
 use Rattle.std.specs.Io.KnownBytes.{Keeps}
-use Rattle.gw_core.specs.History.{state_after}
-use Rattle.gw_core.specs.Replay.{no_counts}
+use Rattle.gw_core.specs.History.{state_after, no_counts}
 use Rattle.gw_serving.specs.Reports.{IsRunWith, reported_of}
 use Rattle.gw_serving.specs.Serve.{Scene, ServesAll, Stops, Turn, counts_of_answer, scene}
 use Rattle.gw_core.specs.State.{State}

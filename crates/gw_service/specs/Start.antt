@@ -1,8 +1,7 @@
 -- From where a gateway begins that keeps its state: what its file holds, and the last line of its log.
 use Rattle.std.specs.Prelude.{◌≡◌, ⊤, ℕ, List, [], ◌++◌, Bool, true, false, map, codes, Option, Some, None, Result, Ok, Err}
 use Rattle.gw_configuration.specs.Configuration.{Configuration}
-use Rattle.gw_core.specs.History.{state_after}
-use Rattle.gw_core.specs.Replay.{no_counts}
+use Rattle.gw_core.specs.History.{state_after, no_counts}
 use Rattle.gw_core.specs.Resumed.{carried}
 use Rattle.gw_core.specs.State.{State}
 use Rattle.gw_core.specs.declared.event.Counts.{Counts}

@@ -7,7 +7,7 @@ ghost use Rattle.std.specs.Prelude.{◌≡◌, ◌⊎◌, ◌≤◌, ◌<◌, �
 ghost use Rattle.std.specs.Io.Buffered.{writer_buffer, writer_contents};
 ghost use Rattle.std.specs.Io.KnownBytes.{Appends, Keeps};
 ghost use Rattle.gw_core.specs.History.{state_after};
-ghost use Rattle.gw_core.specs.Replay.{no_counts};
+ghost use Rattle.gw_core.specs.History.{no_counts};
 ghost use Rattle.gw_serving.specs.Serve.{scene};
 ghost use Rattle.gw_notices.specs.Announcement.{startup_line};
 ghost use Rattle.gw_system.specs.Host.{OpensAtLine};

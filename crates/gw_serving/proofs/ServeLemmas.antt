@@ -26,8 +26,7 @@ use Rattle.gw_serving.specs.declared.serving.Served.{Served}
 use Rattle.gw_serving.specs.declared.serving.ServeFault.{ServeFault}
 use Rattle.gw_serving.specs.declared.serving.ServeFault.TheVariants.{Log, Memory, CountEnd}
 use Rattle.gw_core.specs.Effects.{effects_at, passes_end}
-use Rattle.gw_core.specs.History.{next, run_from, state_from}
-use Rattle.gw_core.specs.Laws.{log as denials_of_run}
+use Rattle.gw_core.specs.History.{next, run_from, state_from, log as denials_of_run}
 use Rattle.gw_serving.specs.Serve.{AreTurns, EndsBy, IsTakenLast, IsTurn, Scene, ServesAll, Stops, Try, Turn, LeadTo, count_fault}
 use Rattle.gw_serving.specs.Serve.{count_turn, counts_after, turn_events, events_of, failures, lines_of, log_of, zero_counts, successes}
 use Rattle.gw_serving.specs.Serve.{empty_turn, failed_turn, lost_event, taken_event, try_call, turn_calls}

@@ -14,7 +14,7 @@ use Rattle.gw_serving.specs.declared.serving.ServeFault.{ServeFault}
 use Rattle.gw_serving.specs.declared.serving.ServeFault.TheVariants.{Log, Memory, CountEnd}
 use Rattle.gw_core.specs.Effects.{effects_at}
 use Rattle.gw_core.specs.History.{next, run_from, state_from}
-use Rattle.gw_core.specs.NoLeak.{kept}
+use Rattle.gw_core.specs.Marked.{kept}
 use Rattle.gw_serving.specs.Serve.{AreTurns, EndsBy, IsTakenLast, IsTurn, LeadTo, Scene, Try, Turn, calls_of, count_fault, count_turn, counts_after, counts_of, empty_turn, events_of, failed_turn, failures, lost_event, successes, taken_event, try_call, turn_calls, turn_events, zero_counts}
 use Rattle.gw_serving.specs.Served.{IsServed, StopsAreServed, TurnsAreServed, answered, at_count_end, but_last, event_in, handed_in, is_departure, is_failed_receive, is_receive, tried, tried_by}
 use Rattle.gw_core.specs.State.{State}

@@ -3,7 +3,7 @@ use Rattle.std.proofs.Common.{◌≡◌, ◌∙◌, ◌++◌, inl, inr, refl, sy
 use Rattle.std.proofs.lemmas.List.{append-nil}
 use Rattle.std.specs.Io.KnownBytes.{IsAtEnd, Keeps, prepend_known}
 use Rattle.gw_configuration.specs.Configuration.{Configuration}
-use Rattle.gw_core.specs.Replay.{RunsPart, RunsToMemory, EventText, text_after}
+use Rattle.gw_replay.specs.Replay.{RunsPart, RunsToMemory, EventText, text_after}
 use Rattle.gw_script.proofs.KnownTexts.{holds_known}
 use Rattle.gw_script.specs.Script.{AreLines, lines_of}
 use Rattle.gw_shell.specs.Configured.{IsConfigurationOf}

@@ -1,16 +1,16 @@
 -- What a replay leaves written, from what the run and the flush after it leave.
 use Rattle.std.proofs.Common.{◌≡◌, refl, sym, subst, rules, true, false, Bool, ℕ, ◌++◌, List, Result, Ok, Err, Option, Some, None, [], ◌∷◌, length, take, IsSomeAnd, IsErrOf}
 use Rattle.std.specs.Io.KnownBytes.{Keeps}
-use Rattle.gw_core.specs.declared.replaying.RunFault.{RunFault}
-use Rattle.gw_core.specs.declared.replaying.RunFault.TheVariants as run
+use Rattle.gw_replay.specs.declared.replaying.RunFault.{RunFault}
+use Rattle.gw_replay.specs.declared.replaying.RunFault.TheVariants as run
 use Rattle.gw_script.specs.Event.{Event}
-use Rattle.gw_core.specs.Replay.{Replays, RunsFront, RunsToLine, RunsWhole, EventText, run_text}
+use Rattle.gw_replay.specs.Replay.{Replays, RunsFront, RunsToLine, RunsWhole, EventText, run_text}
 use Rattle.gw_script.specs.Known.{OnKnown}
 use Rattle.gw_script.specs.Script.{AreLines, lines_of}
 use Rattle.gw_configuration.specs.Configuration.{Configuration}
-use Rattle.gw_core.specs.Explained.{explained_text}
-use Rattle.gw_core.specs.Flawed.{HasFlaw}
-use Rattle.gw_core.specs.Shown.{event_text}
+use Rattle.gw_replay.specs.Explained.{explained_text}
+use Rattle.gw_replay.specs.Flawed.{HasFlaw}
+use Rattle.gw_replay.specs.Shown.{event_text}
 use Rattle.gw_script.specs.declared.flaw.LineFlaw.{LineFlaw}
 use Rattle.gw_ending.specs.declared.fault.Fault.{Fault}
 use Rattle.gw_shell.specs.Replay.{Plays, translating}

@@ -1,7 +1,7 @@
--- What `replay --stats` reports of the asks of a script, over the definitions of `gw_decisions`.
+-- What `replay --stats` reports of the asks of a script, over the definitions of `gw_replay`.
 use Rattle.std.specs.Prelude.{◌≡◌, ◌⊎◌, ℕ, Bool, true, false, List, [], Option, Some, None, Result, Ok, Err, codes}
 use Rattle.gw_configuration.specs.Configuration.{Configuration}
-use Rattle.gw_decisions.specs.Decisions.{IsReport}
+use Rattle.gw_replay.specs.Decisions.{IsReport}
 use Rattle.gw_policy_text.specs.declared.setting.TheConstants.{SETTING}
 use Rattle.gw_shell.specs.declared.deciding.Decisions.{Decisions}
 use Rattle.gw_shell.specs.declared.deciding.Decisions.TheVariants.{Counted, Silent, Uncounted}

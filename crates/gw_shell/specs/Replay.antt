@@ -1,9 +1,9 @@
--- What a replay leaves written, at each outcome: over the definitions of `gw_core`.
+-- What a replay leaves written, at each outcome: over the definitions of `gw_replay`.
 use Rattle.std.specs.Prelude.{◌≡◌, ℕ, Bool, true, false, List, length, Result, Ok, Err}
-use Rattle.gw_core.specs.Explained.{explained_text}
-use Rattle.gw_core.specs.Replay.{RunsFront, RunsPart, RunsToEnd, RunsToLine, RunsToMemory, RunsWhole, EventText}
-use Rattle.gw_core.specs.Shown.{event_text}
-use Rattle.gw_core.specs.Flawed.{HasFlaw}
+use Rattle.gw_replay.specs.Explained.{explained_text}
+use Rattle.gw_replay.specs.Replay.{RunsFront, RunsPart, RunsToEnd, RunsToLine, RunsToMemory, RunsWhole, EventText}
+use Rattle.gw_replay.specs.Shown.{event_text}
+use Rattle.gw_replay.specs.Flawed.{HasFlaw}
 use Rattle.gw_configuration.specs.Configuration.{Configuration}
 use Rattle.gw_ending.specs.declared.fault.Fault.{Fault}
 use Rattle.gw_ending.specs.declared.fault.Fault.TheVariants as fault

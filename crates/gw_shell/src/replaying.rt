@@ -7,8 +7,8 @@ ghost use Rattle.gw_shell.specs.Replay.{Plays};
 ghost use Rattle.gw_ending.specs.Ending.{first_fault, outcome_of};
 
 use gw_configuration::Config;
-use gw_core::RunFault;
 use gw_ending::Fault;
+use gw_replay::RunFault;
 use gw_script::{LineFlaw, OctetSource};
 use std::alloc::Global;
 use std::io::{BufWriter, Write};
@@ -51,10 +51,10 @@ fn play<R: OctetSource, W: Write + Drop>(
 {
     if explains {
         let mut flaw = LineFlaw::Form;
-        let run = gw_core::replay_explaining(alloc, config, reader, writer, &mut flaw);
+        let run = gw_replay::replay_explaining(alloc, config, reader, writer, &mut flaw);
         outcome_of(Some(flaw), run)
     } else {
-        outcome_of(None, gw_core::replay(alloc, config, reader, writer))
+        outcome_of(None, gw_replay::replay(alloc, config, reader, writer))
     }
 }
 

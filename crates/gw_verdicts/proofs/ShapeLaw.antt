@@ -50,11 +50,12 @@ use Rattle.gw_core.specs.History.{port_acts, state_after}
 use Rattle.gw_core.specs.Receive.{Received, barred, dropped, managed, message, receive, unregistered}
 use Rattle.gw_core.specs.State.{State, device_network}
 use Rattle.gw_core.specs.declared.event.Counts.{Counts}
-use Rattle.gw_core.proofs.FormatLemmas.{format_stays}
-use Rattle.gw_core.proofs.HistoryLemmas.{configuration_stays, ports_stay}
+use Rattle.gw_core_laws.proofs.FormatLemmas.{format_stays}
+use Rattle.gw_core_laws.proofs.ExtensionLemmas.{configuration_stays}
+use Rattle.gw_core.proofs.HistoryLemmas.{ports_stay}
 use Rattle.gw_core.proofs.RespondLemmas.{four_none}
-use Rattle.gw_core.proofs.StandLemmas.{acts_leave_the_tables}
-use Rattle.gw_core.proofs.Whence.{Heard, InPorts, IsHeard, all_ports, heard_at, port_bounds}
+use Rattle.gw_core_laws.proofs.StandLemmas.{acts_leave_the_tables}
+use Rattle.gw_core_laws.proofs.Whence.{Heard, InPorts, IsHeard, all_ports, heard_at, port_bounds}
 use Rattle.gw_verdicts.specs.Laws.{AsksLieInShapes, IsCarried, IsInstance, IsNumbered, IsOnNetwork, NeverFirstNeverDecides}
 use Rattle.gw_shapes.specs.Shape.{IsWithin, LiesInOne, Shape}
 use Rattle.gw_shapes.specs.Shapes.{claim_shapes, enter_shapes, foreign, foreign_shapes, gaps, near_shapes, network, own, own_shapes, perhaps, shapes, shapes_from, shapes_of, shapes_within, some, table_shapes}

@@ -1,18 +1,15 @@
 -- How records, their lines and counts go on.
-use Rattle.std.proofs.Common.{◌≡◌, ◌∙◌, refl, sym, ap, subst, ℕ, ◌+◌, ◌≤◌, ◌<◌, suc, Bool, true, false, List, [], ◌∷◌, ◌++◌, length, take, Option, Some, None, append_assoc, arith}
-use Rattle.std.specs.Prelude.{◌==◌, if◌then◌else◌, slice_index}
-use Rattle.std.specs.List.{flat_map}
+use Rattle.std.proofs.Common.{◌≡◌, ◌∙◌, refl, sym, ap, subst, ℕ, ◌+◌, ◌≤◌, ◌<◌, suc, List, [], ◌∷◌, ◌++◌, length, Option, Some, None, append_assoc, arith}
 use Rattle.std.proofs.lemmas.List.{append-nil, length-append}
 use Rattle.std.proofs.lemmas.Grind.{flat_map-append}
 use Rattle.gw_audit.specs.Line.{line_text}
 use Rattle.gw_audit.specs.declared.denial.Denial.{Denial}
 use Rattle.gw_core.specs.declared.asked.Asked.{Asked}
 use Rattle.gw_rules.specs.declared.rule.Rule.{Rule}
-use Rattle.gw_tally.specs.Tally.{CountsOne, one_more, place_of}
+use Rattle.gw_tally.specs.Tally.{one_more}
 use Rattle.gw_watching.specs.Beside.{IsEnded, IsPut, IsRecorded, ended}
 use Rattle.gw_watching.specs.declared.beside.Beside.{Beside}
 use Rattle.gw_watching.specs.Records.{last_number, lines_behind, record_of, recorded, records}
-use Rattle.gw_watching.specs.Watching.{AreCounted, counted_on}
 use Rattle.gw_watching.specs.declared.writing.Put.{Put}
 
 -- ---- records
@@ -97,23 +94,3 @@ pub no_records : {C S : Type 0} (held : S → Option (List ℕ)) (front : List �
     → count ≡ length due → count ≡ 0 → IsRecorded held front due b b
 no_records held front [] count b counted none = refl
 no_records held front (d ∷ due) count b counted none = absurd (omega (arith, counted, none))
-
--- ---- counts
-
-pub counted_along : (k count : ℕ) (one two : List Asked) → counted_on k count (one ++ two) ≡ counted_on k (counted_on k count one) two
-counted_along k count [] two = refl
-counted_along k count (a ∷ one) two = counted_along k (if place_of a.verdict.by == k then one_more count else count) one two
-
-pub counted_none : (counts : List ℕ) → AreCounted counts [] counts
-counted_none counts = record { places = refl; each = λ k within. refl }
-
-pub counted_next : (first now new : List ℕ) (done : List Asked) (a : Asked) → AreCounted first done now
-    → CountsOne (place_of a.verdict.by) now new → AreCounted first (done ++ a ∷ []) new
-counted_next first now new done a p q = record {
-  places = q.places ∙ p.places;
-  each = λ k within.
-      let inside : k < length now = omega (arith, within, p.places) in
-      q.each k inside
-      ∙ ap (λ (n : ℕ). if place_of a.verdict.by == k then one_more n else n) (p.each k within)
-      ∙ sym (counted_along k (slice_index first k) done (a ∷ []));
-}

@@ -5,7 +5,7 @@ use Rattle.std.specs.Io.KnownBytes.{Appends}
 use Rattle.std.proofs.KnownBytes.{Appends-nil, Appends-trans}
 use Rattle.std.proofs.lemmas.List.Concat.{flat_map-cons}
 use Rattle.gw_audit.specs.declared.denial.Denial.{Denial}
-use Rattle.gw_core.specs.Asked.{asked_at}
+use Rattle.gw_core.specs.Asked.{asked_at, run_asked}
 use Rattle.gw_core.specs.History.{next, state_from}
 use Rattle.gw_core.specs.State.{State}
 use Rattle.gw_core.specs.declared.asked.Asked.{Asked}
@@ -15,12 +15,14 @@ use Rattle.gw_serving.specs.Both.{LetsAllGo}
 use Rattle.gw_serving.specs.Serve.{Turn, empty_turn, events_of, failed_turn, lost_event, taken_event, turn_events}
 use Rattle.gw_serving.specs.Stretch.{AreGuarded, GoOn, GuardsTurn, Moment}
 use Rattle.gw_watching.specs.Beside.{IsEnded, IsRecorded, IsWritten, IsLost, ended}
-use Rattle.gw_watching.specs.Laws.{AuditIsWhole, CountsAreWhole, TrialIsWhole, run_asked, run_records}
+use Rattle.gw_watching.specs.Laws.{AuditIsWhole, CountsAreWhole, TrialIsWhole, run_records}
 use Rattle.gw_watching.specs.Records.{audited_by, denied_by, last_number, lines_behind, records}
-use Rattle.gw_watching.specs.Watching.{AreCounted, HasWatched, IsAudited, IsCounted, IsTried, Missed, Watches, Watching, counted_on, is_watching}
+use Rattle.gw_decisions.specs.Counted.{AreCounted, counted_on}
+use Rattle.gw_watching.specs.Watching.{HasWatched, IsAudited, IsCounted, IsTried, Missed, Watches, Watching, is_watching}
 use Rattle.gw_watching.specs.declared.beside.Beside.{Beside}
 use Rattle.gw_core.specs.Effects.{NeedsNoMemory}
-use Rattle.gw_watching.proofs.RecordLemmas.{counted_along, lines_along}
+use Rattle.gw_decisions.proofs.CountedLemmas.{counted_along}
+use Rattle.gw_watching.proofs.RecordLemmas.{lines_along}
 
 -- ---- one log, event by event
 

@@ -1,7 +1,6 @@
 -- What a watcher's logs hold after a run, and what the lines of a trial are.
-use Rattle.std.specs.Prelude.{◌≡◌, ℕ, ◌+◌, ◌-◌, ◌^◌, ◌<◌, ◌≤◌, Bool, false, List, [], ◌∷◌, ◌++◌, length, map, Option, Some, codes, slice_index}
+use Rattle.std.specs.Prelude.{◌≡◌, ℕ, ◌+◌, ◌^◌, ◌<◌, Bool, false, List, [], ◌∷◌, ◌++◌, length, map, Option, Some, codes, slice_index}
 use Rattle.std.specs.Io.KnownBytes.{Appends}
-use Rattle.std.specs.List.{flat_map}
 use Rattle.gw_audit.specs.declared.denial.Denial.{Denial}
 use Rattle.gw_core.specs.Asked.{asked_at}
 use Rattle.gw_core.specs.Asks.{asks}
@@ -16,7 +15,8 @@ use Rattle.gw_script.specs.Event.{Event}
 use Rattle.gw_serving.specs.Serve.{Turn, events_of}
 use Rattle.gw_serving.specs.Stretch.{GoOn, Moment}
 use Rattle.gw_watching.specs.Records.{audited_by, denied_by, last_number, lines_behind, records}
-use Rattle.gw_watching.specs.Watching.{HasWatched, Watching, counted_on}
+use Rattle.gw_watching.specs.Watching.{HasWatched, Watching}
+use Rattle.gw_decisions.specs.Counted.{counted_on}
 use Rattle.gw_watching.specs.declared.beside.Beside.{Beside}
 
 -- ---- one event
@@ -40,11 +40,6 @@ run_records chosen naming last w [] = []
 run_records chosen naming last w (e ∷ events) =
     let now = records chosen (naming (next w e).rules) last (next w e).ticks (asked_at w e) in
     now ++ run_records chosen naming (last_number last now) (next w e) events
-
--- what these events ask, one after the other
-unfoldable pub run_asked : State → List Event → List Asked
-run_asked w [] = []
-run_asked w (e ∷ events) = asked_at w e ++ run_asked (next w e) events
 
 -- If nothing was lost and all events were seen, a trial's log has exactly the lines of the asks of the run that its rules deny.
 abbrev pub TrialIsWhole : {T A : Type 0} → (T → Option (List ℕ)) → (A → Option (List ℕ)) → Type 0

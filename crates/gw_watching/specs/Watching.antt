@@ -1,6 +1,6 @@
 -- What a watcher does about what an event asked.
-use Rattle.std.specs.Prelude.{◌≡◌, ◌⊎◌, ⊤, ℕ, ◌+◌, ◌-◌, ◌^◌, ◌<◌, ◌==◌, ◌||◌, Bool, true, false, min, is_some, List, []}
-use Rattle.std.specs.Prelude.{◌∷◌, length, codes, slice_index, if◌then◌else◌, Option, Some, None}
+use Rattle.std.specs.Prelude.{◌≡◌, ◌⊎◌, ⊤, ℕ, ◌+◌, ◌-◌, ◌^◌, ◌||◌, Bool, true, min, is_some, List, []}
+use Rattle.std.specs.Prelude.{codes, if◌then◌else◌, Option, Some, None}
 use Rattle.gw_core.specs.Asked.{asked_at}
 use Rattle.gw_core.specs.Effects.{NeedsNoMemory}
 use Rattle.gw_core.specs.History.{next}
@@ -8,7 +8,6 @@ use Rattle.gw_core.specs.State.{State}
 use Rattle.gw_core.specs.declared.asked.Asked.{Asked}
 use Rattle.gw_rules.specs.declared.rule.Rule.{Rule}
 use Rattle.gw_script.specs.Event.{Event}
-use Rattle.gw_tally.specs.Tally.{one_more, place_of}
 use Rattle.gw_watching.specs.Beside.{IsRecorded}
 use Rattle.gw_watching.specs.Records.{audited_by, denied_by, records}
 use Rattle.gw_watching.specs.declared.beside.Beside.{Beside}
@@ -46,17 +45,6 @@ IsAudited held w asked None None = ⊤
 IsAudited held w asked (Some b) (Some c) =
     IsRecorded held (codes "allow ") (records (audited_by b.choice) w.rules b.number w.ticks asked) b c
 IsAudited held w asked _ _ = ⊥
-
--- a count of the asks that the rule of this number decided, or none at 0: one more for each, up to 2^64 - 1
-abbrev pub counted_on : ℕ → ℕ → List Asked → ℕ
-counted_on number count [] = count
-counted_on number count (a ∷ asked) =
-    counted_on number (if place_of a.verdict.by == number then one_more count else count) asked
-
--- each count goes on by what its rule decided
-pub record AreCounted (before : List ℕ) (asked : List Asked) (after : List ℕ) : Type 0 where
-  pub places : length after ≡ length before
-  pub each : (k : ℕ) → k < length before → slice_index after k ≡ counted_on k (slice_index before k) asked
 
 abbrev pub IsCounted : List Asked → (before after : Option (List ℕ)) → Type 0
 IsCounted asked None None = ⊤

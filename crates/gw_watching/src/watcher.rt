@@ -1,12 +1,13 @@
 //! What watches the asks of a gateway, and withholds nothing.
 
-ghost use Rattle.std.specs.Prelude.{◌≡◌, ◌+◌, ◌-◌, ◌^◌, min, option_map, true};
+ghost use Rattle.std.specs.Prelude.{◌≡◌, ◌+◌, ◌-◌, option_map, true};
 ghost use Rattle.gw_core.specs.declared.asked.Asked.{Asked};
-ghost use Rattle.gw_watching.specs.Watching.{AreCounted, HasWatched, Missed, Watches, Watching, is_watching, with_marks};
+ghost use Rattle.gw_watching.specs.Watching.{HasWatched, Missed, Watches, Watching, is_watching, with_marks};
 
 use crate::audit::Marks;
 use crate::beside::Beside;
 use gw_core::{AllAsked, Asked, Gateway, Taken};
+use gw_decisions::count_asked;
 use gw_rule_index::Policy;
 use gw_script::OctetSink;
 use gw_serving::Guard;
@@ -43,15 +44,6 @@ impl<T, A> Model for Watcher<T, A> {
     ghost Value = { Watching T A };
 
     ghost view = { λ w. record { trial = w.trial; audit = w.audit; counts = w.counts; unseen = w.unseen } };
-}
-
-/// Counts which rule decided each ask.
-fn count_each(tally: &mut Tally, asked: &[Asked])
-    ensures { AreCounted tally.old asked.now tally.new }
-{
-    for one in asked {
-        tally.count_decided(one.verdict.by);
-    }
 }
 
 impl<T: OctetSink + Drop, A: OctetSink + Drop> Watcher<T, A> {
@@ -122,7 +114,7 @@ impl<T: OctetSink + Drop, A: OctetSink + Drop> Watcher<T, A> {
             audit.record_asks(gateway, asked, &mut self.text);
         }
         if let Some(counts) = &mut self.counts {
-            count_each(counts, asked);
+            count_asked(counts, asked);
         }
     }
 

@@ -1,0 +1,16 @@
+pub mod DropLemmas
+pub mod ExtensionLemmas
+pub mod NothingLemmas
+pub mod StandLemmas
+pub mod LogLemmas
+pub mod TrafficLemmas
+pub mod QuietLemmas
+pub mod DeviceAskLemmas
+pub mod RelayAskLemmas
+pub mod WriteLemmas
+pub mod BlindLemmas
+pub mod FormatLemmas
+pub mod RefusedLemmas
+pub mod StationLemmas
+pub mod ExampleRuns
+pub mod Whence

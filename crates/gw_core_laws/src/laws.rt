@@ -1,0 +1,147 @@
+//! Laws of the definitions, and worked examples of them. The functions do nothing: their contracts are the laws.
+
+ghost use Rattle.std.specs.Prelude.{◌≡◌};
+ghost use Rattle.gw_core_laws.specs.Examples.{AllArePlaced, BroadcastIsDistributed, CountsEnd, DeniedSetIsRefused};
+ghost use Rattle.gw_core_laws.specs.Examples.{DeniedTableIsRefused, DeniedWriteIsUnseen, DenialsAreCountedOn};
+ghost use Rattle.gw_core_laws.specs.Examples.{EachCutIsDropped, GlobalWhoIsGoesOn, HiddenObjectIsUnnamed};
+ghost use Rattle.gw_core_laws.specs.Examples.{HiddenReadIsDenied, HiddenWriteIsUnseen, HidingIsSeen, LearnedRouteIsTaken};
+ghost use Rattle.gw_core_laws.specs.Examples.{LocalReadIsUnheard, ReadIsAnswered, RegistrationEnds, RelinquishIsSeen};
+ghost use Rattle.gw_core_laws.specs.Examples.{RoutedReadIsAnswered, UnknownNetworkIsSought, UnknownObjectIsNamed};
+ghost use Rattle.gw_core_laws.specs.Examples.{WhoIsIsAnswered, WriteIsSeen, WrongLengthsAreDropped};
+ghost use Rattle.gw_core_laws.specs.Reasons.{DropsHaveReasons};
+ghost use Rattle.gw_core_laws.specs.NoLeak.{AsksCarryTheirClaim, QuietIsUnseen, WritesAreHidden, WritesAreUnread};
+ghost use Rattle.gw_core_laws.specs.Laws.{ActsLeaveTheTables, AllowedTrafficIsSent, ConfigurationStays};
+ghost use Rattle.gw_core_laws.specs.Laws.{DeniedAsksAreLogged, DeniedBroadcastsAreKept};
+ghost use Rattle.gw_core_laws.specs.Laws.{DeniedReadsAreRefused, DeniedWritesAreRefused, DenialsAreCounted};
+ghost use Rattle.gw_core_laws.specs.Laws.{DenialsHaveTheirTick, DroppedNeedsNoMemory, FormatOneIsAsBefore};
+ghost use Rattle.gw_core_laws.specs.Laws.{FormatOneRunsAsBefore, FormatStays, FormatTwoIsAsBefore, FormatTwoRunsAsBefore};
+ghost use Rattle.gw_core_laws.specs.Laws.{FormatWasUnread, NoDeliveryOutside, NoForgedClaim, NoStranger};
+ghost use Rattle.gw_core_laws.specs.Laws.{LearningsLeaveTheRoutes, LogIsNumbered, NothingAskedIsChanged};
+ghost use Rattle.gw_core_laws.specs.Laws.{NothingAskedIsLogged, NothingAskedIsWritten, PortsStay, RelayTicksAreCounted};
+ghost use Rattle.gw_core_laws.specs.Laws.{RunsExtendHistories, StepsExtendHistories, TicksAreCounted};
+ghost use Rattle.gw_core_laws.specs.Laws.{TicksOnlyCount, WritesLeaveTheSlots};
+ghost use Rattle.gw_core_laws.specs.Refused.{DeniedListingsAreSilent, DeniedManagementIsRefused, DeniedMembersAreRefused};
+ghost use Rattle.gw_core_laws.specs.Refused.{DeniedPropertiesAreRefused, OthersAreAnswered, RepliesAreTheirParts};
+
+use gw_relay::laws::{delivery, entry};
+
+/// What holds after every history: each step extends it, and so does each list of events; the ports'
+/// tables, the routes, and the slots and the defaults of the device are what the acts left that it
+/// granted; and the ports and what is configured of the device stay.
+pub fn histories()
+    ensures steps { StepsExtendHistories }
+    ensures runs { RunsExtendHistories }
+    ensures tables { ActsLeaveTheTables }
+    ensures routes { LearningsLeaveTheRoutes }
+    ensures slots { WritesLeaveTheSlots }
+    ensures ports { PortsStay }
+    ensures configuration { ConfigurationStays }
+{}
+
+/// What an event does, in plain words: a tick sends nothing and only counts; the log has exactly the asks that the
+/// policy denies, each under the first rule that matches and with the ticks of its moment; a denied
+/// read or write is answered by its access error, and changes nothing.
+pub fn events()
+    ensures ticks { TicksOnlyCount }
+    ensures silent { NothingAskedIsLogged }
+    ensures log { DeniedAsksAreLogged }
+    ensures moments { DenialsHaveTheirTick }
+    ensures refused { DeniedReadsAreRefused }
+    ensures unwritten { DeniedWritesAreRefused }
+    ensures unasked { NothingAskedIsWritten }
+    ensures unchanged { NothingAskedIsChanged }
+    ensures dropped { DroppedNeedsNoMemory }
+    ensures traffic { AllowedTrafficIsSent }
+    ensures kept { DeniedBroadcastsAreKept }
+{}
+
+/// Why a datagram is dropped before the policy is asked: it is dropped exactly if it has a reason, and each reason
+/// that is counted is one of three: it can't be read, it names a source on a network of the gateway's own, or it is
+/// forwarded by someone who is no peer.
+pub fn drops()
+    ensures { DropsHaveReasons }
+{}
+
+/// What is answered where the policy denies: in a ReadPropertyMultiple the access error in the place of each denied
+/// property, whatever the object holds, and the others as ever; nothing to a Who-Is or Who-Has; and to a frame that
+/// manages a table the negative code of its function, which changes nothing.
+pub fn refusals()
+    ensures parts { RepliesAreTheirParts }
+    ensures properties { DeniedPropertiesAreRefused }
+    ensures others { OthersAreAnswered }
+    ensures members { DeniedMembersAreRefused }
+    ensures listings { DeniedListingsAreSilent }
+    ensures tables { DeniedManagementIsRefused }
+{}
+
+/// What the format of a policy changes. Under a configuration of the first format every list of events asks and does
+/// what a definition without formats says, and leaves its state; under the first or the second, what a definition
+/// without the third says; and no event changes the format of the configuration.
+pub fn formats()
+    ensures first { FormatOneIsAsBefore }
+    ensures runs { FormatOneRunsAsBefore }
+    ensures unread { FormatWasUnread }
+    ensures second { FormatTwoIsAsBefore }
+    ensures second_runs { FormatTwoRunsAsBefore }
+    ensures stays { FormatStays }
+{}
+
+/// What the third format keeps out. If the rules allow nobody to claim, whoever names a source network that doesn't
+/// lie behind him does nothing but be denied; if they allow nobody to enter, so does whoever doesn't belong to the
+/// port that he reaches. And what is routed as a unicast stays inside: it goes to a station of the port on which it is
+/// sent, to a router of the table, or, as a Reject-Message-To-Network, back to where the message came from.
+pub fn stations()
+    ensures claims { NoForgedClaim }
+    ensures strangers { NoStranger }
+    ensures inside { NoDeliveryOutside }
+{
+    entry();
+    delivery();
+}
+
+/// What a gateway counts, whatever it is configured with and whatever comes.
+pub fn counts()
+    ensures ticks { TicksAreCounted }
+    ensures relay { RelayTicksAreCounted }
+    ensures denials { DenialsAreCounted }
+    ensures log { LogIsNumbered }
+{}
+
+/// What frames do to a gateway of the built-in configuration, computed from the definitions.
+pub fn worked_examples()
+    ensures read_is_answered { ReadIsAnswered }
+    ensures hidden_read_is_denied { HiddenReadIsDenied }
+    ensures local_read_is_unheard { LocalReadIsUnheard }
+    ensures hidden_object_is_unnamed { HiddenObjectIsUnnamed }
+    ensures unknown_object_is_named { UnknownObjectIsNamed }
+    ensures each_cut_is_dropped { EachCutIsDropped }
+    ensures wrong_lengths_are_dropped { WrongLengthsAreDropped }
+    ensures routed_read_is_answered { RoutedReadIsAnswered }
+    ensures counts_end { CountsEnd }
+    ensures denials_are_counted_on { DenialsAreCountedOn }
+    ensures write_is_seen { WriteIsSeen }
+    ensures relinquish_is_seen { RelinquishIsSeen }
+    ensures denied_write_is_unseen { DeniedWriteIsUnseen }
+    ensures all_are_placed { AllArePlaced }
+    ensures denied_set_is_refused { DeniedSetIsRefused }
+    ensures denied_table_is_refused { DeniedTableIsRefused }
+    ensures who_is_is_answered { WhoIsIsAnswered }
+    ensures registration_ends { RegistrationEnds }
+    ensures broadcast_is_distributed { BroadcastIsDistributed }
+    ensures learned_route_is_taken { LearnedRouteIsTaken }
+    ensures unknown_network_is_sought { UnknownNetworkIsSought }
+    ensures global_who_is_goes_on { GlobalWhoIsGoesOn }
+    ensures hidden_write_is_unseen { HiddenWriteIsUnseen }
+    ensures hiding_is_seen { HidingIsSeen }
+{}
+
+/// What peers don't learn of one another. A write of an object that the policy hides from a source leaves nothing for
+/// that source to see, and nothing in any event that reads the object by no allowed ask. And a
+/// datagram that is allowed no change leaves nothing at all. What is seen of an event are its sends, and its denials but
+/// for their numbers.
+pub fn no_leak()
+    ensures hidden { WritesAreHidden }
+    ensures unread { WritesAreUnread }
+    ensures quiet { QuietIsUnseen }
+    ensures claims { AsksCarryTheirClaim }
+{}

@@ -1,0 +1,20 @@
+use Rattle.std.proofs.Common.{◌≡◌, ℕ, List, [], Some}
+use Rattle.std.specs.Io.KnownBytes.{prepend_known}
+use Rattle.gw_configuration.specs.Configuration.{Configuration}
+use Rattle.gw_core.specs.History.{IsStateAfter, no_counts}
+use Rattle.gw_script.proofs.Calls.{CallBound}
+use Rattle.gw_replay.proofs.ReplayLemmas.{Progress}
+use Rattle.gw_replay.proofs.replaying.ScriptRun.replay_script.Given as goal
+
+abbrev pub invariant-loop-number : goal.invariant-loop-number
+invariant-loop-number g l =
+    let left = g.R.OctetSource.left in
+    let held = g.W.OctetSink.held in record {
+      progress : (c : Configuration) → IsStateAfter l.fn.self.gateway c no_counts [] → (script before : List ℕ)
+          → left l.fn.reader ≡ Some script → held l.fn.writer ≡ Some before
+          → Progress g.T.EventText.wording c script before l.number l.self.gateway (prepend_known l.self.lines.unread (left l.reader)) (held l.writer);
+      calls : (script : List ℕ) → left l.fn.reader ≡ Some script
+          → CallBound script l.number l.self.lines.calls (left l.reader) (prepend_known l.self.lines.unread (left l.reader));
+      lasting_reader : g.R.OctetSource.NeverFails l.fn.reader → g.R.OctetSource.NeverFails l.reader;
+      lasting_writer : g.W.OctetSink.NeverFails l.fn.writer → g.W.OctetSink.NeverFails l.writer;
+    }

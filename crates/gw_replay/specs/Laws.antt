@@ -1,0 +1,24 @@
+-- Laws of what a replay writes.
+use Rattle.std.specs.Prelude.{◌≡◌, List, filter, not}
+use Rattle.std.specs.List.{flat_map}
+use Rattle.gw_configuration.specs.Configuration.{Configuration}
+use Rattle.gw_rules.specs.RuleList.{allows}
+use Rattle.gw_script.specs.Event.{Event}
+use Rattle.gw_core.specs.Asks.{asks}
+use Rattle.gw_core.specs.Effects.{effects_at}
+use Rattle.gw_core.specs.Explained.{ask_line, ask_lines}
+use Rattle.gw_core.specs.History.{no_counts, run}
+use Rattle.gw_core.specs.Receive.{origin, receive}
+use Rattle.gw_core.specs.State.{State}
+use Rattle.gw_replay.specs.Replay.{run_text}
+use Rattle.gw_replay.specs.Shown.{event_text, text_of_run}
+
+-- What a replay that doesn't explain writes of a run is the text of its effects.
+abbrev pub RunsAreWritten : Type 0
+RunsAreWritten = (c : Configuration) (l : List Event) → run_text event_text c l ≡ text_of_run (run c no_counts l)
+
+-- The lines of those asks of an event that the policy denies are those of its denials, in order.
+abbrev pub DeniedLinesAreLogged : Type 0
+DeniedLinesAreLogged = (w : State) (e : Event) →
+    ask_lines w.rules (origin (receive w e)) (filter (λ ask. not (allows w.rules ask)) (asks w e))
+    ≡ flat_map (λ d. ask_line w.rules d.source d.ask) (effects_at w e).denials

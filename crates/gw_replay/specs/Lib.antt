@@ -1,0 +1,7 @@
+pub mod Shown
+pub mod Explained
+pub mod Replay
+pub mod Flawed
+pub mod Laws
+pub mod Decisions
+pub mod internal

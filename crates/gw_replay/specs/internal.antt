@@ -1,0 +1,2 @@
+-- What only private parts and proofs cite.
+pub mod LineOutcome

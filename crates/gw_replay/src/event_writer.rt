@@ -1,0 +1,169 @@
+//! How a replay reports an event: what it does, or before that also what it asks.
+
+ghost use Rattle.std.specs.Prelude.{◌≡◌, ◌+◌, ◌≤◌, ◌++◌, OnOk, IfErr, vec_capacity, vec_len};
+ghost use Rattle.gw_script.specs.Event.{Tick, event_view};
+ghost use Rattle.gw_core.specs.Effects.{NeedsNoMemory};
+ghost use Rattle.gw_core.specs.History.{next};
+ghost use Rattle.gw_replay.specs.internal.LineOutcome.{IsEventFault};
+ghost use Rattle.gw_replay.specs.Shown.{event_text};
+
+use crate::replaying::RunFault;
+use crate::shown::append_effects;
+use gw_core::{Gateway, StepFault, append_asked, take_event};
+use gw_script::{Event, SpelledAddr, append_end};
+use std::alloc::Global;
+
+/// How a replay reports an event.
+pub(crate) trait EventText {
+    ghost use Rattle.gw_replay.specs.Replay.{EventText};
+
+    /// The text of an event in the state in which it comes.
+    ghost wording: { EventText };
+
+    /// The allocator of what an event does.
+    fn alloc(&self) -> Global;
+
+    /// Has the gateway take an event, and makes the event's text.
+    fn make_text(
+        &self,
+        gateway: &mut Gateway,
+        event: &Event<'_>,
+        sender: &Option<SpelledAddr<'_>>,
+        text: &mut Vec<u8>,
+    ) -> Result<(), RunFault>
+        requires room { 4 ≤ vec_capacity text.old }
+        ensures text { OnOk result
+            (text.new.items ≡ wording gateway.old (event_view event.now)) }
+        ensures moved { OnOk result (gateway.new ≡ next gateway.old (event_view event.now)) }
+        ensures fault { IfErr result (IsEventFault gateway.old (event_view event.now)) }
+        ensures capacity { vec_capacity text.old ≤ vec_capacity text.new };
+}
+
+/// By what it does.
+#[derive(Clone, Copy)]
+pub(crate) struct Plain {
+    pub alloc: Global,
+}
+
+/// By what it asks, and then by what it does.
+#[derive(Clone, Copy)]
+pub(crate) struct Explaining {
+    pub alloc: Global,
+}
+
+/// Has the gateway take a tick, and appends its only line.
+#[inline(always)]
+fn append_tick(gateway: &mut Gateway, text: &mut Vec<u8>) -> Result<(), RunFault>
+    requires room { vec_len text.old + 4 ≤ vec_capacity text.old }
+    ensures text { OnOk result (text.new.items ≡ text.old.items ++ event_text gateway.old Tick) }
+    ensures moved { OnOk result (gateway.new ≡ next gateway.old Tick) }
+    ensures fault { IfErr result (IsEventFault gateway.old Tick) }
+    ensures capacity { vec_capacity text.old ≤ vec_capacity text.new }
+{
+    let Ok(()) = gateway.tick() else {
+        return Err(RunFault::CountEnd);
+    };
+    match append_end(text) {
+        Ok(()) => Ok(()),
+        Err(_) => Err(RunFault::Memory),
+    }
+}
+
+/// Has the gateway take a datagram, and appends the lines of what it does.
+#[inline(always)]
+fn append_step(
+    alloc: Global,
+    gateway: &mut Gateway,
+    event: &Event<'_>,
+    sender: &Option<SpelledAddr<'_>>,
+    text: &mut Vec<u8>,
+) -> Result<(), RunFault>
+    requires room { NeedsNoMemory gateway.old (event_view event.now) →
+        vec_len text.old + 4 ≤ vec_capacity text.old }
+    ensures text { let due = event_text gateway.old (event_view event.now) in
+        OnOk result (text.new.items ≡ text.old.items ++ due) }
+    ensures moved { OnOk result (gateway.new ≡ next gateway.old (event_view event.now)) }
+    ensures fault { IfErr result (IsEventFault gateway.old (event_view event.now)) }
+    ensures capacity { vec_capacity text.old ≤ vec_capacity text.new }
+{
+    let taken = take_event(alloc, gateway, event);
+    let effects = match &taken {
+        Ok(taken) => &taken.effects,
+        Err(StepFault::Memory) => return Err(RunFault::Memory),
+        Err(StepFault::CountEnd) => return Err(RunFault::CountEnd),
+    };
+    match append_effects(text, effects, sender) {
+        Ok(()) => {}
+        Err(_) => return Err(RunFault::Memory),
+    }
+    Ok(())
+}
+
+/// Has the gateway take an event, and appends the lines of what it does.
+#[inline(always)]
+fn append_taken(
+    alloc: Global,
+    gateway: &mut Gateway,
+    event: &Event<'_>,
+    sender: &Option<SpelledAddr<'_>>,
+    text: &mut Vec<u8>,
+) -> Result<(), RunFault>
+    requires room { NeedsNoMemory gateway.old (event_view event.now) →
+        vec_len text.old + 4 ≤ vec_capacity text.old }
+    ensures text { let due = event_text gateway.old (event_view event.now) in
+        OnOk result (text.new.items ≡ text.old.items ++ due) }
+    ensures moved { OnOk result (gateway.new ≡ next gateway.old (event_view event.now)) }
+    ensures fault { IfErr result (IsEventFault gateway.old (event_view event.now)) }
+    ensures capacity { vec_capacity text.old ≤ vec_capacity text.new }
+{
+    match event {
+        Event::Datagram { .. } => append_step(alloc, gateway, event, sender, text),
+        Event::Tick => append_tick(gateway, text),
+    }
+}
+
+impl EventText for Plain {
+    ghost use Rattle.gw_replay.specs.Shown.{event_text};
+
+    ghost wording = { event_text };
+
+    fn alloc(&self) -> Global {
+        self.alloc
+    }
+
+    #[inline(always)]
+    fn make_text(
+        &self,
+        gateway: &mut Gateway,
+        event: &Event<'_>,
+        sender: &Option<SpelledAddr<'_>>,
+        text: &mut Vec<u8>,
+    ) -> Result<(), RunFault> {
+        text.clear();
+        append_taken(self.alloc, gateway, event, sender, text)
+    }
+}
+
+impl EventText for Explaining {
+    ghost use Rattle.gw_replay.specs.Explained.{explained_text};
+
+    ghost wording = { explained_text };
+
+    fn alloc(&self) -> Global {
+        self.alloc
+    }
+
+    fn make_text(
+        &self,
+        gateway: &mut Gateway,
+        event: &Event<'_>,
+        sender: &Option<SpelledAddr<'_>>,
+        text: &mut Vec<u8>,
+    ) -> Result<(), RunFault> {
+        text.clear();
+        let Ok(()) = append_asked(self.alloc, gateway, event, text) else {
+            return Err(RunFault::Memory);
+        };
+        append_taken(self.alloc, gateway, event, sender, text)
+    }
+}
