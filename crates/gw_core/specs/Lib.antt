@@ -9,6 +9,7 @@ pub mod History
 pub mod Resumed
 pub mod Lasting
 pub mod Drops
+pub mod Guard
 pub mod Setting
 pub mod Examples
 pub mod FormatOne

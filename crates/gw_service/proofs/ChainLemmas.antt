@@ -17,7 +17,7 @@ use Rattle.gw_serving.specs.declared.stretch.Pause.{Pause}
 use Rattle.gw_serving.specs.declared.serving.ServeFault.{ServeFault}
 use Rattle.gw_core.specs.State.{State}
 use Rattle.gw_serving.specs.Serve.{Turn, count_turn, counts_after, empty_turn, failed_turn, lost_event, scene, taken_event}
-use Rattle.gw_serving.specs.Wire.{Call}
+use Rattle.gw_wire.specs.Wire.{Call}
 use Rattle.gw_serving.specs.declared.serving.Served.{Served}
 use Rattle.gw_serving.specs.declared.tally.Tally.{Tally}
 use Rattle.gw_system.proofs.RequestLemmas.{goes_two}

@@ -16,7 +16,7 @@ use Rattle.gw_serving.proofs.ServeLemmas.{lead_along, lead_nowhere}
 use Rattle.gw_serving.specs.Serve.{EndsBy, LeadTo, Scene, Turn, count_fault, count_turn, counts_after, counts_of, empty_turn, failed_turn}
 use Rattle.gw_serving.specs.Serve.{lost_event, scene, taken_event, turn_events}
 use Rattle.gw_serving.specs.Stretch.{AreGuarded, GuardsTurn}
-use Rattle.gw_serving.specs.Wire.{Call}
+use Rattle.gw_wire.specs.Wire.{Call}
 use Rattle.gw_serving.specs.declared.serving.ServeFault.{ServeFault}
 use Rattle.gw_serving.specs.declared.serving.Served.{Served}
 use Rattle.gw_system.specs.Requests.{Asking, GoesOn, answered, asked, nobody, recorded_by, unasked}

@@ -6,7 +6,7 @@ use Rattle.gw_command_line.specs.declared.options.RunOptions.{RunOptions}
 use Rattle.gw_configuration.specs.Configuration.{Configuration}
 use Rattle.gw_core.specs.State.{State}
 use Rattle.gw_rules.specs.declared.rule.Rule.{Rule}
-use Rattle.gw_serving.specs.declared.guard.Both.{Both}
+use Rattle.gw_core.specs.declared.guard.Both.{Both}
 use Rattle.gw_system.specs.Host.{LogOpening}
 use Rattle.gw_system.specs.declared.reading.ReadFailure.{ReadFailure}
 use Rattle.gw_tally.specs.Tally.{IsTally}

@@ -6,13 +6,13 @@ ghost use Rattle.gw_service.specs.Keeping.{tries_in, unkept_in};
 
 use crate::keeping::{Kept, StateKeeper};
 use crate::successor::Successor;
-use gw_core::Gateway;
+use gw_core::{Both, Gateway};
 use gw_metrics::StateTries;
 use gw_notices::{Losses, Troubles, report_watched};
 use gw_script::OctetSink;
-use gw_serving::{Both, Store};
 use gw_tally::Tally;
 use gw_watching::{Beside, Watcher};
+use gw_wire::Store;
 use std::alloc::Global;
 
 /// Whether lines of a log beside the log were lost, if there is one.

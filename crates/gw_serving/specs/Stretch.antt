@@ -25,20 +25,6 @@ use Rattle.gw_serving.specs.declared.tally.Tally.{Tally}
 
 -- ---- one event
 
--- the event was taken in this state: what it does, why it is dropped, if it is, and whether it lasts; and the state then
-pub record IsTaken (w : State) (event : Event) (after : State) (taken : Taken) : Type 0 where
-  pub counts : passes_end w event ≡ false
-  pub effects : taken.effects ≡ effects_at w event
-  pub drop : taken.drop ≡ drop_at w event
-  pub lasts : taken.lasts ≡ lasts w event
-  pub gateway : after ≡ next w event
-
--- What of its asks is seen, if they are watched: all with their verdicts, or nothing if memory was wanted.
-abbrev pub IsSeen : Bool → State → Event → Option (List Asked) → Type 0
-IsSeen watched w event (Some asked) = asked ≡ asked_at w event
-IsSeen true w event None = ¬ (NeedsNoMemory w event)
-IsSeen false w event None = ⊤
-
 -- The last event was taken, the log has the lines of its denials, and nothing of what it sends was tried.
 pub record IsLoggedLast (before : Scene) (event : Event) (after : Scene) : Type 0 where
   pub taken : IsTakenLast before event after
