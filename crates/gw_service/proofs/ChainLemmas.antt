@@ -77,7 +77,7 @@ taken_so {K} Adopts o w k l (Ok (Some text)) made first middle last line counts 
     answers is_line is_counts records noted = λ c is_origin.
     let new = is.config in
     let same : saved_of o w ≡ saved c w = ap (λ (x : Origin). saved_of x w) is_origin in
-    let is_text : line ≡ reload_line w new (saved c w) = is_line ∙ is.adopted.line ∙ ap (reload_line w new) same in (
+    let is_text : line ≡ reload_line w.rules new (saved c w) = is_line ∙ is.adopted.line ∙ ap (reload_line w.rules new) same in (
       new,
       taken_over text new,
       is.adopted.origin,

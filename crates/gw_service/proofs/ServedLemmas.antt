@@ -48,7 +48,7 @@ looks_none Adopts c d s t unrequested is none =
 looks_none Adopts c d s t (refused read f line) is none =
     let goes = subst (λ (a : Asking). GoesOn a t.requests (asked read ∷ answered line ∷ [])) none is.requests in absurd goes.1.0
 looks_none Adopts c d s t (taken_over text new) is none =
-    let line = reload_line s.gateway new (saved c s.gateway) in
+    let line = reload_line s.gateway.rules new (saved c s.gateway) in
     let goes = subst (λ (a : Asking). GoesOn a t.requests (asked (Ok (Some text)) ∷ answered line ∷ [])) none is.requests in
     absurd goes.1.0
 

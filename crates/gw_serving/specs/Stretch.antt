@@ -1,18 +1,12 @@
 -- A stretch of serving under a guard, which judges each event that was taken and logged before anything of it is sent.
-use Rattle.std.specs.Prelude.{◌≡◌, ⊤, ℕ, ◌+◌, ◌-◌, ◌*◌, ◌^◌, ◌<◌, ◌≤◌, Bool, true, false, List, [], ◌∷◌, ◌++◌, length}
-use Rattle.std.specs.Prelude.{Option, Some, None}
+use Rattle.std.specs.Prelude.{◌≡◌, ℕ, ◌+◌, ◌-◌, ◌*◌, ◌^◌, ◌<◌, ◌≤◌, Bool, true, false, List, [], ◌∷◌, ◌++◌, length}
 use Rattle.std.specs.Prelude.{Result, Ok, Err}
 use Rattle.std.specs.Io.KnownBytes.{Appends}
 use Rattle.gw_script.specs.Event.{Event}
 use Rattle.gw_script.specs.Event as event
-use Rattle.gw_core.specs.Asked.{asked_at}
-use Rattle.gw_core.specs.Drops.{drop_at}
-use Rattle.gw_core.specs.Effects.{NeedsNoMemory, effects_at, passes_end}
-use Rattle.gw_core.specs.History.{next, state_from}
-use Rattle.gw_core.specs.Lasting.{lasts}
+use Rattle.gw_core.specs.Effects.{effects_at}
+use Rattle.gw_core.specs.History.{state_from}
 use Rattle.gw_core.specs.State.{State}
-use Rattle.gw_core.specs.declared.asked.Asked.{Asked}
-use Rattle.gw_core.specs.declared.gateway.Taken.{Taken}
 use Rattle.gw_serving.specs.Serve.{EndsBy, IsTakenLast, LeadTo, Scene, Try, Turn, count_fault, count_turn, counts_after}
 use Rattle.gw_serving.specs.Serve.{empty_turn, events_of}
 use Rattle.gw_serving.specs.Serve.{failed_turn, lines_of, lost_event, taken_event, turn_events}

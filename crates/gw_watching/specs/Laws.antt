@@ -1,7 +1,5 @@
 -- What a watcher's logs hold after a run, and what the lines of a trial are.
-use Rattle.std.specs.Prelude.{◌≡◌, ℕ, ◌+◌, ◌-◌, ◌^◌, ◌<◌, ◌≤◌, Bool, false, List, [], ◌∷◌, ◌++◌, length, map, Option, Some, codes, slice_index}
-use Rattle.std.specs.Io.KnownBytes.{Appends}
-use Rattle.std.specs.List.{flat_map}
+use Rattle.std.specs.Prelude.{◌≡◌, ℕ, ◌+◌, ◌^◌, ◌<◌, List, [], ◌∷◌, ◌++◌, length, map, Option}
 use Rattle.gw_audit.specs.declared.denial.Denial.{Denial}
 use Rattle.gw_core.specs.Asked.{asked_at}
 use Rattle.gw_core.specs.Asks.{asks}
@@ -13,9 +11,7 @@ use Rattle.gw_core.specs.declared.asked.Asked.{Asked}
 use Rattle.gw_rules.specs.Authorizer.{denied_of}
 use Rattle.gw_rules.specs.declared.rule.Rule.{Rule}
 use Rattle.gw_script.specs.Event.{Event}
-use Rattle.gw_watching.specs.Records.{audited_by, denied_by, last_number, lines_behind, records}
-use Rattle.gw_watching.specs.Watching.{HasWatched, Watching, counted_on}
-use Rattle.gw_watching.specs.declared.beside.Beside.{Beside}
+use Rattle.gw_watching.specs.Records.{denied_by, last_number, records}
 
 -- ---- one event
 
