@@ -25,4 +25,6 @@ pub use network::NetNum;
 pub use readers::{address, front, long_number, number, octet};
 pub use sequence::Sequence;
 pub use station::{Mac, Source};
-pub use writers::{keep_whole, put_decimal, put_long_number, put_number, put_octet, put_slice};
+pub use writers::{
+    keep_whole, put_decimal, put_long_number, put_number, put_octet, put_slice, put_text_number,
+};

@@ -1,7 +1,7 @@
 //! Writing after what a buffer holds. An `Err` only if the buffer had no room and its growth
 //! was refused.
 
-ghost use Rattle.std.specs.Prelude.{◌≡◌, ◌∷◌, [], ℕ, List, length};
+ghost use Rattle.std.specs.Prelude.{◌≡◌, ◌∷◌, ◌++◌, [], ℕ, List, length, OnOk};
 ghost use Rattle.std.specs.Global.{Vec};
 ghost use Rattle.std.specs.Int.{w16, w32, to_be_bytes};
 ghost use Rattle.gw_addr.specs.Appending.{IsAppended, IsAppendedWhole};
@@ -47,6 +47,19 @@ pub fn put_decimal<N: Integer>(out: &mut Vec<u8>, number: N) -> Result<(), Alloc
     ensures { IsAppended (N.text number) out.old out.new result }
 {
     out.extend_from_slice(Buffer::new().format(number).as_bytes())
+}
+
+/// Appends a text and a number after it in decimal digits. An `Err` only if a growth of memory was
+/// refused; then a front of them may follow what the buffer held.
+pub fn put_text_number<N: Integer>(
+    out: &mut Vec<u8>,
+    text: &str,
+    number: N,
+) -> Result<(), AllocError>
+    ensures { OnOk result (out.new.items ≡ out.old.items ++ text.now ++ N.text number) }
+{
+    out.extend_from_slice(text.as_bytes())?;
+    put_decimal(out, number)
 }
 
 /// Makes an appending whole: if it failed, the buffer is cut to its first `len` octets, those

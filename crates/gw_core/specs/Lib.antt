@@ -10,5 +10,6 @@ pub mod Marked
 pub mod Resumed
 pub mod Lasting
 pub mod Drops
+pub mod Guard
 pub mod Explained
 pub mod internal

@@ -10,8 +10,8 @@ use Rattle.gw_state_text.specs.declared.fault.FaultKind.{FaultKind}
 use Rattle.gw_state_text.specs.declared.fault.FaultKind.TheVariants as state_fault
 use Rattle.gw_state_text.specs.declared.fault.StateFault.{StateFault}
 use Rattle.gw_notices.specs.Reload.{name_of}
-use Rattle.gw_serving.specs.declared.store.StoreFault.{StoreFault}
-use Rattle.gw_serving.specs.declared.store.StoreFault.TheVariants as store
+use Rattle.gw_wire.specs.declared.store.StoreFault.{StoreFault}
+use Rattle.gw_wire.specs.declared.store.StoreFault.TheVariants as store
 use Rattle.gw_suggest.specs.declared.fault.SuggestFault.{SuggestFault}
 use Rattle.gw_suggest.specs.declared.fault.SuggestFault.TheVariants as suggest
 use Rattle.gw_system.specs.Obstacle.{obstacle_words}

@@ -18,10 +18,10 @@ use gw_configuration::{ConfigFault, shown};
 use gw_migration::MigrationFault;
 use gw_notices::name_of;
 use gw_script::{LineFlaw, OctetSink, WriteFailed, write_whole};
-use gw_serving::StoreFault;
 use gw_state_text::StateFault;
 use gw_system::{Obstacle, obstacle_words};
 use gw_watch_files::TrialFault;
+use gw_wire::StoreFault;
 use itoa::Buffer;
 use std::process::ExitCode;
 

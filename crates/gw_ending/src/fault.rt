@@ -11,11 +11,11 @@ use gw_migration::MigrationFault;
 use gw_notices::name_of;
 use gw_replay::RunFault;
 use gw_script::{LineFlaw, LinesFault};
-use gw_serving::StoreFault;
 use gw_state_text::{FaultKind, StateFault};
 use gw_suggest::SuggestFault;
 use gw_system::{Obstacle, obstacle_words};
 use gw_watch_files::TrialFault;
+use gw_wire::StoreFault;
 use std::alloc::AllocError;
 use std::io::ErrorKind;
 

@@ -2,12 +2,11 @@
 
 ghost use Rattle.std.specs.Prelude.{◌≡◌, ⊤};
 ghost use Rattle.std.specs.Duration.{as_nanos};
-ghost use Rattle.gw_ports.specs.Socket.{FitsBuffer};
+ghost use Rattle.gw_wire.specs.Socket.{FitsBuffer};
 
 use gw_addr::BipAddr;
 use gw_cases::number_behind;
-use gw_ports::{Ports, Sock, SockFault, SockPair, TimedPorts, Timepiece, Waiter, Watch};
-use gw_serving::{Got, RECEIVE_ROOM, Wire, WireFault};
+use gw_wire::{Got, Ports, RECEIVE_ROOM, Sock, SockFault, SockPair, TimedPorts, Timepiece, Waiter, Watch, Wire, WireFault};
 use std::alloc::{AllocError, Global};
 use std::io;
 use std::io::{ErrorKind, Write};

@@ -1,7 +1,7 @@
 //! A wire over memory, whose calls fail at the choice of a case, and which reports each call with its answer.
 
 ghost use Rattle.std.specs.Prelude.{◌≡◌, ◌∷◌, [], None, IfOk, IfErr, if◌then◌else◌};
-ghost use Rattle.gw_serving.specs.Wire.{Records, arrival, departure, failed_send};
+ghost use Rattle.gw_wire.specs.Wire.{Records, arrival, departure, failed_send};
 ghost use Rattle.gw_relay.specs.Sends.{sending};
 ghost use Rattle.gw_script.specs.Event.{Datagram};
 ghost use Rattle.gw_gateway_vectors.specs.Calls.{call_of, calls_of};
@@ -10,7 +10,7 @@ use crate::replays::event_of;
 use gw_addr::BipAddr;
 use gw_core::Event;
 use gw_script::MAX_DATAGRAM;
-use gw_serving::{Got, RECEIVE_ROOM, Wire, WireFault};
+use gw_wire::{Got, RECEIVE_ROOM, Wire, WireFault};
 use std::alloc::{AllocError, Global};
 
 /// How many ports a wire over memory has.

@@ -14,7 +14,7 @@ use Rattle.gw_serving.specs.Serve.{Turn, empty_turn, events_of, failed_turn, los
 use Rattle.gw_serving.specs.Stretch.{AreGuarded, GoOn, GuardsTurn, Moment}
 use Rattle.gw_serving.specs.declared.alike.Part.TheVariants.{AllButTicks}
 use Rattle.gw_serving.specs.declared.serving.ServeFault.{ServeFault}
-use Rattle.gw_serving.specs.declared.store.StoreFault.{StoreFault}
+use Rattle.gw_wire.specs.declared.store.StoreFault.{StoreFault}
 use Rattle.gw_serving.proofs.KeepingLemmas.{ticks_keep_recent}
 use Rattle.gw_serving.proofs.ServeLemmas.{state_along}
 use Rattle.gw_service.specs.Chain.{AreLinks, IsLink, IsLooked, IsTicked, Link, Look, Manner, Runs, Stage, Standing}

@@ -10,9 +10,9 @@ use Rattle.gw_core.specs.State.{State}
 use Rattle.gw_serving.specs.Keeping.{HasPassed, IsHeld, IsRecent, IsTried, IsUnkept, IsUpToDate, KeepsAtTick, Keeping, lasting_of}
 use Rattle.gw_serving.specs.Serve.{Turn}
 use Rattle.gw_serving.specs.Stretch.{EndsFaulty, EndsStretch, Moment}
-use Rattle.gw_serving.specs.declared.guard.Both.{Both}
+use Rattle.gw_core.specs.declared.guard.Both.{Both}
 use Rattle.gw_serving.specs.declared.serving.ServeFault.{ServeFault}
-use Rattle.gw_serving.specs.declared.store.StoreFault.{StoreFault}
+use Rattle.gw_wire.specs.declared.store.StoreFault.{StoreFault}
 use Rattle.gw_serving.specs.declared.stretch.Pause.{Pause}
 use Rattle.gw_watching.specs.Watching.{Watching}
 use Rattle.gw_service.specs.Chain.{AreLinks, IsTicked, Link, Look, Manner, Runs, Stage}

@@ -3,8 +3,8 @@ ghost use Rattle.gw_service.specs.Kept.{Given};
 ghost use Rattle.gw_keeping.specs.Laws.{AnsweredIsKept, CurrentIsUpToDate, FaultsKeep, FirstIsCurrent, HeldStays, KeptIsUpToDate, PausesKeep, RunsEndCurrent, RunsKeepCurrent, RunsKeepRecent, TicksKeepCurrent, TriedIsCurrent, WatchedRunsEndCurrent, WatchedRunsKeepCurrent, WatchedRunsKeepRecent, WithheldIsOldOrNew};
 
 use gw_script::OctetSink;
-use gw_serving::Store;
 use gw_system::Requests;
+use gw_wire::Store;
 
 /// What a store holds when an event is answered: before the first datagram of an event that lasts is tried, the store is
 /// up to date. If its datagrams are withheld, nothing of it was sent, it is an event that lasts, and the store

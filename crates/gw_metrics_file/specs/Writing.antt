@@ -1,6 +1,6 @@
 -- When the text of metrics is replaced, and what a store holds of it.
 use Rattle.std.specs.Prelude.{◌≡◌, ◌⊎◌, ℕ, ◌+◌, ◌-◌, ◌<◌, Bool, true, false, nat_le, List, Option, Some, None}
-use Rattle.gw_serving.specs.Keeping.{Holds}
+use Rattle.gw_wire.specs.Store.{Holds}
 use Rattle.gw_tally.specs.Tally.{one_more}
 
 -- the store, the tick of the last try, and how many tries failed so far

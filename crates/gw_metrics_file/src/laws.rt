@@ -2,7 +2,7 @@
 
 ghost use Rattle.gw_metrics_file.specs.Writing.{TicksKeepRecent};
 
-use gw_serving::Store;
+use gw_wire::Store;
 
 /// After each tick the last try was fewer than ten ticks ago.
 pub fn ticks<S: Store>()

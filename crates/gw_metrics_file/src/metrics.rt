@@ -2,11 +2,11 @@
 
 ghost use Rattle.std.specs.Prelude.{◌≡◌, ◌⊎◌, OnErr, OnOk};
 ghost use Rattle.gw_metrics.specs.Text.{metrics_text};
-ghost use Rattle.gw_serving.specs.Keeping.{Holds};
+ghost use Rattle.gw_wire.specs.Store.{Holds};
 ghost use Rattle.gw_metrics_file.specs.Writing.{Tries, WritesAtTick, is_due, nothing_written};
 
 use gw_metrics::{Counts, put_metrics};
-use gw_serving::{Store, StoreFault};
+use gw_wire::{Store, StoreFault};
 use std::alloc::Global;
 use std::marker::Model;
 

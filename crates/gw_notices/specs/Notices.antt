@@ -1,7 +1,7 @@
 -- What an operator reads of what is kept and recorded, or isn't.
 use Rattle.std.specs.Prelude.{ℕ, Bool, true, false, List, [], Option, Some, None, codes, ◌++◌, ◌∷◌}
-use Rattle.gw_serving.specs.declared.store.StoreFault.{StoreFault}
-use Rattle.gw_serving.specs.declared.store.StoreFault.TheVariants as store
+use Rattle.gw_wire.specs.declared.store.StoreFault.{StoreFault}
+use Rattle.gw_wire.specs.declared.store.StoreFault.TheVariants as store
 use Rattle.gw_notices.specs.declared.troubles.Troubles.{Troubles}
 
 -- the state alone isn't kept

@@ -4,15 +4,15 @@ use Rattle.gw_config_faults.specs.Explanation.{ExplainsText}
 use Rattle.gw_configuration.specs.Configuration.{Configuration}
 use Rattle.gw_configuration.specs.declared.fault.ConfigFault.{ConfigFault}
 use Rattle.gw_configuration.specs.declared.fault.ConfigFault.TheVariants as config
-use Rattle.gw_core.specs.State.{State}
 use Rattle.gw_rule_changes.specs.Changes.{changes_of, changes_text}
+use Rattle.gw_rules.specs.declared.rule.Rule.{Rule}
 use Rattle.gw_saved.specs.Saved.{Saved}
-use Rattle.gw_serving.specs.Keeping.{one_more}
 use Rattle.gw_state_words.specs.Words.{take_over_words}
 use Rattle.gw_system.specs.Obstacle.{obstacle_words}
 use Rattle.gw_system.specs.declared.reading.ReadFailure.{ReadFailure}
 use Rattle.gw_system.specs.declared.reading.ReadFailure.TheVariants as reading
 use Rattle.gw_takeover.specs.Findings.{take_over}
+use Rattle.gw_tally.specs.Tally.{one_more}
 use Rattle.gw_notices.specs.declared.reload.ReloadCounts.{ReloadCounts}
 use Rattle.gw_notices.specs.declared.reload.ReloadFault.{ReloadFault}
 use Rattle.gw_notices.specs.declared.reload.ReloadFault.TheVariants as fault
@@ -62,11 +62,11 @@ IsRefusalLine (Ok (Some text)) (fault.Configuration f) line =
     ⊎ (line ≡ refusal_line (fault.Configuration f))
 IsRefusalLine read f line = line ≡ refusal_line f
 
--- the line of a configuration that is taken over by a gateway in this state, of which this is saved: how many rules it has
+-- the line of a configuration that is taken over by a gateway with these rules, of which this is saved: how many rules it has
 -- and how they differ from those in force, how many objects, and what goes on
-abbrev pub reload_line : State → Configuration → Saved → List ℕ
-reload_line w c s =
-    codes "reload: " ++ decimal (length c.rules) ++ codes " rules (" ++ changes_text (changes_of w.rules c.rules)
+abbrev pub reload_line : List Rule → Configuration → Saved → List ℕ
+reload_line rules c s =
+    codes "reload: " ++ decimal (length c.rules) ++ codes " rules (" ++ changes_text (changes_of rules c.rules)
     ++ codes "), " ++ decimal (length c.objects) ++ codes " objects; " ++ take_over_words (take_over c s) ++ 10 ∷ []
 
 -- ---- how often

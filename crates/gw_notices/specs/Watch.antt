@@ -2,18 +2,18 @@
 use Rattle.std.specs.Prelude.{ℕ, ◌+◌, ◌==◌, if◌then◌else◌, List, [], ◌++◌, length, codes, decimal, Option, Some, None}
 use Rattle.gw_rules.specs.declared.rule.Rule.{Rule}
 use Rattle.gw_tally.specs.Tally.{tally_text}
-use Rattle.gw_watching.specs.Watching.{Watching}
-use Rattle.gw_watching.specs.declared.beside.Beside.{Beside}
+use Rattle.gw_notices.specs.declared.watch_report.LogCount.{LogCount}
+use Rattle.gw_notices.specs.declared.watch_report.WatchCounts.{WatchCounts}
 
 -- the number of the last record of a log beside the log, and how many were lost
 abbrev pub beside_text : List ℕ → ℕ → ℕ → List ℕ
 beside_text front number lost = front ++ decimal number ++ codes " lost=" ++ decimal lost ++ codes "\n"
 
-abbrev pub trial_text : {C S : Type 0} → Option (Beside C S) → List ℕ
+abbrev pub trial_text : Option LogCount → List ℕ
 trial_text None = []
 trial_text (Some b) = beside_text (codes "stats trial=") b.number b.lost
 
-abbrev pub audit_text : {C S : Type 0} → Option (Beside C S) → List ℕ
+abbrev pub audit_text : Option LogCount → List ℕ
 audit_text None = []
 audit_text (Some b) = beside_text (codes "stats audit=") b.number b.lost
 
@@ -26,11 +26,11 @@ abbrev pub counts_text : List Rule → Option (List ℕ) → List ℕ
 counts_text rules None = []
 counts_text rules (Some counts) = if length counts == length rules + 1 then tally_text rules counts else []
 
-abbrev pub logs_text : {T A : Type 0} → Watching T A → List ℕ
+abbrev pub logs_text : WatchCounts → List ℕ
 logs_text w = trial_text w.trial ++ audit_text w.audit
 
-abbrev pub asks_text : {T A : Type 0} → List Rule → Watching T A → List ℕ
-asks_text rules w = unseen_text w.unseen ++ counts_text rules w.counts
+abbrev pub asks_text : List Rule → (unseen : ℕ) → Option (List ℕ) → List ℕ
+asks_text rules unseen counts = unseen_text unseen ++ counts_text rules counts
 
-abbrev pub watch_text : {T A : Type 0} → List Rule → Watching T A → List ℕ
-watch_text rules w = logs_text w ++ asks_text rules w
+abbrev pub watch_text : List Rule → WatchCounts → Option (List ℕ) → List ℕ
+watch_text rules w counts = logs_text w ++ asks_text rules w.unseen counts

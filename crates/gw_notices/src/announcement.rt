@@ -7,9 +7,8 @@ ghost use Rattle.gw_notices.specs.Announcement.{announcement, device_text, log_t
 ghost use Rattle.gw_script.specs.Order.{in_order};
 ghost use Rattle.gw_notices.specs.Announcement.{IsWarning, routing_note};
 
-use gw_addr::{BipAddr, put_decimal};
+use gw_addr::{BipAddr, put_decimal, put_text_number};
 use gw_configuration::{Config, Device, Port, put_shown};
-use gw_permissions::put_number;
 use gw_system::Host;
 use std::alloc::{AllocError, Global};
 
@@ -72,7 +71,7 @@ pub fn warning_of<H: Host>(host: &H, is_asked: bool) -> &'static [u8]
 fn put_port(out: &mut Vec<u8>, number: usize, port: &Port) -> Result<(), AllocError>
     ensures { OnOk result (out.new.items ≡ out.old.items ++ port_text number port.now) }
 {
-    put_number(out, "port ", number)?;
+    put_text_number(out, "port ", number)?;
     put_address(out, " at ", port.address)?;
     put_address(out, ", broadcast ", port.broadcast)?;
     out.extend_from_slice(b"; ")
@@ -101,15 +100,15 @@ fn put_ports(out: &mut Vec<u8>, ports: &[Port]) -> Result<(), AllocError>
 fn put_device(out: &mut Vec<u8>, device: &Device) -> Result<(), AllocError>
     ensures { OnOk result (out.new.items ≡ out.old.items ++ device_text device.now) }
 {
-    put_number(out, "device ", device.instance.get())?;
-    put_number(out, " on network ", device.network.get())
+    put_text_number(out, "device ", device.instance.get())?;
+    put_text_number(out, " on network ", device.network.get())
 }
 
 /// Appends how many objects there are.
 fn put_objects(out: &mut Vec<u8>, config: &Config) -> Result<(), AllocError>
     ensures { OnOk result (out.new.items ≡ out.old.items ++ objects_text config.now) }
 {
-    put_number(out, " with ", config.objects().len())?;
+    put_text_number(out, " with ", config.objects().len())?;
     out.extend_from_slice(b" objects; ")
 }
 

@@ -20,4 +20,4 @@ pub use notices::report_notices;
 pub use reload::{ReloadCounts, ReloadFault};
 pub use stats::{report_reloads, report_unkept};
 pub use troubles::Troubles;
-pub use watch_report::report_watched;
+pub use watch_report::{LogCount, WatchCounts, report_watched};

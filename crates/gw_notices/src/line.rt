@@ -8,25 +8,25 @@ use crate::reload::ReloadFault;
 use gw_addr::put_decimal;
 use gw_config_faults::{Explanation, explain};
 use gw_configuration::{Config, ConfigFault};
-use gw_core::Gateway;
 use gw_rule_changes::{changes_of, put_changes};
+use gw_rules::RuleList;
 use gw_saved::Saved;
 use gw_state_words::put_take_over;
 use gw_system::{Obstacle, ReadFailure};
 use gw_takeover::take_over;
 use std::alloc::{AllocError, Global};
 
-/// The line of a configuration that a gateway takes over, of which this was saved: how many rules it has and how they
-/// differ from those in force, how many objects, and what goes on. An `Err` only if a growth was refused.
+/// The line of a configuration that a gateway with these rules in force takes over, of which this was saved: how many rules it
+/// has and how they differ from those in force, how many objects, and what goes on. An `Err` only if a growth was refused.
 pub fn reload_line(
     alloc: Global,
-    gateway: &Gateway,
+    rules: &RuleList,
     config: &Config,
     saved: &Saved,
 ) -> Result<Vec<u8>, AllocError>
-    ensures { IfOk result (λ line. line.items ≡ reload_line gateway.now config.now saved.now) }
+    ensures { IfOk result (λ line. line.items ≡ reload_line rules.now config.now saved.now) }
 {
-    let changes = changes_of(gateway.rules(), config.rules());
+    let changes = changes_of(rules, config.rules());
     let taken = take_over(alloc, config, saved)?;
     let mut line = Vec::from_slice(alloc, b"reload: ")?;
     put_decimal(&mut line, config.rules().rules().len())?;

@@ -7,7 +7,7 @@ ghost use Rattle.gw_notices.specs.Notices.{audit_notice, notice_of, state_notice
 use crate::note::write_note;
 use crate::troubles::Troubles;
 use gw_script::OctetSink;
-use gw_serving::StoreFault;
+use gw_wire::StoreFault;
 
 /// The line of a state that isn't kept.
 fn unkept_line(fault: StoreFault) -> &'static str

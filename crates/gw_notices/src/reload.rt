@@ -1,7 +1,7 @@
 //! Why a configuration that was read again isn't taken over, and how often one was read again.
 
 ghost use Rattle.std.specs.Prelude.{◌≡◌};
-ghost use Rattle.gw_serving.specs.Keeping.{one_more};
+ghost use Rattle.gw_tally.specs.Tally.{one_more};
 ghost use Rattle.gw_notices.specs.Reload.{counts_since, with_refused, with_taken_over};
 
 use gw_configuration::ConfigFault;
@@ -75,7 +75,7 @@ pub struct ReloadCounts {
 fn one_more(count: u64) -> u64
     ensures { result ≡ one_more count }
 {
-    if count < u64::MAX { count + 1 } else { count }
+    count.saturating_add(1)
 }
 
 impl ReloadCounts {

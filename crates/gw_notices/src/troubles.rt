@@ -3,7 +3,7 @@
 ghost use Rattle.std.specs.Prelude.{◌≡◌};
 ghost use Rattle.gw_notices.specs.Notices.{no_troubles, of_state};
 
-use gw_serving::StoreFault;
+use gw_wire::StoreFault;
 
 /// What of a gateway isn't kept or recorded.
 #[derive(Clone, Copy)]

@@ -10,7 +10,26 @@ use crate::stats::write_count;
 use gw_rules::{Rule, RuleList};
 use gw_script::{OctetSink, WriteFailed, write_whole};
 use gw_tally::Tally;
-use gw_watching::{Beside, Watcher};
+
+/// What is counted of a log beside the log.
+#[derive(Clone, Copy)]
+pub struct LogCount {
+    /// The number of its last record.
+    pub number: u64,
+    /// How many records were lost.
+    pub lost: u64,
+}
+
+/// What is counted of what watches a gateway.
+#[derive(Clone, Copy)]
+pub struct WatchCounts {
+    /// Of the log of a policy on trial, if there is one.
+    pub trial: Option<LogCount>,
+    /// Of an audit, if there is one.
+    pub audit: Option<LogCount>,
+    /// How many events weren't watched.
+    pub unseen: u64,
+}
 
 /// Writes the line of a log beside the log: how it begins, the number of its last record, and how many were lost.
 fn write_beside<E: OctetSink>(
@@ -29,8 +48,8 @@ fn write_beside<E: OctetSink>(
 }
 
 /// Reports what a policy on trial recorded, if there is one.
-fn report_trial<C, S, E: OctetSink>(trial: &Option<Beside<C, S>>, errors: &mut E)
-    ensures said { E.NeverFails errors.old → Appends (E.held errors.old) (E.held errors.new) (trial_text trial.now) }
+fn report_trial<E: OctetSink>(trial: Option<LogCount>, errors: &mut E)
+    ensures said { E.NeverFails errors.old → Appends (E.held errors.old) (E.held errors.new) (trial_text trial) }
     ensures lasts { E.NeverFails errors.old → E.NeverFails errors.new }
 {
     if let Some(trial) = trial {
@@ -39,8 +58,8 @@ fn report_trial<C, S, E: OctetSink>(trial: &Option<Beside<C, S>>, errors: &mut E
 }
 
 /// Reports what an audit recorded, if there is one.
-fn report_audit<C, S, E: OctetSink>(audit: &Option<Beside<C, S>>, errors: &mut E)
-    ensures said { E.NeverFails errors.old → Appends (E.held errors.old) (E.held errors.new) (audit_text audit.now) }
+fn report_audit<E: OctetSink>(audit: Option<LogCount>, errors: &mut E)
+    ensures said { E.NeverFails errors.old → Appends (E.held errors.old) (E.held errors.new) (audit_text audit) }
     ensures lasts { E.NeverFails errors.old → E.NeverFails errors.new }
 {
     if let Some(audit) = audit {
@@ -144,42 +163,41 @@ fn report_counts<E: OctetSink>(rules: &RuleList, counts: &Option<Tally>, errors:
     }
 }
 
-/// Reports what the logs of a watcher have and lost.
-fn report_logs<T: OctetSink + Drop, A: OctetSink + Drop, E: OctetSink>(
-    watcher: &Watcher<T, A>,
-    errors: &mut E,
-)
-    ensures said { E.NeverFails errors.old → Appends (E.held errors.old) (E.held errors.new) (logs_text watcher.now) }
+/// Reports what the logs of what watches have and lost.
+fn report_logs<E: OctetSink>(watched: WatchCounts, errors: &mut E)
+    ensures said { E.NeverFails errors.old → Appends (E.held errors.old) (E.held errors.new) (logs_text watched) }
     ensures lasts { E.NeverFails errors.old → E.NeverFails errors.new }
 {
-    report_trial(watcher.trial(), errors);
-    report_audit(watcher.audit(), errors);
+    report_trial(watched.trial, errors);
+    report_audit(watched.audit, errors);
 }
 
-/// Reports how many events a watcher didn't see, and how many asks each of these rules decided.
-fn report_asks<T: OctetSink + Drop, A: OctetSink + Drop, E: OctetSink>(
+/// Reports how many events weren't watched, and how many asks each of these rules decided.
+fn report_asks<E: OctetSink>(
     rules: &RuleList,
-    watcher: &Watcher<T, A>,
+    unseen: u64,
+    counts: &Option<Tally>,
     errors: &mut E,
 )
     ensures said { E.NeverFails errors.old →
-        Appends (E.held errors.old) (E.held errors.new) (asks_text rules.now watcher.now) }
+        Appends (E.held errors.old) (E.held errors.new) (asks_text rules.now unseen counts.now) }
     ensures lasts { E.NeverFails errors.old → E.NeverFails errors.new }
 {
-    report_unseen(watcher.unseen(), errors);
-    report_counts(rules, watcher.counts(), errors);
+    report_unseen(unseen, errors);
+    report_counts(rules, counts, errors);
 }
 
-/// Reports what a watcher recorded and lost, and how many asks each of these rules decided.
-pub fn report_watched<T: OctetSink + Drop, A: OctetSink + Drop, E: OctetSink>(
+/// Reports what watches a gateway recorded and lost, and how many asks each of these rules decided.
+pub fn report_watched<E: OctetSink>(
     rules: &RuleList,
-    watcher: &Watcher<T, A>,
+    watched: WatchCounts,
+    counts: &Option<Tally>,
     errors: &mut E,
 )
     ensures said { E.NeverFails errors.old →
-        Appends (E.held errors.old) (E.held errors.new) (watch_text rules.now watcher.now) }
+        Appends (E.held errors.old) (E.held errors.new) (watch_text rules.now watched counts.now) }
     ensures lasts { E.NeverFails errors.old → E.NeverFails errors.new }
 {
-    report_logs(watcher, errors);
-    report_asks(rules, watcher, errors);
+    report_logs(watched, errors);
+    report_asks(rules, watched.unseen, counts, errors);
 }

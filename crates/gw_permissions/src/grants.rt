@@ -5,7 +5,8 @@ ghost use Rattle.gw_permissions.specs.Passing.{reached};
 ghost use Rattle.gw_permissions.specs.Permissions.{every_words, extent_words, grant_line, grant_lines, head_words, none_words, some_words};
 
 use crate::passing::{decides_all, may_allow, may_pass, reached};
-use crate::words::{put_number, put_rule};
+use crate::words::put_rule;
+use gw_addr::put_text_number;
 use gw_rules::Rule;
 use gw_shapes::Shape;
 use std::alloc::AllocError;
@@ -36,7 +37,7 @@ fn put_head(out: &mut Vec<u8>, deed: Deed) -> Result<(), AllocError>
 {
     match deed {
         Deed::Enter(port) => {
-            put_number(out, "port ", port)?;
+            put_text_number(out, "port ", port)?;
             out.extend_from_slice(b": ")
         }
         Deed::Claim => Ok(()),

@@ -13,4 +13,3 @@ mod questions;
 mod words;
 
 pub use permissions::put_permissions;
-pub use words::put_number;

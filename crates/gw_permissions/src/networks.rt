@@ -5,8 +5,7 @@ ghost use Rattle.gw_addr.specs.declared.TheConstants.{MAX_PORTS};
 ghost use Rattle.gw_script.specs.Order.{in_order};
 ghost use Rattle.gw_permissions.specs.Permissions.{device_line, network_lines, own_line, route_line, router_words};
 
-use crate::words::put_number;
-use gw_addr::put_slice;
+use gw_addr::{put_slice, put_text_number};
 use gw_configuration::{Config, Device, Port, Route};
 use std::alloc::AllocError;
 
@@ -33,14 +32,14 @@ fn put_port(out: &mut Vec<u8>, number: usize, port: &Port) -> Result<(), AllocEr
     ensures { OnOk result (out.new.items ≡ out.old.items ++ own_line number port.now) }
 {
     put_network(out, port.network.get())?;
-    put_number(out, ": no router speaks for it, since port ", number)?;
+    put_text_number(out, ": no router speaks for it, since port ", number)?;
     out.extend_from_slice(b" has it\n")
 }
 
 fn put_network(out: &mut Vec<u8>, network: u16) -> Result<(), AllocError>
     ensures { OnOk result (out.new.items ≡ out.old.items ++ (codes "network " ++ decimal network)) }
 {
-    put_number(out, "network ", network)
+    put_text_number(out, "network ", network)
 }
 
 fn put_device(out: &mut Vec<u8>, device: &Device) -> Result<(), AllocError>
@@ -71,6 +70,6 @@ fn put_router(out: &mut Vec<u8>, route: &Route) -> Result<(), AllocError>
 {
     out.extend_from_slice(b": the router ")?;
     route.next.put_text(out)?;
-    put_number(out, " on port ", route.port)?;
+    put_text_number(out, " on port ", route.port)?;
     out.extend_from_slice(b" speaks for it\n")
 }

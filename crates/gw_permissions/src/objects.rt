@@ -6,7 +6,7 @@ ghost use Rattle.gw_permissions.specs.Permissions.{hidden_line, hidden_words, id
 
 use crate::passing::may_pass;
 use crate::questions::{Point, reading};
-use crate::words::put_number;
+use gw_addr::put_text_number;
 use gw_configuration::{Config, Device, Object, Port, put_shown};
 use gw_rules::RuleList;
 use std::alloc::AllocError;
@@ -183,7 +183,7 @@ fn put_may(out: &mut Vec<u8>, reader: &Reader<'_>) -> Result<(), AllocError>
         network_may reader.now.number reader.now.object.now reader.now.network) }
 {
     put_words(out, reader.number, reader.object)?;
-    put_number(out, ": network ", reader.network)?;
+    put_text_number(out, ": network ", reader.network)?;
     out.extend_from_slice(b" may read ")
 }
 
@@ -197,7 +197,7 @@ fn put_hidden(
     ensures { OnOk result (out.new.items ≡ out.old.items ++ hidden_words number object.now network) }
 {
     put_words(out, number, object)?;
-    put_number(out, " is hidden from network ", network)
+    put_text_number(out, " is hidden from network ", network)
 }
 
 /// Appends an object by its number, its type and instance, and its name.
@@ -211,9 +211,9 @@ fn put_words(out: &mut Vec<u8>, number: usize, object: &Object) -> Result<(), Al
 fn put_identifier(out: &mut Vec<u8>, number: usize, object: &Object) -> Result<(), AllocError>
     ensures { OnOk result (out.new.items ≡ out.old.items ++ identifier_words number object.now) }
 {
-    put_number(out, "object ", number)?;
-    put_number(out, " (", object.value.type_number())?;
-    put_number(out, ",", object.instance.get())?;
+    put_text_number(out, "object ", number)?;
+    put_text_number(out, " (", object.value.type_number())?;
+    put_text_number(out, ",", object.instance.get())?;
     out.extend_from_slice(b") \"")
 }
 

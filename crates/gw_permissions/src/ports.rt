@@ -8,7 +8,7 @@ ghost use Rattle.gw_permissions.specs.Permissions.{entry_lines, grant_lines, por
 
 use crate::grants::{Deed, Inquiry, put_grants};
 use crate::questions::entering;
-use crate::words::put_number;
+use gw_addr::put_text_number;
 use gw_configuration::{Port, Subnet};
 use gw_rules::Rule;
 use std::alloc::AllocError;
@@ -29,7 +29,7 @@ pub(crate) fn put_ports(out: &mut Vec<u8>, rules: &[Rule], ports: &[Port]) -> Re
 fn put_port(out: &mut Vec<u8>, rules: &[Rule], number: usize, port: &Port) -> Result<(), AllocError>
     ensures { OnOk result (out.new.items ≡ out.old.items ++ port_lines rules.now number port.now) }
 {
-    put_number(out, "port ", number)?;
+    put_text_number(out, "port ", number)?;
     put_stations(out, port.stations.as_slice())?;
     put_entries(out, rules, number, port)
 }

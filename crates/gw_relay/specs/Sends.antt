@@ -4,12 +4,7 @@ use Rattle.gw_addr.specs.declared.bip.BipAddr.{BipAddr}
 use Rattle.gw_bvll.specs.Bvll.{encoding}
 use Rattle.gw_bvll.specs.Bvll.{Message as Frame}
 use Rattle.gw_bvll.specs.declared.writing.TheConstants.{MAX_LEN}
-
--- a datagram: the number of the port that it is sent on, whom it is sent to, and what it holds
-pub record Sending : Type 0 where
-  pub port : ℕ
-  pub to : BipAddr
-  pub octets : List ℕ
+pub use Rattle.gw_bvll.specs.Sending.{Sending}
 
 -- one message, and whom it is sent to in order
 pub record Batch : Type 0 where

@@ -17,7 +17,7 @@ use Rattle.gw_serving.specs.declared.stretch.Pause.{Pause}
 use Rattle.gw_serving.specs.declared.serving.ServeFault.{ServeFault}
 use Rattle.gw_core.specs.State.{State}
 use Rattle.gw_serving.specs.Serve.{Turn, count_turn, counts_after, empty_turn, failed_turn, lost_event, scene, taken_event}
-use Rattle.gw_serving.specs.Wire.{Call}
+use Rattle.gw_wire.specs.Wire.{Call}
 use Rattle.gw_serving.specs.declared.serving.Served.{Served}
 use Rattle.gw_serving.specs.declared.tally.Tally.{Tally}
 use Rattle.gw_system.proofs.RequestLemmas.{goes_two}
@@ -77,7 +77,7 @@ taken_so {K} Adopts o w k l (Ok (Some text)) made first middle last line counts 
     answers is_line is_counts records noted = λ c is_origin.
     let new = is.config in
     let same : saved_of o w ≡ saved c w = ap (λ (x : Origin). saved_of x w) is_origin in
-    let is_text : line ≡ reload_line w new (saved c w) = is_line ∙ is.adopted.line ∙ ap (reload_line w new) same in (
+    let is_text : line ≡ reload_line w.rules new (saved c w) = is_line ∙ is.adopted.line ∙ ap (reload_line w.rules new) same in (
       new,
       taken_over text new,
       is.adopted.origin,

@@ -8,7 +8,7 @@ use Rattle.gw_saved.specs.Saved.{Origin, origin_of}
 use Rattle.gw_serving.specs.Serve.{Scene, scene, zero_counts}
 use Rattle.gw_serving.specs.Stretch.{moment}
 use Rattle.gw_serving.specs.Tally.{no_tally}
-use Rattle.gw_serving.specs.Wire.{Call}
+use Rattle.gw_wire.specs.Wire.{Call}
 use Rattle.gw_serving.specs.declared.serving.ServeFault.{ServeFault}
 use Rattle.gw_serving.specs.declared.serving.Served.{Served}
 use Rattle.gw_serving.specs.declared.tally.Tally.{Tally}
@@ -26,7 +26,7 @@ use Rattle.gw_service.specs.Stats.{Reporting, end_stats, reporting}
 use Rattle.gw_service.specs.declared.fault.ServiceFault.{ServiceFault}
 use Rattle.gw_service.specs.declared.fault.ServiceFault.TheVariants as fault
 use Rattle.std.specs.Prelude.{Bool, is_some, ◌||◌}
-use Rattle.gw_serving.specs.declared.guard.Both.{Both}
+use Rattle.gw_core.specs.declared.guard.Both.{Both}
 use Rattle.gw_watching.specs.Watching.{Watching}
 use Rattle.gw_service.specs.declared.keeping.Kept.{Kept}
 use Rattle.gw_notices.specs.declared.reload.ReloadCounts.{ReloadCounts}

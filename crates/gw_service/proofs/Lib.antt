@@ -1,6 +1,7 @@
 mod ChainLemmas
 mod KeptLemmas
 mod LawLemmas
+mod RunLemmas
 mod ServedLemmas
 pub mod ServingLemmas
 mod StampedLemmas

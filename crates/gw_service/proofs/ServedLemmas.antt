@@ -15,7 +15,7 @@ use Rattle.gw_serving.proofs.ServeLemmas.{lead_along, lead_nowhere}
 use Rattle.gw_serving.specs.Serve.{EndsBy, LeadTo, Scene, Turn, count_fault, count_turn, counts_after, counts_of, empty_turn, failed_turn}
 use Rattle.gw_serving.specs.Serve.{lost_event, scene, taken_event, turn_events}
 use Rattle.gw_serving.specs.Stretch.{AreGuarded, GuardsTurn}
-use Rattle.gw_serving.specs.Wire.{Call}
+use Rattle.gw_wire.specs.Wire.{Call}
 use Rattle.gw_serving.specs.declared.serving.ServeFault.{ServeFault}
 use Rattle.gw_serving.specs.declared.serving.Served.{Served}
 use Rattle.gw_system.specs.Requests.{Asking, GoesOn, answered, asked, nobody, recorded_by, unasked}
@@ -47,7 +47,7 @@ looks_none Adopts c d s t unrequested is none =
 looks_none Adopts c d s t (refused read f line) is none =
     let goes = subst (λ (a : Asking). GoesOn a t.requests (asked read ∷ answered line ∷ [])) none is.requests in absurd goes.1.0
 looks_none Adopts c d s t (taken_over text new) is none =
-    let line = reload_line s.gateway new (saved c s.gateway) in
+    let line = reload_line s.gateway.rules new (saved c s.gateway) in
     let goes = subst (λ (a : Asking). GoesOn a t.requests (asked (Ok (Some text)) ∷ answered line ∷ [])) none is.requests in
     absurd goes.1.0
 

@@ -5,7 +5,7 @@ use Rattle.gw_core.specs.History.{state_after, no_counts}
 use Rattle.gw_serving.specs.Reports.{IsRunWith, reported_of}
 use Rattle.gw_serving.specs.Serve.{Scene, ServesAll, Stops, counts_of_answer, scene}
 use Rattle.gw_core.specs.State.{State}
-use Rattle.gw_serving.specs.Wire.{Call}
+use Rattle.gw_wire.specs.Wire.{Call}
 use Rattle.gw_notices.proofs.AppendLemmas.{appends_nothing}
 use Rattle.gw_serving.specs.declared.serving.Served.{Served}
 use Rattle.gw_serving.specs.declared.serving.ServeFault.{ServeFault}

@@ -5,10 +5,11 @@ use Rattle.gw_configuration.specs.Configuration.{Configuration}
 use Rattle.gw_core.specs.State.{State}
 use Rattle.gw_core.specs.History.{state_from}
 use Rattle.gw_script.specs.Event.{Event}
-use Rattle.gw_serving.specs.Both.{LetsAllGo, PassesBoth, first_moment}
+use Rattle.gw_serving.specs.Both.{first_moment}
+use Rattle.gw_core.specs.Guard.{LetsAllGo, PassesBoth}
 use Rattle.gw_serving.specs.Serve.{Turn, empty_turn, failed_turn, lost_event, taken_event, turn_events}
 use Rattle.gw_serving.specs.Stretch.{AreGuarded, GoOn, GuardsTurn, Moment}
-use Rattle.gw_serving.specs.declared.guard.Both.{Both}
+use Rattle.gw_core.specs.declared.guard.Both.{Both}
 use Rattle.gw_serving.specs.declared.serving.ServeFault.{ServeFault}
 use Rattle.gw_serving.proofs.BothLemmas.{under_first}
 use Rattle.gw_watching.specs.Watching.{HasWatched, Watching}

@@ -89,7 +89,7 @@ pub record IsTakenOver {K : Type 0} (Adopts : K → Configuration → State → 
   pub gateway : t.gateway ≡ carried new (saved c s.gateway)
   pub keeper : Adopts s.keeper new t.gateway t.keeper
   pub requests : GoesOn s.requests t.requests
-      (asked (Ok (Some text)) ∷ answered (reload_line s.gateway new (saved c s.gateway)) ∷ [])
+      (asked (Ok (Some text)) ∷ answered (reload_line s.gateway.rules new (saved c s.gateway)) ∷ [])
   pub counts : t.counts ≡ with_taken_over s.counts s.gateway.ticks
 
 -- There was no request.
@@ -108,7 +108,7 @@ IsLooked Adopts c s (taken_over text new) d t = IsTakenOver Adopts c s text new 
 abbrev pub look_text : {K : Type 0} → Configuration → Standing K → Look → List ℕ
 look_text c s unrequested = []
 look_text c s (refused read fault line) = line
-look_text c s (taken_over text new) = reload_line s.gateway new (saved c s.gateway)
+look_text c s (taken_over text new) = reload_line s.gateway.rules new (saved c s.gateway)
 
 -- At a tick the keeper does what is due, and then a request is looked for.
 pub record AtTick {K : Type 0} (Ticks : K → State → K → Type 0) (Adopts : K → Configuration → State → K → Type 0) (c : Configuration)

@@ -5,7 +5,7 @@ use Rattle.gw_core.specs.State.{State}
 use Rattle.gw_saved.specs.Saved.{origin_of}
 use Rattle.gw_script.specs.Event.{Event}
 use Rattle.gw_serving.specs.Keeping.{HasPassed, IsTried, KeepsAtTick, failing_of}
-use Rattle.gw_serving.specs.declared.store.StoreFault.{StoreFault}
+use Rattle.gw_wire.specs.declared.store.StoreFault.{StoreFault}
 use Rattle.gw_metrics.specs.declared.counts.StateTries.{StateTries}
 use Rattle.gw_service.specs.declared.keeping.Kept.{Kept}
 use Rattle.gw_service.specs.declared.keeping.Kept.TheVariants.{Nowhere, In}

@@ -10,5 +10,6 @@ pub mod StampedRun
 pub mod Stats
 pub mod Laws
 pub mod Watch
+pub mod WatchedRuns
 pub mod Scheduled
 pub mod Metrics

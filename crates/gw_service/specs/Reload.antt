@@ -58,7 +58,7 @@ pub record IsAdopted (w : State) (o : Origin) (c : Configuration) (made : Adopte
   pub gateway : made.gateway ≡ carried c (saved_of o w)
   pub origin : made.origin ≡ origin_of c
   pub successor : IsSuccessor c made.successor
-  pub line : made.line.items ≡ reload_line w c (saved_of o w)
+  pub line : made.line.items ≡ reload_line w.rules c (saved_of o w)
 
 -- the configuration is that of this text, and has the ports that are served
 pub record IsReloadedBy (w : State) (o : Origin) (text : List ℕ) (made : Adopted) : Type 0 where

@@ -6,7 +6,7 @@ use Rattle.gw_command_line.specs.declared.options.RunOptions.{RunOptions}
 use Rattle.gw_configuration.specs.Configuration.{Configuration}
 use Rattle.gw_core.specs.State.{State}
 use Rattle.gw_rules.specs.declared.rule.Rule.{Rule}
-use Rattle.gw_serving.specs.declared.guard.Both.{Both}
+use Rattle.gw_core.specs.declared.guard.Both.{Both}
 use Rattle.gw_system.specs.Host.{LogOpening}
 use Rattle.gw_system.specs.declared.reading.ReadFailure.{ReadFailure}
 use Rattle.gw_tally.specs.Tally.{IsTally}
@@ -22,6 +22,8 @@ use Rattle.gw_service.specs.declared.keeping.Kept.{Kept}
 use Rattle.gw_notices.specs.Watch.{watch_text}
 use Rattle.gw_notices.specs.declared.losses.Losses.{Losses}
 use Rattle.gw_notices.specs.declared.troubles.Troubles.{Troubles}
+use Rattle.gw_notices.specs.declared.watch_report.LogCount.{LogCount}
+use Rattle.gw_notices.specs.declared.watch_report.WatchCounts.{WatchCounts}
 
 -- ---- at the start
 
@@ -147,8 +149,16 @@ has_lost log = option_map_or (λ (b : Beside _ _). nat_le 1 b.lost) log false
 abbrev pub troubles_of : {S T A : Type 0} → Both (Kept S) (Watching T A) → Troubles
 troubles_of k = record { state = failing_in k.first; trial = has_lost k.second.trial; audit = has_lost k.second.audit }
 
+-- what is counted of a log beside the log
+abbrev pub log_count : {C S : Type 0} → Option (Beside C S) → Option LogCount
+log_count log = option_map (λ (b : Beside _ _). record { number = b.number; lost = b.lost }) log
+
+-- what is counted of what watches
+abbrev pub counted_of : {T A : Type 0} → Watching T A → WatchCounts
+counted_of w = record { trial = log_count w.trial; audit = log_count w.audit; unseen = w.unseen }
+
 abbrev pub more_of : {S T A : Type 0} → Both (Kept S) (Watching T A) → State → List ℕ
-more_of k w = watch_text w.rules k.second
+more_of k w = watch_text w.rules (counted_of k.second) k.second.counts
 
 -- a rule says that it is audited, and no audit is named
 abbrev pub is_unaudited : (audits : List Bool) → (is_named : Bool) → Bool

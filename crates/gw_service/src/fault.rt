@@ -1,9 +1,10 @@
 //! Why serving doesn't begin, or ends.
 
-use gw_serving::{ServeFault, StoreFault};
+use gw_serving::ServeFault;
 use gw_state_text::StateFault;
 use gw_system::{LogFailure, Obstacle, OpenFailure, SocketFailure};
 use gw_watch_files::{TrialFault, WatchFault};
+use gw_wire::StoreFault;
 use std::alloc::AllocError;
 
 /// Why a configuration isn't served, or not to the end.

@@ -11,13 +11,14 @@ ghost use Rattle.gw_notices.specs.declared.losses.Losses.{Losses};
 ghost use Rattle.gw_notices.specs.declared.troubles.Troubles.{Troubles};
 
 use crate::successor::Successor;
-use gw_core::{AllAsked, Gateway, Taken};
+use gw_core::{AllAsked, Gateway, Guard, Taken};
 use gw_metrics::StateTries;
 use gw_notices::{Losses, Troubles};
 use gw_saved::Origin;
 use gw_script::OctetSink;
-use gw_serving::{Guard, Keeper, Store, StoreFault};
+use gw_serving::Keeper;
 use gw_tally::Tally;
+use gw_wire::{Store, StoreFault};
 use std::alloc::Global;
 
 /// What keeps the state of a gateway from stretch to stretch.

@@ -32,10 +32,11 @@ use gw_core::Gateway;
 use gw_notices::{ReloadCounts, Troubles, warning_of, write_note};
 use gw_saved::{Origin, Saved};
 use gw_script::OctetSink;
-use gw_serving::{Keeper, ServeFault, ServeState, Store, Wire};
+use gw_serving::{Keeper, ServeFault, ServeState};
 use gw_stamping::Notes;
 use gw_system::{Host, ReadFailure, Requests, note_of};
 use gw_watching::Watcher;
+use gw_wire::{Store, Wire};
 use std::alloc::{AllocError, Global};
 use std::io::{BufWriter, Write};
 

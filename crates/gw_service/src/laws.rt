@@ -1,4 +1,4 @@
-//! Laws of a run that keeps its state or reads its configuration again. The functions do nothing: their contracts are the laws.
+//! Laws of a run that keeps its state, reads its configuration again or is watched. The functions do nothing: their contracts are the laws.
 
 ghost use Rattle.std.specs.Prelude.{List, ℕ};
 ghost use Rattle.gw_core.specs.State.{State};
@@ -7,12 +7,13 @@ ghost use Rattle.gw_serving.specs.declared.tally.Tally.{Tally};
 ghost use Rattle.gw_service.specs.Chain.{manner};
 ghost use Rattle.gw_notices.specs.declared.reload.ReloadCounts.{ReloadCounts};
 ghost use Rattle.gw_service.specs.Kept.{Given};
+ghost use Rattle.gw_service.specs.WatchedRuns.{AuditIsWhole, CountsAreWhole, TrialIsWhole};
 ghost use Rattle.gw_service.specs.Laws.{IsAsServed, IsAsUnwatched, NobodyAsks, NumbersGoOn, RulesAreInForce, RulesStay};
 
 use crate::keeping::StateKeeper;
 use gw_script::OctetSink;
-use gw_serving::Store;
 use gw_system::Requests;
+use gw_wire::Store;
 
 /// Each event is judged by the rules of the configuration in force: wherever a run leads, the gateway has them, and in a stretch
 /// they stay.
@@ -44,4 +45,12 @@ pub fn nobody_asks<K: StateKeeper>()
 /// what it reports: the log, the calls of the wire and the outcome are those of serving from the gateway's first state.
 pub fn as_served<S: Store + Drop, Q: Requests + Drop, L: OctetSink + Drop>()
     ensures { (given : Given S Q L) → IsAsServed given }
+{}
+
+/// What a watcher's logs and counts are after a run, if nothing was lost and all events were seen: the logs have exactly their lines,
+/// and each count is that of all asks.
+pub fn after_each_run<T: OctetSink, A: OctetSink>()
+    ensures trial { TrialIsWhole T.held A.held }
+    ensures audit { AuditIsWhole T.held A.held }
+    ensures counts { CountsAreWhole T.held A.held }
 {}

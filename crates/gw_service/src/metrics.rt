@@ -14,8 +14,9 @@ use gw_metrics_file::Metrics;
 use gw_notices::{Losses, ReloadCounts};
 use gw_relay::PortState;
 use gw_rules::RuleList;
-use gw_serving::{Report, Store};
+use gw_serving::Report;
 use gw_tally::Tally;
+use gw_wire::Store;
 use std::alloc::Global;
 
 /// What is measured of a run at a moment, beside what each rule decided and what each port has.

@@ -77,10 +77,10 @@ fn prepare(
     ensures origin { IfOk result (λ made. made.origin ≡ origin_of config.now) }
     ensures successor { IfOk result (λ made. IsSuccessor config.now made.successor) }
     ensures line { IfOk result
-        (λ made. made.line.items ≡ reload_line gateway.now config.now (saved_of origin.now gateway.now)) }
+        (λ made. made.line.items ≡ reload_line gateway.now.rules config.now (saved_of origin.now gateway.now)) }
 {
     let saved = gateway.save(alloc, origin)?;
-    let line = reload_line(alloc, gateway, config, &saved)?;
+    let line = reload_line(alloc, gateway.rules(), config, &saved)?;
     let origin = Origin::of(alloc, config)?;
     let successor = Successor::of(alloc, config)?;
     Ok(Prepared {

@@ -21,17 +21,16 @@ use crate::keeping::StateKeeper;
 use crate::metrics::put_due;
 use crate::reload::{Adopted, reloaded};
 use crate::stats::Schedule;
-use gw_core::Gateway;
+use gw_core::{Both, Gateway};
 use gw_metrics_file::Metrics;
-use gw_notices::{
-    ReloadCounts, ReloadFault, Troubles, line_with_place, refusal_line, report_notices, write_note,
-};
+use gw_notices::{ReloadCounts, ReloadFault, Troubles, line_with_place, refusal_line, report_notices, write_note};
 use gw_policy_text::MAX_OCTETS;
 use gw_saved::Origin;
 use gw_script::OctetSink;
-use gw_serving::{Both, Pause, ServeFault, ServeState, Store, Wire};
+use gw_serving::{Pause, ServeFault, ServeState};
 use gw_stamping::Notes;
 use gw_system::{ReadFailure, Requests};
+use gw_wire::{Store, Wire};
 use std::alloc::Global;
 
 /// A gateway that runs by stretches, with what is configured of it, what keeps its state and what asks to read the

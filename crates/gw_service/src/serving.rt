@@ -25,8 +25,9 @@ use gw_configuration::Config;
 use gw_core::{Counts, Gateway};
 use gw_notices::{startup_line, warning_of, write_note};
 use gw_script::OctetSink;
-use gw_serving::{ServeStop, Served, Wire, serve, serve_with_reports};
+use gw_serving::{ServeStop, Served, serve, serve_with_reports};
 use gw_system::{Host, LogFailure, OpenFailure, note_of, open_at_line};
+use gw_wire::Wire;
 use std::alloc::Global;
 use std::io::{BufWriter, Write};
 

@@ -1,18 +1,18 @@
 //! A gateway whose state may be kept, and which is watched.
 
 ghost use Rattle.std.specs.Prelude.{◌≡◌};
-ghost use Rattle.gw_service.specs.Watch.{BeginAnew, IsKeptAtTickBeside, IsKeptForBeside, has_lost, losses_of, lost_of, more_of, troubles_of};
+ghost use Rattle.gw_service.specs.Watch.{BeginAnew, IsKeptAtTickBeside, IsKeptForBeside, counted_of, has_lost, log_count, losses_of, lost_of, more_of, troubles_of};
 ghost use Rattle.gw_service.specs.Keeping.{tries_in, unkept_in};
 
 use crate::keeping::{Kept, StateKeeper};
 use crate::successor::Successor;
-use gw_core::Gateway;
+use gw_core::{Both, Gateway};
 use gw_metrics::StateTries;
-use gw_notices::{Losses, Troubles, report_watched};
+use gw_notices::{LogCount, Losses, Troubles, WatchCounts, report_watched};
 use gw_script::OctetSink;
-use gw_serving::{Both, Store};
 use gw_tally::Tally;
 use gw_watching::{Beside, Watcher};
+use gw_wire::Store;
 use std::alloc::Global;
 
 /// Whether lines of a log beside the log were lost, if there is one.
@@ -32,6 +32,30 @@ fn lost_of<C, S>(log: &Option<Beside<C, S>>) -> u64
     match log {
         Some(log) => log.lost,
         None => 0,
+    }
+}
+
+/// What is counted of a log beside the log, if there is one.
+fn log_count<C, S>(log: &Option<Beside<C, S>>) -> Option<LogCount>
+    ensures { result ≡ log_count log.now }
+{
+    match log {
+        Some(log) => Some(LogCount {
+            number: log.number,
+            lost: log.lost,
+        }),
+        None => None,
+    }
+}
+
+/// What is counted of what watches.
+fn counted_of<T: OctetSink + Drop, A: OctetSink + Drop>(watcher: &Watcher<T, A>) -> WatchCounts
+    ensures { result ≡ counted_of watcher.now }
+{
+    WatchCounts {
+        trial: log_count(watcher.trial()),
+        audit: log_count(watcher.audit()),
+        unseen: watcher.unseen(),
     }
 }
 
@@ -107,6 +131,11 @@ impl<S: Store + Drop, T: OctetSink + Drop, A: OctetSink + Drop> StateKeeper
     }
 
     fn report_more<E: OctetSink>(&self, gateway: &Gateway, errors: &mut E) {
-        report_watched(gateway.rules(), &self.second, errors);
+        report_watched(
+            gateway.rules(),
+            counted_of(&self.second),
+            self.second.counts(),
+            errors,
+        );
     }
 }

@@ -4,10 +4,11 @@ use Rattle.std.specs.Prelude.{Result, Ok, Err}
 use Rattle.gw_script.specs.Event.{Event}
 use Rattle.gw_core.specs.History.{state_from}
 use Rattle.gw_core.specs.State.{State}
-use Rattle.gw_serving.specs.Both.{GoOnUnderSecond, IsUnderFirst, LetsAllGo, PassesBoth, first_moment, second_moment}
+use Rattle.gw_serving.specs.Both.{GoOnUnderSecond, IsUnderFirst, first_moment, second_moment}
+use Rattle.gw_core.specs.Guard.{LetsAllGo, PassesBoth}
 use Rattle.gw_serving.specs.Serve.{Turn, empty_turn, failed_turn, lost_event, taken_event, turn_events}
 use Rattle.gw_serving.specs.Stretch.{AreGuarded, EndsStretch, GoOn, GuardsTurn, IsFaulty, IsWithheld, Moment}
-use Rattle.gw_serving.specs.declared.guard.Both.{Both}
+use Rattle.gw_core.specs.declared.guard.Both.{Both}
 use Rattle.gw_serving.specs.declared.serving.ServeFault.{ServeFault}
 use Rattle.gw_serving.specs.declared.stretch.Pause.{Pause}
 use Rattle.gw_serving.specs.declared.stretch.Pause.TheVariants.{Turns, Tick, Withheld}

@@ -11,9 +11,10 @@ use Rattle.gw_relay.specs.Sends.{Sending}
 use Rattle.gw_serving.specs.Serve.{EndsBy, LeadTo, Scene, Turn, count_fault, count_turn, counts_after, empty_turn, events_of, failed_turn, failures, lines_of, lost_event, scene, successes, taken_event, turn_events}
 use Rattle.gw_serving.specs.ServeTurn.{AreTried, GuardedEnd, TurnEnd}
 use Rattle.gw_core.specs.declared.asked.Asked.{Asked}
-use Rattle.gw_serving.specs.Stretch.{AreGuarded, GuardsTurn, IsLoggedLast, IsSeen, IsTaken, Moment, count_taken, moment}
+use Rattle.gw_serving.specs.Stretch.{AreGuarded, GuardsTurn, IsLoggedLast, Moment, count_taken, moment}
+use Rattle.gw_core.specs.Guard.{IsSeen, IsTaken}
 use Rattle.gw_serving.specs.Tally.{tally_from}
-use Rattle.gw_serving.specs.Wire.{Call}
+use Rattle.gw_wire.specs.Wire.{Call}
 use Rattle.gw_serving.specs.declared.serving.ServeFault.{ServeFault}
 use Rattle.gw_serving.specs.declared.serving.Served.{Served}
 use Rattle.gw_serving.specs.declared.tally.Tally.{Tally}

@@ -7,7 +7,7 @@ use Rattle.gw_core.specs.Resumed.{saved_of}
 use Rattle.gw_core.specs.State.{State}
 use Rattle.gw_serving.specs.Keeping.{IsRecent, KeepsChanged, Keeping, KeptBy, TicksBy, TicksKeepRecent, alike_but_ticks, is_due, is_kept}
 use Rattle.gw_serving.specs.declared.alike.Part.TheVariants.{AllButTicks}
-use Rattle.gw_serving.specs.declared.store.StoreFault.{StoreFault}
+use Rattle.gw_wire.specs.declared.store.StoreFault.{StoreFault}
 use Rattle.gw_serving.proofs.AlikeLemmas.{alike_but_ticks_is_equal}
 
 -- a text that isn't due is of a state fewer than ten ticks ago

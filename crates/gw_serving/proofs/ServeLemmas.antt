@@ -33,7 +33,7 @@ use Rattle.gw_serving.specs.Serve.{empty_turn, failed_turn, lost_event, taken_ev
 use Rattle.gw_serving.specs.ServeTurn.{AreTried, HasRoom, LogEnd, TurnEnd, event_answer}
 use Rattle.gw_serving.specs.Stretch.{wire_counts}
 use Rattle.gw_core.specs.State.{State}
-use Rattle.gw_serving.specs.Wire.{Call, Records, arrival, arrival_of, receive_call}
+use Rattle.gw_wire.specs.Wire.{Call, Records, arrival, arrival_of, receive_call}
 
 -- ---- what a wire reports
 

@@ -18,7 +18,7 @@ use Rattle.gw_core.specs.Marked.{kept}
 use Rattle.gw_serving.specs.Serve.{AreTurns, EndsBy, IsTakenLast, IsTurn, LeadTo, Scene, Try, Turn, calls_of, count_fault, count_turn, counts_after, counts_of, empty_turn, events_of, failed_turn, failures, lost_event, successes, taken_event, try_call, turn_calls, turn_events, zero_counts}
 use Rattle.gw_serving.specs.Served.{IsServed, StopsAreServed, TurnsAreServed, answered, at_count_end, but_last, event_in, handed_in, is_departure, is_failed_receive, is_receive, tried, tried_by}
 use Rattle.gw_core.specs.State.{State}
-use Rattle.gw_serving.specs.Wire.{Call, arrival, departure, empty_receive, failed_receive, failed_send}
+use Rattle.gw_wire.specs.Wire.{Call, arrival, departure, empty_receive, failed_receive, failed_send}
 use Rattle.gw_core.proofs.HistoryLemmas.{state_from-append}
 use Rattle.gw_serving.proofs.ServeLemmas.{run_along, tells_more, tries_counted}
 

@@ -1,19 +1,12 @@
 -- Two guards, each of which passes every event.
-use Rattle.std.specs.Prelude.{◌≡◌, ℕ, ◌&&◌, Bool, false, List, Result}
+use Rattle.std.specs.Prelude.{ℕ, Bool, List, Result}
 use Rattle.gw_script.specs.Event.{Event}
 use Rattle.gw_core.specs.State.{State}
 use Rattle.gw_serving.specs.Serve.{Turn}
 use Rattle.gw_serving.specs.Stretch.{EndsStretch, GoOn, Moment, moment}
-use Rattle.gw_serving.specs.declared.guard.Both.{Both}
+use Rattle.gw_core.specs.declared.guard.Both.{Both}
 use Rattle.gw_serving.specs.declared.serving.ServeFault.{ServeFault}
 use Rattle.gw_serving.specs.declared.stretch.Pause.{Pause}
-
--- both pass an event, and its datagrams may go if both let them
-abbrev pub PassesBoth : {G H : Type 0} → (G → State → Event → G → Bool → Type 0) → (H → State → Event → H → Bool → Type 0)
-    → Both G H → State → Event → Both G H → Bool → Type 0
-PassesBoth First Second both w event then passes =
-    (one : Bool) × (two : Bool) × First both.first w event then.first one × Second both.second w event then.second two
-    × (passes ≡ (one && two))
 
 -- what there is at a moment, with one guard of the two
 abbrev pub first_moment : {G H : Type 0} → Moment (Both G H) → Moment G
@@ -21,10 +14,6 @@ first_moment m = moment m.scene m.guard.first m.served m.tally
 
 abbrev pub second_moment : {G H : Type 0} → Moment (Both G H) → Moment H
 second_moment m = moment m.scene m.guard.second m.served m.tally
-
--- a guard never withholds anything
-abbrev pub LetsAllGo : {G : Type 0} → (G → State → Event → G → Bool → Type 0) → Type 0
-LetsAllGo {G} Passes = (g h : G) (w : State) (event : Event) → ¬ (Passes g w event h false)
 
 -- If the second lets all go, a stretch under both is one under the first alone.
 abbrev pub IsUnderFirst : {G H : Type 0} → (G → State → Event → G → Bool → Type 0) → (H → State → Event → H → Bool → Type 0) → Type 0

@@ -18,15 +18,9 @@ use Rattle.gw_core.specs.Resumed.{saved_of}
 use Rattle.gw_core.specs.State.{State}
 use Rattle.gw_serving.specs.declared.alike.Part.{Part}
 use Rattle.gw_serving.specs.declared.alike.Part.TheVariants.{Lasting, AllButTicks}
-use Rattle.gw_serving.specs.declared.store.StoreFault.{StoreFault}
-use Rattle.gw_serving.specs.declared.store.StoreFault.TheVariants.{Memory}
-
--- ---- what a store holds
-
--- it holds this text, if it reports what it holds
-abbrev pub Holds : Option (List ℕ) → List ℕ → Type 0
-Holds None text = ⊤
-Holds (Some held) text = held ≡ text
+use Rattle.gw_wire.specs.Store.{Holds}
+use Rattle.gw_wire.specs.declared.store.StoreFault.{StoreFault}
+use Rattle.gw_wire.specs.declared.store.StoreFault.TheVariants.{Memory}
 
 -- ---- what lasts
 

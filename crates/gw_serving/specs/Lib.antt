@@ -1,4 +1,3 @@
-pub mod Wire
 pub mod Tally
 pub mod Serve
 pub mod ServeTurn

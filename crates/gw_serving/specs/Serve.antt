@@ -16,7 +16,7 @@ use Rattle.gw_serving.specs.declared.serving.ServeStop.{ServeStop}
 use Rattle.gw_core.specs.Effects.{effects_at, passes_end, NeedsNoMemory}
 use Rattle.gw_core.specs.History.{next, run_from, state_from, log as denials_of_run}
 use Rattle.gw_core.specs.State.{State}
-use Rattle.gw_serving.specs.Wire.{Call, empty_receive, failed_receive, arrival, departure, failed_send, Records}
+use Rattle.gw_wire.specs.Wire.{Call, empty_receive, failed_receive, arrival, departure, failed_send, Records}
 
 -- ---- a turn
 

@@ -6,7 +6,7 @@ use Rattle.gw_audit.specs.declared.denial.Denial.{Denial}
 use Rattle.gw_script.specs.declared.event.Event.{Event as LentEvent}
 use Rattle.gw_script.specs.Event.{Event, event_view}
 use Rattle.gw_relay.specs.Sends.{Sending}
-use Rattle.gw_serving.specs.declared.wire.WireFault.{WireFault}
+use Rattle.gw_wire.specs.declared.wire.WireFault.{WireFault}
 use Rattle.gw_serving.specs.declared.serving.Served.{Served}
 use Rattle.gw_serving.specs.declared.serving.ServeFault.{ServeFault}
 use Rattle.gw_serving.specs.declared.serving.ServeFault.TheVariants.{Log, Memory, CountEnd}
@@ -14,7 +14,7 @@ use Rattle.gw_core.specs.State.{State}
 use Rattle.gw_serving.specs.Stretch.{GoOn, IsFaulty, IsWithheld, Moment, wire_counts}
 use Rattle.gw_serving.specs.Tally.{tally_from}
 use Rattle.gw_serving.specs.declared.tally.Tally.{Tally}
-use Rattle.gw_serving.specs.Wire.{Call, Records}
+use Rattle.gw_wire.specs.Wire.{Call, Records}
 use Rattle.gw_serving.specs.Serve.{Scene, Try, Turn, LeadTo, EndsBy, count_turn, count_fault, failures, lines_of}
 use Rattle.gw_serving.specs.Serve.{successes, try_call, turn_events}
 

@@ -12,7 +12,7 @@ use Rattle.gw_serving.specs.declared.serving.ServeStop.{ServeStop}
 use Rattle.gw_core.specs.History.{run_from, state_from}
 use Rattle.gw_core.specs.Marked.{kept}
 use Rattle.gw_serving.specs.Serve.{Scene, ServesAll, Stops}
-use Rattle.gw_serving.specs.Wire.{Call, Records, arrival, departure, empty_receive, failed_receive, failed_send}
+use Rattle.gw_wire.specs.Wire.{Call, Records, arrival, departure, empty_receive, failed_receive, failed_send}
 
 -- ---- calls
 

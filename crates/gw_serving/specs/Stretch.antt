@@ -1,18 +1,12 @@
 -- A stretch of serving under a guard, which judges each event that was taken and logged before anything of it is sent.
-use Rattle.std.specs.Prelude.{◌≡◌, ⊤, ℕ, ◌+◌, ◌-◌, ◌*◌, ◌^◌, ◌<◌, ◌≤◌, Bool, true, false, List, [], ◌∷◌, ◌++◌, length}
-use Rattle.std.specs.Prelude.{Option, Some, None}
+use Rattle.std.specs.Prelude.{◌≡◌, ℕ, ◌+◌, ◌-◌, ◌*◌, ◌^◌, ◌<◌, ◌≤◌, Bool, true, false, List, [], ◌∷◌, ◌++◌, length}
 use Rattle.std.specs.Prelude.{Result, Ok, Err}
 use Rattle.std.specs.Io.KnownBytes.{Appends}
 use Rattle.gw_script.specs.Event.{Event}
 use Rattle.gw_script.specs.Event as event
-use Rattle.gw_core.specs.Asked.{asked_at}
-use Rattle.gw_core.specs.Drops.{drop_at}
-use Rattle.gw_core.specs.Effects.{NeedsNoMemory, effects_at, passes_end}
-use Rattle.gw_core.specs.History.{next, state_from}
-use Rattle.gw_core.specs.Lasting.{lasts}
+use Rattle.gw_core.specs.Effects.{effects_at}
+use Rattle.gw_core.specs.History.{state_from}
 use Rattle.gw_core.specs.State.{State}
-use Rattle.gw_core.specs.declared.asked.Asked.{Asked}
-use Rattle.gw_core.specs.declared.gateway.Taken.{Taken}
 use Rattle.gw_serving.specs.Serve.{EndsBy, IsTakenLast, LeadTo, Scene, Try, Turn, count_fault, count_turn, counts_after}
 use Rattle.gw_serving.specs.Serve.{empty_turn, events_of}
 use Rattle.gw_serving.specs.Serve.{failed_turn, lines_of, lost_event, taken_event, turn_events}
@@ -24,20 +18,6 @@ use Rattle.gw_serving.specs.declared.stretch.Pause.TheVariants.{Turns, Tick, Wit
 use Rattle.gw_serving.specs.declared.tally.Tally.{Tally}
 
 -- ---- one event
-
--- the event was taken in this state: what it does, why it is dropped, if it is, and whether it lasts; and the state then
-pub record IsTaken (w : State) (event : Event) (after : State) (taken : Taken) : Type 0 where
-  pub counts : passes_end w event ≡ false
-  pub effects : taken.effects ≡ effects_at w event
-  pub drop : taken.drop ≡ drop_at w event
-  pub lasts : taken.lasts ≡ lasts w event
-  pub gateway : after ≡ next w event
-
--- What of its asks is seen, if they are watched: all with their verdicts, or nothing if memory was wanted.
-abbrev pub IsSeen : Bool → State → Event → Option (List Asked) → Type 0
-IsSeen watched w event (Some asked) = asked ≡ asked_at w event
-IsSeen true w event None = ¬ (NeedsNoMemory w event)
-IsSeen false w event None = ⊤
 
 -- The last event was taken, the log has the lines of its denials, and nothing of what it sends was tried.
 pub record IsLoggedLast (before : Scene) (event : Event) (after : Scene) : Type 0 where

@@ -3,14 +3,14 @@
 ghost use Rattle.std.specs.Prelude.{◌≡◌, ◌⊎◌, OnOk, OnErr, Err, false};
 ghost use Rattle.gw_core.specs.Resumed.{saved_of};
 ghost use Rattle.gw_state_text.specs.Text.{state_text};
-ghost use Rattle.gw_serving.specs.Keeping.{HasPassed, Holds, IsHeld, IsTried, KeepsAtTick, KeepsChanged, Tries, failing_of, is_due, is_kept, nothing_kept, one_more};
+ghost use Rattle.gw_serving.specs.Keeping.{HasPassed, IsHeld, IsTried, KeepsAtTick, KeepsChanged, Tries, failing_of, is_due, is_kept, nothing_kept, one_more};
+ghost use Rattle.gw_wire.specs.Store.{Holds};
 
 use crate::alike::{Part, is_same};
-use crate::guard::Guard;
-use crate::store::{Store, StoreFault};
-use gw_core::{AllAsked, Gateway, Taken};
+use gw_core::{AllAsked, Gateway, Guard, Taken};
 use gw_saved::{Origin, Saved};
 use gw_state_text::put_state;
+use gw_wire::{Store, StoreFault};
 use std::alloc::Global;
 use std::marker::Model;
 

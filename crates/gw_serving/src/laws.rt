@@ -1,18 +1,11 @@
 //! Laws of serving. The functions do nothing: their contracts are the laws.
 
-ghost use Rattle.std.specs.Prelude.{◌≡◌};
 ghost use Rattle.gw_serving.specs.Both.{GoOnUnderSecond, IsUnderFirst};
 ghost use Rattle.gw_serving.specs.Keeping.{AlikeButTicksIsEqual, AlikeIsEqual, EqualIsAlike, TicksKeepRecent};
 ghost use Rattle.gw_serving.specs.Served.{StopsAreServed, TurnsAreServed};
 
-use crate::guard::Guard;
-use crate::store::Store;
-use crate::wire::RECEIVE_ROOM;
-
-/// A datagram is received to 1508 octets, one more than the longest that is heard.
-pub fn limits()
-    ensures { RECEIVE_ROOM ≡ 1508 }
-{}
+use gw_core::Guard;
+use gw_wire::Store;
 
 /// What `serve` promises, in the words of a wire: the turns are the receives; the events that were handed in are those
 /// that the gateway took, those lost to memory, and one at the end of a count; and what was tried to be sent is what the

@@ -2,25 +2,19 @@
 #![tactic(auto)]
 
 mod alike;
-mod guard;
 mod keeper;
 pub mod laws;
 mod report;
 mod reporting;
 mod seen;
 mod serving;
-mod store;
 mod stretch;
 mod tally;
-mod wire;
 
 pub use alike::Part;
-pub use guard::{Both, Guard, Unguarded};
 pub use keeper::Keeper;
 pub use report::{Report, report_of, try_report};
 pub use reporting::serve_with_reports;
 pub use serving::{ServeFault, ServeState, ServeStop, Served, serve};
-pub use store::{Store, StoreFault};
 pub use stretch::Pause;
 pub use tally::Tally;
-pub use wire::{Got, RECEIVE_ROOM, Wire, WireFault};

@@ -11,9 +11,9 @@ ghost use Rattle.gw_core.specs.State.{State};
 use crate::report::{report_of, try_report};
 use crate::serving::{ServeFault, ServeState, ServeStop, Served};
 use crate::tally::Tally;
-use crate::wire::Wire;
 use gw_core::{Counts, Gateway};
 use gw_script::OctetSink;
+use gw_wire::Wire;
 use std::alloc::Global;
 
 /// Serves a wire for so many turns, as [`crate::serve`] does, and reports on the way what was done: a

@@ -3,7 +3,7 @@
 ghost use Rattle.std.specs.Prelude.{◌≡◌, IfOk, IsErrOf, IsOk, None, OnErr, true};
 ghost use Rattle.gw_script.specs.Event.{event_view};
 ghost use Rattle.gw_core.specs.Effects.{NeedsNoMemory, passes_end};
-ghost use Rattle.gw_serving.specs.Stretch.{IsSeen, IsTaken};
+ghost use Rattle.gw_core.specs.Guard.{IsSeen, IsTaken};
 
 use gw_core::{AllAsked, Gateway, StepFault, Taken, take_event, take_event_watched};
 use gw_script::Event;

@@ -7,17 +7,16 @@ ghost use Rattle.gw_serving.specs.ServeTurn.{AreTried, GuardedEnd, HasRoom, LogE
 ghost use Rattle.gw_serving.specs.Serve.{ServesAll, Stops, counts_of_answer, lines_of, scene, zero_counts};
 ghost use Rattle.gw_serving.specs.Served.{IsServing};
 ghost use Rattle.gw_serving.specs.Stretch.{CanCount, moment, wire_counts};
-ghost use Rattle.gw_serving.specs.Wire.{Records, failures_of, receive_call};
+ghost use Rattle.gw_wire.specs.Wire.{Records, failures_of, receive_call};
 ghost use Rattle.gw_relay.specs.Sends.{sendings_of};
 
-use crate::guard::{Guard, Unguarded};
 use crate::seen::take_seen;
 use crate::tally::Tally;
-use crate::wire::{Got, RECEIVE_ROOM, Wire, WireFault};
 use gw_audit::{Denials, line};
-use gw_core::{Gateway, StepFault};
+use gw_core::{Gateway, Guard, StepFault, Unguarded};
 use gw_relay::{Batch, Sends};
 use gw_script::{Event, OctetSink, write_whole};
+use gw_wire::{Got, RECEIVE_ROOM, Wire, WireFault};
 use std::alloc::{AllocError, Global};
 use thiserror::Error;
 

@@ -4,11 +4,10 @@ ghost use Rattle.std.specs.Prelude.{◌≡◌, ℕ, ◌+◌, ◌≤◌, IsErrOf}
 ghost use Rattle.gw_serving.specs.Serve.{scene};
 ghost use Rattle.gw_serving.specs.Stretch.{CanCount, EndsStretch, moment};
 
-use crate::guard::Guard;
 use crate::serving::{ServeFault, ServeState};
-use crate::wire::Wire;
-use gw_core::Gateway;
+use gw_core::{Gateway, Guard};
 use gw_script::OctetSink;
+use gw_wire::Wire;
 use std::alloc::Global;
 
 /// Why a stretch of serving ended.

@@ -5,7 +5,7 @@ ghost use Rattle.gw_system.specs.Folder.{Holds, IsTakenAway, Known, octets_of};
 
 use crate::reading::{ReadFailure, read_file};
 use crate::store::{remove_if_there, replace_file, store_fault, write_new};
-use gw_serving::StoreFault;
+use gw_wire::StoreFault;
 use std::alloc::Global;
 use std::io::ErrorKind;
 use std::rt::Files;

@@ -2,7 +2,7 @@
 //! of a state, and requests to read the configuration again.
 //!
 //! [`Host`] is what `run` takes of a machine; [`SystemHost`] is the machine of the process, whose sockets
-//! and clock are a wire of `gw_ports`.
+//! and clock are a wire of `gw_wire`.
 #![tactic(auto)]
 
 mod file_log;

@@ -5,7 +5,7 @@ ghost use Rattle.gw_system.specs.Waiting.{has_event_of};
 
 use crate::udp::UdpSock;
 use gw_addr::MAX_PORTS;
-use gw_ports::{SockPair, Waiter, Watch, socket_number};
+use gw_wire::{SockPair, Waiter, Watch, socket_number};
 use mio::{Events, Poll, Registry};
 use std::alloc::Global;
 use std::io;

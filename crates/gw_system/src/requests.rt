@@ -8,7 +8,7 @@ use crate::folder::Folder;
 use crate::obstacle::Obstacle;
 use crate::reading::ReadFailure;
 use crate::store::name_with;
-use gw_serving::StoreFault;
+use gw_wire::StoreFault;
 use mio::{Events, Poll};
 use std::alloc::{AllocError, Global};
 use std::io;

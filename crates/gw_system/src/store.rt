@@ -3,7 +3,7 @@
 ghost use Rattle.std.specs.Prelude.{◌≡◌, ◌++◌, string_bytes, IfOk};
 
 use crate::host::{MODE, is_link};
-use gw_serving::{Store, StoreFault};
+use gw_wire::{Store, StoreFault};
 use std::alloc::{AllocError, Global};
 use std::fs::{File, OpenFile};
 use std::io::{ErrorKind, Write};

@@ -1,6 +1,6 @@
 //! The clock of the system.
 
-use gw_ports::Timepiece;
+use gw_wire::Timepiece;
 use std::io;
 use std::time::{Clock, Duration};
 

@@ -3,15 +3,14 @@
 ghost use Rattle.std.specs.Prelude.{◌≡◌, ◌≤◌, ℕ, ⊤, length, IfErr, IfOk};
 ghost use Rattle.gw_addr.specs.declared.TheConstants.{MAX_PORTS};
 ghost use Rattle.gw_system.specs.Host.{IsSocketFailure};
-ghost use Rattle.gw_ports.specs.Socket.{FitsBuffer};
+ghost use Rattle.gw_wire.specs.Socket.{FitsBuffer};
 
 use crate::opening::{SocketFailure, Step};
 use gw_addr::BipAddr;
 use gw_configuration::Port;
-use gw_ports::{Sock, SockFault, SockPair, Watch};
-use gw_serving::RECEIVE_ROOM;
-use mio::net::UdpSocket;
+use gw_wire::{RECEIVE_ROOM, Sock, SockFault, SockPair, Watch};
 use mio::{Interest, Registry, Token};
+use mio::net::UdpSocket;
 use std::alloc::Global;
 use std::io;
 use std::io::ErrorKind;

@@ -1,3 +1,2 @@
 pub mod RecordLemmas
 pub mod TrialLemmas
-pub mod RunLemmas

@@ -6,11 +6,10 @@ ghost use Rattle.gw_watching.specs.Watching.{HasWatched, Missed, Watches, Watchi
 
 use crate::audit::Marks;
 use crate::beside::Beside;
-use gw_core::{AllAsked, Asked, Gateway, Taken};
+use gw_core::{AllAsked, Asked, Gateway, Guard, Taken};
 use gw_decisions::count_asked;
 use gw_rule_index::Policy;
 use gw_script::OctetSink;
-use gw_serving::Guard;
 use gw_tally::Tally;
 use std::alloc::Global;
 use std::marker::Model;

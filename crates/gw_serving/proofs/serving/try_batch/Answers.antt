@@ -4,8 +4,8 @@ use Rattle.std.proofs.lemmas.Grind.{common_steps}
 use Rattle.std.proofs.lemmas.List.{map-append, take_more}
 use Rattle.gw_addr.specs.declared.bip.BipAddr.{BipAddr}
 use Rattle.gw_relay.specs.Sends.{Sending, sending, sendings}
-use Rattle.gw_serving.specs.declared.wire.WireFault.{WireFault}
-use Rattle.gw_serving.specs.Wire.{Records, failures_of, send_call}
+use Rattle.gw_wire.specs.declared.wire.WireFault.{WireFault}
+use Rattle.gw_wire.specs.Wire.{Records, failures_of, send_call}
 use Rattle.gw_serving.proofs.ServeLemmas.{tried_more}
 use Rattle.gw_serving.proofs.serving.try_batch.Goals as goal
 use Rattle.gw_serving.proofs.serving.try_batch.Goals.{in-Ok, in-Err}

@@ -1,5 +1,5 @@
-use Rattle.gw_watching.proofs.RunLemmas.{lets_all_go}
+use Rattle.std.proofs.Common.{sym, true≢false}
 use Rattle.gw_watching.proofs.laws.nothing_withheld.Goals as goal
 
 pub returns : goal.returns
-returns g c = lets_all_go g.T.OctetSink.held g.A.OctetSink.held
+returns g c guard then w event p = true≢false (sym p.0)

@@ -1,0 +1,93 @@
+//! What is done about an event that was taken, before anything of it is sent.
+
+ghost use Rattle.std.specs.Prelude.{◌≡◌, ◌||◌, Bool, false, option_map, true};
+ghost use Rattle.gw_script.specs.Event.{Event};
+ghost use Rattle.gw_core.specs.State.{State};
+ghost use Rattle.gw_core.specs.Guard.{IsSeen, IsTaken, PassesBoth};
+
+use crate::asked::AllAsked;
+use crate::gateway::{Gateway, Taken};
+use std::alloc::Global;
+
+/// What is done about an event that was taken and whose denials are logged, before anything of it is sent.
+pub trait Guard {
+    /// What passing an event may do: the guard before, the gateway's state before, the event, the guard
+    /// after, and whether the event's datagrams may go.
+    ghost Passes: { Self → State → Event → Self → Bool → Type 0 };
+
+    /// It watches what is asked.
+    ghost watching: { Self → Bool };
+
+    /// Whether it watches what is asked. If it does, all that an event asks is kept for it, if there is memory.
+    fn watches(&self) -> bool
+        ensures { result ≡ watching self.now };
+
+    /// Passes an event that the gateway took, and says whether its datagrams may go. If the guard watches what it asked and
+    /// there was memory to keep that, it is there.
+    fn pass(
+        &mut self,
+        alloc: Global,
+        gateway: &Gateway,
+        taken: &Taken,
+        asked: Option<&AllAsked>,
+    ) -> bool
+        ensures { (w : State) (event : Event) → IsTaken w event gateway.now taken.now →
+            IsSeen (watching self.old) w event (option_map (λ a. a.now) asked.entry) → Passes self.old w event self.new result };
+}
+
+/// No guard: all datagrams may go.
+#[derive(Clone, Copy, Default)]
+pub struct Unguarded;
+
+impl Guard for Unguarded {
+    ghost Passes = { λ _ _ _ _ passes. passes ≡ true };
+
+    ghost watching = { λ _. false };
+
+    #[inline(always)]
+    fn watches(&self) -> bool {
+        false
+    }
+
+    #[inline(always)]
+    fn pass(
+        &mut self,
+        _alloc: Global,
+        _gateway: &Gateway,
+        _taken: &Taken,
+        _asked: Option<&AllAsked>,
+    ) -> bool {
+        true
+    }
+}
+
+/// Two guards: each passes every event, the first before the second, and its datagrams may go if both let them.
+#[derive(Drop)]
+pub struct Both<G, H> {
+    /// The guard that is asked first.
+    pub first: G,
+    /// The guard that is asked then.
+    pub second: H,
+}
+
+impl<G: Guard, H: Guard> Guard for Both<G, H> {
+    ghost Passes = { PassesBoth G.Passes H.Passes };
+
+    ghost watching = { λ both. G.watching both.first || H.watching both.second };
+
+    fn watches(&self) -> bool {
+        self.first.watches() || self.second.watches()
+    }
+
+    fn pass(
+        &mut self,
+        alloc: Global,
+        gateway: &Gateway,
+        taken: &Taken,
+        asked: Option<&AllAsked>,
+    ) -> bool {
+        let first = self.first.pass(alloc, gateway, taken, asked);
+        let second = self.second.pass(alloc, gateway, taken, asked);
+        first && second
+    }
+}

@@ -1,0 +1,35 @@
+-- What a watcher's logs and counts are after a run.
+use Rattle.std.specs.Prelude.{◌≡◌, ℕ, ◌<◌, Bool, false, List, [], length, Option, Some, codes, slice_index}
+use Rattle.std.specs.Io.KnownBytes.{Appends}
+use Rattle.gw_rules.specs.declared.rule.Rule.{Rule}
+use Rattle.gw_serving.specs.Serve.{Turn, events_of}
+use Rattle.gw_serving.specs.Stretch.{GoOn, Moment}
+use Rattle.gw_core.specs.Asked.{run_asked}
+use Rattle.gw_decisions.specs.Counted.{counted_on}
+use Rattle.gw_watching.specs.Laws.{run_records}
+use Rattle.gw_watching.specs.Records.{audited_by, denied_by, lines_behind}
+use Rattle.gw_watching.specs.Watching.{HasWatched, Watching}
+use Rattle.gw_watching.specs.declared.beside.Beside.{Beside}
+
+-- If nothing was lost and all events were seen, a trial's log has exactly the lines of the asks of the run that its rules deny.
+abbrev pub TrialIsWhole : {T A : Type 0} → (T → Option (List ℕ)) → (A → Option (List ℕ)) → Type 0
+TrialIsWhole {T} {A} trial audit = (before after : Moment (Watching T A)) (turns : List Turn) (b c : Beside (List Rule) T) →
+    GoOn (HasWatched trial audit) before turns after → before.guard.trial ≡ Some b → after.guard.trial ≡ Some c →
+    b.is_cut ≡ false → c.lost ≡ 0 → after.guard.unseen ≡ 0 →
+    Appends (trial b.sink) (trial c.sink)
+    (lines_behind [] (run_records (denied_by b.choice) (λ _. b.choice) b.number before.scene.gateway (events_of turns)))
+
+-- So has an audit those of the asks of the run that a marked rule allowed.
+abbrev pub AuditIsWhole : {T A : Type 0} → (T → Option (List ℕ)) → (A → Option (List ℕ)) → Type 0
+AuditIsWhole {T} {A} trial audit = (before after : Moment (Watching T A)) (turns : List Turn) (b c : Beside (List Bool) A) →
+    GoOn (HasWatched trial audit) before turns after → before.guard.audit ≡ Some b → after.guard.audit ≡ Some c →
+    b.is_cut ≡ false → c.lost ≡ 0 → after.guard.unseen ≡ 0 →
+    Appends (audit b.sink) (audit c.sink)
+    (lines_behind (codes "allow ") (run_records (audited_by b.choice) (λ rules. rules) b.number before.scene.gateway (events_of turns)))
+
+-- And each count goes on by all asks of the run that its rule decided.
+abbrev pub CountsAreWhole : {T A : Type 0} → (T → Option (List ℕ)) → (A → Option (List ℕ)) → Type 0
+CountsAreWhole {T} {A} trial audit = (before after : Moment (Watching T A)) (turns : List Turn) (b c : List ℕ) →
+    GoOn (HasWatched trial audit) before turns after → before.guard.counts ≡ Some b → after.guard.counts ≡ Some c →
+    after.guard.unseen ≡ 0 → (k : ℕ) → k < length b →
+    slice_index c k ≡ counted_on k (slice_index b k) (run_asked before.scene.gateway (events_of turns))

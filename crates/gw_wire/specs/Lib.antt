@@ -1,0 +1,9 @@
+pub mod Wire
+pub mod Store
+pub mod Socket
+pub mod Watch
+pub mod SockPair
+pub mod Ports
+pub mod Waking
+pub mod Timed
+pub mod internal

@@ -1,0 +1,240 @@
+//! The ports and a clock: each second that passes is a tick, and where nothing waits it is waited for.
+
+ghost use Rattle.std.specs.Prelude.{◌≡◌, ◌+◌, ◌-◌, ◌*◌, ◌<◌, ◌^◌, ◌∷◌, [], length, min, slice_index_or, true, false, IfOk, OnErr, OnOk, None};
+ghost use Rattle.std.specs.Duration.{as_nanos, max_nanos};
+ghost use Rattle.gw_wire.specs.Wire.{IsHandedIn, Records, failures_of, receive_answer, receive_call, send_call};
+ghost use Rattle.gw_wire.specs.Ports.{HasSentOn};
+ghost use Rattle.gw_wire.specs.Timed.{WatchesNext, HasLooked, HasWaited, IsCounted, IsLookedInTime, IsReceived, IsReceivedLater, KeepsCount, is_idle, rest_between, second, seconds_between, with_due, with_ports};
+ghost use Rattle.gw_wire.specs.Watch.{HasSent};
+
+use crate::ports::Ports;
+use crate::socket::Sock;
+use crate::timepiece::Timepiece;
+use crate::waiter::Waiter;
+use crate::waking::{is_any_awake, wake_all};
+use crate::watch::Watch;
+use crate::wire::{Got, RECEIVE_ROOM, Wire, WireFault};
+use gw_addr::BipAddr;
+use std::io;
+use std::time::Duration;
+
+/// How many receives may go by without a look at what came, while something may wait at a socket
+/// already.
+pub(crate) const MOST_UNLOOKED: u8 = 7;
+
+/// The ports as a wire in time. Before each receive the whole seconds are counted that passed since
+/// the last look at the clock, and so many ticks are due. Where nothing waits it waits for a
+/// datagram, up to the next second, and then asks once more. Only sockets are asked at which
+/// something may wait, by what the waiter says. While something may wait already, seven receives go
+/// by before the next asks the waiter, so that what came elsewhere has its turn.
+#[derive(Drop)]
+pub struct TimedPorts<S, C, P> {
+    /// The sockets of all ports, and the ticks that are due.
+    pub ports: Ports<Watch<S>>,
+    /// What gives the time.
+    pub clock: C,
+    /// What waits where nothing has come.
+    pub waiter: P,
+    /// The moment of the clock up to which each whole second was counted.
+    pub counted: Duration,
+    /// How many receives went by since the waiter last reported where something came.
+    pub unlooked: u8,
+}
+
+impl<S: Sock, C: Timepiece, P: Waiter> TimedPorts<S, C, P> {
+    /// The ports, from now on: no second that passed before is a tick. An `Err` where the clock can't
+    /// be read.
+    pub fn start(ports: Ports<Watch<S>>, mut clock: C, waiter: P) -> io::Result<Self>
+    where
+        S: Drop,
+        C: Drop,
+        P: Drop,
+        ensures ports { IfOk result (λ timed. timed.ports ≡ ports) }
+        ensures waiter { IfOk result (λ timed. timed.waiter ≡ waiter) }
+        ensures now { IfOk result (λ timed. C.Shows timed.clock (as_nanos timed.counted)) }
+        ensures unlooked { IfOk result (λ timed. timed.unlooked ≡ 0) }
+    {
+        let counted = clock.elapsed()?;
+        Ok(TimedPorts {
+            ports,
+            clock,
+            waiter,
+            counted,
+            unlooked: 0,
+        })
+    }
+
+    /// Counts the whole seconds that passed until this moment of the clock, each as a tick that is
+    /// due, and answers how long it is to the next one.
+    fn advance(&mut self, now: Duration) -> Duration
+        ensures ticks { let seconds = seconds_between (as_nanos self.old.counted) (as_nanos now) in
+            self.new.ports ≡ with_due seconds self.old.ports }
+        ensures counted { let seconds = seconds_between (as_nanos self.old.counted)
+            (as_nanos now) in
+            as_nanos self.new.counted
+            ≡ min (as_nanos self.old.counted + seconds * second) max_nanos }
+        ensures left { as_nanos result
+            ≡ second - rest_between (as_nanos self.old.counted) (as_nanos now) }
+        ensures clock { self.new.clock ≡ self.old.clock }
+        ensures waiter { self.new.waiter ≡ self.old.waiter }
+        ensures unlooked { self.new.unlooked ≡ self.old.unlooked }
+    {
+        let passed = now.saturating_sub(self.counted);
+        let seconds = passed.as_secs();
+        self.ports.due(seconds);
+        self.counted = self.counted.saturating_add(Duration::from_secs(seconds));
+        let rest = Duration::from_nanos(u64::from(passed.subsec_nanos()));
+        Duration::from_secs(1).saturating_sub(rest)
+    }
+
+    /// Counts the whole seconds that passed, and answers how long it is to the next one.
+    fn count_seconds(&mut self) -> io::Result<Duration>
+        ensures counts { IfOk result (λ left. IsCounted C.Shows self.old self.new (as_nanos left)) }
+        ensures waiter { self.new.waiter ≡ self.old.waiter }
+        ensures unlooked { self.new.unlooked ≡ self.old.unlooked }
+        ensures pairs { self.new.ports.pairs ≡ self.old.ports.pairs }
+        ensures count { length self.new.ports.pairs ≡ length self.old.ports.pairs }
+        ensures failures { self.new.ports.failures ≡ self.old.ports.failures }
+    {
+        let now = self.clock.elapsed()?;
+        Ok(self.advance(now))
+    }
+
+    /// Waits for a datagram, so long at most, and notes at which sockets one may have come.
+    fn wait(&mut self, most: Duration) -> io::Result<()>
+        ensures waits { OnOk result
+            (HasWaited P.Waited P.Quiet self.old self.new (as_nanos most)) }
+        ensures unlooked { OnErr result (self.new.unlooked ≡ self.old.unlooked) }
+        ensures pairs { OnErr result (self.new.ports.pairs ≡ self.old.ports.pairs) }
+        ensures count { length self.new.ports.pairs ≡ length self.old.ports.pairs }
+        ensures failures { self.new.ports.failures ≡ self.old.ports.failures }
+    {
+        self.waiter.wait(most)?;
+        wake_all(&mut self.ports, &self.waiter);
+        self.unlooked = 0;
+        Ok(())
+    }
+
+    /// Notes at which sockets a datagram may have come, where something may wait already, so that it
+    /// keeps none from its turn; or lets a receive go by, seven of them between two looks. It doesn't
+    /// wait.
+    fn look(&mut self) -> io::Result<()>
+        ensures looks { OnOk result (HasLooked P.Waited P.Quiet self.old self.new) }
+        ensures unlooked { OnErr result (self.new.unlooked ≡ self.old.unlooked) }
+        ensures pairs { OnErr result (self.new.ports.pairs ≡ self.old.ports.pairs) }
+        ensures count { length self.new.ports.pairs ≡ length self.old.ports.pairs }
+        ensures failures { self.new.ports.failures ≡ self.old.ports.failures }
+    {
+        if !is_any_awake(&self.ports) {
+            return Ok(());
+        }
+        if self.unlooked < MOST_UNLOOKED {
+            self.unlooked += 1;
+            return Ok(());
+        }
+        self.wait(Duration::ZERO)
+    }
+
+    /// Waits for a datagram, so long at most, and receives what has come then.
+    fn recv_later(&mut self, most: Duration, buf: &mut [u8; RECEIVE_ROOM]) -> Result<Got, WireFault>
+        requires { self.old.ports.failures < 2 ^ 128 - 1 }
+        ensures later { IfOk result (IsReceivedLater C.Shows P.Waited P.Quiet
+            (WatchesNext S.look_count S.is_empty S.Answered) self.old self.new
+            (as_nanos most) buf.new) }
+        ensures unlooked { KeepsCount P.Waited self.old self.new }
+        ensures count { length self.new.ports.pairs ≡ length self.old.ports.pairs }
+        ensures handed_in { IfOk result (IsHandedIn (length self.new.ports.pairs)) }
+        ensures failures { self.new.ports.failures
+            ≡ self.old.ports.failures + failures_of result }
+    {
+        let Ok(()) = self.wait(most) else {
+            return Err(self.ports.fail());
+        };
+        let Ok(_left) = self.count_seconds() else {
+            return Err(self.ports.fail());
+        };
+        let given = self.ports.next(buf)?;
+        Ok(given)
+    }
+
+    /// What came, or where nothing did, what comes later: it is waited so long at most.
+    fn recv_behind(
+        &mut self,
+        came: Result<Got, WireFault>,
+        most: Duration,
+        buf: &mut [u8; RECEIVE_ROOM],
+    ) -> Result<Got, WireFault>
+        requires failures { is_idle came ≡ true → self.old.ports.failures < 2 ^ 128 - 1 }
+        requires handed_in { IfOk came (IsHandedIn (length self.old.ports.pairs)) }
+        ensures came { is_idle came ≡ false → result ≡ came }
+        ensures stays { is_idle came ≡ false → self.new ≡ self.old }
+        ensures buffer { is_idle came ≡ false → buf.new ≡ buf.old }
+        ensures later { is_idle came ≡ true →
+            IfOk result (IsReceivedLater C.Shows P.Waited P.Quiet
+            (WatchesNext S.look_count S.is_empty S.Answered) self.old self.new
+            (as_nanos most) buf.new) }
+        ensures unlooked { KeepsCount P.Waited self.old self.new }
+        ensures count { length self.new.ports.pairs ≡ length self.old.ports.pairs }
+        ensures handed_in { IfOk result (IsHandedIn (length self.new.ports.pairs)) }
+        ensures failures { self.new.ports.failures + failures_of came
+            ≡ self.old.ports.failures + failures_of result }
+    {
+        match came {
+            Ok(Got::Idle) => self.recv_later(most, buf),
+            Ok(Got::Datagram { .. }) | Ok(Got::Tick) | Err(_) => came,
+        }
+    }
+}
+
+impl<S: Sock, C: Timepiece, P: Waiter> Wire for TimedPorts<S, C, P> {
+    ghost port_count = { λ timed. length timed.ports.pairs };
+
+    ghost failure_count = { λ timed. timed.ports.failures };
+
+    ghost calls = { λ _. None };
+
+    fn ports(&self) -> u8 {
+        self.ports.ports()
+    }
+
+    fn failures(&self) -> u128 {
+        self.ports.failures()
+    }
+
+    fn recv(&mut self, buf: &mut [u8; RECEIVE_ROOM]) -> Result<Got, WireFault>
+        requires { self.old.ports.failures < 2 ^ 128 - 1 }
+        ensures received { IfOk result (IsReceived C.Shows P.Waited P.Quiet
+            (WatchesNext S.look_count S.is_empty S.Answered) self.old self.new buf.new) }
+        ensures looked { IsLookedInTime P.Waited self.old self.new }
+        ensures ports { length self.new.ports.pairs ≡ length self.old.ports.pairs }
+        ensures handed_in { IfOk result (IsHandedIn (length self.new.ports.pairs)) }
+        ensures calls { let call = receive_call (receive_answer result buf.new) in
+            Records None None (call ∷ []) }
+        ensures failures { self.new.ports.failures
+            ≡ self.old.ports.failures + failures_of result }
+    {
+        let Ok(most) = self.count_seconds() else {
+            return Err(self.ports.fail());
+        };
+        let Ok(()) = self.look() else {
+            return Err(self.ports.fail());
+        };
+        let came = self.ports.next(buf);
+        self.recv_behind(came, most, buf)
+    }
+
+    fn send(&mut self, port: u8, to: BipAddr, octets: &[u8]) -> Result<(), WireFault>
+        requires { self.old.ports.failures < 2 ^ 128 - 1 }
+        ensures sent { HasSentOn (HasSent S.Sent) port to octets.now
+            self.old.ports self.new.ports result }
+        ensures stays { self.new ≡ with_ports self.new.ports self.old }
+        ensures ports { length self.new.ports.pairs ≡ length self.old.ports.pairs }
+        ensures calls { let call = send_call result
+            (record { port = port; to = to; octets = octets.now }) in
+            Records None None (call ∷ []) }
+        ensures failures { self.new.ports.failures
+            ≡ self.old.ports.failures + failures_of result }
+    {
+        self.ports.send(port, to, octets)
+    }
+}
