@@ -30,7 +30,7 @@ use gw_policy_text::MAX_OCTETS;
 use gw_saved::Origin;
 use gw_script::OctetSink;
 use gw_serving::{Both, Pause, ServeFault, ServeState, Store, Wire};
-use gw_stamping::Notes;
+use gw_log_words::Notes;
 use gw_system::{ReadFailure, Requests};
 use std::alloc::Global;
 

@@ -23,7 +23,7 @@ use gw_configuration::Port;
 use gw_ports::{Ports, SockPair, TimedPorts, Watch};
 use gw_script::write_whole;
 use gw_serving::{Store, StoreFault, Wire};
-use gw_stamping::{Calendar, Notes, SystemCalendar};
+use gw_log_words::{Calendar, Notes, SystemCalendar};
 use std::alloc::{AllocError, Global};
 use std::io::{ErrorKind, Read, Seek, SeekFrom};
 use std::net::Net;

@@ -10,7 +10,7 @@ use crate::opening::{LogFailure, SocketFailure};
 use crate::reading::ReadFailure;
 use gw_configuration::Port;
 use gw_serving::StoreFault;
-use gw_stamping::{Calendar, Noted, Notes, Stamped};
+use gw_log_words::{Calendar, Noted, Notes, Stamped};
 use std::alloc::{AllocError, Global};
 
 /// The note of a log that was opened, with the version of the program.
