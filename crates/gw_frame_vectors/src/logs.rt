@@ -3,8 +3,8 @@
 use gw_addr::Source;
 use gw_audit::{ShownAsk, read_ask, read_line};
 use gw_cases::{MemReader, Streams, put_end, put_octets, put_word};
-use gw_rules::FieldName;
 use gw_log_words::{Moment, translate_log};
+use gw_rules::FieldName;
 use std::alloc::Global;
 use std::io;
 use std::io::Write;

@@ -10,8 +10,8 @@ use crate::ask::put_ask;
 use crate::value::{empty_object, put_number, put_quoted};
 use gw_addr::put_slice;
 use gw_audit::{Shown, read_line};
-use gw_script::{LineTranslator, LinesFault, OctetSink, OctetSource, translate_lines};
 use gw_log_words::denial_front;
+use gw_script::{LineTranslator, LinesFault, OctetSink, OctetSource, translate_lines};
 use std::alloc::{AllocError, Global};
 
 /// Writes each line of a log as a JSON object, in order, before it takes up the next line: one that ends in the line of a

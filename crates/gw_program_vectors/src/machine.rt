@@ -11,11 +11,11 @@ use crate::words::{call, put, status_text};
 use gw_addr::BipAddr;
 use gw_cases::{MemReader, MemWriter, number_behind};
 use gw_configuration::Port;
+use gw_log_words::{Calendar, Moment, moment_after};
 use gw_serving::{Got, RECEIVE_ROOM, Store, StoreFault, Wire, WireFault};
 use gw_shell::{
     ConfigFiles, FailedStep, Fault, Host, LogFailure, Obstacle, Reason, SocketFailure, Step, run,
 };
-use gw_log_words::{Calendar, Moment, moment_after};
 use gw_system::{ReadFailure, Requests};
 use itoa::Buffer;
 use std::alloc::{AllocError, Global};

@@ -14,8 +14,8 @@ ghost use Rattle.gw_service.specs.StampedRun.{LeavesTimed, timed_machine, whole_
 use crate::fault::ServiceFault;
 use crate::serving::serve_ports;
 use gw_configuration::{Config, RunOptions};
-use gw_script::OctetSink;
 use gw_log_words::{Noted, Stamped};
+use gw_script::OctetSink;
 use gw_system::{Host, StampedHost, into_log};
 use std::alloc::Global;
 use std::io::{BufWriter, Write};

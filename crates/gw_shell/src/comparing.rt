@@ -11,8 +11,8 @@ use crate::program::print;
 use gw_compare::{Compared, Comparing, put_steps};
 use gw_configuration::Config;
 use gw_ending::{Fault, write_number};
-use gw_script::{OctetSink, WriteFailed};
 use gw_log_words::{Calendar, Moment};
+use gw_script::{OctetSink, WriteFailed};
 use std::alloc::{AllocError, Global};
 use std::io::{BufWriter, Write};
 

@@ -9,8 +9,8 @@ use crate::host::{Host, open_at_line};
 use crate::opening::{LogFailure, SocketFailure};
 use crate::reading::ReadFailure;
 use gw_configuration::Port;
-use gw_serving::StoreFault;
 use gw_log_words::{Calendar, Noted, Notes, Stamped};
+use gw_serving::StoreFault;
 use std::alloc::{AllocError, Global};
 
 /// The note of a log that was opened, with the version of the program.
