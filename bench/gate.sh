@@ -22,7 +22,7 @@ clone=$work/clone
 git clone -q --no-checkout "$top" "$clone"
 git -C "$clone" checkout -q --detach "$(git -C "$top" rev-parse HEAD)"
 
-# Runs rt ci from nothing, passes on what it prints, and writes its last line and what the run cost to the file.
+# Runs the gate from nothing, passes on what it prints, and writes its last line and what the run cost to the file.
 python3 - "$clone" "$work/cost" <<'PYTHON'
 import os
 import resource
@@ -106,7 +106,7 @@ def knows_anew():
 
 
 clone, report = sys.argv[1:]
-words = ["rt", "ci", *(["--anew"] if knows_anew() else [])]
+words = [f"{clone}/.ci/run", *(["--anew"] if knows_anew() else [])]
 cost, start, text, ended = Cost(), time.monotonic(), b"", None
 with open(report + ".log", "wb") as log, open(report + ".log", "rb") as told:
     ran = subprocess.Popen(words, cwd=clone, stdin=subprocess.DEVNULL, stdout=log, stderr=subprocess.STDOUT)
@@ -138,7 +138,7 @@ PYTHON
 { read -r status; read -r last; read -r minutes; read -r wall; read -r peak; read -r dearest; read -r processors; } < "$work/cost"
 
 if [ "$status" != 0 ] || ! [[ $last =~ ^[1-9][0-9]*\ passed,\ 0\ failed$ ]]; then
-    echo "no row: rt ci ended with status $status and the line '$last'" >&2
+    echo "no row: the gate ended with status $status and the line '$last'" >&2
     exit 1
 fi
 

@@ -8,8 +8,8 @@ use Rattle.gw_addr.specs.Text.{Lacks}
 use Rattle.gw_addr.proofs.Lacking.{lacks_cons}
 use Rattle.gw_script.specs.Script.{lines_of, onto_first}
 use Rattle.gw_script.proofs.EventLemmas.{ended_lines}
-use Rattle.gw_stamping.specs.Fields.{end_from, fields_of, shows_ask}
-use Rattle.gw_stamping.proofs.FieldsLemmas.{end_found}
+use Rattle.gw_log_words.specs.Fields.{end_from, fields_of, shows_ask}
+use Rattle.gw_log_words.proofs.FieldsLemmas.{end_found}
 use Rattle.gw_asks.specs.Asks.{ask_lines, ended, shown_by, shown_in}
 use Rattle.gw_asks.specs.Laws.{EachIsAsk, GivenAgain, PlainStays}
 use Rattle.gw_asks.proofs.StepLemmas.{some_shown}

@@ -10,7 +10,7 @@ use Rattle.std.proofs.lemmas.List.Sums.{sum_by-cons}
 use Rattle.gw_script.specs.Reader.{BeginsLong, IsNextLine}
 use Rattle.gw_script.specs.Script.{lines_of, onto_first}
 use Rattle.gw_script.specs.declared.reader.NextLine.TheVariants.{Line}
-use Rattle.gw_stamping.specs.Fields.{fields_of, shows_ask}
+use Rattle.gw_log_words.specs.Fields.{fields_of, shows_ask}
 use Rattle.gw_asks.specs.Asks.{ended, shown_by, shown_in, unread_of}
 use Rattle.gw_asks.specs.declared.cursor.Place.{Place}
 use Rattle.gw_asks.specs.declared.cursor.Place.TheVariants.{Start, Passed, Fields}

@@ -1,7 +1,7 @@
 -- The asks that a text shows, a line each, whatever else the text has.
 use Rattle.std.specs.Prelude.{ℕ, List, [], ◌∷◌, ◌++◌, Option, None, if◌then◌else◌, nat_le, is_none, length, filter_map, flat_map, count_by}
 use Rattle.gw_script.specs.Script.{lines_of}
-use Rattle.gw_stamping.specs.Fields.{fields_of, shows_ask}
+use Rattle.gw_log_words.specs.Fields.{fields_of, shows_ask}
 
 -- the own fields by which a line shows an ask, if it has at most 4096 octets
 abbrev pub shown_in : List ℕ → Option (List ℕ)

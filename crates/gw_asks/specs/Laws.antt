@@ -1,7 +1,7 @@
 -- What is given of a text is what shows its asks.
 use Rattle.std.specs.Prelude.{◌≡◌, ℕ, ◌≤◌, true, List, length, All}
 use Rattle.gw_script.specs.Script.{lines_of}
-use Rattle.gw_stamping.specs.Fields.{shows_ask}
+use Rattle.gw_log_words.specs.Fields.{shows_ask}
 use Rattle.gw_asks.specs.Asks.{ask_lines, ended, shown_by}
 
 -- Each line that is given is the own fields of a line, one after the other, and shows an ask by itself.

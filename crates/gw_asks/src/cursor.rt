@@ -7,8 +7,8 @@ ghost use Rattle.gw_asks.specs.declared.cursor.Place.TheVariants as place;
 ghost use Rattle.gw_asks.specs.Position.{GivesFront, IsBetween, IsDone, rest_at};
 
 use crate::nothing::Nothing;
+use gw_log_words::ask_front;
 use gw_script::{LineReader, NextLine, OctetSource, ReadFailed};
-use gw_stamping::ask_front;
 use std::marker::Model;
 
 /// How many octets a line has at most, without its line feed.

@@ -8,6 +8,3 @@ pub mod MacLemmas
 pub mod KeyLemmas
 pub mod AskLemmas
 pub mod TranslatingLemmas
-pub mod MomentExamples
-pub mod MomentLemmas
-pub mod OnceLemmas

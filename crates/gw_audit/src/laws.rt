@@ -8,7 +8,6 @@ ghost use Rattle.gw_rules.specs.Name.{is_name};
 ghost use Rattle.gw_audit.specs.Entry.{IsShowable};
 ghost use Rattle.gw_audit.specs.Laws.{EndsOnce, IsDenial, IsKept, IsOneLine, NamesOneDenial, StaysShort};
 ghost use Rattle.gw_audit.specs.Line.{line_text};
-ghost use Rattle.gw_audit.specs.Translation.{TranslatesEach, TranslatesOnce, TranslatesWords};
 
 use crate::denial::Denial;
 use gw_rules::RuleName;
@@ -20,14 +19,6 @@ pub fn lines()
     ensures one { NamesOneDenial }
     ensures ended { EndsOnce }
     ensures short { StaysShort }
-{}
-
-/// Nothing is lost, and nothing is made up: a line has one text; and the text for a denial's line
-/// is the words of that denial, after the moment of its tick if it is known when the log began.
-pub fn translating()
-    ensures once { TranslatesOnce }
-    ensures each { TranslatesEach }
-    ensures words { TranslatesWords }
 {}
 
 /// The numbers of each denial fit their types, and its rule has a name, so those laws hold of every

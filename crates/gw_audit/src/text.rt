@@ -26,7 +26,7 @@ const HUNDRED: u64 = RADIX * RADIX;
 const THOUSAND: u64 = HUNDRED * RADIX;
 
 /// How many keys of 48 bits there are.
-pub(crate) const KEYS: u64 = 1 << 48;
+pub const KEYS: u64 = 1 << 48;
 
 /// Appends the line of a denial, which shows its number, its tick, its port, the station that the
 /// datagram claims to come from, what was asked, and the rule that denied it; and if the ask has a
@@ -181,7 +181,7 @@ fn put_station(out: &mut Vec<u8>, station: Option<u64>) -> Result<(), AllocError
 }
 
 /// Appends a station by its key: the six octets of 48 bits, or the eight of a greater key.
-pub(crate) fn put_key(out: &mut Vec<u8>, key: u64) -> Result<(), AllocError>
+pub fn put_key(out: &mut Vec<u8>, key: u64) -> Result<(), AllocError>
     ensures { IsAppended (key_text key) out.old out.new result }
 {
     let octets = key.to_be_bytes();

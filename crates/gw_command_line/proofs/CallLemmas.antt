@@ -1,7 +1,7 @@
 -- The worked command lines.
 use Rattle.std.proofs.Common.{refl, Some, None, codes}
 use Rattle.clap.proofs.OnLiterals.{clap_on_literals}
-use Rattle.gw_audit.proofs.MomentExamples.{morning, morning_is_read}
+use Rattle.gw_log_words.proofs.MomentExamples.{morning, morning_is_read}
 use Rattle.gw_command_line.specs.Calls.{CallsAreRefused, CallsAreTaken}
 use Rattle.gw_command_line.specs.Commands.{commands, first_commands}
 

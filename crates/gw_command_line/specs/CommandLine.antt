@@ -4,14 +4,14 @@ use Rattle.std.specs.Prelude.{◌≡◌, ◌≢◌, ◌⊎◌, ⊤, ℕ, List, [
 use Rattle.clap.specs.Words.{IsAmong, Text, fault_of}
 use Rattle.clap.specs.declared.error.kind.ErrorKind.{ErrorKind}
 use Rattle.clap.specs.declared.error.kind.ErrorKind.TheVariants as parse
-use Rattle.gw_audit.specs.Moment.{IsTextOf}
-use Rattle.gw_audit.specs.declared.moment.Moment.{Moment}
+use Rattle.gw_log_words.specs.Moment.{IsTextOf}
+use Rattle.gw_log_words.specs.declared.moment.Moment.{Moment}
 use Rattle.gw_command_line.specs.Commands.{commands}
 use Rattle.gw_command_line.specs.Requests.{Checks, ChecksJson, Compares, ComparesJson, Explains, Judges, ListsLog, ListsPoints, Migrates}
 use Rattle.gw_command_line.specs.Requests.{Reloads, Replays, Reports, Request, Serves, Service, Shows, Suggests, TranslatesLog, asked_in}
 use Rattle.gw_command_line.specs.declared.command_line.Choice.{Choice}
 use Rattle.gw_command_line.specs.declared.command_line.Choice.TheVariants as choice
-use Rattle.gw_command_line.specs.declared.options.RunOptions.{RunOptions}
+use Rattle.gw_configuration.specs.declared.run_options.RunOptions.{RunOptions}
 use Rattle.gw_command_line.specs.declared.options.Shown.{Shown}
 use Rattle.gw_command_line.specs.declared.fault.WordsFault.{WordsFault}
 use Rattle.gw_command_line.specs.declared.fault.WordsFault.TheVariants as fault

@@ -10,11 +10,12 @@ ghost use Rattle.gw_command_line.specs.Requests.{run_asked, state_asked, was_in,
 
 use crate::commands::make_commands;
 use crate::fault::WordsFault;
-use crate::options::{RunOptions, Shown};
+use crate::options::Shown;
 use crate::values::{count_of, file_of, is_given, period_of, start_of};
 use clap::error::ErrorKind;
 use clap::{ArgMatches, Error};
-use gw_audit::Moment;
+use gw_configuration::RunOptions;
+use gw_log_words::Moment;
 use std::alloc::Global;
 
 /// What the words ask for.

@@ -13,4 +13,4 @@ mod values;
 
 pub use command_line::{Choice, choice_of};
 pub use fault::WordsFault;
-pub use options::{RunOptions, Shown};
+pub use options::Shown;

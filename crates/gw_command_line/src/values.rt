@@ -8,7 +8,7 @@ ghost use Rattle.gw_command_line.specs.declared.fault.WordsFault.TheVariants as 
 
 use crate::fault::WordsFault;
 use clap::ArgMatches;
-use gw_audit::Moment;
+use gw_log_words::Moment;
 use std::alloc::{AllocError, Global};
 
 /// How many turns are served and how many lines are printed at most, and if no number of them is given.

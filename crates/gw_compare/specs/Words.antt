@@ -5,7 +5,7 @@ use Rattle.std.specs.Int.{w64, to_be_bytes}
 use Rattle.std.specs.List.{flat_map, list_all}
 use Rattle.std.specs.Option.{option_to_list}
 use Rattle.gw_addr.specs.Address.{address_in, text_of}
-use Rattle.gw_audit.specs.Words.{name_text}
+use Rattle.gw_log_words.specs.Words.{name_text}
 use Rattle.gw_names.specs.Names.{object_type_name, property_name, service_name}
 use Rattle.gw_regions.specs.Ranges.{both}
 use Rattle.gw_regions.specs.Regions.{Region}

@@ -2,7 +2,7 @@
 ghost use Rattle.std.specs.Prelude.{◌≡◌, ◌++◌, ◌∷◌, [], codes, option_map, if◌then◌else◌, IfOk, OnOk, Some};
 ghost use Rattle.std.specs.List.{flat_map};
 ghost use Rattle.std.specs.Option.{option_to_list};
-ghost use Rattle.gw_audit.specs.Words.{name_text};
+ghost use Rattle.gw_log_words.specs.Words.{name_text};
 ghost use Rattle.gw_regions.specs.Ranges.{both};
 ghost use Rattle.gw_regions.specs.Values.{has_operation};
 ghost use Rattle.gw_rules.specs.Operation.{operation_name};

@@ -1,10 +1,10 @@
 //! Lines of a log, read back and written in words.
 
 use gw_addr::Source;
-use gw_audit::{Moment, ShownAsk, read_ask, read_line};
+use gw_audit::{ShownAsk, read_ask, read_line};
 use gw_cases::{MemReader, Streams, put_end, put_octets, put_word};
+use gw_log_words::{Moment, translate_log};
 use gw_rules::FieldName;
-use gw_stamping::translate_log;
 use std::alloc::Global;
 use std::io;
 use std::io::Write;

@@ -11,8 +11,8 @@ use Rattle.gw_audit.specs.declared.entry.ShownAsk.{ShownAsk}
 use Rattle.gw_audit.specs.internal.Reading.{denial_of_parts, line_in}
 use Rattle.gw_json.specs.Laws.{DenialsStay}
 use Rattle.gw_json.specs.Log.{IsDenialIn, IsEntryOf, IsFrontMember, IsOther, denial_line, shown_line, shown_members}
-use Rattle.gw_stamping.proofs.LawLemmas.{own_line}
-use Rattle.gw_stamping.specs.Fields.{end_from, fields_of, is_denial}
+use Rattle.gw_log_words.proofs.LawLemmas.{own_line}
+use Rattle.gw_log_words.specs.Fields.{end_from, fields_of, is_denial}
 
 -- the object of what a line shows, with a member of what is in front, is that of the denial whose line it is
 same_object : (member : List ℕ) (shown : Shown)

@@ -4,13 +4,13 @@ use Rattle.std.specs.Str.{IsUtf8}
 use Rattle.hex.specs.Hex.{encode_upper}
 use Rattle.json.specs.Print.{quoted}
 use Rattle.gw_audit.specs.Entry.{IsLineOf, IsShowable, shown_ask}
-use Rattle.gw_audit.specs.Translation.{RefusesNone}
+use Rattle.gw_log_words.specs.Translation.{RefusesNone}
 use Rattle.gw_audit.specs.declared.denial.Denial.{Denial}
 use Rattle.gw_audit.specs.declared.entry.ShownAsk.{ShownAsk}
 use Rattle.gw_json.specs.Text.{ask_text}
 use Rattle.gw_script.specs.Lines.{LeavesLines}
 use Rattle.gw_script.specs.declared.lines.LinesFault.{LinesFault}
-use Rattle.gw_stamping.specs.Fields.{fields_of, is_denial}
+use Rattle.gw_log_words.specs.Fields.{fields_of, is_denial}
 
 -- `{"number":1,"tick":0`, the ask, and `,"rule":"hide"`
 abbrev pub shown_members : ℕ → ℕ → ShownAsk → List ℕ → List ℕ

@@ -4,14 +4,14 @@ ghost use Rattle.std.specs.Prelude.{◌≡◌, ◌+◌, ◌*◌, ◌<◌, ◌≤
 ghost use Rattle.json.specs.Print.{quoted};
 ghost use Rattle.gw_script.specs.Known.{OnKnown};
 ghost use Rattle.gw_json.specs.Log.{IsDenialIn, IsEntryIn, IsFrontMember, IsOther, LeavesEntries, front_octets_text, front_text, octets_line, shown_line};
-ghost use Rattle.gw_stamping.specs.Fields.{is_denial};
+ghost use Rattle.gw_log_words.specs.Fields.{is_denial};
 
 use crate::ask::put_ask;
 use crate::value::{empty_object, put_number, put_quoted};
 use gw_addr::put_slice;
 use gw_audit::{Shown, read_line};
+use gw_log_words::denial_front;
 use gw_script::{LineTranslator, LinesFault, OctetSink, OctetSource, translate_lines};
-use gw_stamping::denial_front;
 use std::alloc::{AllocError, Global};
 
 /// Writes each line of a log as a JSON object, in order, before it takes up the next line: one that ends in the line of a

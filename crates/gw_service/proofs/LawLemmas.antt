@@ -11,7 +11,7 @@ use Rattle.gw_core.specs.Asks.{asks_for}
 use Rattle.gw_core.specs.Receive.{Origin as Sender, origin, receive}
 use Rattle.gw_core.specs.declared.event.Counts.{Counts}
 use Rattle.gw_service.specs.Counts.{counts_after, greater, less, own_fields}
-use Rattle.gw_stamping.proofs.LawLemmas.{own_line}
+use Rattle.gw_log_words.proofs.LawLemmas.{own_line}
 use Rattle.gw_audit.specs.Entry.{IsLineOf, IsShowable}
 use Rattle.gw_audit.specs.declared.denial.Denial.{Denial}
 use Rattle.gw_configuration.specs.Configuration.{Configuration}

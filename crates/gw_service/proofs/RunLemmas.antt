@@ -15,7 +15,6 @@ use Rattle.gw_serving.specs.Serve.{Turn, empty_turn, events_of, failed_turn, los
 use Rattle.gw_serving.specs.Stretch.{AreGuarded, GoOn, GuardsTurn, Moment}
 use Rattle.gw_watching.specs.Beside.{IsEnded, IsRecorded, IsWritten, IsLost, ended}
 use Rattle.gw_service.specs.WatchedRuns.{AuditIsWhole, CountsAreWhole, TrialIsWhole}
-use Rattle.gw_core.specs.Asked.{run_asked}
 use Rattle.gw_watching.specs.Laws.{run_records}
 use Rattle.gw_watching.specs.Records.{audited_by, denied_by, last_number, lines_behind, records}
 use Rattle.gw_decisions.specs.Counted.{AreCounted, counted_on}

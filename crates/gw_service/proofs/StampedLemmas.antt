@@ -1,7 +1,7 @@
 -- What a run leaves, if what was closed is seen otherwise.
 use Rattle.std.proofs.Common.{◌≡◌, ℕ, Bool, true, false, List, Option, Result}
 use Rattle.std.specs.Prelude.{option_map, string_bytes}
-use Rattle.gw_command_line.specs.declared.options.RunOptions.{RunOptions}
+use Rattle.gw_configuration.specs.declared.run_options.RunOptions.{RunOptions}
 use Rattle.gw_configuration.specs.Configuration.{Configuration}
 use Rattle.gw_notices.specs.Announcement.{startup_line}
 use Rattle.gw_service.specs.Kept.{LeavesBy, LeavesService, LeavesWithState, Names, StateMachine, is_plain, names_of, ran, unopened, unprepared, whole_machine}

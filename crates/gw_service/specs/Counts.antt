@@ -4,7 +4,7 @@ use Rattle.std.specs.Option.{option_map_or}
 use Rattle.gw_audit.specs.Entry.{IsLineOf, IsShowable}
 use Rattle.gw_audit.specs.declared.denial.Denial.{Denial}
 use Rattle.gw_core.specs.declared.event.Counts.{Counts}
-use Rattle.gw_stamping.specs.Fields.{fields_of, is_denial}
+use Rattle.gw_log_words.specs.Fields.{fields_of, is_denial}
 
 -- the greater of two numbers, and the less
 abbrev pub greater : ℕ → ℕ → ℕ

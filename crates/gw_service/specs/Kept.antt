@@ -38,7 +38,7 @@ use Rattle.gw_notices.specs.declared.reload.ReloadCounts.{ReloadCounts}
 use Rattle.gw_notices.specs.declared.troubles.Troubles.{Troubles}
 use Rattle.gw_service.specs.declared.keeping.Kept.TheVariants.{Nowhere, In}
 use Rattle.gw_service.specs.declared.kept.Before.{Before}
-use Rattle.gw_command_line.specs.declared.options.RunOptions.{RunOptions}
+use Rattle.gw_configuration.specs.declared.run_options.RunOptions.{RunOptions}
 
 -- ---- what is read before anything is opened
 

@@ -1,9 +1,9 @@
 -- What a run leaves whose log in a file has stamps and notes: what the log holds is seen without them.
 use Rattle.std.specs.Prelude.{ℕ, List, Option, Result}
-use Rattle.gw_command_line.specs.declared.options.RunOptions.{RunOptions}
+use Rattle.gw_configuration.specs.declared.run_options.RunOptions.{RunOptions}
 use Rattle.gw_configuration.specs.Configuration.{Configuration}
-use Rattle.gw_stamping.specs.declared.noted.Noted.{Noted}
-use Rattle.gw_stamping.specs.declared.stamped.Stamped.{Stamped}
+use Rattle.gw_log_words.specs.declared.noted.Noted.{Noted}
+use Rattle.gw_log_words.specs.declared.stamped.Stamped.{Stamped}
 use Rattle.gw_system.specs.Host.{OpensAtLine}
 use Rattle.gw_system.specs.StampedHost.{IsWhole, OpensStamped, held_in, log_if}
 use Rattle.gw_service.specs.Kept.{LeavesBy, LeavesService, WholeMachine, whole_machine}

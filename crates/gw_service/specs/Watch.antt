@@ -2,7 +2,7 @@
 use Rattle.std.specs.Prelude.{◌≡◌, ◌⊎◌, ⊤, ℕ, ◌||◌, Bool, true, false, is_some, nat_le, not, ◌&&◌, if◌then◌else◌, List, [], codes, Option, Some, None, Result, Ok, Err, option_map, string_bytes}
 use Rattle.std.specs.List.{list_any}
 use Rattle.std.specs.Option.{option_map_or}
-use Rattle.gw_command_line.specs.declared.options.RunOptions.{RunOptions}
+use Rattle.gw_configuration.specs.declared.run_options.RunOptions.{RunOptions}
 use Rattle.gw_configuration.specs.Configuration.{Configuration}
 use Rattle.gw_core.specs.State.{State}
 use Rattle.gw_rules.specs.declared.rule.Rule.{Rule}

@@ -5,7 +5,7 @@ ghost use Rattle.gw_service.specs.Counts.{GoesOnAfter, GoesOnFrom, counts_with, 
 
 use gw_audit::read_line;
 use gw_core::Counts;
-use gw_stamping::denial_front;
+use gw_log_words::denial_front;
 
 /// Where each count of a gateway ends.
 const LAST_COUNT: u64 = 1 << 63;

@@ -19,7 +19,7 @@ mod watch;
 mod watched;
 
 pub use fault::ServiceFault;
-pub use gw_command_line::RunOptions;
+pub use gw_configuration::RunOptions;
 pub use keeping::StateKeeper;
 pub use reload::{Adopted, reloaded};
 pub use running::Running;

@@ -28,7 +28,7 @@ use gw_policy_text::MAX_OCTETS;
 use gw_saved::Origin;
 use gw_script::OctetSink;
 use gw_serving::{Pause, ServeFault, ServeState};
-use gw_stamping::Notes;
+use gw_log_words::Notes;
 use gw_system::{ReadFailure, Requests};
 use gw_wire::{Store, Wire};
 use std::alloc::Global;

@@ -20,8 +20,7 @@ ghost use Rattle.gw_service.specs.declared.fault.ServiceFault.TheVariants as fau
 use crate::fault::ServiceFault;
 use crate::kept::serve_kept;
 use crate::watch::is_watched;
-use gw_command_line::RunOptions;
-use gw_configuration::Config;
+use gw_configuration::{Config, RunOptions};
 use gw_core::{Counts, Gateway};
 use gw_notices::{startup_line, warning_of, write_note};
 use gw_script::OctetSink;

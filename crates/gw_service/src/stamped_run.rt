@@ -3,8 +3,8 @@
 ghost use Rattle.std.specs.Prelude.{◌≡◌, List, ℕ, Option, Some, OnOk, option_map, string_bytes};
 ghost use Rattle.std.specs.Io.Buffered.{writer_buffer, writer_contents};
 ghost use Rattle.std.specs.Io.KnownBytes.{Appends};
-ghost use Rattle.gw_stamping.specs.declared.noted.Noted.{Noted};
-ghost use Rattle.gw_stamping.specs.declared.stamped.Stamped.{Stamped};
+ghost use Rattle.gw_log_words.specs.declared.noted.Noted.{Noted};
+ghost use Rattle.gw_log_words.specs.declared.stamped.Stamped.{Stamped};
 ghost use Rattle.gw_system.specs.Host.{OpensAtLine};
 ghost use Rattle.gw_system.specs.StampedHost.{log_if};
 ghost use Rattle.gw_service.specs.Kept.{LeavesService, state_machine, whole_machine};
@@ -13,10 +13,9 @@ ghost use Rattle.gw_service.specs.StampedRun.{LeavesTimed, timed_machine, whole_
 
 use crate::fault::ServiceFault;
 use crate::serving::serve_ports;
-use gw_command_line::RunOptions;
-use gw_configuration::Config;
+use gw_configuration::{Config, RunOptions};
+use gw_log_words::{Noted, Stamped};
 use gw_script::OctetSink;
-use gw_stamping::{Noted, Stamped};
 use gw_system::{Host, StampedHost, into_log};
 use std::alloc::Global;
 use std::io::{BufWriter, Write};

@@ -5,8 +5,7 @@ ghost use Rattle.gw_system.specs.Host.{OpensAtLine};
 ghost use Rattle.gw_service.specs.Watch.{AreCountsOf, AreCountsUnder, IsAuditUnder, IsTrialUnder, IsUnwatched, IsWatcherUnder, fault_of_watching, is_watched, watch_names};
 
 use crate::fault::ServiceFault;
-use gw_command_line::RunOptions;
-use gw_configuration::Config;
+use gw_configuration::{Config, RunOptions};
 use gw_rule_index::Policy;
 use gw_system::Host;
 use gw_tally::Tally;

@@ -1,6 +1,6 @@
 -- What `log --json` and `why --json` leave written, at each outcome: over the definitions of `gw_json`.
 use Rattle.std.specs.Prelude.{◌≡◌, ℕ, List, Option, Some, Result, Ok, Err}
-use Rattle.gw_audit.specs.Translation.{RefusesNone}
+use Rattle.gw_log_words.specs.Translation.{RefusesNone}
 use Rattle.gw_configuration.specs.Configuration.{Configuration}
 use Rattle.gw_json.specs.Log.{IsEntryIn}
 use Rattle.gw_json.specs.Why.{IsAnswerIn, SaysNoAsk}

@@ -1,6 +1,6 @@
 -- What `run` leaves of a configuration that was read, and how its end is reported, over the definitions of `gw_service`.
 use Rattle.std.specs.Prelude.{◌≡◌, ℕ, List, Option, Result, Ok, Err}
-use Rattle.gw_command_line.specs.declared.options.RunOptions.{RunOptions}
+use Rattle.gw_configuration.specs.declared.run_options.RunOptions.{RunOptions}
 use Rattle.gw_configuration.specs.Configuration.{Configuration}
 use Rattle.gw_service.specs.StampedRun.{LeavesTimed, TimedMachine}
 use Rattle.gw_service.specs.declared.fault.ServiceFault.{ServiceFault}

@@ -1,8 +1,8 @@
 -- What `log` leaves written, at each outcome: over the definitions of `gw_audit`.
 use Rattle.std.specs.Prelude.{ℕ, List, Option, Result}
-use Rattle.gw_audit.specs.Translation.{RefusesNone}
-use Rattle.gw_audit.specs.declared.moment.Moment.{Moment}
-use Rattle.gw_stamping.specs.Translating.{IsTranslatedAfterFront}
+use Rattle.gw_log_words.specs.Translation.{RefusesNone}
+use Rattle.gw_log_words.specs.declared.moment.Moment.{Moment}
+use Rattle.gw_log_words.specs.Translating.{IsTranslatedAfterFront}
 use Rattle.gw_ending.specs.Lines.{Leaves}
 use Rattle.gw_ending.specs.declared.fault.Fault.{Fault}
 

@@ -8,12 +8,11 @@ ghost use Rattle.gw_shell.specs.Comparing.{AreProgress, IsCompared, outcome_of_c
 ghost use Rattle.gw_shell.specs.Program.{LeavesCompared, LeavesComparison, LeavesLines};
 
 use crate::program::print;
-use gw_audit::Moment;
 use gw_compare::{Compared, Comparing, put_steps};
 use gw_configuration::Config;
 use gw_ending::{Fault, write_number};
+use gw_log_words::{Calendar, Moment};
 use gw_script::{OctetSink, WriteFailed};
-use gw_stamping::Calendar;
 use std::alloc::{AllocError, Global};
 use std::io::{BufWriter, Write};
 

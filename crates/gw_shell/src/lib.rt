@@ -22,7 +22,8 @@ mod suggesting;
 mod translating;
 
 pub use files::{ConfigFiles, SystemFiles};
-pub use gw_command_line::{Choice, RunOptions, Shown, WordsFault, choice_of};
+pub use gw_command_line::{Choice, Shown, WordsFault, choice_of};
+pub use gw_configuration::RunOptions;
 pub use gw_ending::{Fault, end, words_of};
 pub use gw_system::{
     FailedStep, Host, LogFailure, Obstacle, OpenFailure, PollWaiter, Reason, SocketFailure, Step,

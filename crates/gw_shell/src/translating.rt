@@ -8,10 +8,9 @@ ghost use Rattle.gw_shell.specs.Program.{LeavesOfLog, LeavesOpened};
 ghost use Rattle.gw_shell.specs.Translating.{Translates};
 
 use crate::files::ConfigFiles;
-use gw_audit::Moment;
 use gw_ending::{Fault, first_lines_fault};
+use gw_log_words::{Moment, translate_log};
 use gw_script::OctetSource;
-use gw_stamping::translate_log;
 use std::alloc::Global;
 use std::io::{BufWriter, Write};
 

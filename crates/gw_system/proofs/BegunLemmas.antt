@@ -7,12 +7,12 @@ use Rattle.std.proofs.lemmas.Bool.{ltb-false, ltb-true}
 use Rattle.std.proofs.lemmas.List.{take_all}
 use Rattle.gw_addr.proofs.Lacking.{lacks_cons}
 use Rattle.gw_addr.specs.Text.{Lacks}
-use Rattle.gw_stamping.specs.Noted.{IsBeforeLineFeed, IsNoted, ending, held_without_notes, note_line}
-use Rattle.gw_stamping.specs.Stamped.{held_without}
-use Rattle.gw_stamping.specs.declared.noted.Noted.{Noted}
-use Rattle.gw_stamping.specs.declared.noted.Place.{Place}
-use Rattle.gw_stamping.specs.declared.noted.Place.TheVariants.{Begin}
-use Rattle.gw_stamping.specs.declared.stamped.Stamped.{Stamped}
+use Rattle.gw_log_words.specs.Noted.{IsBeforeLineFeed, IsNoted, ending, held_without_notes, note_line}
+use Rattle.gw_log_words.specs.Stamped.{held_without}
+use Rattle.gw_log_words.specs.declared.noted.Noted.{Noted}
+use Rattle.gw_log_words.specs.declared.noted.Place.{Place}
+use Rattle.gw_log_words.specs.declared.noted.Place.TheVariants.{Begin}
+use Rattle.gw_log_words.specs.declared.stamped.Stamped.{Stamped}
 use Rattle.gw_system.specs.StampedHost.{IsBegunIn, began_text, held_in, log_in}
 
 -- no octet of a text is a line feed

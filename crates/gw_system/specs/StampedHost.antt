@@ -1,11 +1,11 @@
 -- What opening a log with stamps and notes gives.
 use Rattle.std.specs.Prelude.{◌≡◌, ◌⊎◌, ℕ, true, false, Bool, List, Option, Some, None, Result, Ok, Err, codes}
 use Rattle.std.specs.Io.KnownBytes.{Appends, Keeps}
-use Rattle.gw_stamping.specs.Noted.{held_without_notes, note_line}
-use Rattle.gw_stamping.specs.Stamped.{held_without}
-use Rattle.gw_stamping.specs.declared.noted.Noted.{Noted}
-use Rattle.gw_stamping.specs.declared.noted.Place.TheVariants.{Begin}
-use Rattle.gw_stamping.specs.declared.stamped.Stamped.{Stamped}
+use Rattle.gw_log_words.specs.Noted.{held_without_notes, note_line}
+use Rattle.gw_log_words.specs.Stamped.{held_without}
+use Rattle.gw_log_words.specs.declared.noted.Noted.{Noted}
+use Rattle.gw_log_words.specs.declared.noted.Place.TheVariants.{Begin}
+use Rattle.gw_log_words.specs.declared.stamped.Stamped.{Stamped}
 use Rattle.gw_system.specs.Host.{LogOpening}
 use Rattle.gw_system.specs.declared.opening.LogFailure.TheVariants as log_failure
 

@@ -5,7 +5,7 @@ ghost use Rattle.std.specs.Prelude.{None};
 use crate::host::{MODE, is_link};
 use crate::opening::LogFailure;
 use crate::store::name_with;
-use gw_named_log::{NamedFiles, NamedLog};
+use gw_log_words::{NamedFiles, NamedLog};
 use gw_script::{OctetSink, WriteFailed};
 use std::alloc::Global;
 use std::fs::{File, Metadata, OpenFile};

@@ -21,7 +21,7 @@ use crate::system_clock::SystemClock;
 use crate::udp::{UdpSock, open_pairs};
 use gw_configuration::Port;
 use gw_script::write_whole;
-use gw_stamping::{Calendar, Notes, SystemCalendar};
+use gw_log_words::{Calendar, Notes, SystemCalendar};
 use gw_wire::{Ports, SockPair, Store, StoreFault, TimedPorts, Watch, Wire};
 use std::alloc::{AllocError, Global};
 use std::io::{ErrorKind, Read, Seek, SeekFrom};

@@ -9,7 +9,7 @@ use crate::host::{Host, open_at_line};
 use crate::opening::{LogFailure, SocketFailure};
 use crate::reading::ReadFailure;
 use gw_configuration::Port;
-use gw_stamping::{Calendar, Noted, Notes, Stamped};
+use gw_log_words::{Calendar, Noted, Notes, Stamped};
 use gw_wire::StoreFault;
 use std::alloc::{AllocError, Global};
 

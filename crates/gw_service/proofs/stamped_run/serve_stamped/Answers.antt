@@ -1,7 +1,7 @@
 use Rattle.std.proofs.Common.{◌≡◌, List, Option, Some, ℕ}
 use Rattle.std.specs.Io.Buffered.{writer_contents}
-use Rattle.gw_stamping.specs.declared.noted.Noted.{Noted}
-use Rattle.gw_stamping.specs.declared.stamped.Stamped.{Stamped}
+use Rattle.gw_log_words.specs.declared.noted.Noted.{Noted}
+use Rattle.gw_log_words.specs.declared.stamped.Stamped.{Stamped}
 use Rattle.gw_system.specs.Host.{OpensAtLine}
 use Rattle.gw_system.specs.StampedHost.{log_if}
 use Rattle.gw_service.specs.Kept.{state_machine}

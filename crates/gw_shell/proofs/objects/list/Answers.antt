@@ -1,7 +1,7 @@
 use Rattle.std.proofs.Common.{sym, subst, Result, IsSomeAnd}
 use Rattle.std.specs.Io.Buffered.{writer_contents}
 use Rattle.gw_ending.specs.declared.fault.Fault.{Fault}
-use Rattle.gw_audit.specs.Translation.{RefusesNone}
+use Rattle.gw_log_words.specs.Translation.{RefusesNone}
 use Rattle.gw_json.specs.Log.{IsEntryIn, LeavesEntries}
 use Rattle.gw_ending.specs.Lines.{first_lines_fault}
 use Rattle.gw_shell.specs.Objects.{Lists}

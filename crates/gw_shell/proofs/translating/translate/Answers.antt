@@ -1,8 +1,8 @@
 use Rattle.std.proofs.Common.{sym, subst, Result, IsSomeAnd}
 use Rattle.std.specs.Io.Buffered.{writer_contents}
 use Rattle.gw_ending.specs.declared.fault.Fault.{Fault}
-use Rattle.gw_audit.specs.Translation.{RefusesNone}
-use Rattle.gw_stamping.specs.Translating.{IsTranslatedAfterFront, LeavesTranslated}
+use Rattle.gw_log_words.specs.Translation.{RefusesNone}
+use Rattle.gw_log_words.specs.Translating.{IsTranslatedAfterFront, LeavesTranslated}
 use Rattle.gw_ending.specs.Lines.{first_lines_fault}
 use Rattle.gw_shell.specs.Translating.{Translates}
 use Rattle.gw_ending.proofs.LinesLemmas.{flushed_lines}

@@ -1,6 +1,0 @@
-use Rattle.gw_addr.proofs.Appended.{then_put}
-use Rattle.gw_audit.proofs.words.put_delete.Goals as goal
-
-pub returns : goal.returns
-returns c =
-    then_put (then_put c.in_ok-put_slice.ensures c.in_ok-put_foreign.ensures) c.put_by_other.ensures

@@ -1,0 +1,7 @@
+pub mod MomentExamples
+pub mod MomentLemmas
+pub mod OnceLemmas
+pub mod FieldsLemmas
+pub mod LawLemmas
+pub mod NotedLemmas
+pub mod StampLemmas

@@ -1,0 +1,8 @@
+use Rattle.gw_log_words.proofs.LawLemmas.{are_fields, stays_as_before}
+use Rattle.gw_log_words.proofs.laws.fields.Goals as goal
+
+pub returns-clause-are : goal.returns-clause-are
+returns-clause-are c = are_fields
+
+pub returns-clause-before : goal.returns-clause-before
+returns-clause-before c = stays_as_before

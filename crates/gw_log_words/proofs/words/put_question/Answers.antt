@@ -1,0 +1,6 @@
+use Rattle.gw_addr.proofs.Appended.{then_put}
+use Rattle.gw_log_words.proofs.words.put_question.Goals as goal
+
+pub returns : goal.returns
+returns c =
+    then_put (then_put c.in_ok-put_slice.ensures c.in_ok-put_network.ensures) c.put_by.ensures

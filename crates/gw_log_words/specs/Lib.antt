@@ -1,0 +1,10 @@
+pub mod Moment
+pub mod internal
+pub mod Words
+pub mod Translation
+pub mod Fields
+pub mod Laws
+pub mod NamedLog
+pub mod Noted
+pub mod Stamped
+pub mod Translating

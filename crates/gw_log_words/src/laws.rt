@@ -1,0 +1,19 @@
+//! Laws of the words of lines, and of their fields. The functions change nothing and answer nothing: their contracts are the laws.
+
+ghost use Rattle.std.specs.Prelude.{ℕ, List};
+ghost use Rattle.gw_log_words.specs.Laws.{AreFields, StaysAsBefore};
+ghost use Rattle.gw_log_words.specs.Translation.{TranslatesEach, TranslatesOnce, TranslatesWords};
+
+/// Nothing is lost, and nothing is made up: a line has one text; and the text for a denial's line
+/// is the words of that denial, after the moment of its tick if it is known when the log began.
+pub fn translating()
+    ensures once { TranslatesOnce }
+    ensures each { TranslatesEach }
+    ensures words { TranslatesWords }
+{}
+
+/// Which fields are looked for; and the line of a denial is read as it was, since it is its own fields.
+pub fn fields()
+    ensures are { (text : List ℕ) → AreFields text }
+    ensures before { StaysAsBefore }
+{}

@@ -1,0 +1,111 @@
+//! A log in files that one after the other have its name.
+
+ghost use Rattle.std.specs.Prelude.{◌≡◌, ◌≤◌, ◌<◌, ⊤, ℕ, List, Option, length, IfOk, IfSome};
+ghost use Rattle.std.specs.Io.KnownBytes.{Keeps, WriteAppends};
+ghost use Rattle.gw_log_words.specs.NamedLog.{BeginsEmpty, joined};
+
+use crate::notes::Notes;
+use gw_script::{OctetSink, WriteFailed};
+use std::mem;
+
+/// The files that one after the other have a name.
+pub trait NamedFiles {
+    /// A file that can be appended to.
+    type File: OctetSink + Drop;
+
+    /// What the files that were left were given, in the order in which they were left, if that is known.
+    ghost left: { Self → Option (List ℕ) };
+
+    /// A new file of the name if this one has it no more. `None` while it has it or isn't looked for, and if no file
+    /// can be opened.
+    fn renewed(&mut self, file: &Self::File) -> Option<Self::File>
+        ensures left { left self.new ≡ left self.old }
+        ensures empty { IfSome result (λ next. BeginsEmpty (joined (left self.old) (Self.File.held file.now))
+            (Self.File.held next)) };
+
+    /// Leaves a file.
+    fn leave(&mut self, file: Self::File)
+        ensures { left self.new ≡ joined (left self.old) (Self.File.held file) };
+}
+
+/// A log in the file that has a name: if that was renamed or removed, a line goes to a new file of the name. What was
+/// written is what the files were given, in their order. It takes no notes.
+#[derive(Drop)]
+pub struct NamedLog<F: NamedFiles> {
+    files: F,
+    file: F::File,
+    is_at_line: bool,
+    is_anew: bool,
+}
+
+impl<F: NamedFiles> NamedLog<F> {
+    /// The log in this file, at which a line begins.
+    pub fn new(files: F, file: F::File) -> Self {
+        NamedLog {
+            files,
+            file,
+            is_at_line: true,
+            is_anew: false,
+        }
+    }
+
+    /// Goes on in a new file if that of the log has its name no more.
+    fn follow_name(&mut self)
+        ensures { Keeps (joined (F.left self.old.files) (F.File.held self.old.file))
+            (joined (F.left self.new.files) (F.File.held self.new.file)) }
+    {
+        if let Some(next) = self.files.renewed(&self.file) {
+            let left = mem::replace(&mut self.file, next);
+            self.files.leave(left);
+            self.is_anew = true;
+        }
+    }
+
+    /// Goes on in a new file if a line begins and that of the log has its name no more.
+    fn follow_at_line(&mut self)
+        ensures { Keeps (joined (F.left self.old.files) (F.File.held self.old.file))
+            (joined (F.left self.new.files) (F.File.held self.new.file)) }
+    {
+        if self.is_at_line {
+            self.follow_name();
+        }
+    }
+
+    /// Writes some octets of a text to the file that is open.
+    fn write_here(&mut self, text: &[u8]) -> Result<usize, WriteFailed>
+        ensures bound { IfOk result (λ n. n ≤ length text.now) }
+        ensures some { IfOk result (λ n. 0 < length text.now → 0 < n) }
+        ensures octets { WriteAppends (joined (F.left self.old.files) (F.File.held self.old.file))
+            (joined (F.left self.new.files) (F.File.held self.new.file)) result text.now }
+    {
+        let count = self.file.write_octets(text)?;
+        self.is_at_line = text[..count].ends_with(b"\n");
+        Ok(count)
+    }
+}
+
+impl<F: NamedFiles> OctetSink for NamedLog<F> {
+    ghost held = { λ log. joined (F.left log.files) (F.File.held log.file) };
+
+    ghost NeverFails = { λ _. ⊥ };
+
+    fn write_octets(&mut self, text: &[u8]) -> Result<usize, WriteFailed> {
+        self.follow_at_line();
+        self.write_here(text)
+    }
+}
+
+impl<F: NamedFiles> Notes for NamedLog<F> {
+    ghost Takes = { λ was _ _ is. is ≡ was };
+
+    ghost BeginsAnew = { λ _ _ _. ⊤ };
+
+    fn take_note(&mut self, _text: &[u8]) -> Result<(), WriteFailed> {
+        Ok(())
+    }
+
+    fn begins_anew(&mut self) -> bool {
+        self.follow_at_line();
+        mem::replace(&mut self.is_anew, false)
+    }
+}

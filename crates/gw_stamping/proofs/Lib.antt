@@ -1,4 +1,0 @@
-pub mod FieldsLemmas
-pub mod LawLemmas
-pub mod NotedLemmas
-pub mod StampLemmas

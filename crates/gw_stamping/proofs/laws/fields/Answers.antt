@@ -1,8 +1,0 @@
-use Rattle.gw_stamping.proofs.LawLemmas.{are_fields, stays_as_before}
-use Rattle.gw_stamping.proofs.laws.fields.Goals as goal
-
-pub returns-clause-are : goal.returns-clause-are
-returns-clause-are c = are_fields
-
-pub returns-clause-before : goal.returns-clause-before
-returns-clause-before c = stays_as_before
