@@ -2,7 +2,7 @@
 use Rattle.std.specs.Prelude.{◌≡◌, ℕ, ◌+◌, ◌^◌, ◌<◌, Bool, false, List, [], ◌∷◌, ◌++◌, length, map, Option, Some, codes, slice_index}
 use Rattle.std.specs.Io.KnownBytes.{Appends}
 use Rattle.gw_audit.specs.declared.denial.Denial.{Denial}
-use Rattle.gw_core.specs.Asked.{asked_at}
+use Rattle.gw_core.specs.Asked.{asked_at, run_asked}
 use Rattle.gw_core.specs.Asks.{asks}
 use Rattle.gw_core.specs.Denials.{denials_of}
 use Rattle.gw_core.specs.History.{next}
