@@ -24,6 +24,7 @@ use Rattle.gw_core.specs.declared.effects.Effects.{Effects}
 use Rattle.gw_core.specs.declared.event.Counts.{Counts}
 use Rattle.gw_core.specs.Asks.{asks}
 use Rattle.gw_core.specs.History.{history_after, run, state_after}
+use Rattle.gw_core.specs.Marked.{kept}
 use Rattle.gw_relay.specs.Message.{Message}
 use Rattle.gw_core.specs.Receive.{Received, barred, dropped, managed, unregistered, message, receive}
 use Rattle.gw_core.specs.Reply.{apdu_for}

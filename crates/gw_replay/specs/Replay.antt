@@ -3,7 +3,7 @@ use Rattle.std.specs.Prelude.{◌≡◌, ◌⊎◌, ℕ, ◌+◌, List, [], ◌�
 use Rattle.gw_script.specs.Event.{Event}
 use Rattle.gw_configuration.specs.Configuration.{Configuration}
 use Rattle.gw_core.specs.Effects.{passes_end, NeedsNoMemory}
-use Rattle.gw_core.specs.History.{state_after, history_after}
+use Rattle.gw_core.specs.History.{no_counts, state_after, history_after}
 use Rattle.gw_core.specs.State.{State}
 use Rattle.gw_replay.specs.declared.replaying.RunFault.{RunFault}
 use Rattle.gw_replay.specs.declared.replaying.RunFault.TheVariants.{Read, Line, Write, Memory, CountEnd}

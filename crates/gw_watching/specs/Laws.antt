@@ -1,7 +1,7 @@
 -- What a watcher's logs hold after a run, and what the lines of a trial are.
 use Rattle.std.specs.Prelude.{◌≡◌, ℕ, ◌+◌, ◌^◌, ◌<◌, List, [], ◌∷◌, ◌++◌, length, map, Option}
 use Rattle.gw_audit.specs.declared.denial.Denial.{Denial}
-use Rattle.gw_core.specs.Asked.{asked_at}
+use Rattle.gw_core.specs.Asked.{asked_at, run_asked}
 use Rattle.gw_core.specs.Asks.{asks}
 use Rattle.gw_core.specs.Denials.{denials_of}
 use Rattle.gw_core.specs.History.{next}

@@ -6,6 +6,7 @@ use Rattle.gw_core.specs.Effects.{NeedsNoMemory}
 use Rattle.gw_core.specs.History.{next}
 use Rattle.gw_core.specs.State.{State}
 use Rattle.gw_core.specs.declared.asked.Asked.{Asked}
+use Rattle.gw_decisions.specs.Counted.{AreCounted}
 use Rattle.gw_rules.specs.declared.rule.Rule.{Rule}
 use Rattle.gw_script.specs.Event.{Event}
 use Rattle.gw_watching.specs.Beside.{IsRecorded}
