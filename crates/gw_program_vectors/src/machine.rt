@@ -12,7 +12,9 @@ use gw_addr::BipAddr;
 use gw_audit::Moment;
 use gw_cases::{MemReader, MemWriter, number_behind};
 use gw_configuration::Port;
-use gw_shell::{ConfigFiles, FailedStep, Fault, Host, LogFailure, Obstacle, Reason, SocketFailure, Step, run};
+use gw_shell::{
+    ConfigFiles, FailedStep, Fault, Host, LogFailure, Obstacle, Reason, SocketFailure, Step, run,
+};
 use gw_stamping::{Calendar, moment_after};
 use gw_system::{ReadFailure, Requests};
 use gw_wire::{Got, RECEIVE_ROOM, Store, StoreFault, Wire, WireFault};
