@@ -6,7 +6,10 @@ ghost use Rattle.gw_wire.specs.Socket.{FitsBuffer};
 
 use gw_addr::BipAddr;
 use gw_cases::number_behind;
-use gw_wire::{Got, Ports, RECEIVE_ROOM, Sock, SockFault, SockPair, TimedPorts, Timepiece, Waiter, Watch, Wire, WireFault};
+use gw_wire::{
+    Got, Ports, RECEIVE_ROOM, Sock, SockFault, SockPair, TimedPorts, Timepiece, Waiter, Watch,
+    Wire, WireFault,
+};
 use std::alloc::{AllocError, Global};
 use std::io;
 use std::io::{ErrorKind, Write};

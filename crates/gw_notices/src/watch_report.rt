@@ -173,12 +173,7 @@ fn report_logs<E: OctetSink>(watched: WatchCounts, errors: &mut E)
 }
 
 /// Reports how many events weren't watched, and how many asks each of these rules decided.
-fn report_asks<E: OctetSink>(
-    rules: &RuleList,
-    unseen: u64,
-    counts: &Option<Tally>,
-    errors: &mut E,
-)
+fn report_asks<E: OctetSink>(rules: &RuleList, unseen: u64, counts: &Option<Tally>, errors: &mut E)
     ensures said { E.NeverFails errors.old →
         Appends (E.held errors.old) (E.held errors.new) (asks_text rules.now unseen counts.now) }
     ensures lasts { E.NeverFails errors.old → E.NeverFails errors.new }

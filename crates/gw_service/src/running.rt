@@ -23,7 +23,9 @@ use crate::reload::{Adopted, reloaded};
 use crate::stats::Schedule;
 use gw_core::{Both, Gateway};
 use gw_metrics_file::Metrics;
-use gw_notices::{ReloadCounts, ReloadFault, Troubles, line_with_place, refusal_line, report_notices, write_note};
+use gw_notices::{
+    ReloadCounts, ReloadFault, Troubles, line_with_place, refusal_line, report_notices, write_note,
+};
 use gw_policy_text::MAX_OCTETS;
 use gw_saved::Origin;
 use gw_script::OctetSink;
