@@ -3,8 +3,8 @@ use Rattle.std.proofs.Common.{◌≡◌, ap, refl, subst, ℕ, ◌≤◌, Bool, 
 use Rattle.std.specs.Option.{option_map}
 use Rattle.std.specs.List.{AllByRecursion}
 use Rattle.gw_addr.specs.declared.bip.BipAddr.{BipAddr}
-use Rattle.gw_bvll.specs.Bvll.{Message as Frame}
-use Rattle.gw_bvll.specs.Bvll as frames
+use Rattle.gw_frames.specs.bvll.Bvll.{Message as Frame}
+use Rattle.gw_frames.specs.bvll.Bvll as frames
 use Rattle.gw_relay.specs.Link.{change_of, link_change, link_grants}
 use Rattle.gw_relay.specs.Manage.{is_i_am_router, keep_allowed, named_networks}
 use Rattle.gw_relay.specs.State.{Move, Relay, moved}

@@ -2,12 +2,12 @@
 use Rattle.std.proofs.Common.{◌≡◌, ◌∙◌, refl, sym, ap, ℕ, Bool, true, false, not, if◌then◌else◌, List, length, Option, Some, None}
 use Rattle.std.specs.Prelude.{Result, Ok, Err, nat_le}
 use Rattle.gw_addr.specs.declared.bip.BipAddr.{BipAddr}
-use Rattle.gw_bvll.specs.Bvll.{Message as Frame}
-use Rattle.gw_npdu.specs.Npdu.{Fields}
-use Rattle.gw_npdu.specs.Numbers.{max_len}
-use Rattle.gw_npdu.specs.Reading.{npdu_at}
-use Rattle.gw_npdu.specs.declared.fault.NpduFault.{NpduFault}
-use Rattle.gw_npdu.specs.declared.fault.NpduFault.TheVariants.{Short}
+use Rattle.gw_frames.specs.bvll.Bvll.{Message as Frame}
+use Rattle.gw_frames.specs.npdu.Npdu.{Fields}
+use Rattle.gw_frames.specs.npdu.Numbers.{max_len}
+use Rattle.gw_frames.specs.npdu.Reading.{npdu_at}
+use Rattle.gw_frames.specs.declared.npdu.fault.NpduFault.{NpduFault}
+use Rattle.gw_frames.specs.declared.npdu.fault.NpduFault.TheVariants.{Short}
 use Rattle.gw_relay.specs.Cast.{accepts, is_unregistered}
 use Rattle.gw_relay.specs.Message.{message_of}
 use Rattle.gw_relay.specs.declared.port.PortState.{PortState}

@@ -1,11 +1,11 @@
 -- A unicast with an APDU: routing and the device alone concern it.
 use Rattle.std.proofs.Common.{◌≡◌, ◌∙◌, ℕ, ap, refl, Bool, true, false, ◌&&◌, List, [], ◌++◌, None}
 use Rattle.std.proofs.lemmas.List.{append-nil}
-use Rattle.gw_bvll.specs.Bvll.{Message as Frame}
-use Rattle.gw_bvll.specs.Bvll as bvll
-use Rattle.gw_npdu.specs.Npdu.{Payload, apdu, message}
-use Rattle.gw_npdu.specs.declared.kind.MessageKind.{MessageKind}
-use Rattle.gw_npdu.specs.declared.kind.MessageKind.TheVariants.{IAmRouterToNetwork, WhatIsNetworkNumber, WhoIsRouterToNetwork}
+use Rattle.gw_frames.specs.bvll.Bvll.{Message as Frame}
+use Rattle.gw_frames.specs.bvll.Bvll as bvll
+use Rattle.gw_frames.specs.npdu.Npdu.{Payload, apdu, message}
+use Rattle.gw_frames.specs.declared.npdu.kind.MessageKind.{MessageKind}
+use Rattle.gw_frames.specs.declared.npdu.kind.MessageKind.TheVariants.{IAmRouterToNetwork, WhatIsNetworkNumber, WhoIsRouterToNetwork}
 use Rattle.gw_relay.specs.Cast.{accepts, goes_on, is_broadcast, is_unregistered}
 use Rattle.gw_relay.specs.Manage.{manage_asks, manage_change, manage_sends, manage_steps}
 use Rattle.gw_relay.specs.Message.{Message}

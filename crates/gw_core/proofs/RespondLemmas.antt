@@ -3,8 +3,8 @@ use Rattle.std.proofs.Common.{◌≡◌, ◌∙◌, sym, ap, refl, ℕ, Bool, tr
 use Rattle.std.specs.Prelude.{if◌then◌else◌}
 use Rattle.std.specs.Option.{option_or}
 use Rattle.std.proofs.lemmas.List.{append-nil}
-use Rattle.gw_bvll.specs.Bvll.{Message as Frame}
-use Rattle.gw_bvll.specs.Bvll as bvll
+use Rattle.gw_frames.specs.bvll.Bvll.{Message as Frame}
+use Rattle.gw_frames.specs.bvll.Bvll as bvll
 use Rattle.gw_objects.specs.Objects.{Database}
 use Rattle.gw_objects.specs.Write.{Write}
 use Rattle.gw_relay.specs.Cast.{cast_asks, cast_sends, goes_on, accepts, is_unregistered}

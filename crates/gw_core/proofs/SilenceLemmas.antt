@@ -10,8 +10,8 @@ use Rattle.gw_apdu.specs.declared.header.Header.{Header}
 use Rattle.gw_apdu.specs.declared.header.Header.TheVariants as header
 use Rattle.gw_apdu.specs.Apdu.{Fields as Apdu}
 use Rattle.gw_apdu.specs.Reading.{apdu_at}
-use Rattle.gw_npdu.specs.Npdu.{Fields}
-use Rattle.gw_npdu.specs.Npdu as npdu
+use Rattle.gw_frames.specs.npdu.Npdu.{Fields}
+use Rattle.gw_frames.specs.npdu.Npdu as npdu
 use Rattle.gw_objects.specs.declared.property.PropertySet.{PropertySet}
 use Rattle.gw_objects.specs.Objects.{Database}
 use Rattle.gw_rules.specs.declared.format.Format.{Format}
@@ -38,7 +38,7 @@ use Rattle.gw_device.specs.WhoHas.{object_response, sought_object, who_has_respo
 use Rattle.gw_device.specs.WhoIs.{is_within, who_is_response}
 use Rattle.gw_device.specs.Write.{write_response}
 use Rattle.gw_addr.specs.declared.bip.BipAddr.{BipAddr}
-use Rattle.gw_bvll.specs.Bvll as bvll
+use Rattle.gw_frames.specs.bvll.Bvll as bvll
 use Rattle.gw_relay.specs.Sends.{sending}
 use Rattle.gw_relay.specs.State.{Relay}
 use Rattle.gw_relay.specs.Steps.{npdu_octets, unicast}

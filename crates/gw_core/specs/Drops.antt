@@ -1,10 +1,10 @@
 -- Why a datagram is dropped before any policy is asked.
 use Rattle.std.specs.Prelude.{ℕ, if◌then◌else◌, nat_le, List, length, Option, Some, None, Ok, Err}
 use Rattle.gw_addr.specs.declared.bip.BipAddr.{BipAddr}
-use Rattle.gw_bvll.specs.Bvll.{Message as Frame}
-use Rattle.gw_bvll.specs.Reading.{bvll_at}
-use Rattle.gw_npdu.specs.Numbers.{max_len}
-use Rattle.gw_npdu.specs.Reading.{npdu_at}
+use Rattle.gw_frames.specs.bvll.Bvll.{Message as Frame}
+use Rattle.gw_frames.specs.bvll.Reading.{bvll_at}
+use Rattle.gw_frames.specs.npdu.Numbers.{max_len}
+use Rattle.gw_frames.specs.npdu.Reading.{npdu_at}
 use Rattle.gw_relay.specs.Cast.{accepts}
 use Rattle.gw_relay.specs.State.{port_at}
 use Rattle.gw_relay.specs.declared.port.PortState.{PortState}

@@ -6,14 +6,14 @@ use Rattle.std.specs.Option.{option_map_or}
 use Rattle.gw_addr.specs.declared.bip.BipAddr.{BipAddr}
 use Rattle.gw_addr.specs.declared.station.Source.{Source}
 use Rattle.gw_addr.specs.Address.{octets_of, big_endian}
-use Rattle.gw_bvll.specs.Reading.{bvll_at}
-use Rattle.gw_bvll.specs.declared.writing.TheConstants.{MAX_LEN}
-use Rattle.gw_bvll.specs.Bvll.{write_bdt, read_bdt, forwarded, register, read_fdt, delete, distribute, original_unicast}
-use Rattle.gw_bvll.specs.Bvll.{original_broadcast}
-use Rattle.gw_bvll.specs.Bvll.{Message as Frame}
-use Rattle.gw_npdu.specs.Npdu.{Fields, Address}
-use Rattle.gw_npdu.specs.Numbers.{max_len}
-use Rattle.gw_npdu.specs.Reading.{npdu_at}
+use Rattle.gw_frames.specs.bvll.Reading.{bvll_at}
+use Rattle.gw_frames.specs.declared.bvll.writing.TheConstants.{MAX_LEN}
+use Rattle.gw_frames.specs.bvll.Bvll.{write_bdt, read_bdt, forwarded, register, read_fdt, delete, distribute, original_unicast}
+use Rattle.gw_frames.specs.bvll.Bvll.{original_broadcast}
+use Rattle.gw_frames.specs.bvll.Bvll.{Message as Frame}
+use Rattle.gw_frames.specs.npdu.Npdu.{Fields, Address}
+use Rattle.gw_frames.specs.npdu.Numbers.{max_len}
+use Rattle.gw_frames.specs.npdu.Reading.{npdu_at}
 use Rattle.gw_relay.specs.Cast.{accepts, is_unregistered}
 use Rattle.gw_relay.specs.Claim.{local_source}
 use Rattle.gw_relay.specs.Entry.{admits}

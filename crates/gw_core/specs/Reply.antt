@@ -4,9 +4,9 @@ use Rattle.std.specs.Prelude.{ℕ, ◌-◌, Bool, true, false, List, [], ◌∷�
 use Rattle.std.specs.Prelude.{is_some, ◌==◌, ◌&&◌, ◌||◌, not, if◌then◌else◌}
 use Rattle.std.specs.Option.{option_map}
 use Rattle.gw_addr.specs.Station.{key_of}
-use Rattle.gw_npdu.specs.Npdu.{Fields, Address, Destination, Payload, apdu, message}
-use Rattle.gw_npdu.specs.Numbers.{every_network, max_len}
-use Rattle.gw_npdu.specs.Npdu as npdu
+use Rattle.gw_frames.specs.npdu.Npdu.{Fields, Address, Destination, Payload, apdu, message}
+use Rattle.gw_frames.specs.npdu.Numbers.{every_network, max_len}
+use Rattle.gw_frames.specs.npdu.Npdu as npdu
 use Rattle.gw_relay.specs.Asks.{sender_of}
 use Rattle.gw_relay.specs.Sends.{Sending}
 use Rattle.gw_relay.specs.Steps.{broadcast, unicast}

@@ -27,7 +27,7 @@ use gw_addr::BipAddr;
 use gw_audit::Denials;
 use gw_configuration::Config;
 use gw_device::{Change, Device};
-use gw_npdu::NpduFault;
+use gw_frames::npdu::NpduFault;
 use gw_relay::{Change as RelayChange, Relay, Sends, Turn};
 use gw_rule_index::Policy;
 use gw_rules::{Authorizer, Recorder, RuleList};
@@ -298,7 +298,7 @@ impl Gateway {
             → passes_end self.now (event_of arrival.now) ≡ true }
         ensures silent { NeedsNoMemory self.now (event_of arrival.now) → IsOk result }
     {
-        let frame = gw_bvll::decode(arrival.octets);
+        let frame = gw_frames::bvll::decode(arrival.octets);
         let mut npdu = Err(NpduFault::Short);
         read_npdu(&frame, &mut npdu);
         let network = network_of(&self.device);
@@ -484,7 +484,7 @@ impl Gateway {
             NeedsNoMemory self.now (Datagram a.port a.from a.octets.now) → IsOk result }
         ensures capacity { vec_capacity out.old ≤ vec_capacity out.new }
     {
-        let frame = gw_bvll::decode(arrival.octets);
+        let frame = gw_frames::bvll::decode(arrival.octets);
         let mut npdu = Err(NpduFault::Short);
         read_npdu(&frame, &mut npdu);
         let network = network_of(&self.device);

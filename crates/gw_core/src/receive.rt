@@ -3,10 +3,10 @@
 ghost use Rattle.std.specs.Prelude.{◌≡◌, ◌==◌};
 ghost use Rattle.std.specs.List.{list_any};
 ghost use Rattle.std.specs.Option.{option_map};
-ghost use Rattle.gw_bvll.specs.Bvll.{view as frame_view};
+ghost use Rattle.gw_frames.specs.bvll.Bvll.{view as frame_view};
 ghost use Rattle.gw_addr.specs.Reading.{Gives};
-ghost use Rattle.gw_bvll.specs.Reading.{bvll_at};
-ghost use Rattle.gw_npdu.specs.Npdu.{address_view, view as npdu_view};
+ghost use Rattle.gw_frames.specs.bvll.Reading.{bvll_at};
+ghost use Rattle.gw_frames.specs.npdu.Npdu.{address_view, view as npdu_view};
 ghost use Rattle.gw_core.specs.Receive.{claims_direct, comes_in, is_direct, manages, payload_of, receive_on, receive_payload};
 ghost use Rattle.gw_core.specs.internal.Frame.{frame_npdu, npdu_in, unread_drop};
 ghost use Rattle.gw_core.specs.Drops.{drop_on, length_drop, payload_drop};
@@ -15,14 +15,14 @@ ghost use Rattle.gw_core.specs.internal.View.{drop_view, received_view};
 use crate::drops::DropReason;
 use gw_addr::laws::one_to_one;
 use gw_addr::{BipAddr, NetNum};
-use gw_bvll::{Bvll, BvllFault};
-use gw_npdu::{AddressRef, Npdu, NpduFault};
+use gw_frames::bvll::{Bvll, BvllFault};
+use gw_frames::npdu::{AddressRef, Npdu, NpduFault};
 use gw_relay::{Message, PortState, TableMessage, port_at};
 
 /// The longest datagram that is heard, in octets.
-const MAX_DATAGRAM: usize = gw_bvll::MAX_LEN;
+const MAX_DATAGRAM: usize = gw_frames::bvll::MAX_LEN;
 /// The longest NPDU that is heard, in octets.
-const MAX_NPDU: usize = gw_npdu::MAX_LEN;
+const MAX_NPDU: usize = gw_frames::npdu::MAX_LEN;
 
 /// A datagram, and where it came.
 #[derive(Clone, Copy)]
@@ -138,7 +138,7 @@ pub(crate) fn read_npdu<'a>(
 {
     match frame {
         Ok(frame) => match payload_of(frame) {
-            Some(octets) if octets.len() <= MAX_NPDU => *npdu = gw_npdu::decode(octets),
+            Some(octets) if octets.len() <= MAX_NPDU => *npdu = gw_frames::npdu::decode(octets),
             _ => *npdu = Err(NpduFault::Short),
         },
         Err(_) => *npdu = Err(NpduFault::Short),

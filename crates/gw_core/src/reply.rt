@@ -6,12 +6,12 @@ ghost use Rattle.std.specs.Prelude.{IfOk, IsOk, OnOk, None, Ok, true, false, vec
 ghost use Rattle.std.specs.Int.{w16, to_be_bytes};
 ghost use Rattle.std.specs.Option.{option_map};
 ghost use Rattle.gw_device.specs.Response.{answer_view};
-ghost use Rattle.gw_npdu.specs.Npdu.{destination_part, destination_view, hops_part, payload_view, address_view};
-ghost use Rattle.gw_npdu.specs.Npdu.{encoding, max_header_len, priority_of, view as npdu_view};
-ghost use Rattle.gw_npdu.specs.Numbers.{max_len};
+ghost use Rattle.gw_frames.specs.npdu.Npdu.{destination_part, destination_view, hops_part, payload_view, address_view};
+ghost use Rattle.gw_frames.specs.npdu.Npdu.{encoding, max_header_len, priority_of, view as npdu_view};
+ghost use Rattle.gw_frames.specs.npdu.Numbers.{max_len};
 ghost use Rattle.gw_core.specs.Effects.{answer_sends};
-ghost use Rattle.gw_bvll.specs.Bvll.{original_unicast};
-ghost use Rattle.gw_bvll.specs.Bvll.{encoding as bvll_encoding};
+ghost use Rattle.gw_frames.specs.bvll.Bvll.{original_unicast};
+ghost use Rattle.gw_frames.specs.bvll.Bvll.{encoding as bvll_encoding};
 ghost use Rattle.gw_relay.specs.Steps.{broadcast, npdu_octets, unicast};
 ghost use Rattle.gw_core.specs.Reply.{apdu_for, apdu_of, context_of, goes_to_all, is_broadcast, is_device};
 ghost use Rattle.gw_core.specs.Reply.{is_local_broadcast, reply_npdu, max_reply_apdu};
@@ -20,9 +20,9 @@ ghost use Rattle.gw_core.specs.internal.Replies.{local_reply};
 ghost use Rattle.gw_relay.specs.Message.{message_view};
 
 use gw_addr::NetNum;
-use gw_bvll::{BVLC_TYPE, HEADER_LEN, set_length};
 use gw_device::{Answer, Context, HEADER_ROOM};
-use gw_npdu::{AddressRef, Control, Destination, Npdu, Payload, Priority};
+use gw_frames::bvll::{BVLC_TYPE, HEADER_LEN, set_length};
+use gw_frames::npdu::{AddressRef, Control, Destination, Npdu, Payload, Priority};
 use gw_relay::{Batch, Message, Sends, sender_of};
 use gw_rules::Format;
 use std::alloc::{AllocError, Global};
@@ -143,7 +143,7 @@ fn max_reply_apdu(request: &Npdu<'_>) -> usize
     ensures room { (network : ℕ) → result ≡ max_reply_apdu network (npdu_view request.now) }
     ensures least { max_len ≤ result + max_header_len }
 {
-    gw_npdu::MAX_LEN - LOCAL_HEADER - way_back_len(&request.source)
+    gw_frames::npdu::MAX_LEN - LOCAL_HEADER - way_back_len(&request.source)
 }
 
 /// What the device knows of a message.
@@ -184,10 +184,10 @@ fn put_npdu(
         result ≡ Ok false → max_len < length (encoding npdu) }
 {
     let npdu = reply_npdu(network, request, answer.apdu(), answer.broadcast);
-    match gw_npdu::encode(&npdu, out) {
+    match gw_frames::npdu::encode(&npdu, out) {
         Ok(()) => Ok(true),
-        Err(gw_npdu::EncodeFault::TooLong) => Ok(false),
-        Err(gw_npdu::EncodeFault::Memory) => Err(AllocError),
+        Err(gw_frames::npdu::EncodeFault::TooLong) => Ok(false),
+        Err(gw_frames::npdu::EncodeFault::Memory) => Err(AllocError),
     }
 }
 
@@ -254,7 +254,7 @@ fn local_octets(network: NetNum, priority: Priority, answer: Answer) -> Option<V
         ≡ option_map (λ octets. bvll_encoding (original_unicast octets)) (npdu_octets npdu) }
 {
     let mut octets = answer.octets;
-    if octets.len() > HEADER_LEN + gw_npdu::MAX_LEN {
+    if octets.len() > HEADER_LEN + gw_frames::npdu::MAX_LEN {
         return None;
     }
     set_local_headers(octets.as_mut_slice(), network, priority);

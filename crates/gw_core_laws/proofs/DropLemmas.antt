@@ -2,13 +2,13 @@
 use Rattle.std.proofs.Common.{◌≡◌, ◌∙◌, refl, sym, ℕ, Bool, true, false, not, true≢false, if◌then◌else◌, List, length, Option, Some, None, is_some}
 use Rattle.std.specs.Prelude.{Result, Ok, Err, nat_le}
 use Rattle.gw_addr.specs.declared.bip.BipAddr.{BipAddr}
-use Rattle.gw_bvll.specs.Bvll.{Message as Frame}
-use Rattle.gw_bvll.specs.Reading.{bvll_at}
-use Rattle.gw_bvll.specs.declared.fault.BvllFault.{BvllFault}
-use Rattle.gw_npdu.specs.Npdu.{Fields}
-use Rattle.gw_npdu.specs.Numbers.{max_len}
-use Rattle.gw_npdu.specs.Reading.{npdu_at}
-use Rattle.gw_npdu.specs.declared.fault.NpduFault.{NpduFault}
+use Rattle.gw_frames.specs.bvll.Bvll.{Message as Frame}
+use Rattle.gw_frames.specs.bvll.Reading.{bvll_at}
+use Rattle.gw_frames.specs.declared.bvll.fault.BvllFault.{BvllFault}
+use Rattle.gw_frames.specs.npdu.Npdu.{Fields}
+use Rattle.gw_frames.specs.npdu.Numbers.{max_len}
+use Rattle.gw_frames.specs.npdu.Reading.{npdu_at}
+use Rattle.gw_frames.specs.declared.npdu.fault.NpduFault.{NpduFault}
 use Rattle.gw_relay.specs.Cast.{accepts, is_unregistered}
 use Rattle.gw_relay.specs.Entry.{admits}
 use Rattle.gw_relay.specs.Message.{Message, message_of}

@@ -11,8 +11,8 @@ use Rattle.gw_apdu.specs.declared.header.Header.{Header}
 use Rattle.gw_apdu.specs.declared.header.Header.TheVariants as header
 use Rattle.gw_apdu.specs.Apdu.{Fields as Apdu}
 use Rattle.gw_apdu.specs.Reading.{apdu_at}
-use Rattle.gw_bvll.specs.Bvll as bvll
-use Rattle.gw_bvll.specs.Bvll.{Message as Frame}
+use Rattle.gw_frames.specs.bvll.Bvll as bvll
+use Rattle.gw_frames.specs.bvll.Bvll.{Message as Frame}
 use Rattle.gw_device.specs.declared.context.Context.{Context}
 use Rattle.gw_device.specs.Device.{apdu_response, header_response, or_silence, service_response}
 use Rattle.gw_device.specs.Read.{read_value}

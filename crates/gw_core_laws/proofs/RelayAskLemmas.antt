@@ -13,7 +13,7 @@ use Rattle.gw_apdu.specs.declared.header.Header.{Header}
 use Rattle.gw_apdu.specs.declared.header.Header.TheVariants as header
 use Rattle.gw_rules.specs.declared.format.Format.{Format}
 use Rattle.gw_rules.specs.declared.format.Format.TheVariants.{One, Two, Three}
-use Rattle.gw_npdu.specs.Npdu.{Destination, Payload, apdu, message, payload_octets}
+use Rattle.gw_frames.specs.npdu.Npdu.{Destination, Payload, apdu, message, payload_octets}
 use Rattle.gw_relay.specs.Asks.{bound_for}
 use Rattle.gw_relay.specs.Cast.{cast_ask, cast_asks, goes_on, is_broadcast}
 use Rattle.gw_relay.specs.Entry.{claim_asks, enter_asks, entry_asks, is_stranger, speaks_for_others}

@@ -5,12 +5,12 @@ use Rattle.std.specs.List.{AllByRecursion}
 use Rattle.std.proofs.lemmas.List.Elements.{All-from_recursion}
 use Rattle.std.proofs.lemmas.Option.{get_or_from_slice_get, slice_get_within}
 use Rattle.gw_addr.specs.declared.bip.BipAddr.{BipAddr}
-use Rattle.gw_bvll.specs.declared.fault.BvllFault.{BvllFault}
-use Rattle.gw_bvll.specs.Bvll.{Message as Frame}
-use Rattle.gw_bvll.specs.Reading.{bvll_at}
-use Rattle.gw_npdu.specs.declared.fault.NpduFault.{NpduFault}
-use Rattle.gw_npdu.specs.Npdu.{Address, Fields}
-use Rattle.gw_npdu.specs.Reading.{npdu_at}
+use Rattle.gw_frames.specs.declared.bvll.fault.BvllFault.{BvllFault}
+use Rattle.gw_frames.specs.bvll.Bvll.{Message as Frame}
+use Rattle.gw_frames.specs.bvll.Reading.{bvll_at}
+use Rattle.gw_frames.specs.declared.npdu.fault.NpduFault.{NpduFault}
+use Rattle.gw_frames.specs.npdu.Npdu.{Address, Fields}
+use Rattle.gw_frames.specs.npdu.Reading.{npdu_at}
 use Rattle.gw_configuration.specs.declared.port.Port.{Port as ConfiguredPort}
 use Rattle.gw_relay.specs.Cast.{accepts, is_unregistered}
 use Rattle.gw_relay.specs.Claim.{claimed, link_source}

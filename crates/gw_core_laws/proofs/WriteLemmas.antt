@@ -9,7 +9,7 @@ use Rattle.gw_device.specs.Laws.{NoReadAllowed, object_written}
 use Rattle.gw_device.proofs.Changes.{changes_are_in_place, changes_rest_on_requests}
 use Rattle.gw_device.specs.Response.{Answer, Response}
 use Rattle.gw_device.proofs.Unread.{unread}
-use Rattle.gw_npdu.specs.Npdu.{Destination, Payload, apdu, message as network_message}
+use Rattle.gw_frames.specs.npdu.Npdu.{Destination, Payload, apdu, message as network_message}
 use Rattle.gw_objects.specs.declared.configured.Configured.{Configured}
 use Rattle.gw_objects.specs.History.{after_write}
 use Rattle.gw_objects.specs.Laws.{AgreeBut, standing}

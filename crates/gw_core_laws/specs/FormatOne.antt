@@ -2,7 +2,7 @@
 -- is judged by its way alone. Routing is here in full; it looks at no format, nor does anything else of FormatTwo.antt.
 use Rattle.std.specs.Prelude.{List, [], ◌∷◌, map, Some, if◌then◌else◌}
 use Rattle.std.specs.Option.{option_map_or}
-use Rattle.gw_npdu.specs.Npdu.{Destination}
+use Rattle.gw_frames.specs.npdu.Npdu.{Destination}
 use Rattle.gw_routes.specs.Table.{way}
 use Rattle.gw_routes.specs.declared.route.Way.{Way}
 use Rattle.gw_routes.specs.declared.route.Way.TheVariants.{Everywhere}

@@ -17,7 +17,7 @@ use Rattle.gw_configuration.specs.Configuration.{Configuration}
 use Rattle.gw_rules.specs.declared.format.Format.{Format}
 use Rattle.gw_rules.specs.declared.format.Format.TheVariants.{One, Three}
 use Rattle.gw_core.specs.History.{log, RoutesStand, TablesStand, WritesStand, learnings, port_acts, writes, state_after, run, history_after, IsStep, IsStateAfter, effects, run_after, run_from, state_from, next}
-use Rattle.gw_npdu.specs.Npdu.{Address}
+use Rattle.gw_frames.specs.npdu.Npdu.{Address}
 use Rattle.gw_relay.specs.Entry.{comes_by_route, enters, entry_asks}
 use Rattle.gw_relay.specs.Laws.{Reaches, is_unicast}
 use Rattle.gw_relay.specs.Stations.{belongs}

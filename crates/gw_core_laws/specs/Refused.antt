@@ -7,8 +7,8 @@ use Rattle.std.specs.List.{Contains, flat_map, list_all}
 use Rattle.gw_addr.specs.declared.bip.BipAddr.{BipAddr}
 use Rattle.gw_apdu.specs.declared.header.ConfirmedRequest.{ConfirmedRequest}
 use Rattle.gw_apdu.specs.declared.writing.ServiceError.{ServiceError}
-use Rattle.gw_bvll.specs.Bvll.{write_bdt, read_bdt, register, read_fdt, delete}
-use Rattle.gw_bvll.specs.Bvll.{Message as Frame}
+use Rattle.gw_frames.specs.bvll.Bvll.{write_bdt, read_bdt, register, read_fdt, delete}
+use Rattle.gw_frames.specs.bvll.Bvll.{Message as Frame}
 use Rattle.gw_device.specs.declared.context.Context.{Context}
 use Rattle.gw_device.specs.Asks.{named_object}
 use Rattle.gw_device.specs.Errors.{error_of}

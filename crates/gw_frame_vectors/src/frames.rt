@@ -2,7 +2,7 @@
 
 use gw_apdu::{Apdu, service_code};
 use gw_cases::{octets_of, put_octets, put_other};
-use gw_npdu::{AddressRef, Npdu, Onward, relay_header};
+use gw_frames::npdu::{AddressRef, Npdu, Onward, relay_header};
 use std::alloc::Global;
 use std::io;
 use std::io::Write;
@@ -11,10 +11,10 @@ use std::io::Write;
 pub fn bvll(alloc: Global, line: &str, out: &mut Vec<u8>) -> io::Result<()> {
     let frame = octets_of(alloc, line)?;
     let mut written = Vec::new(alloc);
-    match gw_bvll::decode(&frame) {
+    match gw_frames::bvll::decode(&frame) {
         Ok(message) => {
             write!(out, "{message:?}")?;
-            match gw_bvll::encode(&message, &mut written) {
+            match gw_frames::bvll::encode(&message, &mut written) {
                 Ok(()) => put_other(alloc, &frame, &written, out),
                 Err(fault) => write!(out, " as {fault}"),
             }
@@ -27,10 +27,10 @@ pub fn bvll(alloc: Global, line: &str, out: &mut Vec<u8>) -> io::Result<()> {
 pub fn npdu(alloc: Global, line: &str, out: &mut Vec<u8>) -> io::Result<()> {
     let frame = octets_of(alloc, line)?;
     let mut written = Vec::new(alloc);
-    match gw_npdu::decode(&frame) {
+    match gw_frames::npdu::decode(&frame) {
         Ok(npdu) => {
             write!(out, "{npdu:?}")?;
-            match gw_npdu::encode(&npdu, &mut written) {
+            match gw_frames::npdu::encode(&npdu, &mut written) {
                 Ok(()) => put_other(alloc, &frame, &written, out),
                 Err(fault) => write!(out, " as {fault}"),
             }
@@ -63,7 +63,7 @@ fn hop(
 
 /// The headers of a message where it is delivered and where it is passed on.
 pub fn hops(alloc: Global, line: &str, out: &mut Vec<u8>) -> io::Result<()> {
-    match gw_npdu::decode(&octets_of(alloc, line)?) {
+    match gw_frames::npdu::decode(&octets_of(alloc, line)?) {
         Ok(npdu) => {
             hop(alloc, &npdu, false, out)?;
             write!(out, " ")?;

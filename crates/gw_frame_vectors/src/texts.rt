@@ -1,7 +1,7 @@
 //! The texts of faults that no other case shows.
 
 use gw_bdt_fdt::{BdtFault, DeleteFault, RegisterFault};
-use gw_npdu::{EncodeFault, NpduFault};
+use gw_frames::npdu::{EncodeFault, NpduFault};
 use gw_priority::PriorityFault;
 use gw_rules::RuleFault;
 use std::io;

@@ -3,9 +3,9 @@ use Rattle.std.proofs.Common.{◌≡◌, ◌∙◌, sym, ap, refl, ℕ, Bool, tr
 use Rattle.std.specs.Prelude.{if◌then◌else◌}
 use Rattle.std.specs.List.{list_all}
 use Rattle.gw_addr.specs.declared.bip.BipAddr.{BipAddr}
-use Rattle.gw_bvll.specs.Bvll.{encoding}
-use Rattle.gw_bvll.specs.Bvll.{Message as Frame}
-use Rattle.gw_bvll.specs.Bvll as bvll
+use Rattle.gw_frames.specs.bvll.Bvll.{encoding}
+use Rattle.gw_frames.specs.bvll.Bvll.{Message as Frame}
+use Rattle.gw_frames.specs.bvll.Bvll as bvll
 use Rattle.gw_rules.specs.Ask.{Ask}
 use Rattle.gw_rules.specs.RuleList.{allows}
 use Rattle.gw_rules.specs.declared.format.Format.{Format}
@@ -15,7 +15,7 @@ use Rattle.gw_relay.specs.Asks.{link_ask, link_asks, management_of}
 use Rattle.gw_relay.specs.Cast.{carried_asks, cast_ask, cast_asks, cast_sends, goes_on, is_broadcast, accepts, is_unregistered, passed_on, targets}
 use Rattle.gw_relay.specs.Link.{answer_to, change_of, granted, is_granted, link_answer, link_change, link_grants, refused}
 use Rattle.gw_relay.specs.Message.{Message}
-use Rattle.gw_bvll.specs.declared.writing.TheConstants.{MAX_LEN}
+use Rattle.gw_frames.specs.declared.bvll.writing.TheConstants.{MAX_LEN}
 use Rattle.gw_relay.specs.Sends.{sendings, sent}
 use Rattle.gw_relay.specs.internal.Serving.{judged, served, served_change}
 use Rattle.gw_relay.specs.declared.port.PortState.{PortState}

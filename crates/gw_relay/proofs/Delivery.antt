@@ -11,12 +11,12 @@ use Rattle.gw_addr.specs.Address.{address_in}
 use Rattle.gw_addr.specs.Station.{network_of}
 use Rattle.gw_bdt_fdt.specs.Registrations.{same}
 use Rattle.gw_bdt_fdt.proofs.Same.{own}
-use Rattle.gw_bvll.specs.Bvll.{encoding, forwarded, octet_of, original_broadcast, original_unicast}
-use Rattle.gw_bvll.specs.declared.function.Function.TheVariants.{OriginalUnicast}
-use Rattle.gw_bvll.specs.declared.writing.TheConstants.{MAX_LEN}
-use Rattle.gw_npdu.specs.Npdu.{Destination, Fields}
-use Rattle.gw_npdu.specs.Numbers.{max_len}
-use Rattle.gw_npdu.specs.declared.kind.MessageKind.TheVariants.{RejectMessageToNetwork}
+use Rattle.gw_frames.specs.bvll.Bvll.{encoding, forwarded, octet_of, original_broadcast, original_unicast}
+use Rattle.gw_frames.specs.declared.bvll.function.Function.TheVariants.{OriginalUnicast}
+use Rattle.gw_frames.specs.declared.bvll.writing.TheConstants.{MAX_LEN}
+use Rattle.gw_frames.specs.npdu.Npdu.{Destination, Fields}
+use Rattle.gw_frames.specs.npdu.Numbers.{max_len}
+use Rattle.gw_frames.specs.declared.npdu.kind.MessageKind.TheVariants.{RejectMessageToNetwork}
 use Rattle.gw_routes.specs.Table.{Routed, Table, direct_way, network_way, route_of, way}
 use Rattle.gw_routes.specs.declared.route.Route.{Route}
 use Rattle.gw_routes.specs.declared.route.TheConstants.{EVERYWHERE}

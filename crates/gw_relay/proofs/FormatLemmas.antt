@@ -5,10 +5,10 @@ use Rattle.std.specs.List.{list_all}
 use Rattle.std.specs.Option.{option_map_or}
 use Rattle.gw_addr.specs.declared.bip.BipAddr.{BipAddr}
 use Rattle.gw_addr.specs.Address.{big_endian, octets_of}
-use Rattle.gw_bvll.specs.Bvll.{function_of, octet_of}
-use Rattle.gw_bvll.specs.Bvll.{Message as Frame}
-use Rattle.gw_bvll.specs.Bvll as bvll
-use Rattle.gw_npdu.specs.Npdu.{Destination, Fields, payload_octets}
+use Rattle.gw_frames.specs.bvll.Bvll.{function_of, octet_of}
+use Rattle.gw_frames.specs.bvll.Bvll.{Message as Frame}
+use Rattle.gw_frames.specs.bvll.Bvll as bvll
+use Rattle.gw_frames.specs.npdu.Npdu.{Destination, Fields, payload_octets}
 use Rattle.gw_routes.specs.Table.{way}
 use Rattle.gw_routes.specs.declared.route.Way.{Way}
 use Rattle.gw_routes.specs.declared.route.Way.TheVariants as ways

@@ -6,9 +6,9 @@ use Rattle.std.proofs.lemmas.Bool.{ltb-false}
 use Rattle.gw_addr.specs.Entry.{bdt_entry, bdt_octets, fdt_entry, fdt_octets, IsBdtEntry, IsFdtEntry}
 use Rattle.gw_addr.specs.declared.entry.BdtEntry.{BdtEntry}
 use Rattle.gw_addr.specs.declared.entry.FdtEntry.{FdtEntry}
-use Rattle.gw_bvll.specs.Bvll.{encoding, read_bdt_ack, read_fdt_ack}
-use Rattle.gw_bvll.specs.internal.Reads.{reads_bdt, reads_fdt}
-use Rattle.gw_bvll.proofs.EntryLists.{length-encodings}
+use Rattle.gw_frames.specs.bvll.Bvll.{encoding, read_bdt_ack, read_fdt_ack}
+use Rattle.gw_frames.specs.bvll.internal.Reads.{reads_bdt, reads_fdt}
+use Rattle.gw_frames.proofs.bvll_lemmas.EntryLists.{length-encodings}
 
 empty_bdt : (none : List BdtEntry) → none ≡ [] → length (encoding (read_bdt_ack none)) ≡ 4
 empty_bdt none e = rw e refl

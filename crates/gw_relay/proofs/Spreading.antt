@@ -3,7 +3,7 @@ use Rattle.std.proofs.Common.{◌≡◌, ◌∙◌, sym, ap, refl, ℕ, ◌<◌,
 use Rattle.std.specs.Option.{option_map_or}
 use Rattle.std.proofs.lemmas.Bool.{le-leb, lt-leb}
 use Rattle.gw_addr.specs.declared.bip.BipAddr.{BipAddr}
-use Rattle.gw_bvll.specs.Bvll.{encoding, forwarded, original_broadcast}
+use Rattle.gw_frames.specs.bvll.Bvll.{encoding, forwarded, original_broadcast}
 use Rattle.gw_relay.specs.Cast.{devices, managers, spread}
 use Rattle.gw_relay.specs.Sends.{Batch, Sending, sendings, sendings_of, sent}
 use Rattle.gw_relay.specs.declared.port.PortState.{PortState}

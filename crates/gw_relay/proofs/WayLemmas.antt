@@ -3,7 +3,7 @@ use Rattle.std.proofs.Common.{◌≡◌, ◌∙◌, sym, ap, subst, refl, ℕ, L
 use Rattle.std.specs.Prelude.{OnOk}
 use Rattle.std.specs.declared.alloc.AllocError.{AllocError}
 use Rattle.gw_addr.specs.declared.bip.BipAddr.{BipAddr}
-use Rattle.gw_npdu.specs.Npdu.{Destination}
+use Rattle.gw_frames.specs.npdu.Npdu.{Destination}
 use Rattle.gw_rules.specs.declared.format.Format.{Format}
 use Rattle.gw_routes.specs.History.{IsStateAfter, history_with, networks_learned}
 use Rattle.gw_routes.specs.History.{History as Learned}

@@ -6,9 +6,9 @@ use Rattle.gw_addr.specs.declared.bip.BipAddr.{BipAddr}
 use Rattle.gw_addr.specs.Address.{big_endian, octets_of}
 use Rattle.gw_addr.specs.Station.{key_of}
 use Rattle.gw_apdu.specs.Reading.{service_at}
-use Rattle.gw_bvll.specs.Bvll.{write_bdt, read_bdt, register, read_fdt, delete, function_of, octet_of}
-use Rattle.gw_bvll.specs.Bvll.{Message as Frame}
-use Rattle.gw_npdu.specs.Npdu.{Fields, Payload, apdu, message}
+use Rattle.gw_frames.specs.bvll.Bvll.{write_bdt, read_bdt, register, read_fdt, delete, function_of, octet_of}
+use Rattle.gw_frames.specs.bvll.Bvll.{Message as Frame}
+use Rattle.gw_frames.specs.npdu.Npdu.{Fields, Payload, apdu, message}
 use Rattle.gw_rules.specs.Ask.{Ask, ask_of}
 use Rattle.gw_rules.specs.Format.{names_stations}
 use Rattle.gw_rules.specs.Service.{service_number}

@@ -10,9 +10,9 @@ use Rattle.gw_addr.specs.declared.bip.BipAddr.{BipAddr}
 use Rattle.gw_addr.specs.declared.entry.BdtEntry.{BdtEntry}
 use Rattle.gw_bdt_fdt.specs.Peers.{all_ones, is_of, own_mask, peers}
 use Rattle.gw_bdt_fdt.specs.Registrations.{contains, same}
-use Rattle.gw_bvll.specs.Bvll.{forwarded, distribute, original_broadcast}
-use Rattle.gw_bvll.specs.Bvll.{Message as Frame}
-use Rattle.gw_npdu.specs.Numbers.{max_len}
+use Rattle.gw_frames.specs.bvll.Bvll.{forwarded, distribute, original_broadcast}
+use Rattle.gw_frames.specs.bvll.Bvll.{Message as Frame}
+use Rattle.gw_frames.specs.npdu.Numbers.{max_len}
 use Rattle.gw_rules.specs.Ask.{Ask}
 use Rattle.gw_rules.specs.Format.{names_stations}
 use Rattle.gw_rules.specs.RuleList.{allows}

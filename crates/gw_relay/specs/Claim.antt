@@ -3,9 +3,9 @@ use Rattle.std.specs.Prelude.{ℕ, Option, Some, None}
 use Rattle.gw_addr.specs.declared.bip.BipAddr.{BipAddr}
 use Rattle.gw_addr.specs.declared.station.Source.{Source}
 use Rattle.gw_addr.specs.Address.{octets_of}
-use Rattle.gw_bvll.specs.Bvll.{forwarded}
-use Rattle.gw_bvll.specs.Bvll.{Message as Frame}
-use Rattle.gw_npdu.specs.Npdu.{Fields, Address}
+use Rattle.gw_frames.specs.bvll.Bvll.{forwarded}
+use Rattle.gw_frames.specs.bvll.Bvll.{Message as Frame}
+use Rattle.gw_frames.specs.npdu.Npdu.{Fields, Address}
 
 -- the link source: the originator of a Forwarded-NPDU, else the sender (Annex J.2.5)
 abbrev pub link_source : BipAddr → Frame → BipAddr

@@ -10,11 +10,11 @@ use Rattle.gw_addr.specs.Entry.{IsBdtEntry}
 use Rattle.gw_addr.specs.Station.{key_of}
 use Rattle.gw_bdt_fdt.specs.Peers.{all_ones, is_of, peers}
 use Rattle.gw_bdt_fdt.specs.Registrations.{same}
-use Rattle.gw_bvll.specs.Bvll.{Message as Frame}
-use Rattle.gw_bvll.specs.Bvll.{octet_of}
-use Rattle.gw_bvll.specs.declared.function.Function.TheVariants.{OriginalUnicast}
+use Rattle.gw_frames.specs.bvll.Bvll.{Message as Frame}
+use Rattle.gw_frames.specs.bvll.Bvll.{octet_of}
+use Rattle.gw_frames.specs.declared.bvll.function.Function.TheVariants.{OriginalUnicast}
 use Rattle.gw_configuration.specs.declared.port.Port.{Port as ConfiguredPort}
-use Rattle.gw_npdu.specs.Npdu.{Address}
+use Rattle.gw_frames.specs.npdu.Npdu.{Address}
 use Rattle.gw_rules.specs.Format.{names_stations}
 use Rattle.gw_rules.specs.declared.format.Format.{Format}
 use Rattle.gw_rules.specs.declared.operation.Operation.TheVariants.{Claim, Enter, Learn, Read}

@@ -6,10 +6,10 @@ use Rattle.std.specs.Int.{w16, from_be_bytes, to_be_bytes}
 use Rattle.std.specs.List.{flat_map}
 use Rattle.std.specs.Option.{option_map_or}
 use Rattle.gw_addr.specs.Station.{is_network, network_of}
-use Rattle.gw_npdu.specs.declared.kind.MessageKind.TheVariants.{IAmRouterToNetwork, NetworkNumberIs}
-use Rattle.gw_npdu.specs.declared.kind.MessageKind.TheVariants.{WhatIsNetworkNumber, WhoIsRouterToNetwork}
-use Rattle.gw_npdu.specs.Npdu.{Address, Fields, payload_octets}
-use Rattle.gw_npdu.specs.Numbers.{every_network}
+use Rattle.gw_frames.specs.declared.npdu.kind.MessageKind.TheVariants.{IAmRouterToNetwork, NetworkNumberIs}
+use Rattle.gw_frames.specs.declared.npdu.kind.MessageKind.TheVariants.{WhatIsNetworkNumber, WhoIsRouterToNetwork}
+use Rattle.gw_frames.specs.npdu.Npdu.{Address, Fields, payload_octets}
+use Rattle.gw_frames.specs.npdu.Numbers.{every_network}
 use Rattle.gw_routes.specs.Table.{reachable_from, way}
 use Rattle.gw_routes.specs.declared.route.Way.{Way}
 use Rattle.gw_routes.specs.declared.route.Way.TheVariants.{Port, Device, Router, Everywhere, Unknown}

@@ -1,10 +1,10 @@
 -- A message of the network layer that came on a port, and whom it comes from.
 use Rattle.gw_addr.specs.declared.bip.BipAddr.{BipAddr}
 use Rattle.gw_addr.specs.declared.station.Source.{Source}
-use Rattle.gw_bvll.specs.Bvll.{view as frame_view}
-use Rattle.gw_bvll.specs.Bvll.{Message as Frame}
-use Rattle.gw_npdu.specs.Npdu.{Fields}
-use Rattle.gw_npdu.specs.Npdu.{view as npdu_view}
+use Rattle.gw_frames.specs.bvll.Bvll.{view as frame_view}
+use Rattle.gw_frames.specs.bvll.Bvll.{Message as Frame}
+use Rattle.gw_frames.specs.npdu.Npdu.{Fields}
+use Rattle.gw_frames.specs.npdu.Npdu.{view as npdu_view}
 use Rattle.gw_relay.specs.Claim.{claimed, link_source}
 use Rattle.gw_relay.specs.declared.message.Message.{Message as LentMessage}
 use Rattle.gw_relay.specs.declared.port.PortState.{PortState}

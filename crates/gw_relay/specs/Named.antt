@@ -9,7 +9,7 @@ use Rattle.gw_apdu.specs.declared.fault.ApduFault.{ApduFault}
 use Rattle.gw_apdu.specs.declared.header.ConfirmedRequest.{ConfirmedRequest as Request}
 use Rattle.gw_apdu.specs.declared.header.Header.{Header}
 use Rattle.gw_apdu.specs.declared.header.Header.TheVariants.{ConfirmedRequest}
-use Rattle.gw_npdu.specs.Npdu.{Payload, apdu, message}
+use Rattle.gw_frames.specs.npdu.Npdu.{Payload, apdu, message}
 use Rattle.gw_rules.specs.Ask.{Ask}
 use Rattle.gw_rules.specs.Operation.{operation_number}
 use Rattle.gw_rules.specs.declared.format.Format.{Format}

@@ -7,12 +7,12 @@ use Rattle.std.specs.List.{flat_map}
 use Rattle.std.specs.Option.{option_map, option_map_or}
 use Rattle.gw_addr.specs.declared.bip.BipAddr.{BipAddr}
 use Rattle.gw_addr.specs.Address.{address_in, octets_of}
-use Rattle.gw_npdu.specs.declared.kind.MessageKind.{MessageKind}
-use Rattle.gw_npdu.specs.declared.kind.MessageKind.TheVariants.{NetworkNumberIs, RejectMessageToNetwork}
-use Rattle.gw_npdu.specs.declared.kind.MessageKind.TheVariants.{WhatIsNetworkNumber, WhoIsRouterToNetwork}
-use Rattle.gw_npdu.specs.Kind.{kind_number}
-use Rattle.gw_npdu.specs.Npdu.{Address, Destination, Fields, Payload, apdu, message}
-use Rattle.gw_npdu.specs.Onward.{onward}
+use Rattle.gw_frames.specs.declared.npdu.kind.MessageKind.{MessageKind}
+use Rattle.gw_frames.specs.declared.npdu.kind.MessageKind.TheVariants.{NetworkNumberIs, RejectMessageToNetwork}
+use Rattle.gw_frames.specs.declared.npdu.kind.MessageKind.TheVariants.{WhatIsNetworkNumber, WhoIsRouterToNetwork}
+use Rattle.gw_frames.specs.npdu.Kind.{kind_number}
+use Rattle.gw_frames.specs.npdu.Npdu.{Address, Destination, Fields, Payload, apdu, message}
+use Rattle.gw_frames.specs.npdu.Onward.{onward}
 use Rattle.gw_routes.specs.Table.{way}
 use Rattle.gw_routes.specs.declared.route.Route.{Route}
 use Rattle.gw_routes.specs.declared.route.Way.{Way}

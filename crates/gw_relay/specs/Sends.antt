@@ -1,10 +1,10 @@
 -- Datagrams to send. One message, whose octets are kept once, may go to many addresses.
 use Rattle.std.specs.Prelude.{ℕ, List, [], length, map, nat_le, if◌then◌else◌}
 use Rattle.gw_addr.specs.declared.bip.BipAddr.{BipAddr}
-use Rattle.gw_bvll.specs.Bvll.{encoding}
-use Rattle.gw_bvll.specs.Bvll.{Message as Frame}
-use Rattle.gw_bvll.specs.declared.writing.TheConstants.{MAX_LEN}
-pub use Rattle.gw_bvll.specs.Sending.{Sending}
+use Rattle.gw_frames.specs.bvll.Bvll.{encoding}
+use Rattle.gw_frames.specs.bvll.Bvll.{Message as Frame}
+use Rattle.gw_frames.specs.declared.bvll.writing.TheConstants.{MAX_LEN}
+pub use Rattle.gw_frames.specs.bvll.Sending.{Sending}
 
 -- one message, and whom it is sent to in order
 pub record Batch : Type 0 where

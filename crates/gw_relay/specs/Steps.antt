@@ -3,9 +3,9 @@ use Rattle.std.specs.Prelude.{ℕ, List, [], ◌∷◌, length, nat_le, Option, 
 use Rattle.std.specs.List.{flat_map, list_all}
 use Rattle.std.specs.Option.{option_map_or}
 use Rattle.gw_addr.specs.declared.bip.BipAddr.{BipAddr}
-use Rattle.gw_bvll.specs.Bvll.{original_unicast}
-use Rattle.gw_npdu.specs.Npdu.{Fields, encoding}
-use Rattle.gw_npdu.specs.Numbers.{max_len}
+use Rattle.gw_frames.specs.bvll.Bvll.{original_unicast}
+use Rattle.gw_frames.specs.npdu.Npdu.{Fields, encoding}
+use Rattle.gw_frames.specs.npdu.Numbers.{max_len}
 use Rattle.gw_rules.specs.Ask.{Ask}
 use Rattle.gw_rules.specs.RuleList.{allows}
 use Rattle.gw_rules.specs.declared.rule.Rule.{Rule}

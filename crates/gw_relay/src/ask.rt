@@ -2,8 +2,8 @@
 
 ghost use Rattle.std.specs.Prelude.{◌≡◌};
 ghost use Rattle.std.specs.Option.{option_map};
-ghost use Rattle.gw_bvll.specs.Bvll.{view as frame_view};
-ghost use Rattle.gw_npdu.specs.Npdu.{view as npdu_view, payload_view};
+ghost use Rattle.gw_frames.specs.bvll.Bvll.{view as frame_view};
+ghost use Rattle.gw_frames.specs.npdu.Npdu.{view as npdu_view, payload_view};
 ghost use Rattle.gw_relay.specs.Asks.{bound_for, deleted_station, link_ask, management_of, message_ask, passing_ask};
 ghost use Rattle.gw_relay.specs.Asks.{sender_of, service_of, station_key, station_of};
 ghost use Rattle.gw_relay.specs.Message.{message_view};
@@ -11,8 +11,8 @@ ghost use Rattle.gw_relay.specs.Message.{message_view};
 use crate::message::{Message, key_of};
 use crate::port::Port;
 use gw_addr::BipAddr;
-use gw_bvll::Bvll;
-use gw_npdu::{Npdu, Payload};
+use gw_frames::bvll::Bvll;
+use gw_frames::npdu::{Npdu, Payload};
 use gw_rules::{Ask, Format, Operation, Service};
 
 /// What a frame is about to do with a table of its port, or `None` if it manages none.

@@ -5,8 +5,8 @@ ghost use Rattle.std.specs.Prelude.{drop, length, vec_capacity, vec_len};
 ghost use Rattle.std.specs.List.{list_any};
 ghost use Rattle.std.specs.Option.{option_map_or};
 ghost use Rattle.gw_bdt_fdt.specs.Peers.{is_of, peers};
-ghost use Rattle.gw_bvll.specs.Bvll.{forwarded};
-ghost use Rattle.gw_bvll.specs.Bvll.{view as frame_view};
+ghost use Rattle.gw_frames.specs.bvll.Bvll.{forwarded};
+ghost use Rattle.gw_frames.specs.bvll.Bvll.{view as frame_view};
 ghost use Rattle.gw_rules.specs.declared.rule.Rule.{Rule};
 ghost use Rattle.gw_relay.specs.Cast.{cast_asks, cast_response, devices, devices_but, directed, goes_on};
 ghost use Rattle.gw_relay.specs.Cast.{is_broadcast, accepts, is_unregistered, managers, passed_on, spread, subnet};
@@ -25,7 +25,7 @@ use crate::relay::Relay;
 use crate::sends::{Batch, Sends};
 use crate::turn::Turn;
 use gw_addr::{BdtEntry, BipAddr};
-use gw_bvll::Bvll;
+use gw_frames::bvll::Bvll;
 use gw_rules::Asker;
 use std::alloc::{AllocError, Global};
 
@@ -266,7 +266,7 @@ impl PortState {
         ensures { IfOk result (λ sends. sends ≡ spread self.now npdu.now) }
     {
         let mut sends = Sends::new(alloc);
-        if npdu.len() > gw_npdu::MAX_LEN {
+        if npdu.len() > gw_frames::npdu::MAX_LEN {
             return Ok(sends);
         }
         self.add_spread(Outgoing::copied(alloc, npdu)?, &mut sends)?;

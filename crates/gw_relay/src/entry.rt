@@ -3,8 +3,8 @@
 //! it.
 
 ghost use Rattle.std.specs.Prelude.{◌≡◌, [], List, IfOk, IsOk, OnOk};
-ghost use Rattle.gw_bvll.specs.Bvll.{view as frame_view};
-ghost use Rattle.gw_npdu.specs.Npdu.{address_view};
+ghost use Rattle.gw_frames.specs.bvll.Bvll.{view as frame_view};
+ghost use Rattle.gw_frames.specs.npdu.Npdu.{address_view};
 ghost use Rattle.gw_rules.specs.declared.rule.Rule.{Rule};
 ghost use Rattle.gw_relay.specs.Entry.{admits, claim_ask, comes_by_route, enter_ask, enters, entry_asks};
 ghost use Rattle.gw_relay.specs.Entry.{entry_response, is_stranger, leads_by, speaks_for_others};
@@ -19,8 +19,8 @@ use crate::named::authorize_one;
 use crate::relay::Relay;
 use crate::turn::Turn;
 use gw_addr::BipAddr;
-use gw_bvll::Bvll;
-use gw_npdu::AddressRef;
+use gw_frames::bvll::Bvll;
+use gw_frames::npdu::AddressRef;
 use gw_routes::Way;
 use gw_rules::{Ask, Asker, Format, Operation};
 use std::alloc::AllocError;

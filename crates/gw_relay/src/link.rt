@@ -4,8 +4,8 @@ ghost use Rattle.std.specs.Prelude.{◌≡◌, ◌||◌, ◌++◌, ◌∷◌, []
 ghost use Rattle.gw_addr.specs.Entry.{bdt_entry};
 ghost use Rattle.gw_bdt_fdt.specs.Peers.{are_too_many, has_twice};
 ghost use Rattle.gw_bdt_fdt.specs.Registrations.{contains, has_room};
-ghost use Rattle.gw_bvll.specs.Bvll.{view};
-ghost use Rattle.gw_bvll.specs.Entries.{lent};
+ghost use Rattle.gw_frames.specs.bvll.Bvll.{view};
+ghost use Rattle.gw_frames.specs.bvll.Entries.{lent};
 ghost use Rattle.gw_rules.specs.declared.rule.Rule.{Rule};
 ghost use Rattle.gw_relay.specs.Asks.{link_asks};
 ghost use Rattle.gw_relay.specs.Link.{answer_to, change_of, granted, is_granted, link_response, refused};
@@ -24,7 +24,7 @@ use crate::sends::{Batch, Sends};
 use crate::turn::Turn;
 use gw_addr::{BdtEntry, BipAddr};
 use gw_bdt_fdt::{Bdt, MAX_REGISTRATIONS};
-use gw_bvll::{BdtEntries, Bvll, ResultCode};
+use gw_frames::bvll::{BdtEntries, Bvll, ResultCode};
 use gw_rules::Asker;
 use std::alloc::{AllocError, Global};
 

@@ -2,7 +2,7 @@
 //! 6.4.20).
 
 ghost use Rattle.std.specs.Prelude.{◌≡◌, ◌++◌, ◌∷◌, [], List, map, nat_le, true, false, None, IfOk, IsOk, OnErr, OnOk};
-ghost use Rattle.gw_npdu.specs.Npdu.{view as npdu_view};
+ghost use Rattle.gw_frames.specs.npdu.Npdu.{view as npdu_view};
 ghost use Rattle.gw_rules.specs.declared.rule.Rule.{Rule};
 ghost use Rattle.gw_relay.specs.Manage.{answer_steps, answer_who_is_router, are_networks, is_for_all, is_i_am_router};
 ghost use Rattle.gw_relay.specs.Manage.{is_what_is_network_number, is_who_is_router, i_am_router, keep_allowed};
@@ -14,7 +14,7 @@ ghost use Rattle.gw_relay.specs.Route.{made};
 ghost use Rattle.gw_relay.specs.Steps.{asks_of, broadcast};
 ghost use Rattle.gw_relay.specs.internal.Serving.{learn_response};
 ghost use Rattle.gw_relay.specs.internal.Taken.{AreTaken};
-ghost use Rattle.gw_npdu.specs.Kind.{kind_number};
+ghost use Rattle.gw_frames.specs.npdu.Kind.{kind_number};
 
 use crate::change::Change;
 use crate::message::Message;
@@ -25,7 +25,7 @@ use crate::relay::Relay;
 use crate::sends::Sends;
 use crate::turn::Turn;
 use gw_addr::{NetNum, Sequence, put_number};
-use gw_npdu::{AddressRef, Destination, MessageKind, Npdu};
+use gw_frames::npdu::{AddressRef, Destination, MessageKind, Npdu};
 use gw_routes::Way;
 use gw_rules::{Asker, Format, Operation};
 use std::alloc::AllocError;

@@ -3,15 +3,15 @@
 ghost use Rattle.std.specs.Prelude.{◌≡◌, ◌≤◌, length};
 ghost use Rattle.std.specs.Option.{option_map};
 ghost use Rattle.gw_addr.specs.Station.{key_of};
-ghost use Rattle.gw_bvll.specs.Bvll.{view as frame_view};
-ghost use Rattle.gw_npdu.specs.Npdu.{address_view};
+ghost use Rattle.gw_frames.specs.bvll.Bvll.{view as frame_view};
+ghost use Rattle.gw_frames.specs.npdu.Npdu.{address_view};
 ghost use Rattle.gw_relay.specs.Claim.{link_source, local_source, remote_source};
 ghost use Rattle.gw_relay.specs.Message.{message_view};
 
 use crate::port::PortState;
 use gw_addr::{BipAddr, Mac, NetNum, Source, bip_from_slice};
-use gw_bvll::Bvll;
-use gw_npdu::{AddressRef, Npdu};
+use gw_frames::bvll::Bvll;
+use gw_frames::npdu::{AddressRef, Npdu};
 
 /// A frame that reads or changes a table of its port, with where it came.
 #[derive(Clone, Copy)]

@@ -3,7 +3,7 @@
 
 ghost use Rattle.std.specs.Prelude.{◌≡◌, ◌∷◌, [], true, is_ok, List, IfOk};
 ghost use Rattle.std.specs.Option.{option_map};
-ghost use Rattle.gw_npdu.specs.Npdu.{payload_view};
+ghost use Rattle.gw_frames.specs.npdu.Npdu.{payload_view};
 ghost use Rattle.gw_rules.specs.declared.rule.Rule.{Rule};
 ghost use Rattle.gw_services.specs.Multi.{reference_view};
 ghost use Rattle.gw_services.specs.MultiReading.{multi_at, references_at};
@@ -20,7 +20,7 @@ use crate::ask::bound_for;
 use crate::message::Message;
 use crate::relay::Relay;
 use gw_apdu::{Apdu, ConfirmedRequest, Header};
-use gw_npdu::Payload;
+use gw_frames::npdu::Payload;
 use gw_rules::{Ask, Asker, Format, Operation};
 use gw_services::{
     MAX_REFERENCES, Next, READ_PROPERTY, READ_PROPERTY_MULTIPLE, Reference, WRITE_PROPERTY,

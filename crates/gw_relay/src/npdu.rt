@@ -1,8 +1,8 @@
 //! NPDUs that go on, or that the gateway makes, and how they are sent.
 
 ghost use Rattle.std.specs.Prelude.{◌≡◌, ◌++◌, nat_le, false, None, OnOk};
-ghost use Rattle.gw_npdu.specs.Kind.{kind_number};
-ghost use Rattle.gw_npdu.specs.Npdu.{view as npdu_view, payload_view};
+ghost use Rattle.gw_frames.specs.npdu.Kind.{kind_number};
+ghost use Rattle.gw_frames.specs.npdu.Npdu.{view as npdu_view, payload_view};
 ghost use Rattle.gw_relay.specs.Route.{is_kind, made};
 ghost use Rattle.gw_relay.specs.internal.Passing.{broadcast_of, unicast_of};
 
@@ -10,7 +10,7 @@ use crate::outgoing::Outgoing;
 use crate::port::PortState;
 use crate::sends::{Batch, Sends};
 use gw_addr::BipAddr;
-use gw_npdu::{MessageKind, NetMessage, Npdu, Payload, Priority};
+use gw_frames::npdu::{MessageKind, NetMessage, Npdu, Payload, Priority};
 use std::alloc::AllocError;
 
 /// Whether a payload is a network layer message of a type (clause 6.2.4).

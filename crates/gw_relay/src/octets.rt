@@ -5,13 +5,13 @@ ghost use Rattle.std.specs.Int.{w16, to_be_bytes};
 ghost use Rattle.std.specs.Option.{option_map};
 ghost use Rattle.gw_addr.specs.Entry.{bdt_entry, fdt_entry};
 ghost use Rattle.gw_bdt_fdt.specs.Registrations.{shown};
-ghost use Rattle.gw_bvll.specs.Bvll.{encoding, octet_of, read_bdt_ack, read_fdt_ack, result_code, view};
-ghost use Rattle.gw_bvll.specs.Entries.{lent};
+ghost use Rattle.gw_frames.specs.bvll.Bvll.{encoding, octet_of, read_bdt_ack, read_fdt_ack, result_code, view};
+ghost use Rattle.gw_frames.specs.bvll.Entries.{lent};
 ghost use Rattle.gw_relay.specs.internal.Octets.{within};
 ghost use Rattle.gw_relay.specs.internal.Rooms.{broadcast_npdu};
 
 use gw_bdt_fdt::{Bdt, Fdt};
-use gw_bvll::{
+use gw_frames::bvll::{
     BVLC_TYPE, BdtEntries, Bvll, EncodeFault, FdtEntries, Function, HEADER_LEN, ResultCode,
     set_length,
 };
@@ -45,7 +45,7 @@ pub(crate) fn message_octets(
     ensures { IfOk result (λ made. option_map (λ v. v.items) made ≡ within (view message.now)) }
 {
     let mut octets = forwarded_buffer(alloc, message)?;
-    match gw_bvll::encode(message, &mut octets) {
+    match gw_frames::bvll::encode(message, &mut octets) {
         Ok(()) => Ok(Some(octets)),
         Err(EncodeFault::TooLong) => Ok(None),
         Err(EncodeFault::Memory) => Err(AllocError),
@@ -56,7 +56,7 @@ pub(crate) fn message_octets(
 fn put_empty(message: &Bvll<'_>, octets: &mut Vec<u8>) -> Result<(), AllocError>
     ensures { OnOk result (octets.new.items ≡ octets.old.items ++ encoding (view message.now)) }
 {
-    match gw_bvll::encode(message, octets) {
+    match gw_frames::bvll::encode(message, octets) {
         Ok(()) => Ok(()),
         Err(_) => Err(AllocError),
     }
@@ -114,7 +114,7 @@ pub(crate) fn bdt_ack(alloc: Global, bdt: &Bdt) -> Result<Vec<u8>, AllocError>
     let entries = bdt.entries();
     let mut octets = ack_buffer(alloc, entries.len())?;
     put_empty(&Bvll::ReadBdtAck(no_bdt_entries()), &mut octets)?;
-    gw_bvll::put_entries(&mut octets, entries)?;
+    gw_frames::bvll::put_entries(&mut octets, entries)?;
     set_length(octets.as_mut_slice());
     Ok(octets)
 }
@@ -126,7 +126,7 @@ pub(crate) fn fdt_ack(alloc: Global, fdt: &Fdt) -> Result<Vec<u8>, AllocError>
 {
     let mut octets = ack_buffer(alloc, fdt.count())?;
     put_empty(&Bvll::ReadFdtAck(no_fdt_entries()), &mut octets)?;
-    gw_bvll::put_entries(&mut octets, &fdt.rows(alloc)?)?;
+    gw_frames::bvll::put_entries(&mut octets, &fdt.rows(alloc)?)?;
     set_length(octets.as_mut_slice());
     Ok(octets)
 }

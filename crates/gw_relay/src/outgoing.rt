@@ -1,16 +1,16 @@
 //! The messages that the gateway sends for an NPDU, each written once, into one buffer.
 
 ghost use Rattle.std.specs.Prelude.{◌≡◌, ◌+◌, ◌≤◌, ◌∷◌, [], drop, length, vec_capacity, vec_len, IfOk};
-ghost use Rattle.gw_bvll.specs.Bvll.{encoding, original_broadcast, original_unicast};
-ghost use Rattle.gw_npdu.specs.Npdu.{view as npdu_view};
-ghost use Rattle.gw_npdu.specs.Numbers.{max_len};
-ghost use Rattle.gw_npdu.specs.Onward.{onward, onward_view};
+ghost use Rattle.gw_frames.specs.bvll.Bvll.{encoding, original_broadcast, original_unicast};
+ghost use Rattle.gw_frames.specs.npdu.Npdu.{view as npdu_view};
+ghost use Rattle.gw_frames.specs.npdu.Numbers.{max_len};
+ghost use Rattle.gw_frames.specs.npdu.Onward.{onward, onward_view};
 ghost use Rattle.gw_relay.specs.Steps.{npdu_octets};
 ghost use Rattle.gw_relay.specs.internal.Outgoing.{framed};
 
 use crate::octets::set_header;
-use gw_bvll::{Function, HEADER_LEN};
-use gw_npdu::{EncodeFault, Npdu, Onward};
+use gw_frames::bvll::{Function, HEADER_LEN};
+use gw_frames::npdu::{EncodeFault, Npdu, Onward};
 use std::alloc::{AllocError, Global};
 use std::marker::Model;
 
@@ -49,7 +49,7 @@ impl Outgoing {
     {
         let payload = npdu.payload.octets();
         let mut octets = buffer(alloc, payload)?;
-        match gw_npdu::relay_header(npdu, how, payload.len(), &mut octets) {
+        match gw_frames::npdu::relay_header(npdu, how, payload.len(), &mut octets) {
             Ok(()) => {
                 octets.extend_from_slice(payload)?;
                 Ok(Some(Outgoing { octets }))
@@ -65,7 +65,7 @@ impl Outgoing {
         ensures { IfOk result (λ made. made ≡ npdu_octets (npdu_view npdu.now)) }
     {
         let mut octets = buffer(alloc, npdu.payload.octets())?;
-        match gw_npdu::encode(npdu, &mut octets) {
+        match gw_frames::npdu::encode(npdu, &mut octets) {
             Ok(()) => Ok(Some(Outgoing { octets })),
             Err(EncodeFault::TooLong) => Ok(None),
             Err(EncodeFault::Memory) => Err(AllocError),

@@ -3,7 +3,7 @@
 ghost use Rattle.std.specs.Prelude.{◌≡◌, ◌<◌, ◌^◌, ℕ, [], false, List, length, map, IfOk, IsOk, OnOk, OnErr};
 ghost use Rattle.std.specs.List.{AllByRecursion};
 ghost use Rattle.std.specs.Option.{option_map};
-ghost use Rattle.gw_bvll.specs.Bvll.{view as frame_view};
+ghost use Rattle.gw_frames.specs.bvll.Bvll.{view as frame_view};
 ghost use Rattle.gw_rules.specs.declared.rule.Rule.{Rule};
 ghost use Rattle.gw_relay.specs.Asks.{link_asks};
 ghost use Rattle.gw_relay.specs.Cast.{cast_asks, cast_response, goes_on, is_unregistered, spread};

@@ -3,7 +3,7 @@
 ghost use Rattle.std.specs.Prelude.{◌≡◌, ◌++◌, ◌∷◌, [], List, map, IfOk, IsOk, OnErr, OnOk, None};
 ghost use Rattle.std.specs.List.{flat_map};
 ghost use Rattle.std.specs.Option.{option_map};
-ghost use Rattle.gw_npdu.specs.Npdu.{view as npdu_view, address_view, destination_view, payload_view};
+ghost use Rattle.gw_frames.specs.npdu.Npdu.{view as npdu_view, address_view, destination_view, payload_view};
 ghost use Rattle.gw_rules.specs.declared.rule.Rule.{Rule};
 ghost use Rattle.gw_relay.specs.Message.{message_view};
 ghost use Rattle.gw_relay.specs.Turn.{IsWalked};
@@ -21,7 +21,7 @@ use crate::port::{PortState, port_at};
 use crate::relay::Relay;
 use crate::sends::Sends;
 use crate::turn::Turn;
-use gw_npdu::{AddressRef, Destination, MessageKind, Npdu, Onward, Payload};
+use gw_frames::npdu::{AddressRef, Destination, MessageKind, Npdu, Onward, Payload};
 use gw_routes::{Route, Way};
 use gw_rules::{Asker, Format, Operation};
 use std::alloc::{AllocError, Global};

@@ -4,15 +4,15 @@ use Rattle.std.specs.Prelude.{IfSome, not, if◌then◌else◌}
 use Rattle.gw_addr.specs.declared.bip.BipAddr.{BipAddr}
 use Rattle.gw_addr.specs.Address.{IsAddress}
 use Rattle.gw_addr.specs.Reading.{AreOctets}
-use Rattle.gw_bvll.specs.declared.fault.BvllFault.{BvllFault}
-use Rattle.gw_bvll.specs.Bvll.{HasFields}
-use Rattle.gw_bvll.specs.Bvll.{Message as Frame}
-use Rattle.gw_bvll.specs.Bvll as bvll
-use Rattle.gw_bvll.specs.Reading.{bvll_at}
-use Rattle.gw_bvll.proofs.Messages.{reads_as}
-use Rattle.gw_npdu.specs.declared.fault.NpduFault.{NpduFault}
-use Rattle.gw_npdu.specs.Npdu.{Fields}
-use Rattle.gw_npdu.specs.Reading.{npdu_at}
+use Rattle.gw_frames.specs.declared.bvll.fault.BvllFault.{BvllFault}
+use Rattle.gw_frames.specs.bvll.Bvll.{HasFields}
+use Rattle.gw_frames.specs.bvll.Bvll.{Message as Frame}
+use Rattle.gw_frames.specs.bvll.Bvll as bvll
+use Rattle.gw_frames.specs.bvll.Reading.{bvll_at}
+use Rattle.gw_frames.proofs.bvll_lemmas.Messages.{reads_as}
+use Rattle.gw_frames.specs.declared.npdu.fault.NpduFault.{NpduFault}
+use Rattle.gw_frames.specs.npdu.Npdu.{Fields}
+use Rattle.gw_frames.specs.npdu.Reading.{npdu_at}
 use Rattle.gw_relay.specs.Cast.{accepts, is_unregistered}
 use Rattle.gw_relay.specs.Claim.{claimed, link_source}
 use Rattle.gw_relay.specs.Entry.{admits}

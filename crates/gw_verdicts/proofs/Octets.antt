@@ -10,10 +10,10 @@ use Rattle.gw_addr.specs.Reading.{AreOctets}
 use Rattle.gw_addr.proofs.Reading.{AreOctets-drop, AreOctets-rest, bind_ok, both_true, ok_is}
 use Rattle.gw_tags.specs.Object.{IsObject, Object}
 use Rattle.gw_tags.proofs.Octets.{behind_octets, none}
-use Rattle.gw_npdu.specs.Npdu.{Address, Destination, Fields, FitsAddress, FitsPayload, IsBadDestination, IsBadSource, Payload, address_part, apdu, destination_part, header_with, hops_part, message, payload_octets, payload_part, source_part}
-use Rattle.gw_npdu.specs.Numbers.{first_vendor_kind, protocol_version}
-use Rattle.gw_npdu.specs.Reading.{npdu_at}
-use Rattle.gw_npdu.proofs.Whole.{npdu_takes}
+use Rattle.gw_frames.specs.npdu.Npdu.{Address, Destination, Fields, FitsAddress, FitsPayload, IsBadDestination, IsBadSource, Payload, address_part, apdu, destination_part, header_with, hops_part, message, payload_octets, payload_part, source_part}
+use Rattle.gw_frames.specs.npdu.Numbers.{first_vendor_kind, protocol_version}
+use Rattle.gw_frames.specs.npdu.Reading.{npdu_at}
+use Rattle.gw_frames.proofs.npdu_lemmas.Whole.{npdu_takes}
 use Rattle.gw_apdu.specs.Apdu.{IsApdu, code_of, fixed_part, segment_part}
 use Rattle.gw_apdu.specs.Apdu.{Fields as Apdu}
 use Rattle.gw_apdu.specs.Reading.{apdu_at, code_at}

@@ -9,11 +9,11 @@ use Rattle.gw_addr.specs.Address.{IsAddress, big_endian, octets_of}
 use Rattle.gw_addr.specs.Reading.{AreOctets}
 use Rattle.gw_addr.specs.Station.{is_network, key_of}
 use Rattle.gw_addr.proofs.Addresses.{key_below, keys_below, length-address}
-use Rattle.gw_bvll.specs.Bvll.{HasFields}
-use Rattle.gw_bvll.specs.Bvll.{Message as Frame}
-use Rattle.gw_bvll.specs.Bvll as bvll
-use Rattle.gw_npdu.specs.Npdu.{Destination, Fields, Payload, apdu, payload_octets}
-use Rattle.gw_npdu.specs.Npdu.{message as network_message}
+use Rattle.gw_frames.specs.bvll.Bvll.{HasFields}
+use Rattle.gw_frames.specs.bvll.Bvll.{Message as Frame}
+use Rattle.gw_frames.specs.bvll.Bvll as bvll
+use Rattle.gw_frames.specs.npdu.Npdu.{Destination, Fields, Payload, apdu, payload_octets}
+use Rattle.gw_frames.specs.npdu.Npdu.{message as network_message}
 use Rattle.gw_rules.specs.declared.format.Format.{Format}
 use Rattle.gw_rules.specs.declared.format.Format.TheVariants.{One, Two, Three}
 use Rattle.gw_rules.specs.Format.{names_stations}

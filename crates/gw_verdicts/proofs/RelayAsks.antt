@@ -13,10 +13,10 @@ use Rattle.gw_apdu.specs.declared.fault.ApduFault.{ApduFault}
 use Rattle.gw_apdu.specs.declared.header.ConfirmedRequest.{ConfirmedRequest as Request}
 use Rattle.gw_apdu.specs.declared.header.Header.{Header}
 use Rattle.gw_apdu.specs.declared.header.Header.TheVariants as header
-use Rattle.gw_npdu.specs.declared.kind.MessageKind.{MessageKind}
-use Rattle.gw_npdu.specs.declared.kind.MessageKind.TheVariants.{IAmRouterToNetwork, WhatIsNetworkNumber, WhoIsRouterToNetwork}
-use Rattle.gw_npdu.specs.Kind.{kind_number}
-use Rattle.gw_npdu.specs.Npdu.{Address, Destination, Payload, apdu, message, payload_octets}
+use Rattle.gw_frames.specs.declared.npdu.kind.MessageKind.{MessageKind}
+use Rattle.gw_frames.specs.declared.npdu.kind.MessageKind.TheVariants.{IAmRouterToNetwork, WhatIsNetworkNumber, WhoIsRouterToNetwork}
+use Rattle.gw_frames.specs.npdu.Kind.{kind_number}
+use Rattle.gw_frames.specs.npdu.Npdu.{Address, Destination, Payload, apdu, message, payload_octets}
 use Rattle.gw_rules.specs.declared.format.Format.{Format}
 use Rattle.gw_rules.specs.declared.format.Format.TheVariants.{One, Two, Three}
 use Rattle.gw_routes.specs.Table.{Table, way}

@@ -8,9 +8,9 @@ use Rattle.gw_addr.specs.declared.bip.BipAddr.{BipAddr}
 use Rattle.gw_addr.specs.declared.station.Source.{Source}
 use Rattle.gw_addr.specs.Address.{IsAddress}
 use Rattle.gw_addr.specs.Station.{key_of}
-use Rattle.gw_bvll.specs.Bvll.{HasFields}
-use Rattle.gw_bvll.specs.Bvll.{Message as Frame}
-use Rattle.gw_npdu.specs.Npdu.{Address, Destination}
+use Rattle.gw_frames.specs.bvll.Bvll.{HasFields}
+use Rattle.gw_frames.specs.bvll.Bvll.{Message as Frame}
+use Rattle.gw_frames.specs.npdu.Npdu.{Address, Destination}
 use Rattle.gw_configuration.specs.Configuration.{Configuration}
 use Rattle.gw_configuration.specs.declared.object.Object.{Object as ConfigurationObject}
 use Rattle.gw_configuration.specs.declared.port.Port.{Port as ConfiguredPort}

@@ -14,11 +14,11 @@ use Rattle.gw_audit.specs.declared.entry.ShownAsk.{ShownAsk}
 use Rattle.gw_audit.specs.declared.entry.Stations.{Stations}
 use Rattle.gw_audit.specs.internal.Reading.{shown_by}
 use Rattle.gw_audit.proofs.TranslatingLemmas.{line_again, shown_again, told_again}
-use Rattle.gw_bvll.specs.declared.fault.BvllFault.{BvllFault}
-use Rattle.gw_bvll.specs.Bvll.{Message as Frame}
-use Rattle.gw_bvll.specs.Bvll as bvll
-use Rattle.gw_bvll.specs.Reading.{bvll_at}
-use Rattle.gw_npdu.specs.Npdu.{Fields}
+use Rattle.gw_frames.specs.declared.bvll.fault.BvllFault.{BvllFault}
+use Rattle.gw_frames.specs.bvll.Bvll.{Message as Frame}
+use Rattle.gw_frames.specs.bvll.Bvll as bvll
+use Rattle.gw_frames.specs.bvll.Reading.{bvll_at}
+use Rattle.gw_frames.specs.npdu.Npdu.{Fields}
 use Rattle.gw_objects.specs.Objects.{Database}
 use Rattle.gw_objects.specs.Property.{properties}
 use Rattle.gw_objects.specs.declared.configured.Configured.{Configured}

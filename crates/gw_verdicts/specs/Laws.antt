@@ -12,7 +12,7 @@ use Rattle.gw_audit.specs.declared.denial.Denial.{Denial}
 use Rattle.gw_audit.specs.declared.entry.ShownAsk.{ShownAsk}
 use Rattle.gw_rules.specs.Ask.{Ask}
 use Rattle.gw_rules.specs.RuleList.{HasNumber, first}
-use Rattle.gw_bvll.specs.Bvll.{register}
+use Rattle.gw_frames.specs.bvll.Bvll.{register}
 use Rattle.gw_configuration.specs.Configuration.{Configuration}
 use Rattle.gw_configuration.specs.declared.object.Object.{Object}
 use Rattle.gw_configuration.specs.declared.port.Port.{Port}

@@ -1,7 +1,7 @@
 -- What a wire reports: each call of it, and what came of the call.
 use Rattle.std.specs.Prelude.{◌≡◌, ℕ, ◌≤◌, List, ◌++◌, take, Option, Some, None, Result, Ok, Err, ⊤}
 use Rattle.gw_script.specs.Event.{Event, Datagram, Tick}
-use Rattle.gw_bvll.specs.Sending.{Sending}
+use Rattle.gw_frames.specs.bvll.Sending.{Sending}
 use Rattle.gw_wire.specs.declared.wire.TheConstants.{RECEIVE_ROOM}
 use Rattle.gw_wire.specs.declared.wire.Got.{Got}
 use Rattle.gw_wire.specs.declared.wire.Got.TheVariants as got

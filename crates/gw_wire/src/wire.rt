@@ -8,7 +8,7 @@ use thiserror::Error;
 
 /// How many octets a datagram is received to: one more than the longest that is heard, so that a
 /// longer one is noticed.
-pub const RECEIVE_ROOM: usize = gw_bvll::MAX_LEN + 1;
+pub const RECEIVE_ROOM: usize = gw_frames::bvll::MAX_LEN + 1;
 
 /// What a wire hands in.
 #[derive(Clone, Copy)]

@@ -1,14 +1,14 @@
 -- The NPDU that is read of a frame, and why a frame is dropped of which none is read.
 use Rattle.std.specs.Prelude.{ℕ, List, length, Option, Some, None, Result, Ok, Err, nat_le, if◌then◌else◌}
-use Rattle.gw_bvll.specs.Bvll.{view}
-use Rattle.gw_bvll.specs.Bvll.{Message as Frame}
-use Rattle.gw_bvll.specs.declared.fault.BvllFault.{BvllFault}
-use Rattle.gw_bvll.specs.declared.message.Bvll.{Bvll}
-use Rattle.gw_npdu.specs.Npdu.{Fields}
-use Rattle.gw_npdu.specs.Numbers.{max_len}
-use Rattle.gw_npdu.specs.Reading.{npdu_at}
-use Rattle.gw_npdu.specs.declared.fault.NpduFault.{NpduFault}
-use Rattle.gw_npdu.specs.declared.fault.NpduFault.TheVariants.{Short}
+use Rattle.gw_frames.specs.bvll.Bvll.{view}
+use Rattle.gw_frames.specs.bvll.Bvll.{Message as Frame}
+use Rattle.gw_frames.specs.declared.bvll.fault.BvllFault.{BvllFault}
+use Rattle.gw_frames.specs.declared.bvll.message.Bvll.{Bvll}
+use Rattle.gw_frames.specs.npdu.Npdu.{Fields}
+use Rattle.gw_frames.specs.npdu.Numbers.{max_len}
+use Rattle.gw_frames.specs.npdu.Reading.{npdu_at}
+use Rattle.gw_frames.specs.declared.npdu.fault.NpduFault.{NpduFault}
+use Rattle.gw_frames.specs.declared.npdu.fault.NpduFault.TheVariants.{Short}
 use Rattle.gw_core.specs.declared.drops.DropReason.{DropReason}
 use Rattle.gw_core.specs.declared.drops.DropReason.TheVariants.{Ignored, Malformed}
 use Rattle.gw_core.specs.Receive.{payload_of}

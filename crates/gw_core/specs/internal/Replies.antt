@@ -1,6 +1,6 @@
 -- What the device answers to a node of the port's own network.
 use Rattle.std.specs.Prelude.{ℕ, List, [], ◌∷◌, false, Some, None}
-use Rattle.gw_npdu.specs.Npdu.{Fields, apdu}
+use Rattle.gw_frames.specs.npdu.Npdu.{Fields, apdu}
 use Rattle.gw_core.specs.Reply.{device_station}
 
 -- the request names no source, so the reply names no destination (clause 6.2.2)

@@ -1,9 +1,9 @@
 -- What the code's steps do about a message, as far as they have come.
 use Rattle.std.specs.Prelude.{◌≡◌, Bool, true, false, not, ◌&&◌, ◌||◌, List, [], ◌++◌, Option, None, if◌then◌else◌}
-use Rattle.gw_bvll.specs.Bvll.{original_unicast}
-use Rattle.gw_bvll.specs.Bvll.{Message as Frame}
+use Rattle.gw_frames.specs.bvll.Bvll.{original_unicast}
+use Rattle.gw_frames.specs.bvll.Bvll.{Message as Frame}
 use Rattle.gw_device.specs.Response.{HasPlace}
-use Rattle.gw_npdu.specs.Npdu.{Payload, apdu, message}
+use Rattle.gw_frames.specs.npdu.Npdu.{Payload, apdu, message}
 use Rattle.gw_objects.specs.Objects.{Database}
 use Rattle.gw_relay.specs.Cast.{cast_asks, cast_sends, goes_on}
 use Rattle.gw_relay.specs.Entry.{admits, entry_response}

@@ -1,6 +1,6 @@
 -- What the code's values mean, without where they lie in memory.
 use Rattle.std.specs.Prelude.{not, if◌then◌else◌, Option, Some, None}
-use Rattle.gw_bvll.specs.Bvll.{view as frame_view}
+use Rattle.gw_frames.specs.bvll.Bvll.{view as frame_view}
 use Rattle.gw_relay.specs.Cast.{accepts, is_unregistered}
 use Rattle.gw_relay.specs.Claim.{local_source}
 use Rattle.gw_relay.specs.Message.{Message, message_view}

@@ -1,8 +1,8 @@
 -- The octets of a message, if it isn't too long.
 use Rattle.std.specs.Prelude.{ℕ, List, length, Option, Some, None, nat_le, if◌then◌else◌}
-use Rattle.gw_bvll.specs.Bvll.{encoding}
-use Rattle.gw_bvll.specs.Bvll.{Message as Frame}
-use Rattle.gw_bvll.specs.declared.writing.TheConstants.{MAX_LEN}
+use Rattle.gw_frames.specs.bvll.Bvll.{encoding}
+use Rattle.gw_frames.specs.bvll.Bvll.{Message as Frame}
+use Rattle.gw_frames.specs.declared.bvll.writing.TheConstants.{MAX_LEN}
 
 abbrev pub within : Frame → Option (List ℕ)
 within message =

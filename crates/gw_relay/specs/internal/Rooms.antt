@@ -1,6 +1,6 @@
 -- What a buffer is to have room for.
 use Rattle.std.specs.Prelude.{ℕ, List, []}
-use Rattle.gw_bvll.specs.Bvll.{Message as Frame, distribute, forwarded, original_broadcast}
+use Rattle.gw_frames.specs.bvll.Bvll.{Message as Frame, distribute, forwarded, original_broadcast}
 
 -- the NPDU of a broadcast
 abbrev pub broadcast_npdu : Frame → List ℕ

@@ -1,7 +1,7 @@
 -- What is sent and changed once the policy was asked.
 use Rattle.std.specs.Prelude.{Bool, ◌&&◌, if◌then◌else◌, List, [], map, Option, None, Some}
 use Rattle.gw_addr.specs.declared.bip.BipAddr.{BipAddr}
-use Rattle.gw_bvll.specs.Bvll.{Message as Frame}
+use Rattle.gw_frames.specs.bvll.Bvll.{Message as Frame}
 use Rattle.gw_rules.specs.declared.format.Format.{Format}
 use Rattle.gw_rules.specs.declared.rule.Rule.{Rule}
 use Rattle.gw_relay.specs.Cast.{passed_on, targets}

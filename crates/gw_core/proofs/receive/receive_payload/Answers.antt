@@ -1,9 +1,9 @@
 use Rattle.std.proofs.Common.{◌∙◌, ap, sym, subst, Result, Some}
 use Rattle.gw_addr.specs.Reading.{Gives}
-use Rattle.gw_bvll.specs.Bvll.{view as frame_view}
-use Rattle.gw_npdu.specs.Npdu.{view as npdu_view}
-use Rattle.gw_npdu.specs.declared.fault.NpduFault.{NpduFault}
-use Rattle.gw_npdu.specs.declared.npdu.Npdu.{Npdu}
+use Rattle.gw_frames.specs.bvll.Bvll.{view as frame_view}
+use Rattle.gw_frames.specs.npdu.Npdu.{view as npdu_view}
+use Rattle.gw_frames.specs.declared.npdu.fault.NpduFault.{NpduFault}
+use Rattle.gw_frames.specs.declared.npdu.npdu.Npdu.{Npdu}
 use Rattle.gw_core.specs.internal.Frame.{frame_npdu}
 use Rattle.gw_core.proofs.HeardLemmas.{claimed_as, claimed_drop, heard_as, heard_drop, not_read_drop, unheard_as}
 use Rattle.gw_core.proofs.receive.receive_payload.Goals as goal

@@ -1,6 +1,6 @@
 use Rattle.std.proofs.Common.{◌≡◌, ◌++◌}
 use Rattle.gw_addr.specs.Entry.{bdt_entry}
-use Rattle.gw_bvll.specs.Entries.{left, lent}
+use Rattle.gw_frames.specs.bvll.Entries.{left, lent}
 use Rattle.gw_relay.proofs.link.copied.Given as goal
 
 -- what is copied and what is left are all entries

@@ -1,8 +1,8 @@
 use Rattle.std.proofs.Common.{ap, ◌∙◌, List, ℕ, ◌++◌, false, ◌≡◌}
 use Rattle.gw_bdt_fdt.specs.Peers.{are_too_many}
 use Rattle.gw_addr.specs.Entry.{bdt_entry}
-use Rattle.gw_bvll.specs.Bvll.{encoding, read_bdt_ack}
-use Rattle.gw_bvll.specs.Entries.{lent}
+use Rattle.gw_frames.specs.bvll.Bvll.{encoding, read_bdt_ack}
+use Rattle.gw_frames.specs.bvll.Entries.{lent}
 use Rattle.gw_relay.proofs.Lengths.{bdt_fits}
 use Rattle.gw_relay.proofs.octets.bdt_ack.Goals as goal
 

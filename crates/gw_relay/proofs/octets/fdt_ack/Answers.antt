@@ -2,8 +2,8 @@ use Rattle.std.proofs.Common.{ap, ◌∙◌, length, List, ℕ, ◌++◌, ◌≤
 use Rattle.std.proofs.lemmas.List.{length-map}
 use Rattle.gw_bdt_fdt.specs.Registrations.{shown}
 use Rattle.gw_addr.specs.Entry.{fdt_entry}
-use Rattle.gw_bvll.specs.Bvll.{encoding, read_fdt_ack}
-use Rattle.gw_bvll.specs.Entries.{lent}
+use Rattle.gw_frames.specs.bvll.Bvll.{encoding, read_fdt_ack}
+use Rattle.gw_frames.specs.bvll.Entries.{lent}
 use Rattle.gw_relay.proofs.Lengths.{fdt_fits}
 use Rattle.gw_relay.proofs.octets.fdt_ack.Goals as goal
 

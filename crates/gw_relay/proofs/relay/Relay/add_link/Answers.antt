@@ -1,6 +1,6 @@
 use Rattle.std.proofs.Common.{◌≡◌, ◌∙◌, sym, ap, List, [], ◌∷◌, ◌++◌, Option}
 use Rattle.std.specs.Option.{option_or}
-use Rattle.gw_bvll.specs.Bvll.{view}
+use Rattle.gw_frames.specs.bvll.Bvll.{view}
 use Rattle.gw_rules.specs.Ask.{Ask}
 use Rattle.gw_rules.specs.RuleList.{allows}
 use Rattle.gw_rules.specs.declared.format.Format.{Format}

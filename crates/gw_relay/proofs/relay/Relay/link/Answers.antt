@@ -1,5 +1,5 @@
 use Rattle.std.proofs.Common.{◌∙◌, ap}
-use Rattle.gw_bvll.specs.Bvll.{view}
+use Rattle.gw_frames.specs.bvll.Bvll.{view}
 use Rattle.gw_relay.specs.Link.{link_response}
 use Rattle.gw_rules.specs.Authorizer.{AuthorizerState}
 use Rattle.gw_relay.proofs.Adding.{walked_added}

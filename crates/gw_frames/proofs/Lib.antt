@@ -1,0 +1,2 @@
+pub mod bvll_lemmas
+pub mod npdu_lemmas

@@ -1,0 +1,2 @@
+pub mod bvll
+pub mod npdu

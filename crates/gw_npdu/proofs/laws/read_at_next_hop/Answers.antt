@@ -1,8 +1,0 @@
-use Rattle.gw_npdu.specs.Npdu.{view}
-use Rattle.gw_npdu.specs.Onward.{onward_view}
-use Rattle.gw_npdu.proofs.Whole.{next_again}
-use Rattle.gw_npdu.proofs.laws.read_at_next_hop.Goals as goal
-
-pub returns : goal.returns
-returns c =
-    next_again (view c.args.npdu.now) (onward_view c.args.how.now) (view c.next-next.result) c.next-next.ensures c.valid.ensures
