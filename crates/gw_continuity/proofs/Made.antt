@@ -5,7 +5,7 @@ use Rattle.gw_objects.specs.Write.{Write}
 use Rattle.gw_rules.specs.declared.format.Format.{Format}
 use Rattle.gw_rules.specs.declared.rule.Rule.{Rule}
 use Rattle.gw_script.specs.Event.{Event}
-use Rattle.gw_services.specs.Limits.{priority_of}
+use Rattle.gw_codecs.specs.services.Limits.{priority_of}
 use Rattle.gw_device.specs.declared.context.Context.{Context}
 use Rattle.gw_device.proofs.Writes.{changes_are_asked}
 use Rattle.gw_core.specs.Effects.{apdu_change, change_at, change_for}

@@ -23,9 +23,9 @@ use Rattle.gw_objects.specs.Property.{property_of}
 use Rattle.gw_objects.specs.Write.{Write, act_for, act_of, device_write, object_write, present_act, property_for, value_for, whole, write_of}
 use Rattle.gw_objects.proofs.Others.{no_device_write, ok_is}
 use Rattle.gw_priority.specs.History.{Act, Command, Relinquish, SetDefault}
-use Rattle.gw_tags.specs.Object.{Object}
-use Rattle.gw_tags.specs.Reading.{value_at}
-use Rattle.gw_tags.specs.Value.{Value, null, boolean, unsigned, signed, real, double, octet_string, character_string, bit_string, enumerated, date, time, object_id}
+use Rattle.gw_codecs.specs.tags.Object.{Object}
+use Rattle.gw_codecs.specs.tags.Reading.{value_at}
+use Rattle.gw_codecs.specs.tags.Value.{Value, null, boolean, unsigned, signed, real, double, octet_string, character_string, bit_string, enumerated, date, time, object_id}
 use Rattle.gw_objects.specs.Values.{fits}
 use Rattle.gw_continuity.specs.StateOf.{AllInRange, AreInRange}
 use Rattle.gw_continuity.proofs.Values.{SlotFits}

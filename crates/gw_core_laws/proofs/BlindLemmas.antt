@@ -28,7 +28,7 @@ use Rattle.gw_rules.specs.RuleList.{allows}
 use Rattle.gw_rules.specs.declared.rule.Rule.{Rule}
 use Rattle.gw_rules.proofs.EachAsk.{each_both, each_weaker, none_allowed}
 use Rattle.gw_script.specs.Event.{Event, Datagram, Tick}
-use Rattle.gw_tags.specs.Object.{Object}
+use Rattle.gw_codecs.specs.tags.Object.{Object}
 use Rattle.gw_core.specs.Asks.{apdu_asks, asks, asks_for, cast_asks_for, first_asks_for, manage_asks_for, message_asks, route_asks_for}
 use Rattle.gw_core_laws.specs.NoLeak.{AreBlind, AsksCarryTheirClaim, AsksToReadOn, IsOf, WritesAreHidden, by_claim, by_entry, claim, state_before}
 use Rattle.gw_core.specs.Marked.{kept}

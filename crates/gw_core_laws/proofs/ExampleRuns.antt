@@ -6,8 +6,8 @@ use Rattle.gw_rules.specs.Rule.{matches}
 use Rattle.gw_rules.specs.RuleList.{first, allows}
 use Rattle.gw_objects.specs.Table.{read_of}
 use Rattle.gw_objects.specs.Write.{write_of}
-use Rattle.gw_services.specs.MultiReading.{references_at}
-use Rattle.gw_tags.specs.Walk.{closing_at}
+use Rattle.gw_codecs.specs.services.MultiReading.{references_at}
+use Rattle.gw_codecs.specs.tags.Walk.{closing_at}
 use Rattle.gw_core.specs.Asks.{asks}
 use Rattle.gw_core.specs.Denials.{denials_at}
 use Rattle.gw_relay.specs.Cast.{cast_asks, cast_sends, spread}

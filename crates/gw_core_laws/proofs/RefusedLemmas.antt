@@ -5,12 +5,12 @@ use Rattle.std.specs.List.{AllByRecursion, Contains, flat_map, list_all, slice_i
 use Rattle.std.specs.Option.{option_map}
 use Rattle.std.proofs.lemmas.List.Concat.{flat_map-cons}
 use Rattle.gw_addr.specs.declared.bip.BipAddr.{BipAddr}
-use Rattle.gw_apdu.specs.declared.fault.ApduFault.{ApduFault}
-use Rattle.gw_apdu.specs.declared.header.ConfirmedRequest.{ConfirmedRequest}
-use Rattle.gw_apdu.specs.declared.header.Header.{Header}
-use Rattle.gw_apdu.specs.declared.header.Header.TheVariants as header
-use Rattle.gw_apdu.specs.Apdu.{Fields as Apdu}
-use Rattle.gw_apdu.specs.Reading.{apdu_at}
+use Rattle.gw_codecs.specs.declared.apdu.fault.ApduFault.{ApduFault}
+use Rattle.gw_codecs.specs.declared.apdu.header.ConfirmedRequest.{ConfirmedRequest}
+use Rattle.gw_codecs.specs.declared.apdu.header.Header.{Header}
+use Rattle.gw_codecs.specs.declared.apdu.header.Header.TheVariants as header
+use Rattle.gw_codecs.specs.apdu.Apdu.{Fields as Apdu}
+use Rattle.gw_codecs.specs.apdu.Reading.{apdu_at}
 use Rattle.gw_frames.specs.bvll.Bvll as bvll
 use Rattle.gw_frames.specs.bvll.Bvll.{Message as Frame}
 use Rattle.gw_device.specs.declared.context.Context.{Context}
@@ -39,13 +39,13 @@ use Rattle.gw_rules.specs.declared.rule.Rule.{Rule}
 use Rattle.gw_rules.specs.RuleList.{allows}
 use Rattle.gw_rules.proofs.EachAsk.{each_both, each_weaker}
 use Rattle.gw_script.specs.Event.{Datagram, Tick}
-use Rattle.gw_services.specs.Choices.{who_has, who_is}
-use Rattle.gw_services.specs.Multi.{Reference, list_ends}
-use Rattle.gw_services.specs.Reply.{error_item}
-use Rattle.gw_services.specs.WhoHas.{who_has_at}
-use Rattle.gw_services.specs.WhoIs.{who_is_at}
-use Rattle.gw_services.specs.declared.fault.BodyFault.{BodyFault}
-use Rattle.gw_tags.specs.Object.{Object}
+use Rattle.gw_codecs.specs.services.Choices.{who_has, who_is}
+use Rattle.gw_codecs.specs.services.Multi.{Reference, list_ends}
+use Rattle.gw_codecs.specs.services.Reply.{error_item}
+use Rattle.gw_codecs.specs.services.WhoHas.{who_has_at}
+use Rattle.gw_codecs.specs.services.WhoIs.{who_is_at}
+use Rattle.gw_codecs.specs.declared.services.fault.BodyFault.{BodyFault}
+use Rattle.gw_codecs.specs.tags.Object.{Object}
 use Rattle.gw_core.specs.Asks.{apdu_asks, asks, asks_for, cast_asks_for, manage_asks_for, message_asks, route_asks_for}
 use Rattle.gw_core.specs.Effects.{answer_sends, apdu_answer, change_at, change_for, changed, effects_at, message_sends, move_at, relay_change_for, sends_for, serve_sends_for}
 use Rattle.gw_core.specs.History.{next}

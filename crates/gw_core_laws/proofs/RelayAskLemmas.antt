@@ -5,12 +5,12 @@ use Rattle.std.specs.Int.{w16, from_be_bytes}
 use Rattle.std.specs.List.{AllByRecursion, list_all}
 use Rattle.std.specs.Option.{option_map_or}
 use Rattle.gw_addr.specs.Station.{network_of}
-use Rattle.gw_apdu.specs.Apdu.{Fields as Apdu}
-use Rattle.gw_apdu.specs.Reading.{apdu_at}
-use Rattle.gw_apdu.specs.declared.fault.ApduFault.{ApduFault}
-use Rattle.gw_apdu.specs.declared.header.ConfirmedRequest.{ConfirmedRequest as Request}
-use Rattle.gw_apdu.specs.declared.header.Header.{Header}
-use Rattle.gw_apdu.specs.declared.header.Header.TheVariants as header
+use Rattle.gw_codecs.specs.apdu.Apdu.{Fields as Apdu}
+use Rattle.gw_codecs.specs.apdu.Reading.{apdu_at}
+use Rattle.gw_codecs.specs.declared.apdu.fault.ApduFault.{ApduFault}
+use Rattle.gw_codecs.specs.declared.apdu.header.ConfirmedRequest.{ConfirmedRequest as Request}
+use Rattle.gw_codecs.specs.declared.apdu.header.Header.{Header}
+use Rattle.gw_codecs.specs.declared.apdu.header.Header.TheVariants as header
 use Rattle.gw_rules.specs.declared.format.Format.{Format}
 use Rattle.gw_rules.specs.declared.format.Format.TheVariants.{One, Two, Three}
 use Rattle.gw_frames.specs.npdu.Npdu.{Destination, Payload, apdu, message, payload_octets}
@@ -33,12 +33,12 @@ use Rattle.gw_rules.specs.RuleList.{allows}
 use Rattle.gw_rules.specs.declared.rule.Rule.{Rule}
 use Rattle.gw_rules.specs.declared.operation.Operation.TheVariants as operations
 use Rattle.gw_rules.proofs.EachAsk.{each_both}
-use Rattle.gw_services.specs.Choices.{read_property, read_property_multiple, write_property}
-use Rattle.gw_services.specs.Multi.{Reference}
-use Rattle.gw_services.specs.MultiReading.{multi_at}
-use Rattle.gw_services.specs.Read.{Read, read_at}
-use Rattle.gw_services.specs.Write.{Write, write_at}
-use Rattle.gw_services.specs.declared.fault.BodyFault.{BodyFault}
+use Rattle.gw_codecs.specs.services.Choices.{read_property, read_property_multiple, write_property}
+use Rattle.gw_codecs.specs.services.Multi.{Reference}
+use Rattle.gw_codecs.specs.services.MultiReading.{multi_at}
+use Rattle.gw_codecs.specs.services.Read.{Read, read_at}
+use Rattle.gw_codecs.specs.services.Write.{Write, write_at}
+use Rattle.gw_codecs.specs.declared.services.fault.BodyFault.{BodyFault}
 
 -- an ask that isn't to list
 abbrev pub IsElse : Ask → Type 0

@@ -26,7 +26,7 @@ use Rattle.gw_rules.proofs.EachAsk.{none_rest}
 use Rattle.gw_rules.specs.declared.format.Format.{Format}
 use Rattle.gw_rules.specs.declared.rule.Rule.{Rule}
 use Rattle.gw_script.specs.Event.{Event, Datagram, Tick}
-use Rattle.gw_tags.specs.Object.{Object}
+use Rattle.gw_codecs.specs.tags.Object.{Object}
 use Rattle.gw_core.specs.declared.effects.Effects.{Effects}
 use Rattle.gw_core.specs.Asks.{apdu_asks, asks, asks_for, cast_asks_for, first_asks_for, manage_asks_for as asks_managed, message_asks, route_asks_for}
 use Rattle.gw_core.specs.Denials.{denials_at, denials_of}

@@ -12,7 +12,7 @@ use Rattle.gw_script.specs.Event.{Event, Datagram, Tick}
 use Rattle.gw_core.specs.State.{State}
 use Rattle.gw_core.specs.Effects.{nothing, passes_end}
 use Rattle.gw_core.specs.History.{effects, run, state_after}
-use Rattle.gw_tags.specs.Object.{Object}
+use Rattle.gw_codecs.specs.tags.Object.{Object}
 use Rattle.gw_core_laws.specs.NoLeak.{IsWriteOf, LeavesOut}
 use Rattle.gw_core.specs.Marked.{kept}
 use Rattle.gw_rules.specs.declared.field.FieldName.TheVariants.{Instance, ObjectType, Operation, SourceKey}

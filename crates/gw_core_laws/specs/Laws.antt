@@ -27,16 +27,16 @@ use Rattle.gw_rules.specs.Format.{names_stations}
 use Rattle.gw_rules.specs.declared.operation.Operation.TheVariants.{Claim, Enter}
 use Rattle.gw_rules.specs.declared.rule.Rule.{Rule}
 use Rattle.gw_rules.specs.RuleList.{first, allows}
-use Rattle.gw_apdu.specs.declared.header.ConfirmedRequest.{ConfirmedRequest}
-use Rattle.gw_apdu.specs.Answers.{error}
+use Rattle.gw_codecs.specs.declared.apdu.header.ConfirmedRequest.{ConfirmedRequest}
+use Rattle.gw_codecs.specs.apdu.Answers.{error}
 use Rattle.gw_objects.specs.Objects.{Database, database_of}
-use Rattle.gw_services.specs.Read.{Read}
-use Rattle.gw_services.specs.Write.{Write}
+use Rattle.gw_codecs.specs.services.Read.{Read}
+use Rattle.gw_codecs.specs.services.Write.{Write}
 use Rattle.gw_device.specs.declared.context.Context.{Context}
 use Rattle.gw_device.specs.Errors.{error_of}
 use Rattle.gw_device.specs.Read.{named_read, read_ask, read_response}
 use Rattle.gw_device.specs.Response.{to_client}
-use Rattle.gw_services.specs.Choices.{read_property, write_property}
+use Rattle.gw_codecs.specs.services.Choices.{read_property, write_property}
 use Rattle.gw_device.specs.Write.{write_ask, write_response}
 use Rattle.gw_core.specs.Asks.{asks, cast_asks_for, manage_asks_for, route_asks_for}
 use Rattle.gw_core.specs.Denials.{rule_name}

@@ -5,8 +5,8 @@ use Rattle.std.specs.Prelude.{None, slice_get}
 use Rattle.std.specs.Prelude.{is_some, if◌then◌else◌}
 use Rattle.std.specs.List.{Contains, flat_map, list_all}
 use Rattle.gw_addr.specs.declared.bip.BipAddr.{BipAddr}
-use Rattle.gw_apdu.specs.declared.header.ConfirmedRequest.{ConfirmedRequest}
-use Rattle.gw_apdu.specs.declared.writing.ServiceError.{ServiceError}
+use Rattle.gw_codecs.specs.declared.apdu.header.ConfirmedRequest.{ConfirmedRequest}
+use Rattle.gw_codecs.specs.declared.apdu.writing.ServiceError.{ServiceError}
 use Rattle.gw_frames.specs.bvll.Bvll.{write_bdt, read_bdt, register, read_fdt, delete}
 use Rattle.gw_frames.specs.bvll.Bvll.{Message as Frame}
 use Rattle.gw_device.specs.declared.context.Context.{Context}
@@ -27,9 +27,9 @@ use Rattle.gw_rules.specs.declared.operation.Operation.TheVariants as operations
 use Rattle.gw_rules.specs.declared.rule.Rule.{Rule}
 use Rattle.gw_rules.specs.RuleList.{allows}
 use Rattle.gw_script.specs.Event.{Event}
-use Rattle.gw_services.specs.Multi.{Reference, head_part, list_ends, tail_part}
-use Rattle.gw_services.specs.Reply.{error_item}
-use Rattle.gw_tags.specs.Object.{Object}
+use Rattle.gw_codecs.specs.services.Multi.{Reference, head_part, list_ends, tail_part}
+use Rattle.gw_codecs.specs.services.Reply.{error_item}
+use Rattle.gw_codecs.specs.tags.Object.{Object}
 use Rattle.gw_core.specs.Asks.{asks}
 use Rattle.gw_core.specs.Effects.{effects_at, serve_sends_for}
 use Rattle.gw_core.specs.History.{next}

@@ -2,12 +2,12 @@
 use Rattle.std.proofs.Common.{◌≡◌, sym, ap, refl, subst, ℕ, Bool, true, false, List, [], ◌∷◌, Option, Some, None, Result, Ok, Err, ◌∙◌}
 use Rattle.std.specs.Prelude.{◌==◌, if◌then◌else◌, is_some}
 use Rattle.std.specs.List.{AllByRecursion}
-use Rattle.gw_apdu.specs.declared.fault.ApduFault.{ApduFault}
-use Rattle.gw_apdu.specs.declared.header.ConfirmedRequest.{ConfirmedRequest}
-use Rattle.gw_apdu.specs.declared.header.Header.{Header}
-use Rattle.gw_apdu.specs.declared.header.Header.TheVariants as header
-use Rattle.gw_apdu.specs.Apdu.{Fields as Apdu}
-use Rattle.gw_apdu.specs.Reading.{apdu_at}
+use Rattle.gw_codecs.specs.declared.apdu.fault.ApduFault.{ApduFault}
+use Rattle.gw_codecs.specs.declared.apdu.header.ConfirmedRequest.{ConfirmedRequest}
+use Rattle.gw_codecs.specs.declared.apdu.header.Header.{Header}
+use Rattle.gw_codecs.specs.declared.apdu.header.Header.TheVariants as header
+use Rattle.gw_codecs.specs.apdu.Apdu.{Fields as Apdu}
+use Rattle.gw_codecs.specs.apdu.Reading.{apdu_at}
 use Rattle.gw_objects.specs.declared.configured.Configured.{Configured}
 use Rattle.gw_objects.specs.declared.fault.WriteFault.{WriteFault}
 use Rattle.gw_objects.specs.declared.property.ObjectType.{ObjectType}
@@ -24,15 +24,15 @@ use Rattle.gw_rules.specs.Allowed.{NoneAllowed}
 use Rattle.gw_rules.specs.Ask.{Ask, IsFor, IsFrom}
 use Rattle.gw_rules.specs.RuleList.{allows}
 use Rattle.gw_rules.proofs.EachAsk.{each_both}
-use Rattle.gw_services.specs.declared.fault.BodyFault.{BodyFault}
-use Rattle.gw_services.specs.Multi.{Reference, list_ends}
-use Rattle.gw_services.specs.MultiReading.{multi_at}
-use Rattle.gw_services.specs.Read.{read_at}
-use Rattle.gw_services.specs.WhoHas.{who_has_at}
-use Rattle.gw_services.specs.WhoIs.{who_is_at}
-use Rattle.gw_services.specs.Limits.{priority_of}
-use Rattle.gw_services.specs.Write.{Write as Request, write_at}
-use Rattle.gw_tags.specs.Object.{Object}
+use Rattle.gw_codecs.specs.declared.services.fault.BodyFault.{BodyFault}
+use Rattle.gw_codecs.specs.services.Multi.{Reference, list_ends}
+use Rattle.gw_codecs.specs.services.MultiReading.{multi_at}
+use Rattle.gw_codecs.specs.services.Read.{read_at}
+use Rattle.gw_codecs.specs.services.WhoHas.{who_has_at}
+use Rattle.gw_codecs.specs.services.WhoIs.{who_is_at}
+use Rattle.gw_codecs.specs.services.Limits.{priority_of}
+use Rattle.gw_codecs.specs.services.Write.{Write as Request, write_at}
+use Rattle.gw_codecs.specs.tags.Object.{Object}
 use Rattle.gw_device.specs.declared.context.Context.{Context}
 use Rattle.gw_device.specs.Asks.{named_object}
 use Rattle.gw_device.specs.Device.{apdu_response, confirmed_response, device_response, header_response, or_reject, or_silence, service_response}
@@ -41,7 +41,7 @@ use Rattle.gw_device.specs.Laws.{AsksHaveTheirSender, AsksHaveTheirSource, IsSen
 use Rattle.gw_device.specs.Multi.{Part, members_part, multi_ask, multi_part, multi_response, named_part, properties_part, reference_part}
 use Rattle.gw_device.specs.Read.{read_response}
 use Rattle.gw_device.specs.Response.{Response}
-use Rattle.gw_services.specs.Choices.{read_property, read_property_multiple, write_property, who_has, who_is}
+use Rattle.gw_codecs.specs.services.Choices.{read_property, read_property_multiple, write_property, who_has, who_is}
 use Rattle.gw_device.specs.Services.{set_of}
 use Rattle.gw_device.specs.WhoHas.{object_response, sought_object, who_has_response}
 use Rattle.gw_device.specs.WhoIs.{is_within, who_is_response}

@@ -4,7 +4,7 @@ use Rattle.std.specs.Prelude.{nat_le, OnOk}
 use Rattle.std.proofs.lemmas.Bool.{leb-true, leb-false, lt-leb}
 use Rattle.std.proofs.lemmas.List.{length-append}
 use Rattle.std.proofs.lemmas.Result.{on_ok_weaker}
-use Rattle.gw_apdu.specs.declared.header.ConfirmedRequest.{ConfirmedRequest}
+use Rattle.gw_codecs.specs.declared.apdu.header.ConfirmedRequest.{ConfirmedRequest}
 use Rattle.gw_device.specs.declared.context.Context.{Context}
 use Rattle.gw_device.specs.Response.{fits, fitted, header_room, with_room}
 use Rattle.gw_device.specs.internal.Limit.{LimitedState, extended, followed, or_abort}

@@ -3,11 +3,11 @@ use Rattle.std.proofs.Common.{◌≡◌, ◌≢◌, ◌≤◌, ℕ, List, ◌++�
 use Rattle.std.proofs.lemmas.List.{length-append, take_at}
 use Rattle.std.specs.Prelude.{OnErr, OnOk, vec_items, vec_len}
 use Rattle.std.specs.Global.{Vec}
-use Rattle.gw_apdu.specs.declared.writing.ServiceError.{ServiceError}
+use Rattle.gw_codecs.specs.declared.apdu.writing.ServiceError.{ServiceError}
 use Rattle.gw_objects.specs.declared.fault.ReadFault.{ReadFault}
 use Rattle.gw_objects.specs.declared.fault.ReadFault.TheVariants.{Memory}
 use Rattle.gw_objects.specs.Answer.{Answers}
-use Rattle.gw_services.specs.Reply.{error_item, value_item_head, value_item_tail}
+use Rattle.gw_codecs.specs.services.Reply.{error_item, value_item_head, value_item_tail}
 use Rattle.gw_device.specs.Errors.{read_error}
 use Rattle.gw_device.specs.Multi.{item}
 use Rattle.gw_device.specs.Read.{or_error}

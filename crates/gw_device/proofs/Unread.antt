@@ -2,13 +2,13 @@
 use Rattle.std.proofs.Common.{◌≡◌, ◌≢◌, ℕ, Bool, true, false, List, [], ◌∷◌, Option, Some, None, Result, Ok, Err, refl, ap, ◌∙◌}
 use Rattle.std.specs.Prelude.{◌==◌, if◌then◌else◌, is_some}
 use Rattle.gw_addr.specs.Reading.{◌>>=◌}
-use Rattle.gw_apdu.specs.declared.fault.ApduFault.{ApduFault}
-use Rattle.gw_apdu.specs.declared.header.ConfirmedRequest.{ConfirmedRequest}
-use Rattle.gw_apdu.specs.declared.header.Header.{Header}
-use Rattle.gw_apdu.specs.declared.header.Header.TheVariants as header
-use Rattle.gw_apdu.specs.declared.writing.ServiceError.{ServiceError}
-use Rattle.gw_apdu.specs.Apdu.{Fields}
-use Rattle.gw_apdu.specs.Reading.{apdu_at}
+use Rattle.gw_codecs.specs.declared.apdu.fault.ApduFault.{ApduFault}
+use Rattle.gw_codecs.specs.declared.apdu.header.ConfirmedRequest.{ConfirmedRequest}
+use Rattle.gw_codecs.specs.declared.apdu.header.Header.{Header}
+use Rattle.gw_codecs.specs.declared.apdu.header.Header.TheVariants as header
+use Rattle.gw_codecs.specs.declared.apdu.writing.ServiceError.{ServiceError}
+use Rattle.gw_codecs.specs.apdu.Apdu.{Fields}
+use Rattle.gw_codecs.specs.apdu.Reading.{apdu_at}
 use Rattle.gw_objects.specs.declared.configured.Configured.{Configured}
 use Rattle.gw_objects.specs.declared.configured.ConfiguredObject.{ConfiguredObject}
 use Rattle.gw_objects.specs.declared.fault.ReadFault.{ReadFault}
@@ -28,11 +28,11 @@ use Rattle.gw_rules.specs.declared.service.Service.TheVariants.{Confirmed}
 use Rattle.gw_rules.specs.Ask.{Ask}
 use Rattle.gw_rules.specs.RuleList.{allows}
 use Rattle.gw_rules.proofs.EachAsk.{none_front, none_rest}
-use Rattle.gw_services.specs.declared.fault.BodyFault.{BodyFault}
-use Rattle.gw_services.specs.Multi.{Reference, list_ends}
-use Rattle.gw_services.specs.MultiReading.{multi_at}
-use Rattle.gw_services.specs.Read.{Read, read_at}
-use Rattle.gw_tags.specs.Object.{Object}
+use Rattle.gw_codecs.specs.declared.services.fault.BodyFault.{BodyFault}
+use Rattle.gw_codecs.specs.services.Multi.{Reference, list_ends}
+use Rattle.gw_codecs.specs.services.MultiReading.{multi_at}
+use Rattle.gw_codecs.specs.services.Read.{Read, read_at}
+use Rattle.gw_codecs.specs.tags.Object.{Object}
 use Rattle.gw_device.specs.declared.context.Context.{Context}
 use Rattle.gw_device.specs.Asks.{named_object, property_ask}
 use Rattle.gw_device.specs.Device.{apdu_response, confirmed_response, device_asks, device_response, header_response, or_reject, service_response}
@@ -41,7 +41,7 @@ use Rattle.gw_device.specs.Laws.{AsksToRead, DifferIn, NoReadAllowed}
 use Rattle.gw_device.specs.Multi.{Part, asked, enclosed, item, joined, members_part, multi_ack, multi_ask, multi_part, multi_response, named_part, properties_part, property_part, reference_part, set_part}
 use Rattle.gw_device.specs.Read.{named_read, or_error, read_answer, read_ask, read_response, read_value}
 use Rattle.gw_device.specs.Response.{Response, fitted, to_client, unchanged}
-use Rattle.gw_services.specs.Choices.{read_property, read_property_multiple}
+use Rattle.gw_codecs.specs.services.Choices.{read_property, read_property_multiple}
 use Rattle.gw_device.specs.Services.{set_of}
 
 -- what another object reads as

@@ -4,12 +4,12 @@ use Rattle.std.specs.Prelude.{◌==◌, if◌then◌else◌, is_some, nat_le}
 use Rattle.std.specs.Option.{ok_or}
 use Rattle.std.proofs.lemmas.Bool.{and_parts, leb-true}
 use Rattle.gw_addr.proofs.Reading.{bind_ok}
-use Rattle.gw_apdu.specs.declared.fault.ApduFault.{ApduFault}
-use Rattle.gw_apdu.specs.declared.header.ConfirmedRequest.{ConfirmedRequest}
-use Rattle.gw_apdu.specs.declared.header.Header.{Header}
-use Rattle.gw_apdu.specs.declared.header.Header.TheVariants as header
-use Rattle.gw_apdu.specs.Apdu.{Fields as Apdu}
-use Rattle.gw_apdu.specs.Reading.{apdu_at}
+use Rattle.gw_codecs.specs.declared.apdu.fault.ApduFault.{ApduFault}
+use Rattle.gw_codecs.specs.declared.apdu.header.ConfirmedRequest.{ConfirmedRequest}
+use Rattle.gw_codecs.specs.declared.apdu.header.Header.{Header}
+use Rattle.gw_codecs.specs.declared.apdu.header.Header.TheVariants as header
+use Rattle.gw_codecs.specs.apdu.Apdu.{Fields as Apdu}
+use Rattle.gw_codecs.specs.apdu.Reading.{apdu_at}
 use Rattle.gw_objects.specs.Objects.{Database}
 use Rattle.gw_objects.specs.Write.{Write, write_of}
 use Rattle.gw_objects.proofs.Others.{ok_is}
@@ -17,19 +17,19 @@ use Rattle.gw_objects.proofs.Priorities.{writes_can_be_made}
 use Rattle.gw_priority.specs.Commandable.{IsPriority}
 use Rattle.gw_rules.specs.declared.rule.Rule.{Rule}
 use Rattle.gw_rules.specs.RuleList.{allows}
-use Rattle.gw_services.specs.declared.fault.BodyFault.{BodyFault}
-use Rattle.gw_services.specs.declared.fault.BodyFault.TheVariants.{InvalidTag, OutOfRange}
-use Rattle.gw_services.specs.Choices.{read_property, read_property_multiple, write_property, who_has, who_is}
-use Rattle.gw_services.specs.Limits.{last_number, last_priority, last_property, priority_of}
-use Rattle.gw_services.specs.MultiReading.{multi_at}
-use Rattle.gw_services.specs.Parameter.{in_range}
-use Rattle.gw_services.specs.Read.{read_at}
-use Rattle.gw_services.specs.Reading.{ended, given_at, number_at, number_given, number_in, number_maybe_at, object_at, ranged, values_at}
-use Rattle.gw_services.specs.WhoHas.{who_has_at}
-use Rattle.gw_services.specs.WhoIs.{who_is_at}
-use Rattle.gw_services.specs.Write.{Write as Request, write_at}
-use Rattle.gw_tags.specs.Number.{unsigned_of}
-use Rattle.gw_tags.specs.Object.{Object}
+use Rattle.gw_codecs.specs.declared.services.fault.BodyFault.{BodyFault}
+use Rattle.gw_codecs.specs.declared.services.fault.BodyFault.TheVariants.{InvalidTag, OutOfRange}
+use Rattle.gw_codecs.specs.services.Choices.{read_property, read_property_multiple, write_property, who_has, who_is}
+use Rattle.gw_codecs.specs.services.Limits.{last_number, last_priority, last_property, priority_of}
+use Rattle.gw_codecs.specs.services.MultiReading.{multi_at}
+use Rattle.gw_codecs.specs.services.Parameter.{in_range}
+use Rattle.gw_codecs.specs.services.Read.{read_at}
+use Rattle.gw_codecs.specs.services.Reading.{ended, given_at, number_at, number_given, number_in, number_maybe_at, object_at, ranged, values_at}
+use Rattle.gw_codecs.specs.services.WhoHas.{who_has_at}
+use Rattle.gw_codecs.specs.services.WhoIs.{who_is_at}
+use Rattle.gw_codecs.specs.services.Write.{Write as Request, write_at}
+use Rattle.gw_codecs.specs.tags.Number.{unsigned_of}
+use Rattle.gw_codecs.specs.tags.Object.{Object}
 use Rattle.gw_device.specs.declared.context.Context.{Context}
 use Rattle.gw_device.specs.Device.{apdu_response, device_change, header_response, or_reject, or_silence, service_response}
 use Rattle.gw_device.specs.Laws.{ChangesCanBeMade}

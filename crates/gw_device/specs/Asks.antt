@@ -8,7 +8,7 @@ use Rattle.gw_rules.specs.declared.operation.Operation.{Operation}
 use Rattle.gw_rules.specs.declared.service.Service.{Service}
 use Rattle.gw_rules.specs.Ask.{Ask, ask_of}
 use Rattle.gw_rules.specs.Service.{service_number}
-use Rattle.gw_tags.specs.Object.{Object}
+use Rattle.gw_codecs.specs.tags.Object.{Object}
 use Rattle.gw_device.specs.declared.context.Context.{Context}
 
 -- what a request asks for: whence it came, the device's network, its service, the property of an object, and the

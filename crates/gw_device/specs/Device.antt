@@ -1,30 +1,30 @@
 -- What the device does about an APDU, by its type and its service (ISO 16484-5, clauses 5.4.5 and
 -- 20.1): what it asks of the policy, what it answers, and what it changes.
 use Rattle.std.specs.Prelude.{ℕ, ◌==◌, if◌then◌else◌, is_some, List, Option, Result, Ok, Err}
-use Rattle.gw_apdu.specs.declared.fault.ApduFault.{ApduFault}
-use Rattle.gw_apdu.specs.declared.header.ConfirmedRequest.{ConfirmedRequest}
-use Rattle.gw_apdu.specs.declared.header.Header.{Header}
-use Rattle.gw_apdu.specs.declared.header.Header.TheVariants as header
-use Rattle.gw_apdu.specs.Answers.{abort, reject}
-use Rattle.gw_apdu.specs.Apdu.{Fields}
-use Rattle.gw_apdu.specs.Reading.{apdu_at}
-use Rattle.gw_apdu.specs.Reasons.{segmentation_not_supported, unrecognized_service}
+use Rattle.gw_codecs.specs.declared.apdu.fault.ApduFault.{ApduFault}
+use Rattle.gw_codecs.specs.declared.apdu.header.ConfirmedRequest.{ConfirmedRequest}
+use Rattle.gw_codecs.specs.declared.apdu.header.Header.{Header}
+use Rattle.gw_codecs.specs.declared.apdu.header.Header.TheVariants as header
+use Rattle.gw_codecs.specs.apdu.Answers.{abort, reject}
+use Rattle.gw_codecs.specs.apdu.Apdu.{Fields}
+use Rattle.gw_codecs.specs.apdu.Reading.{apdu_at}
+use Rattle.gw_codecs.specs.apdu.Reasons.{segmentation_not_supported, unrecognized_service}
 use Rattle.gw_objects.specs.Objects.{Database}
 use Rattle.gw_objects.specs.Write.{Write}
 use Rattle.gw_rules.specs.declared.rule.Rule.{Rule}
 use Rattle.gw_rules.specs.Ask.{Ask}
-use Rattle.gw_services.specs.declared.fault.BodyFault.{BodyFault}
-use Rattle.gw_services.specs.MultiReading.{multi_at}
-use Rattle.gw_services.specs.Read.{read_at}
-use Rattle.gw_services.specs.WhoHas.{who_has_at}
-use Rattle.gw_services.specs.WhoIs.{who_is_at}
-use Rattle.gw_services.specs.Write.{write_at}
+use Rattle.gw_codecs.specs.declared.services.fault.BodyFault.{BodyFault}
+use Rattle.gw_codecs.specs.services.MultiReading.{multi_at}
+use Rattle.gw_codecs.specs.services.Read.{read_at}
+use Rattle.gw_codecs.specs.services.WhoHas.{who_has_at}
+use Rattle.gw_codecs.specs.services.WhoIs.{who_is_at}
+use Rattle.gw_codecs.specs.services.Write.{write_at}
 use Rattle.gw_device.specs.declared.context.Context.{Context}
 use Rattle.gw_device.specs.Errors.{reject_reason}
 use Rattle.gw_device.specs.Multi.{multi_response}
 use Rattle.gw_device.specs.Read.{read_response}
 use Rattle.gw_device.specs.Response.{Answer, Response, silence, turned_down}
-use Rattle.gw_services.specs.Choices.{read_property, read_property_multiple, write_property, who_has, who_is}
+use Rattle.gw_codecs.specs.services.Choices.{read_property, read_property_multiple, write_property, who_has, who_is}
 use Rattle.gw_device.specs.WhoHas.{who_has_response}
 use Rattle.gw_device.specs.WhoIs.{who_is_response}
 use Rattle.gw_device.specs.Write.{write_response}

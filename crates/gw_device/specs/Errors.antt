@@ -2,16 +2,16 @@
 -- (ISO 16484-5, clause 18), and the reason of a reject (clause 21). Which fault has which is this
 -- project's choice.
 use Rattle.std.specs.Prelude.{ℕ}
-use Rattle.gw_apdu.specs.declared.writing.ServiceError.{ServiceError}
-use Rattle.gw_apdu.specs.Reasons.{invalid_tag, missing_required_parameter, parameter_out_of_range, too_many_arguments}
-use Rattle.gw_apdu.specs.Reasons.{inconsistent_parameters}
+use Rattle.gw_codecs.specs.declared.apdu.writing.ServiceError.{ServiceError}
+use Rattle.gw_codecs.specs.apdu.Reasons.{invalid_tag, missing_required_parameter, parameter_out_of_range, too_many_arguments}
+use Rattle.gw_codecs.specs.apdu.Reasons.{inconsistent_parameters}
 use Rattle.gw_objects.specs.declared.fault.ReadFault.{ReadFault}
 use Rattle.gw_objects.specs.declared.fault.ReadFault.TheVariants as read
 use Rattle.gw_objects.specs.declared.fault.WriteFault.{WriteFault}
 use Rattle.gw_objects.specs.declared.fault.WriteFault.TheVariants as write
-use Rattle.gw_services.specs.declared.fault.BodyFault.{BodyFault}
-use Rattle.gw_services.specs.declared.fault.BodyFault.TheVariants.{InvalidTag, Missing, OutOfRange, TooMany}
-use Rattle.gw_services.specs.declared.fault.BodyFault.TheVariants.{Inconsistent, Memory}
+use Rattle.gw_codecs.specs.declared.services.fault.BodyFault.{BodyFault}
+use Rattle.gw_codecs.specs.declared.services.fault.BodyFault.TheVariants.{InvalidTag, Missing, OutOfRange, TooMany}
+use Rattle.gw_codecs.specs.declared.services.fault.BodyFault.TheVariants.{Inconsistent, Memory}
 
 -- ---- classes (clause 18.1)
 

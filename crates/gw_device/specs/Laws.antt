@@ -1,11 +1,11 @@
 -- What an answer doesn't rest on, whose asks there are, and when there is a change.
 use Rattle.std.specs.Prelude.{◌≡◌, ◌≢◌, ℕ, List, Option, Some, None, Result, Ok, Err, ◌==◌, if◌then◌else◌}
 use Rattle.std.specs.List.{AllByRecursion}
-use Rattle.gw_apdu.specs.declared.fault.ApduFault.{ApduFault}
-use Rattle.gw_apdu.specs.declared.header.Header.{Header}
-use Rattle.gw_apdu.specs.declared.header.Header.TheVariants as header
-use Rattle.gw_apdu.specs.Apdu.{Fields}
-use Rattle.gw_apdu.specs.Reading.{apdu_at}
+use Rattle.gw_codecs.specs.declared.apdu.fault.ApduFault.{ApduFault}
+use Rattle.gw_codecs.specs.declared.apdu.header.Header.{Header}
+use Rattle.gw_codecs.specs.declared.apdu.header.Header.TheVariants as header
+use Rattle.gw_codecs.specs.apdu.Apdu.{Fields}
+use Rattle.gw_codecs.specs.apdu.Reading.{apdu_at}
 use Rattle.gw_objects.specs.declared.configured.Configured.{Configured}
 use Rattle.gw_objects.specs.Laws.{standing}
 use Rattle.gw_objects.specs.Objects.{Database, Slots, place_of}
@@ -15,12 +15,12 @@ use Rattle.gw_rules.specs.declared.operation.Operation.TheVariants as operation
 use Rattle.gw_rules.specs.declared.rule.Rule.{Rule}
 use Rattle.gw_rules.specs.Allowed.{NoneAllowed}
 use Rattle.gw_rules.specs.Ask.{Ask, IsFor, IsFrom}
-use Rattle.gw_services.specs.declared.fault.BodyFault.{BodyFault}
-use Rattle.gw_services.specs.Write.{Write, write_at}
-use Rattle.gw_tags.specs.Object.{Object}
+use Rattle.gw_codecs.specs.declared.services.fault.BodyFault.{BodyFault}
+use Rattle.gw_codecs.specs.services.Write.{Write, write_at}
+use Rattle.gw_codecs.specs.tags.Object.{Object}
 use Rattle.gw_device.specs.declared.context.Context.{Context}
 use Rattle.gw_device.specs.Device.{device_asks, device_change, device_response}
-use Rattle.gw_services.specs.Choices.{write_property}
+use Rattle.gw_codecs.specs.services.Choices.{write_property}
 
 -- ---- reads
 

@@ -2,9 +2,9 @@
 -- walk over the references: each property that is asked for has its item, with its value or the
 -- error in its place.
 use Rattle.std.specs.Prelude.{ℕ, Bool, if◌then◌else◌, List, [], ◌∷◌, ◌++◌, Option, Some, None, Result, Ok, Err}
-use Rattle.gw_apdu.specs.declared.header.ConfirmedRequest.{ConfirmedRequest}
-use Rattle.gw_apdu.specs.declared.writing.ServiceError.{ServiceError}
-use Rattle.gw_apdu.specs.Answers.{complex_ack}
+use Rattle.gw_codecs.specs.declared.apdu.header.ConfirmedRequest.{ConfirmedRequest}
+use Rattle.gw_codecs.specs.declared.apdu.writing.ServiceError.{ServiceError}
+use Rattle.gw_codecs.specs.apdu.Answers.{complex_ack}
 use Rattle.gw_objects.specs.declared.property.ObjectType.{ObjectType}
 use Rattle.gw_objects.specs.declared.property.Property.{Property}
 use Rattle.gw_objects.specs.declared.property.PropertySet.{PropertySet}
@@ -15,15 +15,15 @@ use Rattle.gw_rules.specs.declared.rule.Rule.{Rule}
 use Rattle.gw_rules.specs.declared.service.Service.TheVariants.{Confirmed}
 use Rattle.gw_rules.specs.Ask.{Ask}
 use Rattle.gw_rules.specs.RuleList.{allows}
-use Rattle.gw_services.specs.Multi.{Reference, head_part, tail_part, list_ends}
-use Rattle.gw_services.specs.Reply.{value_item_head, value_item_tail, error_item}
-use Rattle.gw_tags.specs.Object.{Object}
+use Rattle.gw_codecs.specs.services.Multi.{Reference, head_part, tail_part, list_ends}
+use Rattle.gw_codecs.specs.services.Reply.{value_item_head, value_item_tail, error_item}
+use Rattle.gw_codecs.specs.tags.Object.{Object}
 use Rattle.gw_device.specs.declared.context.Context.{Context}
 use Rattle.gw_device.specs.Asks.{property_ask, named_object}
 use Rattle.gw_device.specs.Errors.{read_denied, unknown_object}
 use Rattle.gw_device.specs.Read.{read_value}
 use Rattle.gw_device.specs.Response.{Response, unchanged, to_client, fitted}
-use Rattle.gw_services.specs.Choices.{read_property_multiple}
+use Rattle.gw_codecs.specs.services.Choices.{read_property_multiple}
 use Rattle.gw_device.specs.Services.{set_of}
 
 -- a part of the answer: what is asked for it, in order, and its octets

@@ -1,8 +1,8 @@
 -- ReadProperty (ISO 16484-5, clause 15.5).
 use Rattle.std.specs.Prelude.{ℕ, if◌then◌else◌, List, [], ◌∷◌, ◌++◌, Option, Result, Ok, Err}
-use Rattle.gw_apdu.specs.declared.header.ConfirmedRequest.{ConfirmedRequest}
-use Rattle.gw_apdu.specs.declared.writing.ServiceError.{ServiceError}
-use Rattle.gw_apdu.specs.Answers.{complex_ack, error}
+use Rattle.gw_codecs.specs.declared.apdu.header.ConfirmedRequest.{ConfirmedRequest}
+use Rattle.gw_codecs.specs.declared.apdu.writing.ServiceError.{ServiceError}
+use Rattle.gw_codecs.specs.apdu.Answers.{complex_ack, error}
 use Rattle.gw_objects.specs.declared.fault.ReadFault.{ReadFault}
 use Rattle.gw_objects.specs.Objects.{Database}
 use Rattle.gw_objects.specs.Table.{read_of}
@@ -11,14 +11,14 @@ use Rattle.gw_rules.specs.declared.rule.Rule.{Rule}
 use Rattle.gw_rules.specs.declared.service.Service.TheVariants.{Confirmed}
 use Rattle.gw_rules.specs.Ask.{Ask}
 use Rattle.gw_rules.specs.RuleList.{allows}
-use Rattle.gw_services.specs.Read.{Read}
-use Rattle.gw_services.specs.Reply.{read_answer_head, read_answer_tail}
-use Rattle.gw_tags.specs.Object.{Object}
+use Rattle.gw_codecs.specs.services.Read.{Read}
+use Rattle.gw_codecs.specs.services.Reply.{read_answer_head, read_answer_tail}
+use Rattle.gw_codecs.specs.tags.Object.{Object}
 use Rattle.gw_device.specs.declared.context.Context.{Context}
 use Rattle.gw_device.specs.Asks.{property_ask, named_object}
 use Rattle.gw_device.specs.Errors.{read_denied, read_error}
 use Rattle.gw_device.specs.Response.{Response, unchanged, to_client, fitted}
-use Rattle.gw_services.specs.Choices.{read_property}
+use Rattle.gw_codecs.specs.services.Choices.{read_property}
 
 -- the octets of a property, or the error that its fault is
 abbrev pub or_error : Result (List ℕ) ReadFault → Result (List ℕ) ServiceError

@@ -3,10 +3,10 @@ use Rattle.std.specs.Prelude.{◌≡◌, ◌<◌, ℕ, IfSome, Bool, true, false
 use Rattle.std.specs.Prelude.{◌++◌, length, drop}
 use Rattle.std.specs.Prelude.{Option, Some, None}
 use Rattle.std.specs.Option.{option_map}
-use Rattle.gw_apdu.specs.declared.header.ConfirmedRequest.{ConfirmedRequest}
-use Rattle.gw_apdu.specs.Apdu.{max_apdu_len}
-use Rattle.gw_apdu.specs.Answers.{abort}
-use Rattle.gw_apdu.specs.Reasons.{segmentation_not_supported}
+use Rattle.gw_codecs.specs.declared.apdu.header.ConfirmedRequest.{ConfirmedRequest}
+use Rattle.gw_codecs.specs.apdu.Apdu.{max_apdu_len}
+use Rattle.gw_codecs.specs.apdu.Answers.{abort}
+use Rattle.gw_codecs.specs.apdu.Reasons.{segmentation_not_supported}
 use Rattle.gw_objects.specs.Objects.{Database}
 use Rattle.gw_objects.specs.Write.{Write}
 use Rattle.gw_rules.specs.declared.rule.Rule.{Rule}

@@ -2,7 +2,7 @@
 use Rattle.std.specs.Prelude.{ℕ, ◌==◌, if◌then◌else◌, Option, Some, None}
 use Rattle.gw_objects.specs.declared.property.PropertySet.{PropertySet}
 use Rattle.gw_objects.specs.declared.property.PropertySet.TheVariants.{All, Required, Optional}
-use Rattle.gw_services.specs.Multi.{all_properties, required_properties, optional_properties}
+use Rattle.gw_codecs.specs.services.Multi.{all_properties, required_properties, optional_properties}
 
 -- the set that a property of this number names
 abbrev pub set_of : ℕ → Option PropertySet

@@ -9,13 +9,13 @@ use Rattle.gw_rules.specs.declared.operation.Operation.TheVariants as operation
 use Rattle.gw_rules.specs.declared.rule.Rule.{Rule}
 use Rattle.gw_rules.specs.declared.service.Service.TheVariants.{Unconfirmed}
 use Rattle.gw_rules.specs.Ask.{Ask}
-use Rattle.gw_services.specs.IHave.{i_have_encoding}
-use Rattle.gw_services.specs.WhoHas.{WhoHas, Sought, the_object, the_name}
-use Rattle.gw_tags.specs.Object.{Object}
+use Rattle.gw_codecs.specs.services.IHave.{i_have_encoding}
+use Rattle.gw_codecs.specs.services.WhoHas.{WhoHas, Sought, the_object, the_name}
+use Rattle.gw_codecs.specs.tags.Object.{Object}
 use Rattle.gw_device.specs.declared.context.Context.{Context}
 use Rattle.gw_device.specs.Asks.{property_ask}
 use Rattle.gw_device.specs.Response.{Response, silence}
-use Rattle.gw_services.specs.Choices.{who_has, i_have}
+use Rattle.gw_codecs.specs.services.Choices.{who_has, i_have}
 use Rattle.gw_device.specs.WhoIs.{unconfirmed, is_within, if_allowed}
 
 -- names are in character set 0

@@ -9,13 +9,13 @@ use Rattle.gw_rules.specs.declared.rule.Rule.{Rule}
 use Rattle.gw_rules.specs.declared.service.Service.TheVariants.{Unconfirmed}
 use Rattle.gw_rules.specs.Ask.{Ask}
 use Rattle.gw_rules.specs.RuleList.{allows}
-use Rattle.gw_services.specs.declared.segmentation.Segmentation.TheVariants as segmentation
-use Rattle.gw_services.specs.IAm.{i_am_encoding, segmentation_number}
-use Rattle.gw_services.specs.WhoIs.{Limits, WhoIs}
+use Rattle.gw_codecs.specs.declared.services.segmentation.Segmentation.TheVariants as segmentation
+use Rattle.gw_codecs.specs.services.IAm.{i_am_encoding, segmentation_number}
+use Rattle.gw_codecs.specs.services.WhoIs.{Limits, WhoIs}
 use Rattle.gw_device.specs.declared.context.Context.{Context}
 use Rattle.gw_device.specs.Asks.{property_ask}
 use Rattle.gw_device.specs.Response.{Response, silence, unchanged, announcement_of}
-use Rattle.gw_services.specs.Choices.{who_is, i_am}
+use Rattle.gw_codecs.specs.services.Choices.{who_is, i_am}
 
 -- an unconfirmed request: its type and its service (clause 20.1.3)
 abbrev pub unconfirmed : ℕ → List ℕ

@@ -1,7 +1,7 @@
 -- WriteProperty (ISO 16484-5, clause 15.9).
 use Rattle.std.specs.Prelude.{ℕ, if◌then◌else◌, List, [], ◌∷◌, Option, Some, None, Result, Ok, Err}
-use Rattle.gw_apdu.specs.declared.writing.ServiceError.{ServiceError}
-use Rattle.gw_apdu.specs.Answers.{simple_ack, error}
+use Rattle.gw_codecs.specs.declared.apdu.writing.ServiceError.{ServiceError}
+use Rattle.gw_codecs.specs.apdu.Answers.{simple_ack, error}
 use Rattle.gw_objects.specs.declared.fault.WriteFault.{WriteFault}
 use Rattle.gw_objects.specs.Objects.{Database}
 use Rattle.gw_objects.specs.Write.{Write as Change, write_of}
@@ -10,13 +10,13 @@ use Rattle.gw_rules.specs.declared.rule.Rule.{Rule}
 use Rattle.gw_rules.specs.declared.service.Service.TheVariants.{Confirmed}
 use Rattle.gw_rules.specs.Ask.{Ask}
 use Rattle.gw_rules.specs.RuleList.{allows}
-use Rattle.gw_services.specs.Limits.{priority_of}
-use Rattle.gw_services.specs.Write.{Write}
+use Rattle.gw_codecs.specs.services.Limits.{priority_of}
+use Rattle.gw_codecs.specs.services.Write.{Write}
 use Rattle.gw_device.specs.declared.context.Context.{Context}
 use Rattle.gw_device.specs.Asks.{property_ask}
 use Rattle.gw_device.specs.Errors.{write_denied, write_error}
 use Rattle.gw_device.specs.Response.{Response, to_client}
-use Rattle.gw_services.specs.Choices.{write_property}
+use Rattle.gw_codecs.specs.services.Choices.{write_property}
 
 -- the one ask of a request
 abbrev pub write_ask : Database → Context → Write → Ask

@@ -1,13 +1,13 @@
 //! The objects of the device as an APDU has access to them: only by asking the policy.
 
 ghost use Rattle.std.specs.Prelude.{◌≡◌};
-ghost use Rattle.gw_tags.specs.Object.{object_view};
+ghost use Rattle.gw_codecs.specs.tags.Object.{object_view};
 ghost use Rattle.gw_device.specs.Asks.{named_object, property_ask};
 
 use crate::Context;
+use gw_codecs::tags::ObjectId;
 use gw_objects::{ObjectDb, ObjectType};
 use gw_rules::{Ask, Operation, Service};
-use gw_tags::ObjectId;
 
 /// The instance by which a read names the device itself, whatever its instance (clause 12.11).
 const ANY_INSTANCE: u32 = 4_194_303;

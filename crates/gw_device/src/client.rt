@@ -1,7 +1,7 @@
 //! The client of a confirmed request.
 
 use crate::Context;
-use gw_apdu::ConfirmedRequest;
+use gw_codecs::apdu::ConfirmedRequest;
 
 /// The client of a confirmed request: where it is, and what it takes back.
 #[derive(Clone, Copy)]

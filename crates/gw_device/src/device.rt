@@ -8,10 +8,10 @@ ghost use Rattle.gw_objects.specs.Objects.{database_of, defaults_of};
 ghost use Rattle.gw_objects.specs.Write.{Write};
 ghost use Rattle.gw_rules.specs.declared.rule.Rule.{Rule};
 ghost use Rattle.gw_rules.specs.Authorizer.{denied_of};
-ghost use Rattle.gw_services.specs.Read.{read_view};
-ghost use Rattle.gw_services.specs.WhoHas.{who_has_view};
-ghost use Rattle.gw_services.specs.WhoIs.{who_is_view};
-ghost use Rattle.gw_services.specs.Write.{write_view};
+ghost use Rattle.gw_codecs.specs.services.Read.{read_view};
+ghost use Rattle.gw_codecs.specs.services.WhoHas.{who_has_view};
+ghost use Rattle.gw_codecs.specs.services.WhoIs.{who_is_view};
+ghost use Rattle.gw_codecs.specs.services.Write.{write_view};
 ghost use Rattle.gw_device.specs.Device.{device_answer, device_asks, device_change, device_response};
 ghost use Rattle.gw_device.specs.Read.{read_response};
 ghost use Rattle.gw_device.specs.Response.{HasPlace, IsReply, IsServed, answer_view};
@@ -21,11 +21,11 @@ ghost use Rattle.gw_device.specs.Write.{write_response};
 
 use crate::access::Access;
 use crate::{Change, Client, Context, Reply, Served};
+use gw_codecs::services::{ReadReq, WhoHas, WhoIs, WriteReq};
 use gw_configuration::Config;
 use gw_objects::{Configured, ObjectDb, PropertyValue};
 use gw_priority::PriorityArray;
 use gw_rules::{Asker, Authorizer, Judge};
-use gw_services::{ReadReq, WhoHas, WhoIs, WriteReq};
 use std::alloc::{AllocError, Global};
 use std::marker::Model;
 

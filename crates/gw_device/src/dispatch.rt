@@ -1,14 +1,14 @@
 //! From an APDU to its service (clauses 5.4.5 and 20.1).
 
 ghost use Rattle.std.specs.Prelude.{◌≡◌, ◌++◌, List, [], None, IfOk, IsOk, OnOk};
-ghost use Rattle.gw_apdu.specs.Answers.{abort, reject};
-ghost use Rattle.gw_apdu.specs.Reasons.{segmentation_not_supported};
+ghost use Rattle.gw_codecs.specs.apdu.Answers.{abort, reject};
+ghost use Rattle.gw_codecs.specs.apdu.Reasons.{segmentation_not_supported};
 ghost use Rattle.gw_rules.specs.declared.rule.Rule.{Rule};
-ghost use Rattle.gw_services.specs.MultiReading.{multi_at};
-ghost use Rattle.gw_services.specs.Read.{read_at};
-ghost use Rattle.gw_services.specs.WhoHas.{who_has_at};
-ghost use Rattle.gw_services.specs.WhoIs.{who_is_at};
-ghost use Rattle.gw_services.specs.Write.{write_at};
+ghost use Rattle.gw_codecs.specs.services.MultiReading.{multi_at};
+ghost use Rattle.gw_codecs.specs.services.Read.{read_at};
+ghost use Rattle.gw_codecs.specs.services.WhoHas.{who_has_at};
+ghost use Rattle.gw_codecs.specs.services.WhoIs.{who_is_at};
+ghost use Rattle.gw_codecs.specs.services.Write.{write_at};
 ghost use Rattle.gw_device.specs.Device.{confirmed_response, device_response, or_reject, or_silence, unconfirmed_response};
 ghost use Rattle.gw_device.specs.Multi.{multi_response};
 ghost use Rattle.gw_device.specs.Read.{read_response};
@@ -21,12 +21,12 @@ use crate::Served;
 use crate::access::Access;
 use crate::error::reject_reason;
 use crate::short::{abort, reject};
-use gw_apdu::{AbortReason, ConfirmedRequest, Header, RejectReason, decode};
-use gw_rules::Asker;
-use gw_services::{
+use gw_codecs::apdu::{AbortReason, ConfirmedRequest, Header, RejectReason, decode};
+use gw_codecs::services::{
     READ_PROPERTY, READ_PROPERTY_MULTIPLE, WHO_HAS, WHO_IS, WRITE_PROPERTY, decode_multi,
     decode_read, decode_who_has, decode_who_is, decode_write,
 };
+use gw_rules::Asker;
 use std::alloc::{AllocError, Global};
 
 /// A Reject.

@@ -4,9 +4,9 @@
 ghost use Rattle.std.specs.Prelude.{◌≡◌, ◌≢◌, IfOk, IsOk};
 ghost use Rattle.gw_device.specs.Errors.{read_error, reject_reason, write_error};
 
-use gw_apdu::{RejectReason, ServiceError};
+use gw_codecs::apdu::{RejectReason, ServiceError};
+use gw_codecs::services::BodyFault;
 use gw_objects::{ReadFault, WriteFault};
-use gw_services::BodyFault;
 use std::alloc::AllocError;
 
 /// Error class OBJECT.

@@ -4,9 +4,9 @@
 ghost use Rattle.std.specs.Prelude.{◌≡◌, ◌≤◌, ◌++◌, List, map, vec_len, None, IfOk, OnOk};
 ghost use Rattle.gw_rules.specs.declared.rule.Rule.{Rule};
 ghost use Rattle.gw_objects.specs.Objects.{type_at};
-ghost use Rattle.gw_services.specs.Multi.{reference_view};
-ghost use Rattle.gw_services.specs.MultiView.{multi_view};
-ghost use Rattle.gw_tags.specs.Object.{object_view};
+ghost use Rattle.gw_codecs.specs.services.Multi.{reference_view};
+ghost use Rattle.gw_codecs.specs.services.MultiView.{multi_view};
+ghost use Rattle.gw_codecs.specs.tags.Object.{object_view};
 ghost use Rattle.gw_device.specs.Multi.{members_part, multi_ack, multi_ask, multi_part, multi_response, named_part};
 ghost use Rattle.gw_device.specs.Multi.{properties_part, property_part, reference_part, set_part};
 ghost use Rattle.gw_device.specs.Response.{IsServed, fitted, with_room};
@@ -20,11 +20,11 @@ use crate::limited::Limited;
 use crate::piece::{Piece, PropertyReference};
 use crate::services::set_of;
 use crate::short::{begin_apdu, first_room, most_octets};
-use gw_apdu::{ConfirmedRequest, write_complex};
+use gw_codecs::apdu::{ConfirmedRequest, write_complex};
+use gw_codecs::services::{MultiReq, READ_PROPERTY_MULTIPLE, Reference, list_ends};
+use gw_codecs::tags::ObjectId;
 use gw_objects::{ObjectDb, Property, PropertySet};
 use gw_rules::{Ask, Asker, Operation, Service};
-use gw_services::{MultiReq, READ_PROPERTY_MULTIPLE, Reference, list_ends};
-use gw_tags::ObjectId;
 use std::alloc::AllocError;
 
 impl Access<'_> {

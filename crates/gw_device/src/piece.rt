@@ -2,19 +2,19 @@
 
 ghost use Rattle.std.specs.Prelude.{◌≡◌, ◌≤◌, ◌++◌, vec_len, OnOk};
 ghost use Rattle.gw_objects.specs.Table.{read_of};
-ghost use Rattle.gw_tags.specs.Object.{object_view};
+ghost use Rattle.gw_codecs.specs.tags.Object.{object_view};
 ghost use Rattle.gw_device.specs.Multi.{item};
 ghost use Rattle.gw_device.specs.Read.{or_error};
 ghost use Rattle.gw_device.specs.internal.Piece.{piece_octets};
 
 use crate::error::read_error;
-use gw_apdu::ServiceError;
-use gw_objects::ObjectDb;
-use gw_services::{
+use gw_codecs::apdu::ServiceError;
+use gw_codecs::services::{
     write_error_item, write_list_head, write_list_tail, write_value_item_head,
     write_value_item_tail,
 };
-use gw_tags::ObjectId;
+use gw_codecs::tags::ObjectId;
+use gw_objects::ObjectDb;
 use std::alloc::AllocError;
 
 /// A property of an object, a set of its properties, or one element of a property (clause 21,

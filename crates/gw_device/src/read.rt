@@ -2,9 +2,9 @@
 
 ghost use Rattle.std.specs.Prelude.{None, ◌≡◌, ◌≤◌, ◌++◌, ◌∷◌, [], List, vec_len, IfOk, OnOk};
 ghost use Rattle.gw_rules.specs.declared.rule.Rule.{Rule};
-ghost use Rattle.gw_services.specs.Read.{read_view};
+ghost use Rattle.gw_codecs.specs.services.Read.{read_view};
 ghost use Rattle.gw_objects.specs.Table.{read_of};
-ghost use Rattle.gw_tags.specs.Object.{object_view};
+ghost use Rattle.gw_codecs.specs.tags.Object.{object_view};
 ghost use Rattle.gw_device.specs.Read.{named_read, or_error, plain_read_response, read_ack, read_answer, read_ask};
 ghost use Rattle.gw_device.specs.Read.{read_response, read_value};
 ghost use Rattle.gw_device.specs.Response.{IsServed, with_room};
@@ -13,9 +13,9 @@ use crate::access::Access;
 use crate::error::{READ_DENIED, read_error};
 use crate::short::{begin_apdu, error, first_room, fit};
 use crate::{HEADER_ROOM, Served};
-use gw_apdu::{ConfirmedRequest, write_complex, write_error};
+use gw_codecs::apdu::{ConfirmedRequest, write_complex, write_error};
+use gw_codecs::services::{READ_PROPERTY, ReadReq, write_read_answer_head, write_read_answer_tail};
 use gw_rules::{Ask, Asker, Operation, Service};
-use gw_services::{READ_PROPERTY, ReadReq, write_read_answer_head, write_read_answer_tail};
 use std::alloc::{AllocError, Global};
 
 impl Access<'_> {

@@ -1,13 +1,13 @@
 //! Short answers: errors, rejects and aborts, and the abort in the place of what is too long.
 
 ghost use Rattle.std.specs.Prelude.{◌≡◌, ◌+◌, ◌≤◌, ℕ, List, [], length, nat_le, vec_capacity, vec_len, IfOk, OnOk};
-ghost use Rattle.gw_apdu.specs.Answers.{abort, error, reject, simple_ack};
-ghost use Rattle.gw_apdu.specs.Reasons.{segmentation_not_supported};
+ghost use Rattle.gw_codecs.specs.apdu.Answers.{abort, error, reject, simple_ack};
+ghost use Rattle.gw_codecs.specs.apdu.Reasons.{segmentation_not_supported};
 ghost use Rattle.gw_device.specs.Response.{fits, fitted, header_room, with_room};
 
 use crate::{Context, HEADER_ROOM};
 use gw_addr::put_slice;
-use gw_apdu::{
+use gw_codecs::apdu::{
     AbortReason, ConfirmedRequest, RejectReason, ServiceError, write_abort, write_error,
     write_reject, write_simple,
 };

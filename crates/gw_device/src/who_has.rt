@@ -4,8 +4,8 @@ ghost use Rattle.std.specs.Prelude.{None, ◌≡◌, ◌≤◌, ◌++◌, ◌∷
 ghost use Rattle.std.specs.Option.{option_map};
 ghost use Rattle.gw_rules.specs.declared.rule.Rule.{Rule};
 ghost use Rattle.gw_objects.specs.Objects.{name_at};
-ghost use Rattle.gw_services.specs.WhoHas.{sought_view, who_has_view};
-ghost use Rattle.gw_tags.specs.Object.{object_view};
+ghost use Rattle.gw_codecs.specs.services.WhoHas.{sought_view, who_has_view};
+ghost use Rattle.gw_codecs.specs.tags.Object.{object_view};
 ghost use Rattle.gw_device.specs.Response.{IsServed, answer_view, announcement_of, with_room};
 ghost use Rattle.gw_device.specs.WhoHas.{i_have_apdu, object_response, sought_object, who_has_ask, who_has_response};
 
@@ -13,10 +13,10 @@ use crate::Served;
 use crate::access::Access;
 use crate::short::begin_apdu;
 use crate::who_is::put_unconfirmed;
+use gw_codecs::services::{I_HAVE, IHave, Sought, WHO_HAS, WhoHas, encode_i_have};
+use gw_codecs::tags::{CharacterString, ObjectId};
 use gw_objects::{Configured, Property};
 use gw_rules::{Ask, Asker, Operation, Service};
-use gw_services::{I_HAVE, IHave, Sought, WHO_HAS, WhoHas, encode_i_have};
-use gw_tags::{CharacterString, ObjectId};
 use std::alloc::{AllocError, Global};
 
 /// Character set 0 (clause 20.2.9).

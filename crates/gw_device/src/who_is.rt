@@ -3,7 +3,7 @@
 ghost use Rattle.std.specs.Prelude.{None, ◌≡◌, ◌++◌, ◌∷◌, [], List, IfOk, IsOk, OnOk};
 ghost use Rattle.std.specs.Option.{option_map};
 ghost use Rattle.gw_rules.specs.declared.rule.Rule.{Rule};
-ghost use Rattle.gw_services.specs.WhoIs.{limits_view, who_is_view};
+ghost use Rattle.gw_codecs.specs.services.WhoIs.{limits_view, who_is_view};
 ghost use Rattle.gw_device.specs.Response.{IsServed, with_room};
 ghost use Rattle.gw_device.specs.WhoIs.{i_am_apdu, is_within, unconfirmed, who_is_ask, who_is_response};
 
@@ -11,9 +11,9 @@ use crate::Served;
 use crate::access::Access;
 use crate::short::begin_apdu;
 use gw_addr::put_slice;
+use gw_codecs::services::{I_AM, IAm, Limits, Segmentation, WHO_IS, WhoIs, encode_i_am};
 use gw_objects::{Configured, MAX_APDU, Property};
 use gw_rules::{Ask, Asker, Operation, Service};
-use gw_services::{I_AM, IAm, Limits, Segmentation, WHO_IS, WhoIs, encode_i_am};
 use std::alloc::{AllocError, Global};
 
 /// The first octet of an unconfirmed request (clause 20.1.3).

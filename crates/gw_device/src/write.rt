@@ -3,8 +3,8 @@
 ghost use Rattle.std.specs.Prelude.{◌≡◌, ◌++◌, ◌∷◌, [], ◌<◌, List, length, IfOk, IfSome, OnOk};
 ghost use Rattle.gw_rules.specs.declared.rule.Rule.{Rule};
 ghost use Rattle.gw_addr.specs.Reading.{Gives};
-ghost use Rattle.gw_services.specs.Limits.{priority_of};
-ghost use Rattle.gw_services.specs.Write.{write_view};
+ghost use Rattle.gw_codecs.specs.services.Limits.{priority_of};
+ghost use Rattle.gw_codecs.specs.services.Write.{write_view};
 ghost use Rattle.gw_objects.specs.Write.{write_of};
 ghost use Rattle.gw_device.specs.Write.{or_error, write_answer, write_ask, write_decision, write_response};
 ghost use Rattle.gw_device.specs.Response.{HasPlace, IsServed, with_room};
@@ -13,9 +13,9 @@ use crate::access::Access;
 use crate::error::{WRITE_DENIED, write_error};
 use crate::short::{error, simple_ack};
 use crate::{Answer, Change, Served};
-use gw_apdu::ServiceError;
+use gw_codecs::apdu::ServiceError;
+use gw_codecs::services::{WRITE_PROPERTY, WriteReq};
 use gw_rules::{Ask, Asker, Operation, Service};
-use gw_services::{WRITE_PROPERTY, WriteReq};
 use std::alloc::{AllocError, Global};
 
 /// What is made of a write: a change, or an error.

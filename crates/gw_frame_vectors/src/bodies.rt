@@ -1,7 +1,7 @@
 //! The bodies of services: what is read of octets, and how it is written where that differs.
 
 use gw_cases::{octets_of, put_other, wanted};
-use gw_services::{
+use gw_codecs::services::{
     decode_i_am, decode_i_have, decode_multi, decode_read, decode_who_has, decode_who_is,
     decode_write, encode_i_am, encode_multi, encode_read, encode_who_is, encode_write,
 };

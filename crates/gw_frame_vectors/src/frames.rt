@@ -1,7 +1,7 @@
 //! Frames of the three layers: what is read of octets, and how it is written where that differs.
 
-use gw_apdu::{Apdu, service_code};
 use gw_cases::{octets_of, put_octets, put_other};
+use gw_codecs::apdu::{Apdu, service_code};
 use gw_frames::npdu::{AddressRef, Npdu, Onward, relay_header};
 use std::alloc::Global;
 use std::io;
@@ -76,7 +76,7 @@ pub fn hops(alloc: Global, line: &str, out: &mut Vec<u8>) -> io::Result<()> {
 /// The header of an APDU and the octets after it, the code of its service and the number of its type.
 pub fn apdu(alloc: Global, line: &str, out: &mut Vec<u8>) -> io::Result<()> {
     let octets = octets_of(alloc, line)?;
-    match gw_apdu::decode(&octets) {
+    match gw_codecs::apdu::decode(&octets) {
         Ok(Apdu { header, rest }) => {
             let kind = header.pdu_type().number();
             let code = service_code(&octets).unwrap_or(0);

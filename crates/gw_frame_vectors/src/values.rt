@@ -1,7 +1,7 @@
 //! Tags, application values and lists: what is read of octets, and the shortest encoding.
 
 use gw_cases::{octets_of, put_octets};
-use gw_tags::{read_list, read_tag, read_value, write_tag, write_value};
+use gw_codecs::tags::{read_list, read_tag, read_value, write_tag, write_value};
 use std::alloc::Global;
 use std::io;
 use std::io::Write;

@@ -2,8 +2,8 @@
 
 use crate::configurations;
 use gw_cases::{number, octets_of, put_octets, wanted};
+use gw_codecs::tags::ObjectId;
 use gw_objects::{ObjectDb, ObjectType, PropertySet, properties};
-use gw_tags::ObjectId;
 use std::alloc::Global;
 use std::io;
 use std::io::{ErrorKind, Write};

@@ -25,7 +25,7 @@ use Rattle.gw_objects.specs.Property.{property_of}
 use Rattle.gw_objects.specs.Table.{device_line, known_line, object_at, object_line, read_of}
 use Rattle.gw_objects.specs.Write.{Write, act_of, device_write, object_write, write_of}
 use Rattle.gw_priority.specs.History.{Act}
-use Rattle.gw_tags.specs.Object.{Object}
+use Rattle.gw_codecs.specs.tags.Object.{Object}
 
 numbers_same : (a b : Object) → same a b ≡ true → a ≡ b
 numbers_same a b e =

@@ -15,8 +15,8 @@ use Rattle.std.proofs.lemmas.List.Quantifiers.{position-Some}
 use Rattle.std.proofs.lemmas.Option.{slice_get_within, slice_get_past, get_or_from_slice_get}
 use Rattle.indexmap.specs.IndexMap.{IndexMap, get, insert_entry}
 use Rattle.indexmap.proofs.CallerLemmas.{insert_entry-new}
-use Rattle.gw_tags.specs.declared.object.ObjectId.{ObjectId}
-use Rattle.gw_tags.specs.Object.{object_view}
+use Rattle.gw_codecs.specs.declared.tags.object.ObjectId.{ObjectId}
+use Rattle.gw_codecs.specs.tags.Object.{object_view}
 use Rattle.gw_objects.specs.declared.configured.Configured.{Configured}
 use Rattle.gw_objects.specs.declared.configured.ConfiguredObject.{ConfiguredObject}
 use Rattle.gw_objects.specs.Objects.{device_id, is_name, named, object_id_of, same}

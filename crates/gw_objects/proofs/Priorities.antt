@@ -22,9 +22,9 @@ use Rattle.gw_objects.proofs.Others.{no_device_write, ok_is}
 use Rattle.gw_priority.specs.declared.array.TheConstants.{RESERVED}
 use Rattle.gw_priority.specs.Commandable.{IsPriority}
 use Rattle.gw_priority.specs.History.{Act, Command, Relinquish, SetDefault}
-use Rattle.gw_tags.specs.Object.{Object}
-use Rattle.gw_tags.specs.Reading.{value_at}
-use Rattle.gw_tags.specs.Value.{Value, null, boolean, unsigned, signed, real, double, octet_string, character_string, bit_string, enumerated, date, time, object_id}
+use Rattle.gw_codecs.specs.tags.Object.{Object}
+use Rattle.gw_codecs.specs.tags.Reading.{value_at}
+use Rattle.gw_codecs.specs.tags.Value.{Value, null, boolean, unsigned, signed, real, double, octet_string, character_string, bit_string, enumerated, date, time, object_id}
 
 -- ---- the property
 

@@ -2,7 +2,7 @@
 use Rattle.std.specs.Prelude.{ℕ, ◌==◌, ◌&&◌, nat_eq, Bool, List}
 use Rattle.std.specs.Cmp.Lexicographic.{pointwise}
 use Rattle.gw_configuration.specs.declared.device.Device.{Device}
-use Rattle.gw_tags.specs.Object.{Object}
+use Rattle.gw_codecs.specs.tags.Object.{Object}
 use Rattle.gw_objects.specs.declared.configured.ConfiguredObject.{ConfiguredObject}
 use Rattle.gw_objects.specs.declared.configured.Details.{Details}
 use Rattle.gw_objects.specs.declared.configured.Details.TheVariants.{BinaryValue, MultiStateValue, CharacterStringValue}

@@ -1,6 +1,6 @@
 -- What a write leaves, and what a read doesn't rest on.
 use Rattle.std.specs.Prelude.{◌≡◌, ◌≢◌, ℕ, List, Option, Some, Ok, slice_get}
-use Rattle.gw_tags.specs.Object.{Object}
+use Rattle.gw_codecs.specs.tags.Object.{Object}
 use Rattle.gw_objects.specs.declared.configured.Configured.{Configured}
 use Rattle.gw_objects.specs.History.{after_write}
 use Rattle.gw_objects.specs.Objects.{Database, Slots, place_of}

@@ -8,11 +8,11 @@ use Rattle.gw_configuration.specs.declared.text.TheConstants.{MAX_TEXT}
 use Rattle.gw_priority.specs.declared.array.TheConstants.{RESERVED}
 use Rattle.gw_priority.specs.Commandable.{IsPriority}
 use Rattle.gw_priority.specs.History.{Act, Command, Relinquish, SetDefault}
-use Rattle.gw_tags.specs.declared.fault.ValueFault.{ValueFault}
-use Rattle.gw_tags.specs.declared.fault.ValueFault.TheVariants.{Short, BadTag, BadLength, BadText}
-use Rattle.gw_tags.specs.Object.{Object}
-use Rattle.gw_tags.specs.Reading.{value_at}
-use Rattle.gw_tags.specs.Value.{Value, null, unsigned, signed, character_string, enumerated}
+use Rattle.gw_codecs.specs.declared.tags.fault.ValueFault.{ValueFault}
+use Rattle.gw_codecs.specs.declared.tags.fault.ValueFault.TheVariants.{Short, BadTag, BadLength, BadText}
+use Rattle.gw_codecs.specs.tags.Object.{Object}
+use Rattle.gw_codecs.specs.tags.Reading.{value_at}
+use Rattle.gw_codecs.specs.tags.Value.{Value, null, unsigned, signed, character_string, enumerated}
 use Rattle.gw_objects.specs.declared.configured.Configured.{Configured}
 use Rattle.gw_objects.specs.declared.configured.ConfiguredObject.{ConfiguredObject}
 use Rattle.gw_objects.specs.declared.configured.Details.{Details}

@@ -2,13 +2,13 @@
 
 ghost use Rattle.std.specs.Prelude.{◌≡◌, ◌<◌, ◌≤◌, length, position, IfOk, IfSome};
 ghost use Rattle.gw_objects.specs.Objects.{device_id, is_name, object_id_of, same, type_of};
-ghost use Rattle.gw_tags.specs.Object.{object_view};
+ghost use Rattle.gw_codecs.specs.tags.Object.{object_view};
 
 use crate::ObjectType;
 use crate::index::{places_by_id, places_by_name};
 use gw_addr::Sequence;
+use gw_codecs::tags::ObjectId;
 use gw_configuration::{Device, Instance, Text};
-use gw_tags::ObjectId;
 use indexmap::IndexMap;
 use std::alloc::{AllocError, Global};
 use std::marker::Model;

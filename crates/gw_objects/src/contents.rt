@@ -1,9 +1,9 @@
 //! What a property holds, lent from its object.
 
 use crate::{PropertyValue, States, ValueObjects};
+use gw_codecs::tags::ObjectId;
 use gw_configuration::Text;
 use gw_priority::PriorityArray;
-use gw_tags::ObjectId;
 
 /// The bit strings that properties hold, all of them constant.
 #[derive(Clone, Copy)]

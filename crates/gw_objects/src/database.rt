@@ -6,7 +6,7 @@ ghost use Rattle.std.specs.Option.{ok_or};
 ghost use Rattle.std.specs.Vec.{vec_capacity};
 ghost use Rattle.gw_addr.specs.Reading.{Gives};
 ghost use Rattle.gw_priority.specs.Commandable.{IsPriority};
-ghost use Rattle.gw_tags.specs.Object.{object_view};
+ghost use Rattle.gw_codecs.specs.tags.Object.{object_view};
 ghost use Rattle.gw_objects.specs.Objects.{database_of, defaults_of, is_name, name_at, named};
 ghost use Rattle.gw_objects.specs.Objects.{place_of, same, type_at};
 ghost use Rattle.gw_objects.specs.Table.{contents_of, object_at, read_of};
@@ -27,9 +27,9 @@ use crate::{
     Configured, ConfiguredObject, ObjectType, Property, PropertySet, PropertyValue, ReadFault,
     WriteFault, copying,
 };
+use gw_codecs::tags::ObjectId;
 use gw_configuration::{Config, Text};
 use gw_priority::PriorityArray;
-use gw_tags::ObjectId;
 use std::alloc::{AllocError, Global};
 use std::marker::Model;
 

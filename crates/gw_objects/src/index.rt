@@ -3,7 +3,7 @@ ghost use Rattle.std.specs.Prelude.{◌≡◌, [], take, IfOk, OnOk};
 ghost use Rattle.gw_objects.specs.internal.Index.{FindsIds, FindsNames, with_place};
 
 use crate::ConfiguredObject;
-use gw_tags::ObjectId;
+use gw_codecs::tags::ObjectId;
 use indexmap::IndexMap;
 use std::alloc::{AllocError, Global};
 use std::hash::Hash;

@@ -4,7 +4,7 @@ ghost use Rattle.gw_objects.specs.Table.{details_line, device_line, object_line,
 ghost use Rattle.gw_objects.specs.Contents.{one};
 ghost use Rattle.gw_objects.specs.Property.{type_number};
 ghost use Rattle.gw_objects.specs.internal.View.{contents_view, item_view};
-ghost use Rattle.gw_tags.specs.Value.{enumerated};
+ghost use Rattle.gw_codecs.specs.tags.Value.{enumerated};
 
 use crate::contents::{Array, Contents, Flags, Item};
 use crate::{Configured, ConfiguredObject, Details, ObjectType, Property, PropertyValue};

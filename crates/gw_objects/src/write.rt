@@ -2,9 +2,9 @@
 ghost use Rattle.std.specs.Prelude.{◌≡◌, ◌≢◌, ◌<◌, length, Err, IfOk, IfSome, IsFalse};
 ghost use Rattle.gw_addr.specs.Reading.{Gives};
 ghost use Rattle.gw_priority.specs.Commandable.{IsPriority};
-ghost use Rattle.gw_tags.specs.Object.{object_view};
-ghost use Rattle.gw_tags.specs.Reading.{value_at};
-ghost use Rattle.gw_tags.specs.Value.{value_view};
+ghost use Rattle.gw_codecs.specs.tags.Object.{object_view};
+ghost use Rattle.gw_codecs.specs.tags.Reading.{value_at};
+ghost use Rattle.gw_codecs.specs.tags.Value.{value_view};
 ghost use Rattle.gw_objects.specs.Write.{CanAct, Decides, act_for, act_of, binary_value};
 ghost use Rattle.gw_objects.specs.Write.{device_write, is_reserved, is_writable, object_write};
 ghost use Rattle.gw_objects.specs.Write.{is_text, present_act, property_for, puts_text, state_value, text_in};
@@ -17,9 +17,9 @@ use crate::value::is_state;
 use crate::{
     Configured, ConfiguredObject, Details, ObjectType, Property, PropertyValue, WriteFault,
 };
+use gw_codecs::tags::{AppValue, CharacterString, ObjectId, ValueFault, read_value};
 use gw_configuration::{MAX_TEXT, Text};
 use gw_priority::RESERVED;
-use gw_tags::{AppValue, CharacterString, ObjectId, ValueFault, read_value};
 use std::alloc::Global;
 use std::marker::Model;
 

@@ -4,7 +4,7 @@ ghost use Rattle.std.specs.Prelude.{vec_len, slice_get, option_map, IsOk, OnOk, 
 ghost use Rattle.std.specs.List.{flat_map};
 ghost use Rattle.std.specs.Vec.{vec_capacity};
 ghost use Rattle.gw_addr.specs.Reading.{Keeps};
-ghost use Rattle.gw_tags.specs.Value.{value_encoding, value_view};
+ghost use Rattle.gw_codecs.specs.tags.Value.{value_encoding, value_view};
 ghost use Rattle.gw_objects.specs.Contents as contents;
 ghost use Rattle.gw_objects.specs.Contents.{octets_of};
 ghost use Rattle.gw_objects.specs.Table as table;
@@ -14,9 +14,9 @@ ghost use Rattle.gw_objects.specs.internal.View.{array_view, contents_view, flag
 use crate::contents::{Array, Contents, Flags, Item};
 use crate::table::item_of;
 use crate::{PropertyValue, ReadFault, States, ValueObjects};
+use gw_codecs::tags::{AppValue, BitString, CharacterString, ObjectId, write_value};
 use gw_configuration::Text;
 use gw_priority::PriorityArray;
-use gw_tags::{AppValue, BitString, CharacterString, ObjectId, write_value};
 use std::alloc::AllocError;
 
 /// Protocol_Services_Supported: the bits of ReadProperty, ReadPropertyMultiple, WriteProperty,

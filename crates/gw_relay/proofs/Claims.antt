@@ -6,23 +6,23 @@ use Rattle.std.specs.Option.{option_map, option_map_or}
 use Rattle.gw_addr.specs.declared.station.Source.{Source}
 use Rattle.gw_addr.specs.Station.{key_of, network_of}
 use Rattle.gw_frames.specs.bvll.Bvll as bvll
-use Rattle.gw_apdu.specs.Apdu.{Fields as Apdu}
-use Rattle.gw_apdu.specs.Reading.{apdu_at}
-use Rattle.gw_apdu.specs.declared.fault.ApduFault.{ApduFault}
-use Rattle.gw_apdu.specs.declared.header.ConfirmedRequest.{ConfirmedRequest as Request}
-use Rattle.gw_apdu.specs.declared.header.Header.{Header}
-use Rattle.gw_apdu.specs.declared.header.Header.TheVariants as header
+use Rattle.gw_codecs.specs.apdu.Apdu.{Fields as Apdu}
+use Rattle.gw_codecs.specs.apdu.Reading.{apdu_at}
+use Rattle.gw_codecs.specs.declared.apdu.fault.ApduFault.{ApduFault}
+use Rattle.gw_codecs.specs.declared.apdu.header.ConfirmedRequest.{ConfirmedRequest as Request}
+use Rattle.gw_codecs.specs.declared.apdu.header.Header.{Header}
+use Rattle.gw_codecs.specs.declared.apdu.header.Header.TheVariants as header
 use Rattle.gw_frames.specs.npdu.Npdu.{Destination, Payload, apdu, message, payload_octets}
 use Rattle.gw_rules.specs.declared.format.Format.{Format}
 use Rattle.gw_rules.specs.declared.format.Format.TheVariants.{One, Two, Three}
-use Rattle.gw_services.specs.Choices.{read_property, read_property_multiple, write_property}
-use Rattle.gw_services.specs.Limits.{priority_of}
-use Rattle.gw_services.specs.Multi.{Reference}
-use Rattle.gw_services.specs.MultiReading.{multi_at}
-use Rattle.gw_services.specs.Read.{Read, read_at}
-use Rattle.gw_services.specs.Write.{Write, write_at}
-use Rattle.gw_services.specs.declared.fault.BodyFault.{BodyFault}
-use Rattle.gw_tags.specs.Object.{Object}
+use Rattle.gw_codecs.specs.services.Choices.{read_property, read_property_multiple, write_property}
+use Rattle.gw_codecs.specs.services.Limits.{priority_of}
+use Rattle.gw_codecs.specs.services.Multi.{Reference}
+use Rattle.gw_codecs.specs.services.MultiReading.{multi_at}
+use Rattle.gw_codecs.specs.services.Read.{Read, read_at}
+use Rattle.gw_codecs.specs.services.Write.{Write, write_at}
+use Rattle.gw_codecs.specs.declared.services.fault.BodyFault.{BodyFault}
+use Rattle.gw_codecs.specs.tags.Object.{Object}
 use Rattle.gw_routes.specs.Table.{way}
 use Rattle.gw_routes.specs.declared.route.Way.{Way}
 use Rattle.gw_routes.specs.declared.route.Way.TheVariants as ways

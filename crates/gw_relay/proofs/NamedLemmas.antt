@@ -5,11 +5,11 @@ use Rattle.gw_rules.specs.Ask.{Ask}
 use Rattle.gw_rules.specs.RuleList.{allows}
 use Rattle.gw_rules.specs.declared.rule.Rule.{Rule}
 use Rattle.gw_rules.specs.declared.verdict.Verdict.{Verdict}
-use Rattle.gw_services.specs.Multi.{Reference}
-use Rattle.gw_services.specs.MultiReading.{and_more, finished, more_at, references_at, step_at, walked}
-use Rattle.gw_services.specs.declared.fault.BodyFault.{BodyFault}
-use Rattle.gw_services.proofs.MultiWalk.{walk}
-use Rattle.gw_tags.specs.Object.{Object}
+use Rattle.gw_codecs.specs.services.Multi.{Reference}
+use Rattle.gw_codecs.specs.services.MultiReading.{and_more, finished, more_at, references_at, step_at, walked}
+use Rattle.gw_codecs.specs.declared.services.fault.BodyFault.{BodyFault}
+use Rattle.gw_codecs.proofs.services_lemmas.MultiWalk.{walk}
+use Rattle.gw_codecs.specs.tags.Object.{Object}
 use Rattle.gw_relay.specs.Named.{multi_asks, reference_ask}
 use Rattle.gw_relay.specs.internal.Taken.{AreAsked}
 

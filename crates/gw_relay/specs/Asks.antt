@@ -5,7 +5,7 @@ use Rattle.std.specs.Option.{option_map, option_map_or}
 use Rattle.gw_addr.specs.declared.bip.BipAddr.{BipAddr}
 use Rattle.gw_addr.specs.Address.{big_endian, octets_of}
 use Rattle.gw_addr.specs.Station.{key_of}
-use Rattle.gw_apdu.specs.Reading.{service_at}
+use Rattle.gw_codecs.specs.apdu.Reading.{service_at}
 use Rattle.gw_frames.specs.bvll.Bvll.{write_bdt, read_bdt, register, read_fdt, delete, function_of, octet_of}
 use Rattle.gw_frames.specs.bvll.Bvll.{Message as Frame}
 use Rattle.gw_frames.specs.npdu.Npdu.{Fields, Payload, apdu, message}

@@ -96,7 +96,7 @@ fn service_of(payload: &Payload<'_>) -> Option<u64>
     ensures { result ≡ service_of (payload_view payload.now) }
 {
     match payload {
-        Payload::Apdu(octets) => gw_apdu::service_code(octets).map(u64::from),
+        Payload::Apdu(octets) => gw_codecs::apdu::service_code(octets).map(u64::from),
         Payload::Message(message) => Some(Service::NetworkMessage(message.kind).number()),
     }
 }

@@ -5,11 +5,11 @@ ghost use Rattle.std.specs.Prelude.{◌≡◌, ◌∷◌, [], true, is_ok, List,
 ghost use Rattle.std.specs.Option.{option_map};
 ghost use Rattle.gw_frames.specs.npdu.Npdu.{payload_view};
 ghost use Rattle.gw_rules.specs.declared.rule.Rule.{Rule};
-ghost use Rattle.gw_services.specs.Multi.{reference_view};
-ghost use Rattle.gw_services.specs.MultiReading.{multi_at, references_at};
-ghost use Rattle.gw_services.specs.Read.{read_at};
-ghost use Rattle.gw_services.specs.Write.{write_at};
-ghost use Rattle.gw_tags.specs.Object.{object_view};
+ghost use Rattle.gw_codecs.specs.services.Multi.{reference_view};
+ghost use Rattle.gw_codecs.specs.services.MultiReading.{multi_at, references_at};
+ghost use Rattle.gw_codecs.specs.services.Read.{read_at};
+ghost use Rattle.gw_codecs.specs.services.Write.{write_at};
+ghost use Rattle.gw_codecs.specs.tags.Object.{object_view};
 ghost use Rattle.gw_relay.specs.Cast.{cast_ask, carried_asks};
 ghost use Rattle.gw_relay.specs.Message.{message_view};
 ghost use Rattle.gw_relay.specs.Named.{forward_asks, multi_asks, named_ask, named_asks, read_asks, reference_ask};
@@ -19,14 +19,14 @@ ghost use Rattle.gw_relay.specs.internal.Taken.{AreAsked};
 use crate::ask::bound_for;
 use crate::message::Message;
 use crate::relay::Relay;
-use gw_apdu::{Apdu, ConfirmedRequest, Header};
-use gw_frames::npdu::Payload;
-use gw_rules::{Ask, Asker, Format, Operation};
-use gw_services::{
+use gw_codecs::apdu::{Apdu, ConfirmedRequest, Header};
+use gw_codecs::services::{
     MAX_REFERENCES, Next, READ_PROPERTY, READ_PROPERTY_MULTIPLE, Reference, WRITE_PROPERTY,
     decode_read, decode_write, read_reference,
 };
-use gw_tags::ObjectId;
+use gw_codecs::tags::ObjectId;
+use gw_frames::npdu::Payload;
+use gw_rules::{Ask, Asker, Format, Operation};
 use std::alloc::AllocError;
 
 /// A read or a write of what the octets don't show.
@@ -229,7 +229,7 @@ impl Relay {
         let (Format::Two | Format::Three, Payload::Apdu(octets)) = (self.format(), payload) else {
             return Ok(true);
         };
-        match gw_apdu::decode(octets) {
+        match gw_codecs::apdu::decode(octets) {
             Ok(
                 Apdu {
                     header: Header::ConfirmedRequest(request),

@@ -5,16 +5,16 @@ ghost use Rattle.std.specs.List.{AllByRecursion};
 ghost use Rattle.gw_addr.specs.Address.{IsAddress};
 ghost use Rattle.gw_addr.specs.Entry.{IsBdtEntry};
 ghost use Rattle.gw_state_text.specs.Fit.{IsDevice, IsPlace, IsRoute};
-ghost use Rattle.gw_tags.specs.Object.{IsObject, object_view};
+ghost use Rattle.gw_codecs.specs.tags.Object.{IsObject, object_view};
 ghost use Rattle.gw_restoring.specs.internal.Typed.{IsPort, IsSavedObject, IsTyped, IsValue};
 
 use gw_addr::{BdtEntry, BipAddr, NetNum};
 use gw_bdt_fdt::KeptDevice;
+use gw_codecs::tags::ObjectId;
 use gw_configuration::Text;
 use gw_objects::PropertyValue;
 use gw_routes::Route;
 use gw_saved::{Saved, SavedObject, SavedPort};
-use gw_tags::ObjectId;
 
 /// What is so of each saved state.
 pub(crate) fn typed(saved: &Saved)

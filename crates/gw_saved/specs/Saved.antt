@@ -9,7 +9,7 @@ use Rattle.gw_configuration.specs.declared.port.Port.{Port as ConfiguredPort}
 use Rattle.gw_objects.specs.declared.value.PropertyValue.{PropertyValue}
 use Rattle.gw_objects.specs.Objects.{Slots, configured_of, default_of, object_id_of}
 use Rattle.gw_routes.specs.Table.{Routed}
-use Rattle.gw_tags.specs.Object.{Object}
+use Rattle.gw_codecs.specs.tags.Object.{Object}
 use Rattle.gw_saved.specs.declared.counts.SavedCounts.{SavedCounts}
 use Rattle.gw_saved.specs.declared.origin.OriginPort.{OriginPort}
 use Rattle.gw_saved.specs.declared.port.SavedPort.{SavedPort}

@@ -1,12 +1,12 @@
 //! The identifier of a configured object.
 ghost use Rattle.std.specs.Prelude.{◌≡◌};
 ghost use Rattle.gw_objects.specs.Objects.{details_of, type_of};
-ghost use Rattle.gw_tags.specs.Object.{object_view};
+ghost use Rattle.gw_codecs.specs.tags.Object.{object_view};
 ghost use Rattle.gw_saved.specs.Saved.{id_of};
 
+use gw_codecs::tags::ObjectId;
 use gw_configuration::{Object, ObjectValue};
 use gw_objects::ObjectType;
-use gw_tags::ObjectId;
 
 /// The identifier of a configured object.
 pub fn id_of(object: &Object) -> ObjectId

@@ -1,10 +1,10 @@
 //! The slots and the default of a value object.
 ghost use Rattle.std.specs.Prelude.{◌≡◌};
-ghost use Rattle.gw_tags.specs.Object.{object_view};
+ghost use Rattle.gw_codecs.specs.tags.Object.{object_view};
 
+use gw_codecs::tags::ObjectId;
 use gw_objects::PropertyValue;
 use gw_priority::PriorityArray;
-use gw_tags::ObjectId;
 use std::marker::Model;
 
 /// A value object as it is saved. Its identifier identifies it. Contracts see the identifier, the default
@@ -28,7 +28,7 @@ impl Drop for SavedObject {
 
 impl Model for SavedObject {
     ghost use Rattle.gw_saved.specs.Saved.{SavedObject};
-    ghost use Rattle.gw_tags.specs.Object.{object_view};
+    ghost use Rattle.gw_codecs.specs.tags.Object.{object_view};
 
     ghost Value = { SavedObject };
 

@@ -1,17 +1,17 @@
 //! What is configured of what can be written.
 ghost use Rattle.std.specs.Prelude.{◌≡◌, ◌≤◌, length, map, IfOk};
 ghost use Rattle.gw_addr.specs.declared.TheConstants.{MAX_PORTS};
-ghost use Rattle.gw_tags.specs.Object.{object_view};
+ghost use Rattle.gw_codecs.specs.tags.Object.{object_view};
 ghost use Rattle.gw_saved.specs.Saved.{origin_object, origin_of, origin_port, saved_object, saved_objects, saved_port};
 
 use crate::identity::id_of;
 use crate::{SavedObject, SavedPort, copying};
 use gw_addr::{BipAddr, NetNum};
 use gw_bdt_fdt::{Bdt, Fdt};
+use gw_codecs::tags::ObjectId;
 use gw_configuration::{Config, Object, Peers, Port};
 use gw_objects::PropertyValue;
 use gw_priority::PriorityArray;
-use gw_tags::ObjectId;
 use std::alloc::{AllocError, Global};
 use std::marker::Model;
 
@@ -55,7 +55,7 @@ impl Drop for OriginObject {
 
 impl Model for OriginObject {
     ghost use Rattle.gw_saved.specs.Saved.{OriginObject};
-    ghost use Rattle.gw_tags.specs.Object.{object_view};
+    ghost use Rattle.gw_codecs.specs.tags.Object.{object_view};
 
     ghost Value = { OriginObject };
 

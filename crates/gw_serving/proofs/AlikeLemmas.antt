@@ -18,7 +18,7 @@ use Rattle.gw_routes.specs.Table.{Routed}
 use Rattle.gw_saved.specs.declared.port.SavedPort.{SavedPort}
 use Rattle.gw_saved.specs.Carried.{same_entry}
 use Rattle.gw_saved.specs.Saved.{Saved, SavedObject}
-use Rattle.gw_tags.specs.Object.{Object}
+use Rattle.gw_codecs.specs.tags.Object.{Object}
 use Rattle.gw_serving.specs.Keeping.{AlikeButTicksIsEqual, AlikeIsEqual, EqualIsAlike, alike_but_ticks, but_ticks, has_device, has_devices, is_same_object, is_same_port, is_same_route, is_same_slot, lasting_of, lasting_port, lasts_alike}
 
 -- ---- lists

@@ -15,7 +15,7 @@ use Rattle.gw_routes.specs.declared.route.Route.{Route}
 use Rattle.gw_saved.specs.declared.counts.SavedCounts.{SavedCounts}
 use Rattle.gw_saved.specs.declared.port.SavedPort.{SavedPort}
 use Rattle.gw_saved.specs.Saved.{Saved, SavedObject, are_countable}
-use Rattle.gw_tags.specs.Object.{Object}
+use Rattle.gw_codecs.specs.tags.Object.{Object}
 use Rattle.gw_state_text.specs.declared.fault.Stop.{Stop}
 use Rattle.gw_state_text.specs.Fit.{AreCounts, AreFit, AreOfKind, FitsDevices, FitsEntries, FitsKind, FitsObjects, FitsPorts, FitsRoutes}
 use Rattle.gw_state_text.specs.Items.{AllFit, AreItems}

@@ -2,7 +2,7 @@
 use Rattle.std.proofs.Common.{◌≡◌, ◌∙◌, ℕ, List, ◌++◌, Option}
 use Rattle.gw_objects.specs.declared.value.PropertyValue.{PropertyValue}
 use Rattle.gw_saved.specs.Saved.{SavedObject}
-use Rattle.gw_tags.specs.Object.{object_view}
+use Rattle.gw_codecs.specs.tags.Object.{object_view}
 use Rattle.gw_state_text.specs.Text.{object_text, slots_text}
 use Rattle.gw_state_text.specs.declared.object.Head.{Head}
 use Rattle.gw_state_text.specs.internal.Block.{StopsAfter}

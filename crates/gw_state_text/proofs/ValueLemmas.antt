@@ -9,11 +9,11 @@ use Rattle.gw_configuration.specs.declared.object.ObjectKind.TheVariants as kind
 use Rattle.gw_objects.specs.Table.{value_of}
 use Rattle.gw_objects.specs.declared.value.PropertyValue.{PropertyValue}
 use Rattle.gw_objects.specs.declared.value.PropertyValue.TheVariants.{Binary, State, Text, Integer, PositiveInteger}
-use Rattle.gw_tags.specs.Number.{IsSigned}
-use Rattle.gw_tags.specs.Tag.{EncodesTag, high_bits, two_octets, tag_encoding}
-use Rattle.gw_tags.specs.Value.{IsValue, application, character_string, enumerated, signed, unsigned, value_encoding}
-use Rattle.gw_tags.proofs.Numbers.{signed_encodes, unsigned_encodes}
-use Rattle.gw_tags.proofs.Written.{value_encoding_encodes, value_encoding_is_shortest}
+use Rattle.gw_codecs.specs.tags.Number.{IsSigned}
+use Rattle.gw_codecs.specs.tags.Tag.{EncodesTag, high_bits, two_octets, tag_encoding}
+use Rattle.gw_codecs.specs.tags.Value.{IsValue, application, character_string, enumerated, signed, unsigned, value_encoding}
+use Rattle.gw_codecs.proofs.tags_lemmas.Numbers.{signed_encodes, unsigned_encodes}
+use Rattle.gw_codecs.proofs.tags_lemmas.Written.{value_encoding_encodes, value_encoding_is_shortest}
 use Rattle.hex.proofs.HexLemmas.{length-encode_with}
 use Rattle.hex.specs.Hex.{upper_digits}
 use Rattle.gw_state_text.specs.Fit.{FitsKind}

@@ -19,19 +19,19 @@ use Rattle.gw_configuration.specs.declared.object.ObjectKind.TheVariants as kind
 use Rattle.gw_objects.specs.Table.{value_of}
 use Rattle.gw_objects.specs.declared.value.PropertyValue.{PropertyValue}
 use Rattle.gw_objects.specs.declared.value.PropertyValue.TheVariants.{Binary, State, Text, Integer, PositiveInteger}
-use Rattle.gw_tags.specs.Number.{IsSigned}
-use Rattle.gw_tags.specs.Reading.{value_at}
-use Rattle.gw_tags.specs.Tag.{EncodesTag, LengthHasRoom, LengthPlace, NumberHasRoom, NumberPlace, four_octets, high_bits, low_bits, one_octet, own_octet, tag_encoding, two_octets}
-use Rattle.gw_tags.specs.declared.tag.Kind.TheVariants.{Length}
-use Rattle.gw_tags.specs.Value.{IsValue, Value, application, character_string, enumerated, is_text, layout, signed, unsigned, value_encoding}
-use Rattle.gw_tags.proofs.Octets.{none, one_more}
-use Rattle.gw_tags.proofs.ValueFaults.{value_only}
-use Rattle.gw_tags.proofs.Written.{value_encoding_encodes}
+use Rattle.gw_codecs.specs.tags.Number.{IsSigned}
+use Rattle.gw_codecs.specs.tags.Reading.{value_at}
+use Rattle.gw_codecs.specs.tags.Tag.{EncodesTag, LengthHasRoom, LengthPlace, NumberHasRoom, NumberPlace, four_octets, high_bits, low_bits, one_octet, own_octet, tag_encoding, two_octets}
+use Rattle.gw_codecs.specs.declared.tags.tag.Kind.TheVariants.{Length}
+use Rattle.gw_codecs.specs.tags.Value.{IsValue, Value, application, character_string, enumerated, is_text, layout, signed, unsigned, value_encoding}
+use Rattle.gw_codecs.proofs.tags_lemmas.Octets.{none, one_more}
+use Rattle.gw_codecs.proofs.tags_lemmas.ValueFaults.{value_only}
+use Rattle.gw_codecs.proofs.tags_lemmas.Written.{value_encoding_encodes}
 use Rattle.gw_state_text.specs.Fit.{FitsKind}
 use Rattle.gw_state_text.specs.Text.{value_text}
 use Rattle.gw_state_text.specs.declared.fault.FaultKind.{FaultKind}
 use Rattle.gw_state_text.specs.declared.fault.FaultKind.TheVariants.{Range}
-use Rattle.gw_tags.specs.declared.fault.ValueFault.{ValueFault}
+use Rattle.gw_codecs.specs.declared.tags.fault.ValueFault.{ValueFault}
 use Rattle.gw_state_text.specs.Values.{alone, decoded, octets_in, property_of, spelled, text_of, value_in, value_of as value_of_octets}
 use Rattle.gw_state_text.proofs.ValueLemmas.{digits_few, enumerated_is, signed_is, text_is, unsigned_is}
 use Rattle.gw_state_text.proofs.WordLemmas.{same_as_itself}

@@ -18,8 +18,8 @@ use Rattle.gw_objects.specs.declared.value.PropertyValue.TheVariants.{Binary, St
 use Rattle.gw_routes.specs.declared.route.Route.{Route}
 use Rattle.gw_saved.specs.declared.port.SavedPort.{SavedPort}
 use Rattle.gw_saved.specs.Saved.{Saved, SavedObject, are_countable}
-use Rattle.gw_tags.specs.Number.{IsSigned}
-use Rattle.gw_tags.specs.Object.{IsObject, Object}
+use Rattle.gw_codecs.specs.tags.Number.{IsSigned}
+use Rattle.gw_codecs.specs.tags.Object.{IsObject, Object}
 use Rattle.gw_state_text.specs.Items.{AreItems}
 use Rattle.gw_saved.specs.declared.counts.SavedCounts.{SavedCounts}
 

@@ -14,7 +14,7 @@ use Rattle.gw_routes.specs.declared.route.Route.{Route}
 use Rattle.gw_saved.specs.declared.counts.SavedCounts.{SavedCounts}
 use Rattle.gw_saved.specs.declared.port.SavedPort.{SavedPort}
 use Rattle.gw_saved.specs.Saved.{Saved, SavedObject, are_countable}
-use Rattle.gw_tags.specs.Object.{Object}
+use Rattle.gw_codecs.specs.tags.Object.{Object}
 use Rattle.gw_state_text.specs.declared.fault.FaultKind.{FaultKind}
 use Rattle.gw_state_text.specs.declared.fault.FaultKind.TheVariants.{Version, Line, Range, Twice, TooMany, Cut, Memory}
 use Rattle.gw_state_text.specs.declared.fault.StateFault.{StateFault}

@@ -14,8 +14,8 @@ use Rattle.gw_routes.specs.declared.route.Route.{Route}
 use Rattle.gw_saved.specs.declared.counts.SavedCounts.{SavedCounts}
 use Rattle.gw_saved.specs.declared.port.SavedPort.{SavedPort}
 use Rattle.gw_saved.specs.Saved.{Saved, SavedObject}
-use Rattle.gw_tags.specs.Object.{Object}
-use Rattle.gw_tags.specs.Value.{value_encoding}
+use Rattle.gw_codecs.specs.tags.Object.{Object}
+use Rattle.gw_codecs.specs.tags.Value.{value_encoding}
 
 -- the first line, which has the version of the text
 abbrev pub first_line : List ℕ

@@ -10,9 +10,9 @@ use Rattle.gw_configuration.specs.declared.object.ObjectKind.{ObjectKind}
 use Rattle.gw_configuration.specs.declared.object.ObjectKind.TheVariants as kinds
 use Rattle.gw_objects.specs.declared.value.PropertyValue.{PropertyValue}
 use Rattle.gw_objects.specs.declared.value.PropertyValue.TheVariants.{Binary, State, Text, Integer, PositiveInteger}
-use Rattle.gw_tags.specs.declared.fault.ValueFault.{ValueFault}
-use Rattle.gw_tags.specs.Reading.{value_at}
-use Rattle.gw_tags.specs.Value.{Value, character_string, enumerated, signed, unsigned}
+use Rattle.gw_codecs.specs.declared.tags.fault.ValueFault.{ValueFault}
+use Rattle.gw_codecs.specs.tags.Reading.{value_at}
+use Rattle.gw_codecs.specs.tags.Value.{Value, character_string, enumerated, signed, unsigned}
 use Rattle.gw_state_text.specs.declared.fault.FaultKind.{FaultKind}
 use Rattle.gw_state_text.specs.declared.fault.FaultKind.TheVariants.{Line, Range}
 use Rattle.gw_state_text.specs.Text.{value_text}

@@ -4,7 +4,7 @@ ghost use Rattle.std.specs.Prelude.{◌≡◌, ◌++◌, ◌∷◌, [], None, co
 ghost use Rattle.std.specs.Fmt.{decimal};
 ghost use Rattle.std.specs.List.{list_any};
 ghost use Rattle.gw_priority.specs.declared.array.TheConstants.{PRIORITIES};
-ghost use Rattle.gw_tags.specs.Object.{IsObject, object_view};
+ghost use Rattle.gw_codecs.specs.tags.Object.{IsObject, object_view};
 ghost use Rattle.gw_state_text.specs.Fit.{AreOfKind, FitsKind, FitsObjects, is_object};
 ghost use Rattle.gw_state_text.specs.Text.{identifier_text, object_line, object_text, slot_text, slots_text, value_text};
 ghost use Rattle.gw_state_text.specs.Reading.{Reads, ReadsLines, identifier_at, object_after, object_at};
@@ -20,11 +20,11 @@ use crate::items::Lines;
 use crate::value::{put_value, value_in};
 use crate::words::{after_word, long_to, octet_to, parted_at, short_to};
 use gw_addr::{put_decimal, put_octet, put_slice};
+use gw_codecs::tags::ObjectId;
 use gw_configuration::{MAX_OBJECTS, ObjectKind};
 use gw_objects::PropertyValue;
 use gw_priority::{LOWEST, PRIORITIES, PriorityArray, RESERVED};
 use gw_saved::SavedObject;
-use gw_tags::ObjectId;
 use std::alloc::{AllocError, Global};
 use std::array;
 

@@ -4,19 +4,19 @@
 ghost use Rattle.std.specs.Prelude.{◌≡◌, ◌↔◌, IfOk, IfErr, IsTrue};
 ghost use Rattle.gw_objects.specs.Table as table;
 ghost use Rattle.gw_objects.specs.Table.{value_of};
-ghost use Rattle.gw_tags.specs.Value.{value_encoding};
+ghost use Rattle.gw_codecs.specs.tags.Value.{value_encoding};
 ghost use Rattle.gw_state_text.specs.Fit.{FitsKind};
 ghost use Rattle.gw_state_text.specs.Reading.{Reads};
 ghost use Rattle.gw_state_text.specs.Text.{value_text};
 ghost use Rattle.gw_state_text.specs.Values.{octets_in, property_of, text_of, value_in, value_of as whole_value_of};
-ghost use Rattle.gw_tags.specs.Value.{value_view};
+ghost use Rattle.gw_codecs.specs.tags.Value.{value_view};
 ghost use Rattle.gw_state_text.specs.internal.Put.{IsPut};
 
 use crate::fault::FaultKind;
 use gw_addr::put_slice;
+use gw_codecs::tags::{AppValue, CharacterString, read_value, write_value};
 use gw_configuration::{ConfigFault, ObjectKind, Text};
 use gw_objects::PropertyValue;
-use gw_tags::{AppValue, CharacterString, read_value, write_value};
 use hex::FromHexError;
 use std::alloc::{AllocError, Global};
 

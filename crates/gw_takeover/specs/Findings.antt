@@ -21,7 +21,7 @@ use Rattle.gw_routes.specs.Table.{Routed, Table, learned_by, route_by, table_of}
 use Rattle.gw_saved.specs.Carried.{is_object, is_port, route_from, routes_carried, same_entry}
 use Rattle.gw_saved.specs.declared.port.SavedPort.{SavedPort}
 use Rattle.gw_saved.specs.Saved.{Saved, SavedObject, id_of}
-use Rattle.gw_tags.specs.Object.{Object}
+use Rattle.gw_codecs.specs.tags.Object.{Object}
 use Rattle.gw_takeover.specs.declared.finding.Absence.{Absence}
 use Rattle.gw_takeover.specs.declared.finding.Absence.TheVariants.{NotConfigured, Twice}
 use Rattle.gw_takeover.specs.declared.finding.Finding.{Finding}

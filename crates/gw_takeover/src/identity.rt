@@ -3,13 +3,13 @@ ghost use Rattle.std.specs.Prelude.{◌≡◌};
 ghost use Rattle.std.specs.List.{list_any};
 ghost use Rattle.gw_saved.specs.Carried.{is_object, is_port};
 ghost use Rattle.gw_takeover.specs.Findings.{absence_of, is_same_object, is_same_port, object_name, object_absence, port_absence, port_name};
-ghost use Rattle.gw_tags.specs.Object.{object_view};
+ghost use Rattle.gw_codecs.specs.tags.Object.{object_view};
 
 use crate::{Absence, ObjectName, PortName};
 use gw_addr::{BipAddr, NetNum};
+use gw_codecs::tags::ObjectId;
 use gw_configuration::{Object, Port};
 use gw_saved::{SavedObject, SavedPort, is_object, is_port};
-use gw_tags::ObjectId;
 
 impl PortName {
     /// The port of this network and this own address.

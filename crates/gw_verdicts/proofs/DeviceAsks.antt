@@ -3,12 +3,12 @@ use Rattle.std.proofs.Common.{◌≡◌, refl, ℕ, Bool, true, false, List, [],
 use Rattle.std.specs.Prelude.{IfSome, find, if◌then◌else◌, is_some, ◌==◌}
 use Rattle.std.specs.Option.{option_map}
 use Rattle.std.specs.List.{AllByRecursion}
-use Rattle.gw_apdu.specs.declared.fault.ApduFault.{ApduFault}
-use Rattle.gw_apdu.specs.declared.header.ConfirmedRequest.{ConfirmedRequest}
-use Rattle.gw_apdu.specs.declared.header.Header.{Header}
-use Rattle.gw_apdu.specs.declared.header.Header.TheVariants as header
-use Rattle.gw_apdu.specs.Apdu.{Fields as Apdu}
-use Rattle.gw_apdu.specs.Reading.{apdu_at}
+use Rattle.gw_codecs.specs.declared.apdu.fault.ApduFault.{ApduFault}
+use Rattle.gw_codecs.specs.declared.apdu.header.ConfirmedRequest.{ConfirmedRequest}
+use Rattle.gw_codecs.specs.declared.apdu.header.Header.{Header}
+use Rattle.gw_codecs.specs.declared.apdu.header.Header.TheVariants as header
+use Rattle.gw_codecs.specs.apdu.Apdu.{Fields as Apdu}
+use Rattle.gw_codecs.specs.apdu.Reading.{apdu_at}
 use Rattle.gw_objects.specs.declared.property.ObjectType.{ObjectType}
 use Rattle.gw_objects.specs.declared.property.Property.{Property}
 use Rattle.gw_objects.specs.declared.property.Property.TheVariants.{ObjectIdentifier, ObjectName}
@@ -23,16 +23,16 @@ use Rattle.gw_rules.specs.declared.operation.Operation.TheVariants as operations
 use Rattle.gw_rules.specs.declared.rule.Rule.{Rule}
 use Rattle.gw_rules.specs.declared.service.Service.TheVariants.{Confirmed, Unconfirmed}
 use Rattle.gw_rules.proofs.EachAsk.{each_both}
-use Rattle.gw_services.specs.declared.fault.BodyFault.{BodyFault}
-use Rattle.gw_services.specs.Choices.{read_property, read_property_multiple, write_property, who_has, who_is}
-use Rattle.gw_services.specs.Limits.{priority_of}
-use Rattle.gw_services.specs.Multi.{Reference, list_ends}
-use Rattle.gw_services.specs.MultiReading.{multi_at}
-use Rattle.gw_services.specs.Read.{read_at}
-use Rattle.gw_services.specs.WhoHas.{Sought, the_name, the_object, who_has_at}
-use Rattle.gw_services.specs.WhoIs.{who_is_at}
-use Rattle.gw_services.specs.Write.{write_at}
-use Rattle.gw_tags.specs.Object.{Object}
+use Rattle.gw_codecs.specs.declared.services.fault.BodyFault.{BodyFault}
+use Rattle.gw_codecs.specs.services.Choices.{read_property, read_property_multiple, write_property, who_has, who_is}
+use Rattle.gw_codecs.specs.services.Limits.{priority_of}
+use Rattle.gw_codecs.specs.services.Multi.{Reference, list_ends}
+use Rattle.gw_codecs.specs.services.MultiReading.{multi_at}
+use Rattle.gw_codecs.specs.services.Read.{read_at}
+use Rattle.gw_codecs.specs.services.WhoHas.{Sought, the_name, the_object, who_has_at}
+use Rattle.gw_codecs.specs.services.WhoIs.{who_is_at}
+use Rattle.gw_codecs.specs.services.Write.{write_at}
+use Rattle.gw_codecs.specs.tags.Object.{Object}
 use Rattle.gw_device.specs.declared.context.Context.{Context}
 use Rattle.gw_device.specs.Asks.{named_object, property_ask}
 use Rattle.gw_device.specs.Device.{apdu_response, device_asks, header_response, or_reject, or_silence, service_response}

@@ -3,15 +3,15 @@ use Rattle.std.proofs.Common.{◌≡◌, ℕ, ◌≤◌, List, [], ◌∷◌, Ok
 use Rattle.std.specs.Prelude.{⊤}
 use Rattle.std.specs.List.{AllByRecursion}
 use Rattle.gw_addr.specs.Reading.{AreOctets}
-use Rattle.gw_apdu.specs.Apdu.{Fields as Apdu}
-use Rattle.gw_apdu.specs.Reading.{apdu_at}
-use Rattle.gw_services.specs.Limits.{priority_of}
-use Rattle.gw_services.specs.Multi.{Reference}
-use Rattle.gw_services.specs.MultiReading.{multi_at}
-use Rattle.gw_services.specs.Read.{Read, read_at}
-use Rattle.gw_services.specs.WhoHas.{Sought, WhoHas, the_name, the_object, who_has_at}
-use Rattle.gw_services.specs.Write.{Write, write_at}
-use Rattle.gw_tags.specs.Object.{IsObject, Object}
+use Rattle.gw_codecs.specs.apdu.Apdu.{Fields as Apdu}
+use Rattle.gw_codecs.specs.apdu.Reading.{apdu_at}
+use Rattle.gw_codecs.specs.services.Limits.{priority_of}
+use Rattle.gw_codecs.specs.services.Multi.{Reference}
+use Rattle.gw_codecs.specs.services.MultiReading.{multi_at}
+use Rattle.gw_codecs.specs.services.Read.{Read, read_at}
+use Rattle.gw_codecs.specs.services.WhoHas.{Sought, WhoHas, the_name, the_object, who_has_at}
+use Rattle.gw_codecs.specs.services.Write.{Write, write_at}
+use Rattle.gw_codecs.specs.tags.Object.{IsObject, Object}
 use Rattle.gw_verdicts.proofs.Octets.{AreNamed, IsRank as IsPriority, IsSoughtBy, apdu_rest, multi_names, read_names, who_has_names, write_names}
 
 -- predicates, and that what is read of octets has them

@@ -2,42 +2,42 @@
 use Rattle.std.proofs.Common.{◌≡◌, ◌∙◌, ◌⊎◌, inl, inr, sym, ap, refl, subst, ℕ, zero, suc, ◌+◌, ◌≤◌, ◌<◌, Bool, true, false, List, [], ◌∷◌, ◌++◌, length, nat_le, Option, Some, None, Result, Ok, Err, arith}
 use Rattle.std.specs.Prelude.{◌≢◌, ◌^◌, ◌*◌, IfSome, IsSomeAnd, MatchOption, if◌then◌else◌, ⊤}
 use Rattle.std.specs.Option.{ok_or}
-use Rattle.gw_tags.specs.Number.{unsigned_of}
+use Rattle.gw_codecs.specs.tags.Number.{unsigned_of}
 use Rattle.std.specs.Int.{w16, to_be_bytes}
 use Rattle.std.specs.List.{AllByRecursion}
 use Rattle.std.proofs.lemmas.Bool.{leb-true}
 use Rattle.gw_addr.specs.Reading.{AreOctets}
 use Rattle.gw_addr.proofs.Reading.{AreOctets-drop, AreOctets-rest, bind_ok, both_true, ok_is}
-use Rattle.gw_tags.specs.Object.{IsObject, Object}
-use Rattle.gw_tags.proofs.Octets.{behind_octets, none}
+use Rattle.gw_codecs.specs.tags.Object.{IsObject, Object}
+use Rattle.gw_codecs.proofs.tags_lemmas.Octets.{behind_octets, none}
 use Rattle.gw_frames.specs.npdu.Npdu.{Address, Destination, Fields, FitsAddress, FitsPayload, IsBadDestination, IsBadSource, Payload, address_part, apdu, destination_part, header_with, hops_part, message, payload_octets, payload_part, source_part}
 use Rattle.gw_frames.specs.npdu.Numbers.{first_vendor_kind, protocol_version}
 use Rattle.gw_frames.specs.npdu.Reading.{npdu_at}
 use Rattle.gw_frames.proofs.npdu_lemmas.Whole.{npdu_takes}
-use Rattle.gw_apdu.specs.Apdu.{IsApdu, code_of, fixed_part, segment_part}
-use Rattle.gw_apdu.specs.Apdu.{Fields as Apdu}
-use Rattle.gw_apdu.specs.Reading.{apdu_at, code_at}
-use Rattle.gw_apdu.specs.declared.fault.ApduFault.{ApduFault}
-use Rattle.gw_apdu.specs.declared.header.Header.{Header}
-use Rattle.gw_apdu.specs.declared.header.Header.TheVariants as header
-use Rattle.gw_apdu.proofs.Headers.{apdu_is}
-use Rattle.gw_services.specs.Body.{Begins, Body, IsBody, done, given, left_out, may, must, nothing_more, required}
-use Rattle.gw_services.specs.declared.fault.BodyFault.{BodyFault}
-use Rattle.gw_services.specs.declared.fault.BodyFault.TheVariants.{InvalidTag, OutOfRange}
-use Rattle.gw_services.specs.Limits.{last_number, last_priority, last_property, priority_of}
-use Rattle.gw_services.specs.Multi.{IsList, IsNamed, IsReference, Reference, a_property, in_new_list, in_same_list, last_one, most_references, next_object, next_property, the_object, whole, with_index}
-use Rattle.gw_services.specs.MultiReading.{multi_at}
-use Rattle.gw_services.specs.Parameter.{Content, Holds, IsContentOf, Parameter, a_number, a_text, a_text_value, an_enumerated_value, an_object, an_object_value, an_unsigned_value, between, enclosed, in_range, number, object, of_number, of_object, of_text, plain_enumerated, plain_object, plain_text, plain_unsigned, tagged, text, under, values}
-use Rattle.gw_services.specs.Parameter.{Shape as Content_shape}
-use Rattle.gw_services.specs.Read.{Read, read_at}
-use Rattle.gw_services.specs.Reading.{ended, given_at, number_at, number_given, number_in, number_maybe_at, object_at, ranged, values_at}
-use Rattle.gw_services.specs.WhoHas.{Sought, WhoHas, sought_held, the_name, the_object as sought_by_id, who_has_at, who_has_body, who_has_held}
-use Rattle.gw_services.specs.WhoIs.{Limits, limits_held}
-use Rattle.gw_services.specs.Write.{Write, priority_at, write_at}
-use Rattle.gw_services.proofs.MultiBody.{multi_takes}
-use Rattle.gw_services.proofs.ReadBody.{read_takes}
-use Rattle.gw_services.proofs.WhoHasBody.{who_has_takes}
-use Rattle.gw_services.proofs.WriteBody.{write_takes}
+use Rattle.gw_codecs.specs.apdu.Apdu.{IsApdu, code_of, fixed_part, segment_part}
+use Rattle.gw_codecs.specs.apdu.Apdu.{Fields as Apdu}
+use Rattle.gw_codecs.specs.apdu.Reading.{apdu_at, code_at}
+use Rattle.gw_codecs.specs.declared.apdu.fault.ApduFault.{ApduFault}
+use Rattle.gw_codecs.specs.declared.apdu.header.Header.{Header}
+use Rattle.gw_codecs.specs.declared.apdu.header.Header.TheVariants as header
+use Rattle.gw_codecs.proofs.apdu_lemmas.Headers.{apdu_is}
+use Rattle.gw_codecs.specs.services.Body.{Begins, Body, IsBody, done, given, left_out, may, must, nothing_more, required}
+use Rattle.gw_codecs.specs.declared.services.fault.BodyFault.{BodyFault}
+use Rattle.gw_codecs.specs.declared.services.fault.BodyFault.TheVariants.{InvalidTag, OutOfRange}
+use Rattle.gw_codecs.specs.services.Limits.{last_number, last_priority, last_property, priority_of}
+use Rattle.gw_codecs.specs.services.Multi.{IsList, IsNamed, IsReference, Reference, a_property, in_new_list, in_same_list, last_one, most_references, next_object, next_property, the_object, whole, with_index}
+use Rattle.gw_codecs.specs.services.MultiReading.{multi_at}
+use Rattle.gw_codecs.specs.services.Parameter.{Content, Holds, IsContentOf, Parameter, a_number, a_text, a_text_value, an_enumerated_value, an_object, an_object_value, an_unsigned_value, between, enclosed, in_range, number, object, of_number, of_object, of_text, plain_enumerated, plain_object, plain_text, plain_unsigned, tagged, text, under, values}
+use Rattle.gw_codecs.specs.services.Parameter.{Shape as Content_shape}
+use Rattle.gw_codecs.specs.services.Read.{Read, read_at}
+use Rattle.gw_codecs.specs.services.Reading.{ended, given_at, number_at, number_given, number_in, number_maybe_at, object_at, ranged, values_at}
+use Rattle.gw_codecs.specs.services.WhoHas.{Sought, WhoHas, sought_held, the_name, the_object as sought_by_id, who_has_at, who_has_body, who_has_held}
+use Rattle.gw_codecs.specs.services.WhoIs.{Limits, limits_held}
+use Rattle.gw_codecs.specs.services.Write.{Write, priority_at, write_at}
+use Rattle.gw_codecs.proofs.services_lemmas.MultiBody.{multi_takes}
+use Rattle.gw_codecs.proofs.services_lemmas.ReadBody.{read_takes}
+use Rattle.gw_codecs.proofs.services_lemmas.WhoHasBody.{who_has_takes}
+use Rattle.gw_codecs.proofs.services_lemmas.WriteBody.{write_takes}
 use Rattle.gw_relay.specs.Asks.{service_of}
 
 -- ---- octets

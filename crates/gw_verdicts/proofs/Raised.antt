@@ -24,8 +24,8 @@ use Rattle.gw_rules.specs.declared.operation.Operation.{Operation}
 use Rattle.gw_rules.specs.declared.operation.Operation.TheVariants as operations
 use Rattle.gw_rules.specs.declared.rule.Rule.{Rule}
 use Rattle.gw_rules.proofs.EachAsk.{each_weaker}
-use Rattle.gw_services.specs.Limits.{last_property}
-use Rattle.gw_tags.specs.Object.{IsObject, Object}
+use Rattle.gw_codecs.specs.services.Limits.{last_property}
+use Rattle.gw_codecs.specs.tags.Object.{IsObject, Object}
 use Rattle.gw_objects.specs.Objects.{Database, device_id}
 use Rattle.gw_relay.specs.Cast.{cast_ask}
 use Rattle.gw_relay.specs.Entry.{claim_ask, enter_ask, entry_asks}

@@ -43,8 +43,8 @@ use Rattle.gw_rules.specs.declared.field.FieldName.TheVariants as fields
 use Rattle.gw_rules.specs.RuleList.{first}
 use Rattle.gw_rules.proofs.EachAsk.{each_weaker}
 use Rattle.gw_script.specs.Event.{Event}
-use Rattle.gw_services.specs.Limits.{last_property}
-use Rattle.gw_tags.specs.Object.{IsObject, Object}
+use Rattle.gw_codecs.specs.services.Limits.{last_property}
+use Rattle.gw_codecs.specs.tags.Object.{IsObject, Object}
 use Rattle.gw_core.specs.Asks.{asks, asks_for}
 use Rattle.gw_core.specs.History.{port_acts, state_after}
 use Rattle.gw_core.specs.Receive.{Received, barred, dropped, managed, message, receive, unregistered}

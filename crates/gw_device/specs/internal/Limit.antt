@@ -1,7 +1,7 @@
 -- The octets of an answer, which are kept while its client takes them.
 use Rattle.std.specs.Prelude.{ℕ, ◌-◌, nat_le, if◌then◌else◌, List, ◌++◌, length, Option, Some, None}
-use Rattle.gw_apdu.specs.Answers.{abort}
-use Rattle.gw_apdu.specs.Reasons.{segmentation_not_supported}
+use Rattle.gw_codecs.specs.apdu.Answers.{abort}
+use Rattle.gw_codecs.specs.apdu.Reasons.{segmentation_not_supported}
 use Rattle.gw_device.specs.Response.{with_room}
 
 -- how many more there may be, and the octets; none where there were too many

@@ -2,9 +2,9 @@
 use Rattle.std.specs.Prelude.{ℕ, List}
 use Rattle.gw_objects.specs.Objects.{Database}
 use Rattle.gw_objects.specs.Table.{read_of}
-use Rattle.gw_services.specs.Multi.{head_part, tail_part}
-use Rattle.gw_services.specs.Reply.{error_item}
-use Rattle.gw_tags.specs.Object.{object_view}
+use Rattle.gw_codecs.specs.services.Multi.{head_part, tail_part}
+use Rattle.gw_codecs.specs.services.Reply.{error_item}
+use Rattle.gw_codecs.specs.tags.Object.{object_view}
 use Rattle.gw_device.specs.declared.piece.Piece.{Piece}
 use Rattle.gw_device.specs.declared.piece.Piece.TheVariants.{ListHead, ListTail, Item, ErrorItem}
 use Rattle.gw_device.specs.Multi.{item}

@@ -2,8 +2,8 @@
 use Rattle.std.specs.Prelude.{◌≡◌, ℕ, Bool, if◌then◌else◌, List, [], ◌∷◌, ◌++◌, position, is_some, Vec}
 use Rattle.std.specs.Map.{lookup}
 use Rattle.std.specs.declared.alloc.Global.{Global}
-use Rattle.gw_tags.specs.declared.object.ObjectId.{ObjectId}
-use Rattle.gw_tags.specs.Object.{object_view}
+use Rattle.gw_codecs.specs.declared.tags.object.ObjectId.{ObjectId}
+use Rattle.gw_codecs.specs.tags.Object.{object_view}
 use Rattle.gw_objects.specs.declared.configured.ConfiguredObject.{ConfiguredObject}
 use Rattle.gw_objects.specs.Identifier.{is_name, object_id_of, same}
 

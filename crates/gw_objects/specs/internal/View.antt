@@ -1,7 +1,7 @@
 -- What the values of the code that lend parts of an object say.
 use Rattle.std.specs.Prelude.{List, [], ◌∷◌, map}
-use Rattle.gw_tags.specs.Object.{object_view}
-use Rattle.gw_tags.specs.Value.{Value, null, boolean, unsigned, signed, bit_string, enumerated, object_id}
+use Rattle.gw_codecs.specs.tags.Object.{object_view}
+use Rattle.gw_codecs.specs.tags.Value.{Value, null, boolean, unsigned, signed, bit_string, enumerated, object_id}
 use Rattle.gw_objects.specs.declared.contents.Flags.{Flags}
 use Rattle.gw_objects.specs.declared.contents.Flags.TheVariants as flags
 use Rattle.gw_objects.specs.declared.contents.Item.{Item}

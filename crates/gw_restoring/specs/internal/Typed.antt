@@ -10,8 +10,8 @@ use Rattle.gw_objects.specs.declared.value.PropertyValue.TheVariants.{Binary, St
 use Rattle.gw_saved.specs.declared.port.SavedPort.{SavedPort}
 use Rattle.gw_saved.specs.Saved.{Saved, SavedObject, are_countable, are_few}
 use Rattle.gw_state_text.specs.Fit.{IsDevice, IsPlace, IsRoute}
-use Rattle.gw_tags.specs.Number.{IsSigned}
-use Rattle.gw_tags.specs.Object.{IsObject}
+use Rattle.gw_codecs.specs.tags.Number.{IsSigned}
+use Rattle.gw_codecs.specs.tags.Object.{IsObject}
 
 -- a value in the range of its type: numbers of 32 bits, and texts of at most 255 octets of UTF-8
 abbrev pub IsValue : PropertyValue → Type 0

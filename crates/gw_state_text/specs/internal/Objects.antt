@@ -1,7 +1,7 @@
 -- The line of an object, and its slots.
 use Rattle.std.specs.Prelude.{◌≡◌, ℕ, List, ◌++◌, length, Option, Some}
 use Rattle.gw_objects.specs.declared.value.PropertyValue.{PropertyValue}
-use Rattle.gw_tags.specs.Object.{IsObject, object_view}
+use Rattle.gw_codecs.specs.tags.Object.{IsObject, object_view}
 use Rattle.gw_state_text.specs.Fit.{FitsKind}
 use Rattle.gw_state_text.specs.Reading.{ObjectLine}
 use Rattle.gw_state_text.specs.Text.{object_line, slots_text}

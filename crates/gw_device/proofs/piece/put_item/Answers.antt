@@ -1,7 +1,7 @@
 use Rattle.std.proofs.Common.{◌≡◌, ◌∙◌, ap, arith, length, take}
 use Rattle.std.proofs.lemmas.Result.{on_ok_weaker}
 use Rattle.gw_objects.specs.Table.{read_of}
-use Rattle.gw_tags.specs.Object.{object_view}
+use Rattle.gw_codecs.specs.tags.Object.{object_view}
 use Rattle.gw_device.proofs.PropertyLemmas.{item_fault, item_value, longer_after}
 use Rattle.gw_device.proofs.piece.put_item.Goals as goal
 

@@ -2,8 +2,8 @@ use Rattle.std.proofs.Common.{◌≡◌, ◌∷◌, ◌-◌, Some, length, map, 
 use Rattle.std.specs.Prelude.{slice_get}
 use Rattle.std.proofs.lemmas.List.{length-map}
 use Rattle.std.proofs.lemmas.Option.{slice_get_read}
-use Rattle.gw_tags.specs.Object.{object_view}
-use Rattle.gw_tags.specs.Value.{object_id}
+use Rattle.gw_codecs.specs.tags.Object.{object_view}
+use Rattle.gw_codecs.specs.tags.Value.{object_id}
 use Rattle.gw_objects.specs.Objects.{object_id_of}
 use Rattle.gw_objects.proofs.Elements.{listed}
 use Rattle.gw_objects.proofs.writing.listed.Goals as goal

@@ -2,7 +2,7 @@ use Rattle.std.proofs.Common.{◌++◌, ℕ, List, take, length, refl, sym, ap, 
 use Rattle.std.proofs.lemmas.List.{length-append, take_at}
 use Rattle.std.proofs.lemmas.Grind.{common_steps}
 use Rattle.std.specs.List.{flat_map}
-use Rattle.gw_tags.specs.Value.{value_encoding}
+use Rattle.gw_codecs.specs.tags.Value.{value_encoding}
 use Rattle.gw_objects.specs.internal.View.{array_view, item_view}
 use Rattle.gw_objects.proofs.Elements.{encodings_more, encodings_within}
 use Rattle.gw_objects.proofs.writing.write_array.Goals as goal

@@ -1,7 +1,7 @@
 use Rattle.std.proofs.Common.{◌≡◌, ◌≤◌, ◌++◌, take}
 use Rattle.std.specs.List.{flat_map}
 use Rattle.std.specs.Vec.{vec_capacity}
-use Rattle.gw_tags.specs.Value.{value_encoding}
+use Rattle.gw_codecs.specs.tags.Value.{value_encoding}
 use Rattle.gw_objects.specs.internal.View.{array_view}
 use Rattle.gw_objects.proofs.writing.write_array.Given as goal
 

@@ -1,9 +1,9 @@
 use Rattle.std.proofs.Common.{◌∙◌, sym, ap, Ok}
 use Rattle.std.specs.Option.{option_map}
-use Rattle.gw_services.specs.Multi.{reference_view}
-use Rattle.gw_services.specs.internal.Next.{next_view}
-use Rattle.gw_services.specs.declared.next.Next.{Next}
-use Rattle.gw_tags.specs.Object.{object_view}
+use Rattle.gw_codecs.specs.services.Multi.{reference_view}
+use Rattle.gw_codecs.specs.services.internal.Next.{next_view}
+use Rattle.gw_codecs.specs.declared.services.next.Next.{Next}
+use Rattle.gw_codecs.specs.tags.Object.{object_view}
 use Rattle.gw_relay.proofs.NamedLemmas.{read_last, read_more, unread}
 use Rattle.gw_relay.proofs.named.+are_references.Goals as goal
 

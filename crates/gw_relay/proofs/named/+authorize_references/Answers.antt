@@ -2,11 +2,11 @@ use Rattle.std.proofs.Common.{◌≡◌, ◌∙◌, sym, ap, subst, Ok, List, �
 use Rattle.std.specs.Option.{option_map}
 use Rattle.gw_rules.specs.Ask.{Ask}
 use Rattle.gw_rules.specs.RuleList.{allows}
-use Rattle.gw_services.specs.Multi.{reference_view}
-use Rattle.gw_services.specs.MultiReading.{references_at}
-use Rattle.gw_services.specs.declared.next.Next.{Next}
-use Rattle.gw_services.specs.internal.Next.{next_view}
-use Rattle.gw_tags.specs.Object.{object_view}
+use Rattle.gw_codecs.specs.services.Multi.{reference_view}
+use Rattle.gw_codecs.specs.services.MultiReading.{references_at}
+use Rattle.gw_codecs.specs.declared.services.next.Next.{Next}
+use Rattle.gw_codecs.specs.services.internal.Next.{next_view}
+use Rattle.gw_codecs.specs.tags.Object.{object_view}
 use Rattle.gw_relay.specs.Named.{multi_asks, reference_ask}
 use Rattle.gw_relay.specs.internal.Taken.{AreAsked}
 use Rattle.gw_relay.proofs.NamedLemmas.{asked_behind, asked_one, last_asks, more_asks, read_more, unread}

@@ -1,7 +1,7 @@
 use Rattle.std.proofs.Common.{◌∙◌, ◌++◌, ℕ, List, ap, map}
-use Rattle.gw_apdu.specs.Answers.{complex_ack}
-use Rattle.gw_services.specs.Choices.{read_property_multiple}
-use Rattle.gw_services.specs.Multi.{reference_view}
+use Rattle.gw_codecs.specs.apdu.Answers.{complex_ack}
+use Rattle.gw_codecs.specs.services.Choices.{read_property_multiple}
+use Rattle.gw_codecs.specs.services.Multi.{reference_view}
 use Rattle.gw_device.specs.Multi.{multi_part}
 use Rattle.gw_device.proofs.LimitLemmas.{both_fitted}
 use Rattle.gw_device.proofs.access.Access.multi_apdu.Goals as goal

@@ -3,7 +3,7 @@ use Rattle.gw_rules.specs.declared.rule.Rule.{Rule}
 use Rattle.gw_objects.specs.declared.property.Property.{Property}
 use Rattle.gw_rules.specs.declared.verdict.Verdict.{Verdict}
 use Rattle.gw_rules.specs.Ask.{Ask}
-use Rattle.gw_tags.specs.Object.{object_view}
+use Rattle.gw_codecs.specs.tags.Object.{object_view}
 use Rattle.gw_device.specs.Multi.{Part, multi_ask, properties_part}
 use Rattle.gw_device.specs.internal.Limit.{extended}
 use Rattle.gw_device.proofs.access.Access.put_properties.Given as goal

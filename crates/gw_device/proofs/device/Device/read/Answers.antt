@@ -1,5 +1,5 @@
 use Rattle.std.proofs.Common.{rules, sym, subst}
-use Rattle.gw_services.specs.Read.{read_view}
+use Rattle.gw_codecs.specs.services.Read.{read_view}
 use Rattle.gw_device.specs.Read.{read_response}
 use Rattle.gw_device.proofs.device.Device.read.Goals as goal
 

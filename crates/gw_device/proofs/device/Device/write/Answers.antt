@@ -1,5 +1,5 @@
 use Rattle.std.proofs.Common.{rules, sym, subst}
-use Rattle.gw_services.specs.Write.{write_view}
+use Rattle.gw_codecs.specs.services.Write.{write_view}
 use Rattle.gw_device.specs.Write.{write_response}
 use Rattle.gw_device.proofs.device.Device.write.Goals as goal
 

@@ -1,5 +1,5 @@
 use Rattle.std.proofs.Common.{position, ap, ◌∙◌}
-use Rattle.gw_tags.specs.Object.{object_view}
+use Rattle.gw_codecs.specs.tags.Object.{object_view}
 use Rattle.gw_objects.specs.Objects.{object_id_of, same}
 use Rattle.gw_objects.proofs.Places.{position_within}
 use Rattle.gw_objects.proofs.configured.ValueObjects.place_of.Goals as goal

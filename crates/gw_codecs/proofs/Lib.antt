@@ -1,0 +1,3 @@
+pub mod tags_lemmas
+pub mod apdu_lemmas
+pub mod services_lemmas

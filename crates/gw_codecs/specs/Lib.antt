@@ -1,0 +1,3 @@
+pub mod tags
+pub mod apdu
+pub mod services

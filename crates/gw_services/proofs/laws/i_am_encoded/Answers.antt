@@ -1,9 +1,0 @@
-use Rattle.gw_services.specs.IAm.{i_am_view}
-use Rattle.gw_services.proofs.EncodedBodies.{i_am_is}
-use Rattle.gw_services.proofs.Values.{is_object, segmentation_fits}
-use Rattle.gw_services.proofs.laws.i_am_encoded.Goals as goal
-
-pub returns : goal.returns
-returns c =
-    let i = c.args.announced.now in
-    i_am_is (i_am_view i) (is_object i.device) c.short_fits.ensures (segmentation_fits i.segmentation) c.short_fits-2.ensures

@@ -1,9 +1,0 @@
-use Rattle.gw_services.specs.IHave.{i_have_view}
-use Rattle.gw_services.proofs.EncodedBodies.{i_have_is}
-use Rattle.gw_services.proofs.Values.{is_object}
-use Rattle.gw_services.proofs.laws.i_have_encoded.Goals as goal
-
-pub returns : goal.returns
-returns c = λ fits.
-    let i = c.args.announced.now in
-    i_have_is (i_have_view i) (is_object i.device) (is_object i.object) fits i.name.text

@@ -1,8 +1,0 @@
-use Rattle.std.proofs.Common.{sym, ◌∙◌}
-use Rattle.gw_addr.proofs.Reading.{ok_is}
-use Rattle.gw_services.specs.declared.fault.BodyFault.{BodyFault}
-use Rattle.gw_services.proofs.IAmBody.{i_am_again}
-use Rattle.gw_services.proofs.laws.one_i_am.Goals as goal
-
-pub returns : goal.returns
-returns c = λ octets r s fits is other. ok_is {F = BodyFault} r s (sym (i_am_again octets r fits is) ∙ i_am_again octets s fits other)

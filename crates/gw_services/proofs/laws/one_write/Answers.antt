@@ -1,8 +1,0 @@
-use Rattle.std.proofs.Common.{sym, ◌∙◌}
-use Rattle.gw_addr.proofs.Reading.{ok_is}
-use Rattle.gw_services.specs.declared.fault.BodyFault.{BodyFault}
-use Rattle.gw_services.proofs.WriteBody.{write_again}
-use Rattle.gw_services.proofs.laws.one_write.Goals as goal
-
-pub returns : goal.returns
-returns c = λ octets r s fits is other. ok_is {F = BodyFault} r s (sym (write_again octets r fits is) ∙ write_again octets s fits other)

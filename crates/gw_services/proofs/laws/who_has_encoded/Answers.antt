@@ -1,9 +1,0 @@
-use Rattle.gw_services.specs.WhoHas.{who_has_view}
-use Rattle.gw_services.proofs.EncodedBodies.{who_has_is}
-use Rattle.gw_services.proofs.Values.{limits_fit, sought_fits}
-use Rattle.gw_services.proofs.laws.who_has_encoded.Goals as goal
-
-pub returns : goal.returns
-returns c = λ fits.
-    let w = c.args.request.now in
-    who_has_is (who_has_view w) (limits_fit w.limits) (sought_fits w.sought fits)

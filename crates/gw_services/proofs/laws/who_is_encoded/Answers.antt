@@ -1,7 +1,0 @@
-use Rattle.gw_services.specs.WhoIs.{who_is_view}
-use Rattle.gw_services.proofs.EncodedBodies.{who_is_is}
-use Rattle.gw_services.proofs.Values.{limits_fit}
-use Rattle.gw_services.proofs.laws.who_is_encoded.Goals as goal
-
-pub returns : goal.returns
-returns c = who_is_is (who_is_view c.args.request.now) (limits_fit c.args.request.now.limits)

@@ -1,8 +1,0 @@
--- What a ReadPropertyMultiple request asks for, as contracts see it.
-use Rattle.std.specs.Prelude.{List, map}
-use Rattle.gw_services.specs.declared.multi_req.MultiReq.{MultiReq}
-use Rattle.gw_services.specs.Multi.{Reference, reference_view}
-
--- the references of a request
-abbrev pub multi_view : MultiReq → List Reference
-multi_view m = map reference_view m.references.items

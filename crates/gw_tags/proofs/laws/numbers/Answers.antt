@@ -1,8 +1,0 @@
-use Rattle.gw_tags.proofs.Numbers.{unsigned_again, signed_again}
-use Rattle.gw_tags.proofs.laws.numbers.Goals as goal
-
-pub returns-clause-unsigned : goal.returns-clause-unsigned
-returns-clause-unsigned c = unsigned_again
-
-pub returns-clause-signed : goal.returns-clause-signed
-returns-clause-signed c = signed_again

@@ -1,9 +1,0 @@
-use Rattle.std.proofs.Common.{◌≡◌, ◌-◌}
-use Rattle.gw_tags.specs.Walk.{closing_at}
-use Rattle.gw_tags.proofs.list.+close.Given as goal
-
-abbrev pub decreases-close : goal.decreases-close
-decreases-close l = l.depth
-
-abbrev pub invariant-loop-done : goal.invariant-loop-done
-invariant-loop-done l = closing_at (l.fn.fuel - l.done) l.fn.depth l.fn.number l.rest ≡ closing_at l.fn.fuel l.fn.depth l.fn.number l.fn.octets

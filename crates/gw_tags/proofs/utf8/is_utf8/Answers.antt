@@ -1,6 +1,0 @@
-use Rattle.std.proofs.Common.{◌∙◌}
-use Rattle.gw_tags.proofs.Texts.{tells_utf8}
-use Rattle.gw_tags.proofs.utf8.is_utf8.Goals as goal
-
-pub returns : goal.returns
-returns c = c.is_ok.ensures.value ∙ tells_utf8 c.from_utf8.result c.args.octets.now _ _ c.from_utf8.ensures.cases
