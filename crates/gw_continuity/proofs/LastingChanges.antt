@@ -2,7 +2,7 @@
 use Rattle.std.proofs.Common.{◌≡◌, ap, refl, ℕ, zero, suc, ◌-◌, Bool, true, false, true≢false, List, [], ◌∷◌, map, if◌then◌else◌, Option, Some, None, is_some}
 use Rattle.std.specs.Prelude.{◌==◌}
 use Rattle.std.proofs.lemmas.Bool.{or_parts}
-use Rattle.gw_bdt_fdt.specs.Registrations.{Registrations}
+use Rattle.gw_tables.specs.bdt_fdt.Registrations.{Registrations}
 use Rattle.gw_objects.specs.Objects.{Database}
 use Rattle.gw_objects.specs.Write.{Write}
 use Rattle.gw_relay.specs.State.{Move, Relay, changed_at, changed_of, deleted, port_later, moved, registered}

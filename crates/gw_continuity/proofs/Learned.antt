@@ -11,9 +11,9 @@ use Rattle.indexmap.specs.IndexMap.{insert_entry}
 use Rattle.gw_configuration.specs.Duplicates.{has_twice}
 use Rattle.gw_configuration.specs.declared.port.Port.{Port as ConfiguredPort}
 use Rattle.gw_relay.specs.declared.port.PortState.{PortState}
-use Rattle.gw_routes.specs.declared.route.Route.{Route}
-use Rattle.gw_routes.specs.Table.{Routed, grants, has_room, is_fixed, is_learned, route_by, routes_held, table_of, with_learned}
-use Rattle.gw_routes.specs.Table.{learned_by}
+use Rattle.gw_tables.specs.declared.routes.route.Route.{Route}
+use Rattle.gw_tables.specs.routes.Table.{Routed, grants, has_room, is_fixed, is_learned, route_by, routes_held, table_of, with_learned}
+use Rattle.gw_tables.specs.routes.Table.{learned_by}
 use Rattle.gw_saved.specs.Carried.{route_from}
 use Rattle.gw_continuity.specs.StateOf.{AreBy, AreStatesOf}
 use Rattle.gw_continuity.proofs.PortStates.{number_back, ports_saved}

@@ -3,7 +3,7 @@ use Rattle.std.proofs.Common.{◌≡◌, ◌∙◌, ap, refl, ℕ, zero, suc, �
 use Rattle.std.specs.Prelude.{◌==◌}
 use Rattle.std.specs.List.{AllByRecursion}
 use Rattle.gw_addr.specs.declared.bip.BipAddr.{BipAddr}
-use Rattle.gw_bdt_fdt.specs.Registrations.{Registrations, contains, has_room, with_registration, without}
+use Rattle.gw_tables.specs.bdt_fdt.Registrations.{Registrations, contains, has_room, with_registration, without}
 use Rattle.gw_configuration.specs.declared.port.Port.{Port as ConfiguredPort}
 use Rattle.gw_relay.specs.Initial.{port_states_from}
 use Rattle.gw_relay.specs.State.{Move, Relay, changed_at, changed_of, deleted, port_later, moved, registered}

@@ -8,16 +8,16 @@ use Rattle.std.specs.Option.{option_and_then}
 use Rattle.std.proofs.lemmas.Bool.{and_from, or_parts}
 use Rattle.std.proofs.lemmas.Cmp.{nat_list_eq_equiv}
 use Rattle.gw_addr.specs.declared.entry.BdtEntry.{BdtEntry}
-use Rattle.gw_bdt_fdt.specs.Registrations.{Registrations, Registered}
-use Rattle.gw_bdt_fdt.specs.Registrations.{same as same_address}
-use Rattle.gw_bdt_fdt.proofs.Same.{own}
+use Rattle.gw_tables.specs.bdt_fdt.Registrations.{Registrations, Registered}
+use Rattle.gw_tables.specs.bdt_fdt.Registrations.{same as same_address}
+use Rattle.gw_tables.proofs.bdt_fdt_lemmas.Same.{own}
 use Rattle.gw_configuration.specs.Duplicates.{has_twice}
 use Rattle.gw_configuration.specs.Subnet.{Subnet}
 use Rattle.gw_configuration.specs.declared.port.Port.{Port as ConfiguredPort}
 use Rattle.gw_relay.specs.Initial.{port_of}
 use Rattle.gw_relay.specs.declared.port.Port.{Port}
 use Rattle.gw_relay.specs.declared.port.PortState.{PortState}
-use Rattle.gw_bdt_fdt.specs.Kept.{kept, row_of}
+use Rattle.gw_tables.specs.bdt_fdt.Kept.{kept, row_of}
 use Rattle.gw_saved.specs.Saved.{origin_port, saved_port}
 use Rattle.gw_saved.specs.declared.port.SavedPort.{SavedPort}
 use Rattle.gw_relay.specs.Initial.{port_state_with, port_states_with}

@@ -22,7 +22,7 @@ use Rattle.gw_objects.specs.Objects.{same as same_object}
 use Rattle.gw_objects.specs.Property.{property_of}
 use Rattle.gw_objects.specs.Write.{Write, act_for, act_of, device_write, object_write, present_act, property_for, value_for, whole, write_of}
 use Rattle.gw_objects.proofs.Others.{no_device_write, ok_is}
-use Rattle.gw_priority.specs.History.{Act, Command, Relinquish, SetDefault}
+use Rattle.gw_tables.specs.priority.History.{Act, Command, Relinquish, SetDefault}
 use Rattle.gw_codecs.specs.tags.Object.{Object}
 use Rattle.gw_codecs.specs.tags.Reading.{value_at}
 use Rattle.gw_codecs.specs.tags.Value.{Value, null, boolean, unsigned, signed, real, double, octet_string, character_string, bit_string, enumerated, date, time, object_id}

@@ -9,11 +9,11 @@ use Rattle.std.proofs.lemmas.Bool.{and_parts, ltb-true}
 use Rattle.std.proofs.lemmas.Map.Keys.{IsDistinct-push}
 use Rattle.indexmap.specs.IndexMap.{insert_entry}
 use Rattle.gw_configuration.specs.declared.port.Port.{Port as ConfiguredPort}
-use Rattle.gw_routes.specs.declared.route.Route.{Route}
-use Rattle.gw_routes.specs.declared.routes.TheConstants.{MAX_ROUTES}
-use Rattle.gw_routes.specs.Table.{Routed, Table, grants, has_room, is_fixed, is_learned, route_by, routes_held, table_of, with_each, with_granted, with_learned}
-use Rattle.gw_routes.proofs.Room.{length-insert_entry}
-use Rattle.gw_routes.specs.Table.{learned_by}
+use Rattle.gw_tables.specs.declared.routes.route.Route.{Route}
+use Rattle.gw_tables.specs.declared.routes.routes.TheConstants.{MAX_ROUTES}
+use Rattle.gw_tables.specs.routes.Table.{Routed, Table, grants, has_room, is_fixed, is_learned, route_by, routes_held, table_of, with_each, with_granted, with_learned}
+use Rattle.gw_tables.proofs.routes_lemmas.Room.{length-insert_entry}
+use Rattle.gw_tables.specs.routes.Table.{learned_by}
 use Rattle.gw_saved.specs.Carried.{is_port, number_now, port_then, route_from}
 use Rattle.gw_saved.specs.declared.port.SavedPort.{SavedPort}
 use Rattle.gw_continuity.specs.StateOf.{AreBy, IsTableOf}

@@ -11,8 +11,8 @@ use Rattle.gw_objects.specs.declared.value.PropertyValue.{PropertyValue}
 use Rattle.gw_objects.specs.History.{acted, put_at}
 use Rattle.gw_objects.specs.Objects.{Database, Slots, default_of, details_of}
 use Rattle.gw_objects.specs.Write.{CanAct, Write}
-use Rattle.gw_priority.specs.Commandable.{IsPriority, no_command}
-use Rattle.gw_priority.specs.History.{Act, Command, Relinquish, SetDefault}
+use Rattle.gw_tables.specs.priority.Commandable.{IsPriority, no_command}
+use Rattle.gw_tables.specs.priority.History.{Act, Command, Relinquish, SetDefault}
 use Rattle.gw_relay.specs.State.{moved_by}
 use Rattle.gw_rules.specs.declared.format.Format.{Format}
 use Rattle.gw_rules.specs.declared.rule.Rule.{Rule}

@@ -8,7 +8,7 @@ use Rattle.gw_objects.specs.Objects.{Database, database_of}
 use Rattle.gw_objects.specs.Write.{Write}
 use Rattle.gw_relay.specs.Initial.{direct_of, routed_of}
 use Rattle.gw_relay.specs.State.{moved_by}
-use Rattle.gw_routes.specs.Table.{table_of}
+use Rattle.gw_tables.specs.routes.Table.{table_of}
 use Rattle.gw_script.specs.Event.{Event}
 use Rattle.gw_core.specs.Effects.{change_at, changed, move_at}
 use Rattle.gw_core.specs.History.{acts_of, next, state_after, state_from, written}

@@ -15,7 +15,7 @@ use Rattle.gw_objects.specs.declared.value.PropertyValue.{PropertyValue}
 use Rattle.gw_objects.specs.declared.value.PropertyValue.TheVariants.{Binary, State as Numbered, Text, Integer, PositiveInteger}
 use Rattle.gw_objects.specs.Objects.{Slots, default_of, details_of, type_of}
 use Rattle.gw_objects.specs.Property.{type_number as number_of}
-use Rattle.gw_priority.specs.Commandable.{no_command}
+use Rattle.gw_tables.specs.priority.Commandable.{no_command}
 use Rattle.gw_saved.specs.Saved.{SavedObject, id_of, origin_object, saved_object, saved_objects}
 use Rattle.gw_objects.specs.Values.{fits, same_value}
 use Rattle.gw_saved.specs.Carried.{default_from, is_object, slot_from, slots_from, states_carried}

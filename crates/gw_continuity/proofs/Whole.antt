@@ -8,12 +8,12 @@ use Rattle.gw_objects.specs.declared.configured.Configured.{Configured}
 use Rattle.gw_objects.specs.Objects.{Slots}
 use Rattle.gw_relay.specs.Initial.{direct_of, routed_of}
 use Rattle.gw_relay.specs.declared.port.PortState.{PortState}
-use Rattle.gw_routes.specs.Table.{Routed, Table, is_fixed, table_of}
+use Rattle.gw_tables.specs.routes.Table.{Routed, Table, is_fixed, table_of}
 use Rattle.gw_rules.specs.declared.format.Format.{Format}
 use Rattle.gw_rules.specs.declared.rule.Rule.{Rule}
 use Rattle.gw_core.specs.State.{State}
 use Rattle.gw_core.specs.History.{run_from, state_after}
-use Rattle.gw_routes.specs.Table.{learned_by}
+use Rattle.gw_tables.specs.routes.Table.{learned_by}
 use Rattle.gw_saved.specs.Carried.{is_object, is_port, routes_carried}
 use Rattle.gw_continuity.specs.Laws.{HistoriesGoOn, NothingIsLost, RunsGoOn, ValuesStayInRange}
 use Rattle.gw_core.specs.Resumed.{saved}

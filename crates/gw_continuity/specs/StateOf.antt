@@ -9,7 +9,7 @@ use Rattle.gw_configuration.specs.declared.port.Port.{Port as ConfiguredPort}
 use Rattle.gw_objects.specs.Objects.{Slots, database_of, default_of, details_of}
 use Rattle.gw_relay.specs.Initial.{direct_of, port_of, routed_of}
 use Rattle.gw_relay.specs.declared.port.PortState.{PortState}
-use Rattle.gw_routes.specs.Table.{Routed, Table, is_fixed, routes_held}
+use Rattle.gw_tables.specs.routes.Table.{Routed, Table, is_fixed, routes_held}
 use Rattle.gw_core.specs.State.{State}
 use Rattle.gw_objects.specs.Values.{fits}
 

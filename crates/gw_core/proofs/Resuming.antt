@@ -1,11 +1,11 @@
 -- What is saved keeps the limits, and a relay that goes on has a state for each port.
 use Rattle.std.proofs.Common.{◌≡◌, ap, refl, ℕ, suc, ◌+◌, ◌≤◌, ◌^◌, ◌&&◌, true, List, [], ◌∷◌, length, arith}
 use Rattle.std.proofs.lemmas.Bool.{and_from, le-leb}
-use Rattle.gw_bdt_fdt.specs.declared.tables.PortTables.{PortTables}
+use Rattle.gw_tables.specs.declared.bdt_fdt.tables.PortTables.{PortTables}
 use Rattle.gw_configuration.specs.declared.port.Port.{Port}
 use Rattle.gw_relay.specs.Initial.{port_states_with}
 use Rattle.gw_relay.specs.declared.port.PortState.{PortState}
-use Rattle.gw_routes.specs.Table.{Routed}
+use Rattle.gw_tables.specs.routes.Table.{Routed}
 use Rattle.gw_saved.specs.declared.counts.SavedCounts.{SavedCounts}
 use Rattle.gw_saved.specs.declared.origin.OriginPort.{OriginPort}
 use Rattle.gw_saved.specs.declared.port.SavedPort.{SavedPort}

@@ -10,8 +10,8 @@ use Rattle.gw_configuration.specs.Configuration.{Configuration}
 use Rattle.gw_objects.specs.History.{IsStateAfter as AreSlotsAfter}
 use Rattle.gw_objects.specs.Objects.{Database, database_of, defaults_of}
 use Rattle.gw_objects.specs.Write.{Write}
-use Rattle.gw_routes.specs.History.{History as Learned}
-use Rattle.gw_routes.specs.History.{IsStateAfter as IsTableAfter}
+use Rattle.gw_tables.specs.routes.History.{History as Learned}
+use Rattle.gw_tables.specs.routes.History.{IsStateAfter as IsTableAfter}
 use Rattle.gw_relay.specs.History.{Acts as PortActs}
 use Rattle.gw_relay.specs.History.{AreStatesAfter, acts_moved, initial_acts, learned_moved, ports_from}
 use Rattle.gw_relay.specs.Initial.{direct_of, initial, routed_of}

@@ -24,9 +24,9 @@ use Rattle.gw_relay.specs.Route.{copy, is_local, leaves, others, route_ask, rout
 use Rattle.gw_relay.specs.State.{Relay}
 use Rattle.gw_relay.specs.Steps.{Step, asks_of}
 use Rattle.gw_relay.specs.declared.port.PortState.{PortState}
-use Rattle.gw_routes.specs.Table.{way}
-use Rattle.gw_routes.specs.declared.route.Way.{Way}
-use Rattle.gw_routes.specs.declared.route.Way.TheVariants as ways
+use Rattle.gw_tables.specs.routes.Table.{way}
+use Rattle.gw_tables.specs.declared.routes.route.Way.{Way}
+use Rattle.gw_tables.specs.declared.routes.route.Way.TheVariants as ways
 use Rattle.gw_rules.specs.Ask.{Ask, IsFor}
 use Rattle.gw_rules.specs.Format.{names_stations}
 use Rattle.gw_rules.specs.RuleList.{allows}

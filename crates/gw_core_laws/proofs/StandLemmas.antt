@@ -19,11 +19,11 @@ use Rattle.gw_relay.specs.State.{Move, Commit, Relay, moved, moved_by}
 use Rattle.gw_relay.specs.State.{Tick as Later}
 use Rattle.gw_relay.specs.declared.change.Change.TheVariants.{Entries, Registration, Deletion, Learnings}
 use Rattle.gw_relay.specs.declared.port.Port.{Port}
-use Rattle.gw_routes.proofs.Learning.{after_each}
-use Rattle.gw_routes.specs.History.{History as Learned}
-use Rattle.gw_routes.specs.History.{IsStateAfter as IsTableAfter}
-use Rattle.gw_routes.specs.History.{learned_after, networks_learned}
-use Rattle.gw_routes.specs.Table.{Routed, route_by}
+use Rattle.gw_tables.proofs.routes_lemmas.Learning.{after_each}
+use Rattle.gw_tables.specs.routes.History.{History as Learned}
+use Rattle.gw_tables.specs.routes.History.{IsStateAfter as IsTableAfter}
+use Rattle.gw_tables.specs.routes.History.{learned_after, networks_learned}
+use Rattle.gw_tables.specs.routes.Table.{Routed, route_by}
 use Rattle.gw_script.specs.Event.{Event}
 use Rattle.gw_core.specs.Effects.{apdu_change, change_at, change_for, changed, move_at}
 use Rattle.gw_core.specs.History.{RoutesStand, TablesStand, WritesStand, acts_of, learnings, next, port_acts, state_after, with_granted, writes, written}

@@ -3,9 +3,9 @@
 use Rattle.std.specs.Prelude.{List, [], ◌∷◌, map, Some, if◌then◌else◌}
 use Rattle.std.specs.Option.{option_map_or}
 use Rattle.gw_frames.specs.npdu.Npdu.{Destination}
-use Rattle.gw_routes.specs.Table.{way}
-use Rattle.gw_routes.specs.declared.route.Way.{Way}
-use Rattle.gw_routes.specs.declared.route.Way.TheVariants.{Everywhere}
+use Rattle.gw_tables.specs.routes.Table.{way}
+use Rattle.gw_tables.specs.declared.routes.route.Way.{Way}
+use Rattle.gw_tables.specs.declared.routes.route.Way.TheVariants.{Everywhere}
 use Rattle.gw_rules.specs.declared.operation.Operation.TheVariants.{Route}
 use Rattle.gw_relay.specs.Asks.{bound_for}
 use Rattle.gw_relay.specs.FormatTwo.{forward_before, message_ask_before}

@@ -14,7 +14,7 @@ use Rattle.gw_objects.specs.Objects.{Database}
 use Rattle.gw_objects.specs.Write.{Write, write_of}
 use Rattle.gw_objects.proofs.Others.{ok_is}
 use Rattle.gw_objects.proofs.Priorities.{writes_can_be_made}
-use Rattle.gw_priority.specs.Commandable.{IsPriority}
+use Rattle.gw_tables.specs.priority.Commandable.{IsPriority}
 use Rattle.gw_rules.specs.declared.rule.Rule.{Rule}
 use Rattle.gw_rules.specs.RuleList.{allows}
 use Rattle.gw_codecs.specs.declared.services.fault.BodyFault.{BodyFault}

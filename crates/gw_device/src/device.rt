@@ -24,8 +24,8 @@ use crate::{Change, Client, Context, Reply, Served};
 use gw_codecs::services::{ReadReq, WhoHas, WhoIs, WriteReq};
 use gw_configuration::Config;
 use gw_objects::{Configured, ObjectDb, PropertyValue};
-use gw_priority::PriorityArray;
 use gw_rules::{Asker, Authorizer, Judge};
+use gw_tables::priority::PriorityArray;
 use std::alloc::{AllocError, Global};
 use std::marker::Model;
 

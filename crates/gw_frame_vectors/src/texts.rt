@@ -1,9 +1,9 @@
 //! The texts of faults that no other case shows.
 
-use gw_bdt_fdt::{BdtFault, DeleteFault, RegisterFault};
 use gw_frames::npdu::{EncodeFault, NpduFault};
-use gw_priority::PriorityFault;
 use gw_rules::RuleFault;
+use gw_tables::bdt_fdt::{BdtFault, DeleteFault, RegisterFault};
+use gw_tables::priority::PriorityFault;
 use std::io;
 use std::io::Write;
 

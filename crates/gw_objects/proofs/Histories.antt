@@ -5,9 +5,9 @@ use Rattle.std.specs.List.{cons_option}
 use Rattle.std.proofs.lemmas.Bool.{cases_eq, eq-eqb, ne_eqb}
 use Rattle.std.proofs.lemmas.List.{length-set, length-map, get_or-set_same}
 use Rattle.std.proofs.lemmas.Option.{slice_get-get_or, slice_get_within, slice_get-map}
-use Rattle.gw_priority.specs.Commandable.{no_command, with_default}
-use Rattle.gw_priority.specs.History.{Act, Command, Relinquish, SetDefault, state_after}
-use Rattle.gw_priority.proofs.History.{command_next, relinquish_next}
+use Rattle.gw_tables.specs.priority.Commandable.{no_command, with_default}
+use Rattle.gw_tables.specs.priority.History.{Act, Command, Relinquish, SetDefault, state_after}
+use Rattle.gw_tables.proofs.priority_lemmas.History.{command_next, relinquish_next}
 use Rattle.gw_objects.specs.declared.value.PropertyValue.{PropertyValue}
 use Rattle.gw_objects.specs.History.{IsStateAfter, acted, acts_at, put_at}
 use Rattle.gw_objects.specs.Objects.{Slots}

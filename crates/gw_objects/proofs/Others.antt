@@ -24,7 +24,7 @@ use Rattle.gw_objects.specs.Objects.{Slots, device_id, object_id_of, place_of, s
 use Rattle.gw_objects.specs.Property.{property_of}
 use Rattle.gw_objects.specs.Table.{device_line, known_line, object_at, object_line, read_of}
 use Rattle.gw_objects.specs.Write.{Write, act_of, device_write, object_write, write_of}
-use Rattle.gw_priority.specs.History.{Act}
+use Rattle.gw_tables.specs.priority.History.{Act}
 use Rattle.gw_codecs.specs.tags.Object.{Object}
 
 numbers_same : (a b : Object) → same a b ≡ true → a ≡ b

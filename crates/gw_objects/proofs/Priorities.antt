@@ -19,9 +19,9 @@ use Rattle.gw_objects.specs.Objects.{device_id, place_of, same, type_of}
 use Rattle.gw_objects.specs.Property.{property_of}
 use Rattle.gw_objects.specs.Write.{CanAct, Write, act_for, act_of, device_write, is_reserved, is_writable, object_write, present_act, property_fault, property_for, value_for, whole, write_of}
 use Rattle.gw_objects.proofs.Others.{no_device_write, ok_is}
-use Rattle.gw_priority.specs.declared.array.TheConstants.{RESERVED}
-use Rattle.gw_priority.specs.Commandable.{IsPriority}
-use Rattle.gw_priority.specs.History.{Act, Command, Relinquish, SetDefault}
+use Rattle.gw_tables.specs.declared.priority.array.TheConstants.{RESERVED}
+use Rattle.gw_tables.specs.priority.Commandable.{IsPriority}
+use Rattle.gw_tables.specs.priority.History.{Act, Command, Relinquish, SetDefault}
 use Rattle.gw_codecs.specs.tags.Object.{Object}
 use Rattle.gw_codecs.specs.tags.Reading.{value_at}
 use Rattle.gw_codecs.specs.tags.Value.{Value, null, boolean, unsigned, signed, real, double, octet_string, character_string, bit_string, enumerated, date, time, object_id}

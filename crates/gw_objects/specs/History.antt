@@ -2,8 +2,8 @@
 use Rattle.std.specs.Prelude.{◌≡◌, ℕ, ◌==◌, if◌then◌else◌, List, length, filter_map, slice_get, slice_set, Option, Some}
 use Rattle.std.specs.Prelude.{None}
 use Rattle.std.specs.Option.{option_map}
-use Rattle.gw_priority.specs.Commandable.{with_slot, with_default}
-use Rattle.gw_priority.specs.History.{Act, Command, Relinquish, SetDefault, state_after}
+use Rattle.gw_tables.specs.priority.Commandable.{with_slot, with_default}
+use Rattle.gw_tables.specs.priority.History.{Act, Command, Relinquish, SetDefault, state_after}
 use Rattle.gw_objects.specs.declared.value.PropertyValue.{PropertyValue}
 use Rattle.gw_objects.specs.Objects.{Slots, Database}
 use Rattle.gw_objects.specs.Write.{Write}

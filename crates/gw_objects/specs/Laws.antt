@@ -6,7 +6,7 @@ use Rattle.gw_objects.specs.History.{after_write}
 use Rattle.gw_objects.specs.Objects.{Database, Slots, place_of}
 use Rattle.gw_objects.specs.Table.{read_of}
 use Rattle.gw_objects.specs.Write.{CanAct, Write, write_of}
-use Rattle.gw_priority.specs.Commandable.{IsPriority}
+use Rattle.gw_tables.specs.priority.Commandable.{IsPriority}
 
 -- the objects of a configuration with these slots and defaults
 abbrev pub standing : Configured → List Slots → Database

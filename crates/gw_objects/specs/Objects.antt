@@ -7,7 +7,7 @@ use Rattle.gw_configuration.specs.declared.object.Object.{Object as PolicyObject
 use Rattle.gw_configuration.specs.declared.object.ObjectValue.{ObjectValue}
 use Rattle.gw_configuration.specs.declared.object.ObjectValue.TheVariants as policy
 use Rattle.gw_configuration.specs.Configuration.{Configuration}
-use Rattle.gw_priority.specs.Commandable.{Commandable, no_command}
+use Rattle.gw_tables.specs.priority.Commandable.{Commandable, no_command}
 use Rattle.gw_codecs.specs.tags.Object.{Object}
 use Rattle.gw_objects.specs.declared.configured.Configured.{Configured}
 use Rattle.gw_objects.specs.declared.configured.ConfiguredObject.{ConfiguredObject}

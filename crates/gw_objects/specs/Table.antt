@@ -5,7 +5,7 @@ use Rattle.std.specs.Prelude.{Result, Ok}
 use Rattle.std.specs.List.{list_any, range_with_len}
 use Rattle.std.specs.Option.{ok_or, option_map_or}
 use Rattle.gw_addr.specs.Reading.{◌>>=◌}
-use Rattle.gw_priority.specs.Commandable.{present}
+use Rattle.gw_tables.specs.priority.Commandable.{present}
 use Rattle.gw_codecs.specs.tags.Object.{Object}
 use Rattle.gw_codecs.specs.tags.Value.{Value, null, boolean, unsigned, signed, character_string, bit_string, enumerated}
 use Rattle.gw_codecs.specs.tags.Value.{object_id, bit_of}

@@ -5,9 +5,9 @@ use Rattle.std.specs.Prelude.{◌∷◌, length, slice_get, IsTrue, Option, Some
 use Rattle.std.specs.Option.{ok_or}
 use Rattle.gw_addr.specs.Reading.{◌>>=◌}
 use Rattle.gw_configuration.specs.declared.text.TheConstants.{MAX_TEXT}
-use Rattle.gw_priority.specs.declared.array.TheConstants.{RESERVED}
-use Rattle.gw_priority.specs.Commandable.{IsPriority}
-use Rattle.gw_priority.specs.History.{Act, Command, Relinquish, SetDefault}
+use Rattle.gw_tables.specs.declared.priority.array.TheConstants.{RESERVED}
+use Rattle.gw_tables.specs.priority.Commandable.{IsPriority}
+use Rattle.gw_tables.specs.priority.History.{Act, Command, Relinquish, SetDefault}
 use Rattle.gw_codecs.specs.declared.tags.fault.ValueFault.{ValueFault}
 use Rattle.gw_codecs.specs.declared.tags.fault.ValueFault.TheVariants.{Short, BadTag, BadLength, BadText}
 use Rattle.gw_codecs.specs.tags.Object.{Object}

@@ -3,7 +3,7 @@
 use crate::{PropertyValue, States, ValueObjects};
 use gw_codecs::tags::ObjectId;
 use gw_configuration::Text;
-use gw_priority::PriorityArray;
+use gw_tables::priority::PriorityArray;
 
 /// The bit strings that properties hold, all of them constant.
 #[derive(Clone, Copy)]

@@ -1,12 +1,12 @@
 //! Copies of what is configured.
 ghost use Rattle.std.specs.Prelude.{◌≡◌, ◌≤◌, length, map, IfOk};
 ghost use Rattle.gw_objects.specs.Objects.{configured_of, database_of, default_of, details_of};
-ghost use Rattle.gw_priority.specs.Commandable.{no_command};
+ghost use Rattle.gw_tables.specs.priority.Commandable.{no_command};
 
 use crate::{Configured, ConfiguredObject, Details, PropertyValue, States, ValueObjects};
 use gw_addr::Sequence;
 use gw_configuration::{Config, Device, Object, ObjectValue, Text};
-use gw_priority::PriorityArray;
+use gw_tables::priority::PriorityArray;
 use std::alloc::{AllocError, Global};
 
 /// A text. The only fault is want of memory.

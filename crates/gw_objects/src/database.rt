@@ -5,7 +5,7 @@ ghost use Rattle.std.specs.Prelude.{IfSome, OnErr};
 ghost use Rattle.std.specs.Option.{ok_or};
 ghost use Rattle.std.specs.Vec.{vec_capacity};
 ghost use Rattle.gw_addr.specs.Reading.{Gives};
-ghost use Rattle.gw_priority.specs.Commandable.{IsPriority};
+ghost use Rattle.gw_tables.specs.priority.Commandable.{IsPriority};
 ghost use Rattle.gw_codecs.specs.tags.Object.{object_view};
 ghost use Rattle.gw_objects.specs.Objects.{database_of, defaults_of, is_name, name_at, named};
 ghost use Rattle.gw_objects.specs.Objects.{place_of, same, type_at};
@@ -29,7 +29,7 @@ use crate::{
 };
 use gw_codecs::tags::ObjectId;
 use gw_configuration::{Config, Text};
-use gw_priority::PriorityArray;
+use gw_tables::priority::PriorityArray;
 use std::alloc::{AllocError, Global};
 use std::marker::Model;
 

@@ -8,7 +8,7 @@ ghost use Rattle.gw_codecs.specs.tags.Value.{enumerated};
 
 use crate::contents::{Array, Contents, Flags, Item};
 use crate::{Configured, ConfiguredObject, Details, ObjectType, Property, PropertyValue};
-use gw_priority::PriorityArray;
+use gw_tables::priority::PriorityArray;
 
 /// The version of the protocol (clause 12.11).
 const PROTOCOL_VERSION: u32 = 1;

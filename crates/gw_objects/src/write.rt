@@ -1,7 +1,7 @@
 //! Writes of Present_Value and Relinquish_Default (clauses 15.9 and 19.2).
 ghost use Rattle.std.specs.Prelude.{◌≡◌, ◌≢◌, ◌<◌, length, Err, IfOk, IfSome, IsFalse};
 ghost use Rattle.gw_addr.specs.Reading.{Gives};
-ghost use Rattle.gw_priority.specs.Commandable.{IsPriority};
+ghost use Rattle.gw_tables.specs.priority.Commandable.{IsPriority};
 ghost use Rattle.gw_codecs.specs.tags.Object.{object_view};
 ghost use Rattle.gw_codecs.specs.tags.Reading.{value_at};
 ghost use Rattle.gw_codecs.specs.tags.Value.{value_view};
@@ -19,7 +19,7 @@ use crate::{
 };
 use gw_codecs::tags::{AppValue, CharacterString, ObjectId, ValueFault, read_value};
 use gw_configuration::{MAX_TEXT, Text};
-use gw_priority::RESERVED;
+use gw_tables::priority::RESERVED;
 use std::alloc::Global;
 use std::marker::Model;
 

@@ -16,7 +16,7 @@ use crate::table::item_of;
 use crate::{PropertyValue, ReadFault, States, ValueObjects};
 use gw_codecs::tags::{AppValue, BitString, CharacterString, ObjectId, write_value};
 use gw_configuration::Text;
-use gw_priority::PriorityArray;
+use gw_tables::priority::PriorityArray;
 use std::alloc::AllocError;
 
 /// Protocol_Services_Supported: the bits of ReadProperty, ReadPropertyMultiple, WriteProperty,

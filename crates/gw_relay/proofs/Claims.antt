@@ -23,9 +23,9 @@ use Rattle.gw_codecs.specs.services.Read.{Read, read_at}
 use Rattle.gw_codecs.specs.services.Write.{Write, write_at}
 use Rattle.gw_codecs.specs.declared.services.fault.BodyFault.{BodyFault}
 use Rattle.gw_codecs.specs.tags.Object.{Object}
-use Rattle.gw_routes.specs.Table.{way}
-use Rattle.gw_routes.specs.declared.route.Way.{Way}
-use Rattle.gw_routes.specs.declared.route.Way.TheVariants as ways
+use Rattle.gw_tables.specs.routes.Table.{way}
+use Rattle.gw_tables.specs.declared.routes.route.Way.{Way}
+use Rattle.gw_tables.specs.declared.routes.route.Way.TheVariants as ways
 use Rattle.gw_rules.specs.Allowed.{NoneAllowed}
 use Rattle.gw_rules.specs.Ask.{Ask, IsFor, IsFrom}
 use Rattle.gw_rules.specs.Format.{names_stations}

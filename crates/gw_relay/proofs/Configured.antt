@@ -5,8 +5,8 @@ use Rattle.std.specs.Map.{keys_of}
 use Rattle.gw_configuration.specs.Configuration.{Configuration}
 use Rattle.gw_configuration.specs.Duplicates.{has_duplicates, has_twice, networks}
 use Rattle.gw_configuration.specs.declared.route.Route.{Route as ConfiguredRoute}
-use Rattle.gw_routes.specs.Table.{are_distinct}
-use Rattle.gw_routes.specs.History.{learned_after, networks_learned}
+use Rattle.gw_tables.specs.routes.Table.{are_distinct}
+use Rattle.gw_tables.specs.routes.History.{learned_after, networks_learned}
 use Rattle.gw_relay.specs.Initial.{direct_of, routed_of}
 
 pub or_left : (a b : Bool) → (a || b) ≡ false → a ≡ false

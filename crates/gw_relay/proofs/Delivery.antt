@@ -9,19 +9,19 @@ use Rattle.std.proofs.lemmas.Bool.{eq-eqb}
 use Rattle.gw_addr.specs.declared.bip.BipAddr.{BipAddr}
 use Rattle.gw_addr.specs.Address.{address_in}
 use Rattle.gw_addr.specs.Station.{network_of}
-use Rattle.gw_bdt_fdt.specs.Registrations.{same}
-use Rattle.gw_bdt_fdt.proofs.Same.{own}
+use Rattle.gw_tables.specs.bdt_fdt.Registrations.{same}
+use Rattle.gw_tables.proofs.bdt_fdt_lemmas.Same.{own}
 use Rattle.gw_frames.specs.bvll.Bvll.{encoding, forwarded, octet_of, original_broadcast, original_unicast}
 use Rattle.gw_frames.specs.declared.bvll.function.Function.TheVariants.{OriginalUnicast}
 use Rattle.gw_frames.specs.declared.bvll.writing.TheConstants.{MAX_LEN}
 use Rattle.gw_frames.specs.npdu.Npdu.{Destination, Fields}
 use Rattle.gw_frames.specs.npdu.Numbers.{max_len}
 use Rattle.gw_frames.specs.declared.npdu.kind.MessageKind.TheVariants.{RejectMessageToNetwork}
-use Rattle.gw_routes.specs.Table.{Routed, Table, direct_way, network_way, route_of, way}
-use Rattle.gw_routes.specs.declared.route.Route.{Route}
-use Rattle.gw_routes.specs.declared.route.TheConstants.{EVERYWHERE}
-use Rattle.gw_routes.specs.declared.route.Way.{Way}
-use Rattle.gw_routes.specs.declared.route.Way.TheVariants as ways
+use Rattle.gw_tables.specs.routes.Table.{Routed, Table, direct_way, network_way, route_of, way}
+use Rattle.gw_tables.specs.declared.routes.route.Route.{Route}
+use Rattle.gw_tables.specs.declared.routes.route.TheConstants.{EVERYWHERE}
+use Rattle.gw_tables.specs.declared.routes.route.Way.{Way}
+use Rattle.gw_tables.specs.declared.routes.route.Way.TheVariants as ways
 use Rattle.gw_rules.specs.RuleList.{allows}
 use Rattle.gw_rules.specs.declared.rule.Rule.{Rule}
 use Rattle.gw_relay.specs.Asks.{bound_for}

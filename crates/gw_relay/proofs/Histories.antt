@@ -3,9 +3,9 @@ use Rattle.std.proofs.Common.{◌≡◌, ◌∙◌, ap, ap₂, refl, ℕ, zero, 
 use Rattle.std.specs.Prelude.{◌==◌, if◌then◌else◌}
 use Rattle.gw_addr.specs.declared.bip.BipAddr.{BipAddr}
 use Rattle.gw_addr.specs.declared.entry.BdtEntry.{BdtEntry}
-use Rattle.gw_bdt_fdt.specs.History.{Act, Register, Delete, order_after, table_after, ticks_in}
-use Rattle.gw_bdt_fdt.specs.Registrations.{Registrations, contains, has_room, no_registration, with_registration, without}
-use Rattle.gw_bdt_fdt.proofs.Order.{table_deleted, table_later, table_registered}
+use Rattle.gw_tables.specs.bdt_fdt.History.{Act, Register, Delete, order_after, table_after, ticks_in}
+use Rattle.gw_tables.specs.bdt_fdt.Registrations.{Registrations, contains, has_room, no_registration, with_registration, without}
+use Rattle.gw_tables.proofs.bdt_fdt_lemmas.Order.{table_deleted, table_later, table_registered}
 use Rattle.gw_relay.specs.History.{Acts, acts_after, acts_later, all_after, link_after, with_act}
 use Rattle.gw_relay.specs.Initial.{port_state}
 use Rattle.gw_relay.specs.Laws.{ChangesExtendHistories, ConfiguredLinksStand, TicksExtendHistories}

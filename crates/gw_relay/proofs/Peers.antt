@@ -3,9 +3,9 @@ use Rattle.std.proofs.Common.{◌≡◌, ◌∙◌, sym, ap, refl, ℕ, zero, su
 use Rattle.std.specs.List.{AllByRecursion, list_any}
 use Rattle.gw_addr.specs.declared.bip.BipAddr.{BipAddr}
 use Rattle.gw_addr.specs.declared.entry.BdtEntry.{BdtEntry}
-use Rattle.gw_bdt_fdt.specs.Peers.{has_twice, is_of}
-use Rattle.gw_bdt_fdt.specs.Registrations.{same}
-use Rattle.gw_bdt_fdt.proofs.Same.{equal_of}
+use Rattle.gw_tables.specs.bdt_fdt.Peers.{has_twice, is_of}
+use Rattle.gw_tables.specs.bdt_fdt.Registrations.{same}
+use Rattle.gw_tables.proofs.bdt_fdt_lemmas.Same.{equal_of}
 use Rattle.gw_configuration.specs.Configuration.{Configuration}
 use Rattle.gw_configuration.specs.Duplicates.{has_duplicates, key, peer_addresses}
 use Rattle.gw_configuration.specs.Duplicates as text

@@ -3,7 +3,7 @@ use Rattle.std.proofs.Common.{◌≡◌, ◌∙◌, sym, ap, refl, ℕ, zero, su
 use Rattle.std.specs.Prelude.{◌==◌, if◌then◌else◌}
 use Rattle.std.proofs.lemmas.List.{append_assoc, drop_more, get_or_at, set_at, map-append, length-map, length-take-le, take_at, take_more}
 use Rattle.std.proofs.lemmas.Bool.Decides.{eqb_tells}
-use Rattle.gw_bdt_fdt.specs.Registrations.{Registrations, with_tick}
+use Rattle.gw_tables.specs.bdt_fdt.Registrations.{Registrations, with_tick}
 use Rattle.gw_relay.specs.State.{changed_at, changed_of, deleted, port_later, ports_after, registered}
 use Rattle.gw_relay.specs.declared.change.Change.{Change}
 use Rattle.gw_relay.specs.declared.change.Change.TheVariants.{Entries, Registration, Deletion, Learnings}

@@ -1,6 +1,6 @@
 -- Ports with the tables at their places.
 use Rattle.std.proofs.Common.{◌≡◌, ◌∙◌, ◌⊎◌, inl, inr, ap, refl, sym, ℕ, ◌+◌, List, [], ◌∷◌, ◌++◌, length, append_assoc, append-nil, arith}
-use Rattle.gw_bdt_fdt.specs.declared.tables.PortTables.{PortTables}
+use Rattle.gw_tables.specs.declared.bdt_fdt.tables.PortTables.{PortTables}
 use Rattle.gw_configuration.specs.declared.port.Port.{Port as ConfiguredPort}
 use Rattle.gw_relay.specs.Initial.{port_state_with, port_states_with}
 use Rattle.gw_relay.specs.declared.port.PortState.{PortState}

@@ -6,8 +6,8 @@ use Rattle.std.specs.Int.RustNames.{bit_or}
 use Rattle.std.proofs.lemmas.Map.Views.{any-filter_same}
 use Rattle.gw_addr.specs.declared.bip.BipAddr.{BipAddr}
 use Rattle.gw_addr.specs.declared.entry.BdtEntry.{BdtEntry}
-use Rattle.gw_bdt_fdt.specs.Peers.{is_of}
-use Rattle.gw_bdt_fdt.specs.Registrations.{same}
+use Rattle.gw_tables.specs.bdt_fdt.Peers.{is_of}
+use Rattle.gw_tables.specs.bdt_fdt.Registrations.{same}
 use Rattle.gw_relay.specs.Cast.{devices, directed}
 use Rattle.gw_relay.specs.Laws.{AllOnesReachTheManager, OwnEntryIsLeftOut, SenderIsLeftOut}
 

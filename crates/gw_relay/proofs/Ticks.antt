@@ -4,9 +4,9 @@ use Rattle.std.specs.Prelude.{◌==◌, if◌then◌else◌}
 use Rattle.std.specs.List.{AllByRecursion}
 use Rattle.gw_addr.specs.declared.bip.BipAddr.{BipAddr}
 use Rattle.gw_addr.specs.declared.entry.BdtEntry.{BdtEntry}
-use Rattle.gw_bdt_fdt.specs.Registrations.{Registrations, contains, has_room, with_registration, without}
+use Rattle.gw_tables.specs.bdt_fdt.Registrations.{Registrations, contains, has_room, with_registration, without}
 use Rattle.gw_configuration.specs.declared.port.Port.{Port as ConfiguredPort}
-use Rattle.gw_bdt_fdt.specs.declared.tables.PortTables.{PortTables}
+use Rattle.gw_tables.specs.declared.bdt_fdt.tables.PortTables.{PortTables}
 use Rattle.gw_relay.specs.Initial.{port_states_from, port_states_with}
 use Rattle.gw_relay.specs.State.{changed_at, changed_of, deleted, port_later, ports_after, registered}
 use Rattle.gw_relay.specs.declared.change.Change.{Change}

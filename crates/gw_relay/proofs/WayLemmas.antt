@@ -5,12 +5,12 @@ use Rattle.std.specs.declared.alloc.AllocError.{AllocError}
 use Rattle.gw_addr.specs.declared.bip.BipAddr.{BipAddr}
 use Rattle.gw_frames.specs.npdu.Npdu.{Destination}
 use Rattle.gw_rules.specs.declared.format.Format.{Format}
-use Rattle.gw_routes.specs.History.{IsStateAfter, history_with, networks_learned}
-use Rattle.gw_routes.specs.History.{History as Learned}
-use Rattle.gw_routes.specs.History.{learned_after as learned_after_all}
-use Rattle.gw_routes.specs.Table.{Routed, Table, route_by, table_of}
-use Rattle.gw_routes.specs.declared.route.Way.{Way}
-use Rattle.gw_routes.specs.declared.route.Way.TheVariants.{Everywhere}
+use Rattle.gw_tables.specs.routes.History.{IsStateAfter, history_with, networks_learned}
+use Rattle.gw_tables.specs.routes.History.{History as Learned}
+use Rattle.gw_tables.specs.routes.History.{learned_after as learned_after_all}
+use Rattle.gw_tables.specs.routes.Table.{Routed, Table, route_by, table_of}
+use Rattle.gw_tables.specs.declared.routes.route.Way.{Way}
+use Rattle.gw_tables.specs.declared.routes.route.Way.TheVariants.{Everywhere}
 use Rattle.gw_relay.specs.History.{learned_after}
 use Rattle.gw_relay.specs.Message.{Message}
 use Rattle.gw_relay.specs.Route.{copy, others, steps_by}

@@ -8,8 +8,8 @@ use Rattle.std.specs.List.{list_all, list_any}
 use Rattle.std.specs.Map.{keys_of}
 use Rattle.gw_addr.specs.declared.bip.BipAddr.{BipAddr}
 use Rattle.gw_addr.specs.declared.entry.BdtEntry.{BdtEntry}
-use Rattle.gw_bdt_fdt.specs.Peers.{all_ones, is_of, own_mask, peers}
-use Rattle.gw_bdt_fdt.specs.Registrations.{contains, same}
+use Rattle.gw_tables.specs.bdt_fdt.Peers.{all_ones, is_of, own_mask, peers}
+use Rattle.gw_tables.specs.bdt_fdt.Registrations.{contains, same}
 use Rattle.gw_frames.specs.bvll.Bvll.{forwarded, distribute, original_broadcast}
 use Rattle.gw_frames.specs.bvll.Bvll.{Message as Frame}
 use Rattle.gw_frames.specs.npdu.Numbers.{max_len}

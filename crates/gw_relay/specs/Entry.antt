@@ -6,13 +6,13 @@ use Rattle.std.specs.Option.{option_map_or}
 use Rattle.gw_addr.specs.declared.bip.BipAddr.{BipAddr}
 use Rattle.gw_addr.specs.Address.{octets_of}
 use Rattle.gw_addr.specs.Station.{key_of}
-use Rattle.gw_bdt_fdt.specs.Registrations.{same}
+use Rattle.gw_tables.specs.bdt_fdt.Registrations.{same}
 use Rattle.gw_frames.specs.bvll.Bvll.{forwarded, original_broadcast, original_unicast}
 use Rattle.gw_frames.specs.bvll.Bvll.{Message as Frame}
 use Rattle.gw_frames.specs.npdu.Npdu.{Address}
-use Rattle.gw_routes.specs.Table.{way}
-use Rattle.gw_routes.specs.declared.route.Way.{Way}
-use Rattle.gw_routes.specs.declared.route.Way.TheVariants.{Router}
+use Rattle.gw_tables.specs.routes.Table.{way}
+use Rattle.gw_tables.specs.declared.routes.route.Way.{Way}
+use Rattle.gw_tables.specs.declared.routes.route.Way.TheVariants.{Router}
 use Rattle.gw_rules.specs.Ask.{Ask, ask_of}
 use Rattle.gw_rules.specs.Format.{names_stations}
 use Rattle.gw_rules.specs.RuleList.{allows}

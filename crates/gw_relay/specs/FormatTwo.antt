@@ -11,9 +11,9 @@ use Rattle.gw_addr.specs.Station.{key_of, network_of}
 use Rattle.gw_frames.specs.bvll.Bvll.{function_of, octet_of}
 use Rattle.gw_frames.specs.bvll.Bvll.{Message as Frame}
 use Rattle.gw_frames.specs.npdu.Npdu.{Destination, Fields, payload_octets}
-use Rattle.gw_routes.specs.Table.{reachable_from, way}
-use Rattle.gw_routes.specs.declared.route.Way.{Way}
-use Rattle.gw_routes.specs.declared.route.Way.TheVariants.{Port, Everywhere}
+use Rattle.gw_tables.specs.routes.Table.{reachable_from, way}
+use Rattle.gw_tables.specs.declared.routes.route.Way.{Way}
+use Rattle.gw_tables.specs.declared.routes.route.Way.TheVariants.{Port, Everywhere}
 use Rattle.gw_rules.specs.Ask.{Ask, ask_of}
 use Rattle.gw_rules.specs.RuleList.{allows}
 use Rattle.gw_rules.specs.Service.{service_number}

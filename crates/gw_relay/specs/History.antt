@@ -4,13 +4,13 @@
 -- networks that were granted to be learned (clause 6.6).
 use Rattle.std.specs.Prelude.{◌≡◌, ℕ, ◌+◌, Bool, if◌then◌else◌, List, [], ◌∷◌, map, Option, Some, None}
 use Rattle.gw_addr.specs.declared.entry.BdtEntry.{BdtEntry}
-use Rattle.gw_bdt_fdt.specs.History.{Act, Register, Delete, Tick, History, table_after}
-use Rattle.gw_bdt_fdt.specs.Registrations.{contains, has_room}
+use Rattle.gw_tables.specs.bdt_fdt.History.{Act, Register, Delete, Tick, History, table_after}
+use Rattle.gw_tables.specs.bdt_fdt.Registrations.{contains, has_room}
 use Rattle.gw_configuration.specs.Subnet.{Subnet}
 use Rattle.gw_configuration.specs.declared.port.Port.{Port as ConfiguredPort}
-use Rattle.gw_routes.specs.History.{history_with}
-use Rattle.gw_routes.specs.History.{History as Learned}
-use Rattle.gw_routes.specs.Table.{Table, route_by}
+use Rattle.gw_tables.specs.routes.History.{history_with}
+use Rattle.gw_tables.specs.routes.History.{History as Learned}
+use Rattle.gw_tables.specs.routes.Table.{Table, route_by}
 use Rattle.gw_relay.specs.Initial.{port_of}
 use Rattle.gw_relay.specs.State.{Move, Commit, changed_of}
 use Rattle.gw_relay.specs.State.{Tick as Later}

@@ -1,12 +1,12 @@
 -- A relay as it is configured.
 use Rattle.std.specs.Prelude.{ℕ, ◌+◌, List, [], ◌∷◌, ◌++◌, map}
-use Rattle.gw_bdt_fdt.specs.Registrations.{no_registration}
-use Rattle.gw_bdt_fdt.specs.declared.tables.PortTables.{PortTables}
+use Rattle.gw_tables.specs.bdt_fdt.Registrations.{no_registration}
+use Rattle.gw_tables.specs.declared.bdt_fdt.tables.PortTables.{PortTables}
 use Rattle.gw_configuration.specs.Configuration.{Configuration}
 use Rattle.gw_configuration.specs.declared.port.Port.{Port as ConfiguredPort}
 use Rattle.gw_configuration.specs.declared.route.Route.{Route as ConfiguredRoute}
-use Rattle.gw_routes.specs.declared.route.Route.{Route}
-use Rattle.gw_routes.specs.Table.{Routed, learned_by, table_of, route_by}
+use Rattle.gw_tables.specs.declared.routes.route.Route.{Route}
+use Rattle.gw_tables.specs.routes.Table.{Routed, learned_by, table_of, route_by}
 use Rattle.gw_relay.specs.State.{Relay}
 use Rattle.gw_relay.specs.declared.port.PortState.{PortState}
 use Rattle.gw_relay.specs.declared.port.Port.{Port}

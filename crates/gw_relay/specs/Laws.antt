@@ -8,8 +8,8 @@ use Rattle.gw_addr.specs.declared.entry.BdtEntry.{BdtEntry}
 use Rattle.gw_addr.specs.declared.station.Source.{Source}
 use Rattle.gw_addr.specs.Entry.{IsBdtEntry}
 use Rattle.gw_addr.specs.Station.{key_of}
-use Rattle.gw_bdt_fdt.specs.Peers.{all_ones, is_of, peers}
-use Rattle.gw_bdt_fdt.specs.Registrations.{same}
+use Rattle.gw_tables.specs.bdt_fdt.Peers.{all_ones, is_of, peers}
+use Rattle.gw_tables.specs.bdt_fdt.Registrations.{same}
 use Rattle.gw_frames.specs.bvll.Bvll.{Message as Frame}
 use Rattle.gw_frames.specs.bvll.Bvll.{octet_of}
 use Rattle.gw_frames.specs.declared.bvll.function.Function.TheVariants.{OriginalUnicast}

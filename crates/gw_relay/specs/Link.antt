@@ -4,8 +4,8 @@ use Rattle.std.specs.Prelude.{Bool, true, not, ◌&&◌, ◌||◌, if◌then◌e
 use Rattle.std.specs.List.{list_all}
 use Rattle.std.specs.Option.{option_map_or}
 use Rattle.gw_addr.specs.declared.bip.BipAddr.{BipAddr}
-use Rattle.gw_bdt_fdt.specs.Peers.{are_too_many, has_twice}
-use Rattle.gw_bdt_fdt.specs.Registrations.{contains, has_room, shown}
+use Rattle.gw_tables.specs.bdt_fdt.Peers.{are_too_many, has_twice}
+use Rattle.gw_tables.specs.bdt_fdt.Registrations.{contains, has_room, shown}
 use Rattle.gw_frames.specs.bvll.Bvll.{encoding, function_of, refusal, success}
 use Rattle.gw_frames.specs.bvll.Bvll.{write_bdt, read_bdt, read_bdt_ack, register, read_fdt, read_fdt_ack, delete, result_code}
 use Rattle.gw_frames.specs.bvll.Bvll.{Message as Frame}

@@ -10,9 +10,9 @@ use Rattle.gw_frames.specs.declared.npdu.kind.MessageKind.TheVariants.{IAmRouter
 use Rattle.gw_frames.specs.declared.npdu.kind.MessageKind.TheVariants.{WhatIsNetworkNumber, WhoIsRouterToNetwork}
 use Rattle.gw_frames.specs.npdu.Npdu.{Address, Fields, payload_octets}
 use Rattle.gw_frames.specs.npdu.Numbers.{every_network}
-use Rattle.gw_routes.specs.Table.{reachable_from, way}
-use Rattle.gw_routes.specs.declared.route.Way.{Way}
-use Rattle.gw_routes.specs.declared.route.Way.TheVariants.{Port, Device, Router, Everywhere, Unknown}
+use Rattle.gw_tables.specs.routes.Table.{reachable_from, way}
+use Rattle.gw_tables.specs.declared.routes.route.Way.{Way}
+use Rattle.gw_tables.specs.declared.routes.route.Way.TheVariants.{Port, Device, Router, Everywhere, Unknown}
 use Rattle.gw_rules.specs.Ask.{Ask}
 use Rattle.gw_rules.specs.RuleList.{allows}
 use Rattle.gw_rules.specs.declared.format.Format.{Format}

@@ -13,10 +13,10 @@ use Rattle.gw_frames.specs.declared.npdu.kind.MessageKind.TheVariants.{WhatIsNet
 use Rattle.gw_frames.specs.npdu.Kind.{kind_number}
 use Rattle.gw_frames.specs.npdu.Npdu.{Address, Destination, Fields, Payload, apdu, message}
 use Rattle.gw_frames.specs.npdu.Onward.{onward}
-use Rattle.gw_routes.specs.Table.{way}
-use Rattle.gw_routes.specs.declared.route.Route.{Route}
-use Rattle.gw_routes.specs.declared.route.Way.{Way}
-use Rattle.gw_routes.specs.declared.route.Way.TheVariants.{Port, Router, Everywhere, Unknown}
+use Rattle.gw_tables.specs.routes.Table.{way}
+use Rattle.gw_tables.specs.declared.routes.route.Route.{Route}
+use Rattle.gw_tables.specs.declared.routes.route.Way.{Way}
+use Rattle.gw_tables.specs.declared.routes.route.Way.TheVariants.{Port, Router, Everywhere, Unknown}
 use Rattle.gw_rules.specs.Ask.{Ask}
 use Rattle.gw_rules.specs.declared.format.Format.{Format}
 use Rattle.gw_rules.specs.declared.operation.Operation.TheVariants as operations

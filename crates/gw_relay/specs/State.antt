@@ -4,8 +4,8 @@ use Rattle.std.specs.Prelude.{ℕ, zero, suc, ◌+◌, ◌-◌, ◌==◌, Bool, 
 use Rattle.std.specs.Prelude.{slice_get, Option, Some, None}
 use Rattle.std.specs.Option.{option_map_or}
 use Rattle.gw_addr.specs.declared.bip.BipAddr.{BipAddr}
-use Rattle.gw_bdt_fdt.specs.Registrations.{Registrations, contains, has_room, with_registration, with_tick, without}
-use Rattle.gw_routes.specs.Table.{Table, route_by, with_each}
+use Rattle.gw_tables.specs.bdt_fdt.Registrations.{Registrations, contains, has_room, with_registration, with_tick, without}
+use Rattle.gw_tables.specs.routes.Table.{Table, route_by, with_each}
 use Rattle.gw_rules.specs.declared.format.Format.{Format}
 use Rattle.gw_relay.specs.declared.change.Change.{Change}
 use Rattle.gw_relay.specs.declared.change.Change.TheVariants.{Entries, Registration, Deletion, Learnings}

@@ -3,7 +3,7 @@ use Rattle.std.specs.Prelude.{Bool, not, ◌&&◌, ◌||◌, ◌==◌, List, len
 use Rattle.std.specs.Cmp.Lexicographic.{pointwise}
 use Rattle.std.specs.List.{list_any}
 use Rattle.gw_addr.specs.declared.bip.BipAddr.{BipAddr}
-use Rattle.gw_bdt_fdt.specs.Registrations.{contains, same}
+use Rattle.gw_tables.specs.bdt_fdt.Registrations.{contains, same}
 use Rattle.gw_configuration.specs.Subnet.{Subnet, subnet_holds}
 use Rattle.gw_rules.specs.Format.{names_stations}
 use Rattle.gw_rules.specs.declared.format.Format.{Format}

@@ -4,7 +4,7 @@ ghost use Rattle.std.specs.Prelude.{◌≡◌, ◌++◌, [], false, true, List, 
 ghost use Rattle.std.specs.Prelude.{drop, length, vec_capacity, vec_len};
 ghost use Rattle.std.specs.List.{list_any};
 ghost use Rattle.std.specs.Option.{option_map_or};
-ghost use Rattle.gw_bdt_fdt.specs.Peers.{is_of, peers};
+ghost use Rattle.gw_tables.specs.bdt_fdt.Peers.{is_of, peers};
 ghost use Rattle.gw_frames.specs.bvll.Bvll.{forwarded};
 ghost use Rattle.gw_frames.specs.bvll.Bvll.{view as frame_view};
 ghost use Rattle.gw_rules.specs.declared.rule.Rule.{Rule};

@@ -4,7 +4,7 @@ ghost use Rattle.std.specs.Prelude.{◌≡◌};
 ghost use Rattle.std.specs.Option.{option_or};
 
 use gw_addr::{BipAddr, NetNum, Sequence};
-use gw_bdt_fdt::Bdt;
+use gw_tables::bdt_fdt::Bdt;
 
 /// A change of a relay's tables, made by [`Relay::commit`](crate::Relay::commit). The port is given
 /// by its number, from 1.

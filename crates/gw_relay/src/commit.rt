@@ -2,17 +2,17 @@
 
 ghost use Rattle.std.specs.Prelude.{◌≡◌, ◌<◌, ◌^◌, ℕ, List, false, map, IsOk, OnOk, OnErr};
 ghost use Rattle.std.specs.List.{AllByRecursion};
-ghost use Rattle.gw_routes.specs.History.{IsStateAfter};
-ghost use Rattle.gw_routes.specs.History.{History as Learned};
-ghost use Rattle.gw_routes.specs.Table.{Routed};
+ghost use Rattle.gw_tables.specs.routes.History.{IsStateAfter};
+ghost use Rattle.gw_tables.specs.routes.History.{History as Learned};
+ghost use Rattle.gw_tables.specs.routes.Table.{Routed};
 ghost use Rattle.gw_relay.specs.History.{learned_after};
 ghost use Rattle.gw_relay.specs.State.{deleted, port_later, ports_after, registered, routes_after, wants_room};
 
 use crate::change::Change;
 use crate::port::PortState;
 use gw_addr::BipAddr;
-use gw_bdt_fdt::{Bdt, Fdt, RegisterFault};
-use gw_routes::Routes;
+use gw_tables::bdt_fdt::{Bdt, Fdt, RegisterFault};
+use gw_tables::routes::Routes;
 use std::alloc::AllocError;
 
 /// Makes a change whole. The only fault is want of memory for a registration or for

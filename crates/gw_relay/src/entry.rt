@@ -21,8 +21,8 @@ use crate::turn::Turn;
 use gw_addr::BipAddr;
 use gw_frames::bvll::Bvll;
 use gw_frames::npdu::AddressRef;
-use gw_routes::Way;
 use gw_rules::{Ask, Asker, Format, Operation};
+use gw_tables::routes::Way;
 use std::alloc::AllocError;
 
 /// Whether a frame is one by which a station reaches the network of a port: an Original-Unicast-NPDU,

@@ -3,15 +3,15 @@
 ghost use Rattle.std.specs.Prelude.{◌≡◌, ◌≤◌, [], length, map, IsFalse, IfOk};
 ghost use Rattle.std.specs.List.{AllByRecursion};
 ghost use Rattle.gw_addr.specs.declared.TheConstants.{MAX_PORTS};
-ghost use Rattle.gw_bdt_fdt.specs.Peers.{has_twice};
-ghost use Rattle.gw_routes.specs.Table.{table_of};
+ghost use Rattle.gw_tables.specs.bdt_fdt.Peers.{has_twice};
+ghost use Rattle.gw_tables.specs.routes.Table.{table_of};
 ghost use Rattle.gw_relay.specs.Initial.{direct_of, port_state, port_state_with, port_states_from, port_states_with, routed_of};
 
 use crate::port::{Port, PortState};
 use gw_addr::NetNum;
-use gw_bdt_fdt::{Bdt, Fdt, PortTables};
 use gw_configuration::{Config, Port as ConfiguredPort, Route as ConfiguredRoute};
-use gw_routes::{Route, Routes};
+use gw_tables::bdt_fdt::{Bdt, Fdt, PortTables};
+use gw_tables::routes::{Route, Routes};
 use std::alloc::{AllocError, Global};
 
 /// The ports with the peers that they start with, where nobody is registered.

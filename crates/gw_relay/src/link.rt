@@ -2,8 +2,8 @@
 
 ghost use Rattle.std.specs.Prelude.{◌≡◌, ◌||◌, ◌++◌, ◌∷◌, [], List, not, map, IfOk, IsOk, OnErr, OnOk, if◌then◌else◌, Some, None};
 ghost use Rattle.gw_addr.specs.Entry.{bdt_entry};
-ghost use Rattle.gw_bdt_fdt.specs.Peers.{are_too_many, has_twice};
-ghost use Rattle.gw_bdt_fdt.specs.Registrations.{contains, has_room};
+ghost use Rattle.gw_tables.specs.bdt_fdt.Peers.{are_too_many, has_twice};
+ghost use Rattle.gw_tables.specs.bdt_fdt.Registrations.{contains, has_room};
 ghost use Rattle.gw_frames.specs.bvll.Bvll.{view};
 ghost use Rattle.gw_frames.specs.bvll.Entries.{lent};
 ghost use Rattle.gw_rules.specs.declared.rule.Rule.{Rule};
@@ -23,9 +23,9 @@ use crate::relay::Relay;
 use crate::sends::{Batch, Sends};
 use crate::turn::Turn;
 use gw_addr::{BdtEntry, BipAddr};
-use gw_bdt_fdt::{Bdt, MAX_REGISTRATIONS};
 use gw_frames::bvll::{BdtEntries, Bvll, ResultCode};
 use gw_rules::Asker;
+use gw_tables::bdt_fdt::{Bdt, MAX_REGISTRATIONS};
 use std::alloc::{AllocError, Global};
 
 /// Whether a frame is granted what it asks for.

@@ -26,8 +26,8 @@ use crate::sends::Sends;
 use crate::turn::Turn;
 use gw_addr::{NetNum, Sequence, put_number};
 use gw_frames::npdu::{AddressRef, Destination, MessageKind, Npdu};
-use gw_routes::Way;
 use gw_rules::{Asker, Format, Operation};
+use gw_tables::routes::Way;
 use std::alloc::AllocError;
 
 /// The number of a network is configured, not learned (clause 6.4.20).

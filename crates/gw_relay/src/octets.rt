@@ -4,17 +4,17 @@ ghost use Rattle.std.specs.Prelude.{◌≡◌, ◌≤◌, ◌<◌, ◌^◌, ◌+
 ghost use Rattle.std.specs.Int.{w16, to_be_bytes};
 ghost use Rattle.std.specs.Option.{option_map};
 ghost use Rattle.gw_addr.specs.Entry.{bdt_entry, fdt_entry};
-ghost use Rattle.gw_bdt_fdt.specs.Registrations.{shown};
+ghost use Rattle.gw_tables.specs.bdt_fdt.Registrations.{shown};
 ghost use Rattle.gw_frames.specs.bvll.Bvll.{encoding, octet_of, read_bdt_ack, read_fdt_ack, result_code, view};
 ghost use Rattle.gw_frames.specs.bvll.Entries.{lent};
 ghost use Rattle.gw_relay.specs.internal.Octets.{within};
 ghost use Rattle.gw_relay.specs.internal.Rooms.{broadcast_npdu};
 
-use gw_bdt_fdt::{Bdt, Fdt};
 use gw_frames::bvll::{
     BVLC_TYPE, BdtEntries, Bvll, EncodeFault, FdtEntries, Function, HEADER_LEN, ResultCode,
     set_length,
 };
+use gw_tables::bdt_fdt::{Bdt, Fdt};
 use std::alloc::{AllocError, Global};
 
 /// How many octets the entry of a table has (Annex J.2.2, J.2.8).

@@ -5,8 +5,8 @@ ghost use Rattle.std.specs.Option.{option_map};
 ghost use Rattle.gw_relay.specs.State.{port_at};
 
 use gw_addr::{BipAddr, NetNum};
-use gw_bdt_fdt::{Bdt, Fdt};
 use gw_configuration::Stations;
+use gw_tables::bdt_fdt::{Bdt, Fdt};
 
 /// A port of the gateway: the BACnet/IP network that it is on (Annex J.1).
 #[derive(Clone, Copy)]

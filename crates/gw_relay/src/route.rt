@@ -22,8 +22,8 @@ use crate::relay::Relay;
 use crate::sends::Sends;
 use crate::turn::Turn;
 use gw_frames::npdu::{AddressRef, Destination, MessageKind, Npdu, Onward, Payload};
-use gw_routes::{Route, Way};
 use gw_rules::{Asker, Format, Operation};
+use gw_tables::routes::{Route, Way};
 use std::alloc::{AllocError, Global};
 
 /// Reason 1 of a Reject-Message-To-Network: no way to the network is known (clause 6.4.4).

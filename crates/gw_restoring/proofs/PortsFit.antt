@@ -7,11 +7,11 @@ use Rattle.std.proofs.lemmas.Bool.{and_parts, eqb-true, leb-true, ltb-false, not
 use Rattle.gw_addr.specs.declared.bip.BipAddr.{BipAddr}
 use Rattle.gw_addr.specs.declared.entry.BdtEntry.{BdtEntry}
 use Rattle.gw_addr.specs.Entry.{IsBdtEntry}
-use Rattle.gw_bdt_fdt.specs.declared.kept.KeptDevice.{KeptDevice}
-use Rattle.gw_bdt_fdt.specs.Kept.{are_few, are_restorable, is_due, is_of_device, repeat_address}
-use Rattle.gw_bdt_fdt.specs.Peers.{has_twice as entry_twice, is_of}
-use Rattle.gw_bdt_fdt.specs.Registrations.{same}
-use Rattle.gw_bdt_fdt.proofs.Same.{equal_of, flipped}
+use Rattle.gw_tables.specs.declared.bdt_fdt.kept.KeptDevice.{KeptDevice}
+use Rattle.gw_tables.specs.bdt_fdt.Kept.{are_few, are_restorable, is_due, is_of_device, repeat_address}
+use Rattle.gw_tables.specs.bdt_fdt.Peers.{has_twice as entry_twice, is_of}
+use Rattle.gw_tables.specs.bdt_fdt.Registrations.{same}
+use Rattle.gw_tables.proofs.bdt_fdt_lemmas.Same.{equal_of, flipped}
 use Rattle.gw_configuration.specs.Duplicates.{has_twice, key, peer_addresses}
 use Rattle.gw_configuration.specs.declared.port.Port.{Port as ConfiguredPort}
 use Rattle.gw_relay.specs.declared.port.PortState.{PortState}

@@ -5,8 +5,8 @@ use Rattle.std.specs.Cmp.{nat_eq_equiv}
 use Rattle.std.specs.List.{AllByRecursion, IsDistinct, list_any}
 use Rattle.std.specs.Map.{keys_of}
 use Rattle.std.proofs.lemmas.Map.Keys.{IsDistinct-head, IsDistinct-tail}
-use Rattle.gw_routes.specs.declared.route.Route.{Route}
-use Rattle.gw_routes.specs.Table.{Routed}
+use Rattle.gw_tables.specs.declared.routes.route.Route.{Route}
+use Rattle.gw_tables.specs.routes.Table.{Routed}
 use Rattle.gw_state_text.specs.Fit.{FitsRoutes, IsRoute, is_to}
 use Rattle.gw_state_text.specs.Items.{AreItems}
 use Rattle.gw_continuity.specs.StateOf.{AreBy}

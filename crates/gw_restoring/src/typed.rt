@@ -9,12 +9,12 @@ ghost use Rattle.gw_codecs.specs.tags.Object.{IsObject, object_view};
 ghost use Rattle.gw_restoring.specs.internal.Typed.{IsPort, IsSavedObject, IsTyped, IsValue};
 
 use gw_addr::{BdtEntry, BipAddr, NetNum};
-use gw_bdt_fdt::KeptDevice;
 use gw_codecs::tags::ObjectId;
 use gw_configuration::Text;
 use gw_objects::PropertyValue;
-use gw_routes::Route;
 use gw_saved::{Saved, SavedObject, SavedPort};
+use gw_tables::bdt_fdt::KeptDevice;
+use gw_tables::routes::Route;
 
 /// What is so of each saved state.
 pub(crate) fn typed(saved: &Saved)

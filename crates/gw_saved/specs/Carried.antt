@@ -6,9 +6,9 @@ use Rattle.std.specs.Prelude.{filter_map, slice_get, Option, Some, None}
 use Rattle.std.specs.Cmp.Lexicographic.{pointwise}
 use Rattle.std.specs.Option.{option_and_then, option_map}
 use Rattle.gw_addr.specs.declared.entry.BdtEntry.{BdtEntry}
-use Rattle.gw_bdt_fdt.specs.Kept.{restored}
-use Rattle.gw_bdt_fdt.specs.declared.tables.PortTables.{PortTables}
-use Rattle.gw_bdt_fdt.specs.Registrations.{same as same_address}
+use Rattle.gw_tables.specs.bdt_fdt.Kept.{restored}
+use Rattle.gw_tables.specs.declared.bdt_fdt.tables.PortTables.{PortTables}
+use Rattle.gw_tables.specs.bdt_fdt.Registrations.{same as same_address}
 use Rattle.gw_configuration.specs.declared.object.Object.{Object as ConfiguredObject}
 use Rattle.gw_configuration.specs.declared.port.Port.{Port as ConfiguredPort}
 use Rattle.gw_objects.specs.declared.configured.Details.{Details}
@@ -16,9 +16,9 @@ use Rattle.gw_objects.specs.declared.value.PropertyValue.{PropertyValue}
 use Rattle.gw_objects.specs.Objects.{Slots, default_of, details_of}
 use Rattle.gw_objects.specs.Objects.{same as same_object}
 use Rattle.gw_objects.specs.Values.{fits, same_value}
-use Rattle.gw_priority.specs.Commandable.{no_command}
-use Rattle.gw_routes.specs.declared.route.Route.{Route}
-use Rattle.gw_routes.specs.Table.{Routed, route_by}
+use Rattle.gw_tables.specs.priority.Commandable.{no_command}
+use Rattle.gw_tables.specs.declared.routes.route.Route.{Route}
+use Rattle.gw_tables.specs.routes.Table.{Routed, route_by}
 use Rattle.gw_saved.specs.declared.port.SavedPort.{SavedPort}
 use Rattle.gw_saved.specs.Saved.{Saved, SavedObject, id_of}
 

@@ -1,14 +1,14 @@
 -- What of a gateway outlives it, with what was configured of it then.
 use Rattle.std.specs.Prelude.{◌^◌, Bool, ◌&&◌, nat_le, List, [], ◌∷◌, length, map}
 use Rattle.gw_addr.specs.declared.entry.BdtEntry.{BdtEntry}
-use Rattle.gw_bdt_fdt.specs.Kept.{kept}
-use Rattle.gw_bdt_fdt.specs.Registrations.{Registered}
+use Rattle.gw_tables.specs.bdt_fdt.Kept.{kept}
+use Rattle.gw_tables.specs.bdt_fdt.Registrations.{Registered}
 use Rattle.gw_configuration.specs.Configuration.{Configuration}
 use Rattle.gw_configuration.specs.declared.object.Object.{Object as ConfiguredObject}
 use Rattle.gw_configuration.specs.declared.port.Port.{Port as ConfiguredPort}
 use Rattle.gw_objects.specs.declared.value.PropertyValue.{PropertyValue}
 use Rattle.gw_objects.specs.Objects.{Slots, configured_of, default_of, object_id_of}
-use Rattle.gw_routes.specs.Table.{Routed}
+use Rattle.gw_tables.specs.routes.Table.{Routed}
 use Rattle.gw_codecs.specs.tags.Object.{Object}
 use Rattle.gw_saved.specs.declared.counts.SavedCounts.{SavedCounts}
 use Rattle.gw_saved.specs.declared.origin.OriginPort.{OriginPort}

@@ -1,11 +1,11 @@
 //! Copies of peers and of slots.
 ghost use Rattle.std.specs.Prelude.{◌≡◌, [], length, vec_capacity, IfOk};
-ghost use Rattle.gw_priority.specs.declared.array.TheConstants.{PRIORITIES};
+ghost use Rattle.gw_tables.specs.declared.priority.array.TheConstants.{PRIORITIES};
 
 use gw_addr::{BdtEntry, Sequence};
 use gw_configuration::Peers;
 use gw_objects::PropertyValue;
-use gw_priority::{PRIORITIES, PriorityArray};
+use gw_tables::priority::{PRIORITIES, PriorityArray};
 use std::alloc::{AllocError, Global};
 use std::array;
 

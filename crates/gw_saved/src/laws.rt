@@ -4,7 +4,7 @@ ghost use Rattle.std.specs.Prelude.{◌≡◌, ◌^◌};
 use crate::MAX_COUNT;
 use gw_addr::MAX_PORTS;
 use gw_configuration::MAX_OBJECTS;
-use gw_routes::MAX_ROUTES;
+use gw_tables::routes::MAX_ROUTES;
 
 /// At most 8 ports, 512 routes and 256 value objects are saved, and no count is past 2 to the power of 63.
 pub fn limits()

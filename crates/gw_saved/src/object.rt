@@ -4,7 +4,7 @@ ghost use Rattle.gw_codecs.specs.tags.Object.{object_view};
 
 use gw_codecs::tags::ObjectId;
 use gw_objects::PropertyValue;
-use gw_priority::PriorityArray;
+use gw_tables::priority::PriorityArray;
 use std::marker::Model;
 
 /// A value object as it is saved. Its identifier identifies it. Contracts see the identifier, the default

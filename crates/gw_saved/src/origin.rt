@@ -7,11 +7,11 @@ ghost use Rattle.gw_saved.specs.Saved.{origin_object, origin_of, origin_port, sa
 use crate::identity::id_of;
 use crate::{SavedObject, SavedPort, copying};
 use gw_addr::{BipAddr, NetNum};
-use gw_bdt_fdt::{Bdt, Fdt};
 use gw_codecs::tags::ObjectId;
 use gw_configuration::{Config, Object, Peers, Port};
 use gw_objects::PropertyValue;
-use gw_priority::PriorityArray;
+use gw_tables::bdt_fdt::{Bdt, Fdt};
+use gw_tables::priority::PriorityArray;
 use std::alloc::{AllocError, Global};
 use std::marker::Model;
 

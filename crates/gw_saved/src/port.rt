@@ -1,8 +1,8 @@
 //! The tables of a port.
 
 use gw_addr::{BipAddr, NetNum};
-use gw_bdt_fdt::{Bdt, KeptDevices};
 use gw_configuration::Peers;
+use gw_tables::bdt_fdt::{Bdt, KeptDevices};
 
 /// A port as it is saved. Its network and its own address identify it.
 pub struct SavedPort {

@@ -7,7 +7,7 @@ use crate::tables::is_port;
 use crate::{Saved, SavedPort};
 use gw_addr::NetNum;
 use gw_configuration::Port;
-use gw_routes::Route;
+use gw_tables::routes::Route;
 use std::alloc::{AllocError, Global};
 
 impl Saved {

@@ -5,7 +5,7 @@ ghost use Rattle.gw_saved.specs.Saved.{are_countable, are_few};
 use crate::{SavedCounts, SavedFault, SavedObject, SavedPort};
 use gw_addr::{MAX_PORTS, NetNum};
 use gw_configuration::MAX_OBJECTS;
-use gw_routes::{MAX_ROUTES, Route};
+use gw_tables::routes::{MAX_ROUTES, Route};
 use std::marker::Model;
 
 /// What of a gateway outlives it: each port with its two tables, the learned routes, each value object

@@ -1,14 +1,14 @@
 //! Which slots and defaults the value objects take over.
 ghost use Rattle.std.specs.Prelude.{◌≡◌, length, find, map, option_copied, IfOk};
 ghost use Rattle.gw_objects.specs.Objects.{details_of};
-ghost use Rattle.gw_priority.specs.declared.array.TheConstants.{PRIORITIES};
+ghost use Rattle.gw_tables.specs.declared.priority.array.TheConstants.{PRIORITIES};
 ghost use Rattle.gw_saved.specs.Carried.{default_from, is_object, slot_from, slots_from, states_carried};
 
 use crate::identity::id_of;
 use crate::{Saved, SavedObject};
 use gw_configuration::{Object, ObjectValue};
 use gw_objects::PropertyValue;
-use gw_priority::{PRIORITIES, PriorityArray};
+use gw_tables::priority::{PRIORITIES, PriorityArray};
 use std::alloc::{AllocError, Global};
 use std::array;
 

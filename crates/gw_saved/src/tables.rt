@@ -2,13 +2,13 @@
 ghost use Rattle.std.specs.Prelude.{◌≡◌, ◌≤◌, ◌^◌, length, find, option_copied, IfOk, IsFalse};
 ghost use Rattle.std.specs.Cmp.Lexicographic.{pointwise};
 ghost use Rattle.std.specs.List.{AllByRecursion};
-ghost use Rattle.gw_bdt_fdt.specs.Peers.{has_twice};
+ghost use Rattle.gw_tables.specs.bdt_fdt.Peers.{has_twice};
 ghost use Rattle.gw_saved.specs.Carried.{entries_from, is_port, same_entry, tables_carried, tables_from};
 
 use crate::{Saved, SavedPort};
 use gw_addr::BdtEntry;
-use gw_bdt_fdt::{Bdt, Fdt, KeptDevices, PortTables};
 use gw_configuration::Port;
+use gw_tables::bdt_fdt::{Bdt, Fdt, KeptDevices, PortTables};
 use std::alloc::{AllocError, Global};
 
 impl Saved {

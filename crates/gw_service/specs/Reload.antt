@@ -1,7 +1,7 @@
 -- Whether the configuration that is read again is taken over, and by what a gateway then goes on.
 use Rattle.std.specs.Prelude.{◌≡◌, ◌≢◌, ⊤, ℕ, ◌&&◌, Bool, true, false, nat_eq, List, Option, Some, None, Result, Ok, Err}
 use Rattle.std.specs.Cmp.Lexicographic.{pointwise}
-use Rattle.gw_bdt_fdt.specs.Registrations.{same as same_address}
+use Rattle.gw_tables.specs.bdt_fdt.Registrations.{same as same_address}
 use Rattle.gw_configuration.specs.Configuration.{Configuration}
 use Rattle.gw_configuration.specs.declared.fault.ConfigFault.TheVariants as config
 use Rattle.gw_configuration.specs.declared.port.Port.{Port as ConfiguredPort}

@@ -22,6 +22,7 @@ use crate::metrics::put_due;
 use crate::reload::{Adopted, reloaded};
 use crate::stats::Schedule;
 use gw_core::{Both, Gateway};
+use gw_log_words::Notes;
 use gw_metrics_file::Metrics;
 use gw_notices::{
     ReloadCounts, ReloadFault, Troubles, line_with_place, refusal_line, report_notices, write_note,
@@ -30,7 +31,6 @@ use gw_policy_text::MAX_OCTETS;
 use gw_saved::Origin;
 use gw_script::OctetSink;
 use gw_serving::{Pause, ServeFault, ServeState};
-use gw_log_words::Notes;
 use gw_system::{ReadFailure, Requests};
 use gw_wire::{Store, Wire};
 use std::alloc::Global;

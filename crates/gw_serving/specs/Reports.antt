@@ -2,7 +2,7 @@
 use Rattle.std.specs.Prelude.{ℕ, ◌-◌, ◌%◌, ◌==◌, ◌&&◌, nat_lt, Bool, if◌then◌else◌, List, [], ◌∷◌, ◌++◌, codes}
 use Rattle.std.specs.Prelude.{decimal, length, sum_by}
 use Rattle.std.specs.Prelude.{Result, Ok, Err}
-use Rattle.gw_bdt_fdt.specs.Peers.{peers}
+use Rattle.gw_tables.specs.bdt_fdt.Peers.{peers}
 use Rattle.gw_relay.specs.declared.port.PortState.{PortState}
 use Rattle.gw_serving.specs.Tally.{no_tally, tally_from}
 use Rattle.gw_core.specs.History.{state_from}

@@ -7,8 +7,8 @@ ghost use Rattle.gw_serving.specs.Keeping.{alike_but_ticks, has_device, has_devi
 
 use gw_addr::{BdtEntry, NetNum};
 use gw_objects::PropertyValue;
-use gw_routes::Route;
 use gw_saved::{Saved, SavedObject, SavedPort};
+use gw_tables::routes::Route;
 
 /// What of two saved states is compared.
 #[derive(Clone, Copy)]

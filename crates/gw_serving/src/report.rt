@@ -3,8 +3,8 @@
 ghost use Rattle.std.specs.Prelude.{◌≡◌, ◌+◌, ◌≤◌, ◌++◌, decimal, length, IsOk, OnOk};
 ghost use Rattle.std.specs.Io.KnownBytes.{Appends};
 ghost use Rattle.gw_addr.specs.declared.TheConstants.{MAX_PORTS};
-ghost use Rattle.gw_bdt_fdt.specs.Peers.{peers};
-ghost use Rattle.gw_bdt_fdt.specs.declared.bdt.TheConstants.{MAX_ENTRIES};
+ghost use Rattle.gw_tables.specs.bdt_fdt.Peers.{peers};
+ghost use Rattle.gw_tables.specs.declared.bdt_fdt.bdt.TheConstants.{MAX_ENTRIES};
 ghost use Rattle.gw_serving.specs.ReportTurn.{HasGoneOn};
 ghost use Rattle.gw_serving.specs.Reports.{calls_text, drops_text, events_text, field, peer_count, refusals_text, registrations, report_line, report_of, tables_text, tally_text};
 

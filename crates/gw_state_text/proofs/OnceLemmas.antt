@@ -5,10 +5,10 @@ use Rattle.std.specs.List.{list_all, list_any}
 use Rattle.std.proofs.lemmas.Bool.{or_parts, le-leb, le-ltb}
 use Rattle.gw_addr.specs.declared.bip.BipAddr.{BipAddr}
 use Rattle.gw_addr.specs.declared.entry.BdtEntry.{BdtEntry}
-use Rattle.gw_bdt_fdt.specs.declared.kept.KeptDevice.{KeptDevice}
-use Rattle.gw_bdt_fdt.specs.Kept.{are_restorable, is_due, is_of_device, repeat_address}
-use Rattle.gw_bdt_fdt.specs.Peers.{are_too_many, has_twice, is_of}
-use Rattle.gw_bdt_fdt.proofs.Same.{flipped}
+use Rattle.gw_tables.specs.declared.bdt_fdt.kept.KeptDevice.{KeptDevice}
+use Rattle.gw_tables.specs.bdt_fdt.Kept.{are_restorable, is_due, is_of_device, repeat_address}
+use Rattle.gw_tables.specs.bdt_fdt.Peers.{are_too_many, has_twice, is_of}
+use Rattle.gw_tables.proofs.bdt_fdt_lemmas.Same.{flipped}
 use Rattle.gw_state_text.specs.Fit.{FitsDevices, FitsEntries}
 use Rattle.gw_state_text.specs.Items.{AllFit, AreItems}
 

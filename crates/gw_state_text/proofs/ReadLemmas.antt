@@ -18,8 +18,8 @@ use Rattle.gw_addr.specs.Station.{network_of}
 use Rattle.gw_addr.specs.Text.{Lacks, four_text}
 use Rattle.gw_addr.proofs.Addresses.{address_of_parts}
 use Rattle.gw_addr.proofs.Lacking.{not_in_decimal}
-use Rattle.gw_bdt_fdt.specs.declared.kept.KeptDevice.{KeptDevice}
-use Rattle.gw_routes.specs.declared.route.Route.{Route}
+use Rattle.gw_tables.specs.declared.bdt_fdt.kept.KeptDevice.{KeptDevice}
+use Rattle.gw_tables.specs.declared.routes.route.Route.{Route}
 use Rattle.gw_saved.specs.declared.counts.SavedCounts.{SavedCounts}
 use Rattle.gw_state_text.specs.Fit.{AreCounts, IsDevice, IsPlace, IsRoute}
 use Rattle.gw_state_text.specs.Lines.{counts_at, device_at, entry_at, port_at, route_at}

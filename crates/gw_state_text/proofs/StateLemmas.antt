@@ -1,7 +1,7 @@
 -- The text of a state, from its parts, and the place at which reading stops in it.
 use Rattle.std.proofs.Common.{◌≡◌, ◌∙◌, ℕ, List, [], ◌++◌, length, refl, sym, ap, append-nil, append_assoc}
 use Rattle.std.specs.List.{flat_map}
-use Rattle.gw_routes.specs.declared.route.Route.{Route}
+use Rattle.gw_tables.specs.declared.routes.route.Route.{Route}
 use Rattle.gw_saved.specs.declared.counts.SavedCounts.{SavedCounts}
 use Rattle.gw_saved.specs.declared.port.SavedPort.{SavedPort}
 use Rattle.gw_saved.specs.Saved.{Saved, SavedObject}

@@ -6,16 +6,16 @@ use Rattle.gw_addr.specs.declared.bip.BipAddr.{BipAddr}
 use Rattle.gw_addr.specs.declared.entry.BdtEntry.{BdtEntry}
 use Rattle.gw_addr.specs.Address.{IsAddress}
 use Rattle.gw_addr.specs.Entry.{IsBdtEntry}
-use Rattle.gw_bdt_fdt.specs.declared.kept.KeptDevice.{KeptDevice}
-use Rattle.gw_bdt_fdt.specs.Kept.{is_due, is_of_device}
-use Rattle.gw_bdt_fdt.specs.Peers.{is_of}
-use Rattle.gw_bdt_fdt.specs.Registrations.{same}
+use Rattle.gw_tables.specs.declared.bdt_fdt.kept.KeptDevice.{KeptDevice}
+use Rattle.gw_tables.specs.bdt_fdt.Kept.{is_due, is_of_device}
+use Rattle.gw_tables.specs.bdt_fdt.Peers.{is_of}
+use Rattle.gw_tables.specs.bdt_fdt.Registrations.{same}
 use Rattle.gw_configuration.specs.declared.object.ObjectKind.{ObjectKind}
 use Rattle.gw_configuration.specs.declared.object.ObjectKind.TheVariants as kinds
 use Rattle.gw_configuration.specs.Kinds.{kind_numbered}
 use Rattle.gw_objects.specs.declared.value.PropertyValue.{PropertyValue}
 use Rattle.gw_objects.specs.declared.value.PropertyValue.TheVariants.{Binary, State, Text, Integer, PositiveInteger}
-use Rattle.gw_routes.specs.declared.route.Route.{Route}
+use Rattle.gw_tables.specs.declared.routes.route.Route.{Route}
 use Rattle.gw_saved.specs.declared.port.SavedPort.{SavedPort}
 use Rattle.gw_saved.specs.Saved.{Saved, SavedObject, are_countable}
 use Rattle.gw_codecs.specs.tags.Number.{IsSigned}

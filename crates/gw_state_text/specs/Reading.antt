@@ -4,13 +4,13 @@ use Rattle.std.specs.Prelude.{List, [], ◌∷◌, ◌++◌, codes, drop, get_or
 use Rattle.std.specs.List.{ends_with, list_any, starts_with}
 use Rattle.gw_addr.specs.declared.entry.BdtEntry.{BdtEntry}
 use Rattle.gw_addr.specs.Reading.{◌>>=◌}
-use Rattle.gw_bdt_fdt.specs.declared.kept.KeptDevice.{KeptDevice}
-use Rattle.gw_bdt_fdt.specs.Kept.{is_due, is_of_device}
-use Rattle.gw_bdt_fdt.specs.Peers.{is_of}
+use Rattle.gw_tables.specs.declared.bdt_fdt.kept.KeptDevice.{KeptDevice}
+use Rattle.gw_tables.specs.bdt_fdt.Kept.{is_due, is_of_device}
+use Rattle.gw_tables.specs.bdt_fdt.Peers.{is_of}
 use Rattle.gw_configuration.specs.declared.object.ObjectKind.{ObjectKind}
 use Rattle.gw_configuration.specs.Kinds.{kind_numbered}
 use Rattle.gw_objects.specs.declared.value.PropertyValue.{PropertyValue}
-use Rattle.gw_routes.specs.declared.route.Route.{Route}
+use Rattle.gw_tables.specs.declared.routes.route.Route.{Route}
 use Rattle.gw_saved.specs.declared.counts.SavedCounts.{SavedCounts}
 use Rattle.gw_saved.specs.declared.port.SavedPort.{SavedPort}
 use Rattle.gw_saved.specs.Saved.{Saved, SavedObject, are_countable}

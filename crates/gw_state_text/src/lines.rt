@@ -13,9 +13,9 @@ ghost use Rattle.gw_state_text.specs.Fit.{AreCounts, IsDevice, IsPlace, IsRoute}
 
 use crate::words::{address_to, after_word, mask_to, network_to, number_to, octet_to, short_to};
 use gw_addr::{BdtEntry, BipAddr, Mask, NetNum, put_decimal, put_octet, put_slice};
-use gw_bdt_fdt::KeptDevice;
-use gw_routes::Route;
 use gw_saved::{MAX_COUNT, SavedCounts};
+use gw_tables::bdt_fdt::KeptDevice;
+use gw_tables::routes::Route;
 use std::alloc::AllocError;
 
 /// Appends the counts.

@@ -3,7 +3,7 @@
 ghost use Rattle.std.specs.Prelude.{◌≡◌, ◌++◌, ◌∷◌, [], None, codes, get_or, length, IfOk, IfErr, IfSome};
 ghost use Rattle.std.specs.Fmt.{decimal};
 ghost use Rattle.std.specs.List.{list_any};
-ghost use Rattle.gw_priority.specs.declared.array.TheConstants.{PRIORITIES};
+ghost use Rattle.gw_tables.specs.declared.priority.array.TheConstants.{PRIORITIES};
 ghost use Rattle.gw_codecs.specs.tags.Object.{IsObject, object_view};
 ghost use Rattle.gw_state_text.specs.Fit.{AreOfKind, FitsKind, FitsObjects, is_object};
 ghost use Rattle.gw_state_text.specs.Text.{identifier_text, object_line, object_text, slot_text, slots_text, value_text};
@@ -23,8 +23,8 @@ use gw_addr::{put_decimal, put_octet, put_slice};
 use gw_codecs::tags::ObjectId;
 use gw_configuration::{MAX_OBJECTS, ObjectKind};
 use gw_objects::PropertyValue;
-use gw_priority::{LOWEST, PRIORITIES, PriorityArray, RESERVED};
 use gw_saved::SavedObject;
+use gw_tables::priority::{LOWEST, PRIORITIES, PriorityArray, RESERVED};
 use std::alloc::{AllocError, Global};
 use std::array;
 

@@ -2,8 +2,8 @@
 
 ghost use Rattle.std.specs.Prelude.{◌≡◌, ◌≤◌, ◌||◌, ◌++◌, codes, length, IfOk, IfErr, IsFalse, IsTrue, OnErr};
 ghost use Rattle.std.specs.List.{list_any};
-ghost use Rattle.gw_bdt_fdt.specs.Kept.{are_restorable};
-ghost use Rattle.gw_bdt_fdt.specs.Peers.{are_too_many, has_twice};
+ghost use Rattle.gw_tables.specs.bdt_fdt.Kept.{are_restorable};
+ghost use Rattle.gw_tables.specs.bdt_fdt.Peers.{are_too_many, has_twice};
 ghost use Rattle.gw_state_text.specs.Fit.{FitsPorts, is_at};
 ghost use Rattle.gw_state_text.specs.Reading.{port_after};
 ghost use Rattle.gw_state_text.specs.Text.{port_text};
@@ -14,9 +14,9 @@ use crate::items::{Lines, put_all};
 use crate::lines::{port_at, put_port};
 use crate::tables::{Devices, Entries};
 use gw_addr::{BdtEntry, BipAddr, MAX_PORTS, NetNum, Sequence};
-use gw_bdt_fdt::{Bdt, KeptDevice, KeptDevices};
 use gw_configuration::Peers;
 use gw_saved::SavedPort;
+use gw_tables::bdt_fdt::{Bdt, KeptDevice, KeptDevices};
 use std::alloc::{AllocError, Global};
 
 /// Whether a port has this network and this address.

@@ -2,8 +2,8 @@
 
 ghost use Rattle.std.specs.Prelude.{◌≡◌, codes};
 ghost use Rattle.std.specs.List.{list_any};
-ghost use Rattle.gw_bdt_fdt.specs.Kept.{is_of_device};
-ghost use Rattle.gw_bdt_fdt.specs.Peers.{is_of};
+ghost use Rattle.gw_tables.specs.bdt_fdt.Kept.{is_of_device};
+ghost use Rattle.gw_tables.specs.bdt_fdt.Peers.{is_of};
 ghost use Rattle.gw_state_text.specs.Fit.{FitsDevices, FitsEntries, FitsRoutes, is_to};
 ghost use Rattle.gw_state_text.specs.Reading.{device_after, entry_after, route_after};
 ghost use Rattle.gw_state_text.specs.Text.{device_line, entry_line, route_line};
@@ -13,8 +13,8 @@ use crate::fault::{FaultKind, Stop};
 use crate::items::Lines;
 use crate::lines::{device_at, entry_at, put_device, put_entry, put_route, route_at};
 use gw_addr::{BdtEntry, BipAddr, NetNum};
-use gw_bdt_fdt::{KeptDevice, MAX_ENTRIES, MAX_REGISTRATIONS};
-use gw_routes::{MAX_ROUTES, Route};
+use gw_tables::bdt_fdt::{KeptDevice, MAX_ENTRIES, MAX_REGISTRATIONS};
+use gw_tables::routes::{MAX_ROUTES, Route};
 use std::alloc::{AllocError, Global};
 
 /// Whether an entry has this address.

@@ -12,10 +12,10 @@ use Rattle.std.proofs.lemmas.List.Folds.{list_any-append}
 use Rattle.gw_configuration.specs.Configuration.{Configuration}
 use Rattle.gw_configuration.specs.declared.port.Port.{Port as ConfiguredPort}
 use Rattle.gw_configuration.specs.declared.route.Route.{Route as ConfiguredRoute}
-use Rattle.gw_routes.proofs.Room.{length-insert_entry}
-use Rattle.gw_routes.specs.declared.route.Route.{Route}
-use Rattle.gw_routes.specs.Table.{Routed, Table, grants, is_fixed, is_learned, learned_by, routes_held, table_of}
-use Rattle.gw_routes.specs.Table.{with_granted, with_learned}
+use Rattle.gw_tables.proofs.routes_lemmas.Room.{length-insert_entry}
+use Rattle.gw_tables.specs.declared.routes.route.Route.{Route}
+use Rattle.gw_tables.specs.routes.Table.{Routed, Table, grants, is_fixed, is_learned, learned_by, routes_held, table_of}
+use Rattle.gw_tables.specs.routes.Table.{with_granted, with_learned}
 use Rattle.gw_saved.specs.Carried.{routes_carried}
 use Rattle.gw_takeover.specs.declared.finding.RouteFate.TheVariants as routes
 use Rattle.gw_takeover.specs.Findings.{fate_beside, first_table, is_own, is_routed, is_same_route, refusal, routed_of, routes_kept}

@@ -15,7 +15,7 @@ use Rattle.gw_objects.specs.declared.configured.Details.{Details}
 use Rattle.gw_objects.specs.declared.value.PropertyValue.{PropertyValue}
 use Rattle.gw_objects.specs.Objects.{default_of, details_of}
 use Rattle.gw_objects.specs.Values.{fits, same_value}
-use Rattle.gw_routes.specs.Table.{Routed}
+use Rattle.gw_tables.specs.routes.Table.{Routed}
 use Rattle.gw_saved.specs.Carried.{default_from, is_object, is_port, slot_from, slots_from, states_carried}
 use Rattle.gw_saved.specs.declared.port.SavedPort.{SavedPort}
 use Rattle.gw_saved.specs.Saved.{SavedObject, id_of}

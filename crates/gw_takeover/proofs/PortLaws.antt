@@ -9,10 +9,10 @@ use Rattle.std.proofs.lemmas.List.{length-map}
 use Rattle.std.proofs.lemmas.List.Sums.{sum_by-cons}
 use Rattle.gw_addr.specs.declared.bip.BipAddr.{BipAddr}
 use Rattle.gw_addr.specs.declared.entry.BdtEntry.{BdtEntry}
-use Rattle.gw_bdt_fdt.proofs.Same.{equal_of, own}
-use Rattle.gw_bdt_fdt.specs.Kept.{row_of}
-use Rattle.gw_bdt_fdt.specs.Registrations.{same as same_address}
-use Rattle.gw_bdt_fdt.specs.declared.tables.PortTables.{PortTables}
+use Rattle.gw_tables.proofs.bdt_fdt_lemmas.Same.{equal_of, own}
+use Rattle.gw_tables.specs.bdt_fdt.Kept.{row_of}
+use Rattle.gw_tables.specs.bdt_fdt.Registrations.{same as same_address}
+use Rattle.gw_tables.specs.declared.bdt_fdt.tables.PortTables.{PortTables}
 use Rattle.gw_configuration.specs.declared.port.Port.{Port as ConfiguredPort}
 use Rattle.gw_saved.specs.Carried.{entries_from, is_port, same_entry, tables_carried, tables_from}
 use Rattle.gw_saved.specs.declared.port.SavedPort.{SavedPort}

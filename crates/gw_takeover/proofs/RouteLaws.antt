@@ -4,11 +4,11 @@ use Rattle.std.specs.Prelude.{◌↔◌, find, if◌then◌else◌}
 use Rattle.std.specs.Cmp.{nat_eq_equiv}
 use Rattle.std.specs.Option.{option_map_or}
 use Rattle.std.proofs.lemmas.Bool.{and_from, and_parts, eqb-true}
-use Rattle.gw_bdt_fdt.proofs.Same.{equal_of, own}
-use Rattle.gw_bdt_fdt.specs.Registrations.{same as same_address}
+use Rattle.gw_tables.proofs.bdt_fdt_lemmas.Same.{equal_of, own}
+use Rattle.gw_tables.specs.bdt_fdt.Registrations.{same as same_address}
 use Rattle.gw_configuration.specs.Configuration.{Configuration}
-use Rattle.gw_routes.specs.declared.route.Route.{Route}
-use Rattle.gw_routes.specs.Table.{Routed, route_by}
+use Rattle.gw_tables.specs.declared.routes.route.Route.{Route}
+use Rattle.gw_tables.specs.routes.Table.{Routed, route_by}
 use Rattle.gw_takeover.specs.declared.finding.RouteFate.TheVariants as routes
 use Rattle.gw_takeover.specs.Findings.{fate_beside, is_own, is_routed, is_same_route, refusal, route_fate, routes_kept}
 use Rattle.gw_takeover.specs.Laws.{RoutesAreAsSaid}

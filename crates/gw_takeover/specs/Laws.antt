@@ -3,15 +3,15 @@ use Rattle.std.specs.Prelude.{◌≡◌, ◌↔◌, ℕ, ◌+◌, ◌≤◌, Boo
 use Rattle.std.specs.Prelude.{map, find, filter_map, is_some, Option, Some, None}
 use Rattle.std.specs.List.{list_any, sum_by}
 use Rattle.gw_addr.specs.declared.entry.BdtEntry.{BdtEntry}
-use Rattle.gw_bdt_fdt.specs.Kept.{row_of}
-use Rattle.gw_bdt_fdt.specs.declared.tables.PortTables.{PortTables}
+use Rattle.gw_tables.specs.bdt_fdt.Kept.{row_of}
+use Rattle.gw_tables.specs.declared.bdt_fdt.tables.PortTables.{PortTables}
 use Rattle.gw_configuration.specs.Configuration.{Configuration}
 use Rattle.gw_configuration.specs.declared.object.Object.{Object as ConfiguredObject}
 use Rattle.gw_configuration.specs.declared.port.Port.{Port as ConfiguredPort}
 use Rattle.gw_objects.specs.declared.value.PropertyValue.{PropertyValue}
 use Rattle.gw_objects.specs.Objects.{Slots, default_of}
-use Rattle.gw_routes.specs.declared.route.Route.{Route}
-use Rattle.gw_routes.specs.Table.{learned_by, routes_held}
+use Rattle.gw_tables.specs.declared.routes.route.Route.{Route}
+use Rattle.gw_tables.specs.routes.Table.{learned_by, routes_held}
 use Rattle.gw_saved.specs.Carried.{default_from, is_object, is_port, routes_carried, slots_from, states_carried}
 use Rattle.gw_saved.specs.Carried.{tables_carried, tables_from}
 use Rattle.gw_saved.specs.declared.port.SavedPort.{SavedPort}

@@ -6,8 +6,8 @@ ghost use Rattle.gw_takeover.specs.Findings.{fate_beside, finding_of_route, firs
 use crate::{Finding, RouteFate, RouteFinding};
 use gw_addr::NetNum;
 use gw_configuration::{Config, Port, Route as ConfiguredRoute};
-use gw_routes::{Route, Routes};
 use gw_saved::{Saved, SavedPort, route_from};
+use gw_tables::routes::{Route, Routes};
 use std::alloc::{AllocError, Global};
 
 /// The learned routes that a gateway of this configuration has once it has taken over those of the state.

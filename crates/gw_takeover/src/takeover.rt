@@ -1,7 +1,7 @@
 //! What a gateway of a configuration takes over of a saved state.
 ghost use Rattle.std.specs.Prelude.{◌≡◌, ◌++◌, IfOk, OnOk};
 ghost use Rattle.std.specs.List.{flat_map};
-ghost use Rattle.gw_routes.specs.Table.{Routed};
+ghost use Rattle.gw_tables.specs.routes.Table.{Routed};
 ghost use Rattle.gw_takeover.specs.Findings.{findings_with, lost_objects, lost_ports, object_findings, port_findings, take_over};
 
 use crate::Finding;
@@ -11,8 +11,8 @@ use crate::ports::{add_ports, devices_kept};
 use crate::routes::{add_routes, routes_kept};
 use gw_addr::NetNum;
 use gw_configuration::{Config, Object, Port};
-use gw_routes::Route;
 use gw_saved::{Saved, SavedObject, SavedPort};
+use gw_tables::routes::Route;
 use std::alloc::{AllocError, Global};
 use std::marker::Model;
 

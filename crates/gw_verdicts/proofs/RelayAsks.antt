@@ -19,10 +19,10 @@ use Rattle.gw_frames.specs.npdu.Kind.{kind_number}
 use Rattle.gw_frames.specs.npdu.Npdu.{Address, Destination, Payload, apdu, message, payload_octets}
 use Rattle.gw_rules.specs.declared.format.Format.{Format}
 use Rattle.gw_rules.specs.declared.format.Format.TheVariants.{One, Two, Three}
-use Rattle.gw_routes.specs.Table.{Table, way}
-use Rattle.gw_routes.specs.declared.route.TheConstants.{EVERYWHERE}
-use Rattle.gw_routes.specs.declared.route.Way.{Way}
-use Rattle.gw_routes.specs.declared.route.Way.TheVariants as ways
+use Rattle.gw_tables.specs.routes.Table.{Table, way}
+use Rattle.gw_tables.specs.declared.routes.route.TheConstants.{EVERYWHERE}
+use Rattle.gw_tables.specs.declared.routes.route.Way.{Way}
+use Rattle.gw_tables.specs.declared.routes.route.Way.TheVariants as ways
 use Rattle.gw_rules.specs.Ask.{Ask}
 use Rattle.gw_rules.specs.Format.{names_stations}
 use Rattle.gw_rules.specs.declared.operation.Operation.TheVariants as operations

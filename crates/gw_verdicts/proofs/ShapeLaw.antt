@@ -36,7 +36,7 @@ use Rattle.gw_relay.specs.declared.port.Port.{Port}
 use Rattle.gw_relay.specs.declared.port.PortState.{PortState}
 use Rattle.gw_relay.specs.State.{Relay}
 use Rattle.gw_relay.specs.Stations.{is_station}
-use Rattle.gw_routes.specs.declared.route.TheConstants.{EVERYWHERE}
+use Rattle.gw_tables.specs.declared.routes.route.TheConstants.{EVERYWHERE}
 use Rattle.gw_rules.specs.Ask.{Ask}
 use Rattle.gw_rules.specs.Format.{names_stations}
 use Rattle.gw_rules.specs.declared.field.FieldName.TheVariants as fields

@@ -1,5 +1,5 @@
 -- What a write of the code does.
-use Rattle.gw_priority.specs.History as acts
+use Rattle.gw_tables.specs.priority.History as acts
 use Rattle.gw_objects.specs.declared.value.PropertyValue.{PropertyValue}
 use Rattle.gw_objects.specs.declared.write.Act.{Act}
 use Rattle.gw_objects.specs.declared.write.Act.TheVariants as code

@@ -3,8 +3,8 @@ use Rattle.std.specs.Prelude.{◌≡◌, ◌<◌, ◌≤◌, ◌^◌, ⊤, true,
 use Rattle.std.specs.List.{AllByRecursion}
 use Rattle.std.specs.Str.{is_utf8}
 use Rattle.gw_addr.specs.Entry.{IsBdtEntry}
-use Rattle.gw_bdt_fdt.specs.Kept.{are_restorable}
-use Rattle.gw_bdt_fdt.specs.Peers.{are_too_many, has_twice}
+use Rattle.gw_tables.specs.bdt_fdt.Kept.{are_restorable}
+use Rattle.gw_tables.specs.bdt_fdt.Peers.{are_too_many, has_twice}
 use Rattle.gw_objects.specs.declared.value.PropertyValue.{PropertyValue}
 use Rattle.gw_objects.specs.declared.value.PropertyValue.TheVariants.{Binary, State, Text, Integer, PositiveInteger}
 use Rattle.gw_saved.specs.declared.port.SavedPort.{SavedPort}

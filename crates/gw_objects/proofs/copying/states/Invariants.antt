@@ -1,5 +1,5 @@
 use Rattle.std.proofs.Common.{◌≡◌, map, take}
-use Rattle.gw_priority.specs.Commandable.{no_command}
+use Rattle.gw_tables.specs.priority.Commandable.{no_command}
 use Rattle.gw_objects.specs.Objects.{default_of}
 use Rattle.gw_objects.proofs.copying.states.Given as goal
 

@@ -1,5 +1,5 @@
 use Rattle.std.proofs.Common.{ap, ◌∙◌, List, ℕ, ◌++◌, false, ◌≡◌}
-use Rattle.gw_bdt_fdt.specs.Peers.{are_too_many}
+use Rattle.gw_tables.specs.bdt_fdt.Peers.{are_too_many}
 use Rattle.gw_addr.specs.Entry.{bdt_entry}
 use Rattle.gw_frames.specs.bvll.Bvll.{encoding, read_bdt_ack}
 use Rattle.gw_frames.specs.bvll.Entries.{lent}

@@ -1,6 +1,6 @@
 use Rattle.std.proofs.Common.{ap, ◌∙◌, length, List, ℕ, ◌++◌, ◌≤◌, arith}
 use Rattle.std.proofs.lemmas.List.{length-map}
-use Rattle.gw_bdt_fdt.specs.Registrations.{shown}
+use Rattle.gw_tables.specs.bdt_fdt.Registrations.{shown}
 use Rattle.gw_addr.specs.Entry.{fdt_entry}
 use Rattle.gw_frames.specs.bvll.Bvll.{encoding, read_fdt_ack}
 use Rattle.gw_frames.specs.bvll.Entries.{lent}

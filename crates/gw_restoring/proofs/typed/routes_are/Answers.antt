@@ -1,7 +1,7 @@
 use Rattle.std.proofs.Common.{◌≡◌, ℕ, List, [], ◌∷◌, ◌++◌, ◌+◌, ◌∙◌, suc, take, sym, ap, subst, arith}
 use Rattle.std.proofs.Math.Seq.{take-suc}
 use Rattle.std.specs.List.{AllByRecursion}
-use Rattle.gw_routes.specs.Table.{Routed}
+use Rattle.gw_tables.specs.routes.Table.{Routed}
 use Rattle.gw_state_text.specs.Fit.{IsRoute}
 use Rattle.gw_restoring.proofs.Once.{one_more}
 use Rattle.gw_restoring.proofs.typed.routes_are.Goals as goal

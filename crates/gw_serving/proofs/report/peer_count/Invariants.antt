@@ -1,5 +1,5 @@
 use Rattle.std.proofs.Common.{◌≡◌, ◌*◌, ◌≤◌, take}
-use Rattle.gw_bdt_fdt.specs.declared.bdt.TheConstants.{MAX_ENTRIES}
+use Rattle.gw_tables.specs.declared.bdt_fdt.bdt.TheConstants.{MAX_ENTRIES}
 use Rattle.gw_serving.specs.Reports.{peer_count}
 use Rattle.gw_serving.proofs.report.peer_count.Given as goal
 

@@ -1,5 +1,5 @@
 use Rattle.std.proofs.Common.{◌≡◌, ◌*◌, ◌≤◌, take}
-use Rattle.gw_bdt_fdt.specs.declared.fdt.TheConstants.{MAX_REGISTRATIONS}
+use Rattle.gw_tables.specs.declared.bdt_fdt.fdt.TheConstants.{MAX_REGISTRATIONS}
 use Rattle.gw_serving.specs.Reports.{registrations}
 use Rattle.gw_serving.proofs.report.registrations.Given as goal
 

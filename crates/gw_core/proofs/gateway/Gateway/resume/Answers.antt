@@ -1,6 +1,6 @@
 use Rattle.std.proofs.Common.{◌≡◌, ◌∙◌, ap, sym, subst, ℕ, ◌≤◌, List, length, arith}
 use Rattle.std.specs.List.{AllByRecursion}
-use Rattle.gw_bdt_fdt.specs.declared.tables.PortTables.{PortTables}
+use Rattle.gw_tables.specs.declared.bdt_fdt.tables.PortTables.{PortTables}
 use Rattle.gw_configuration.specs.declared.port.Port.{Port}
 use Rattle.gw_relay.proofs.Peers.{all_peers_once}
 use Rattle.gw_relay.specs.State.{Relay}

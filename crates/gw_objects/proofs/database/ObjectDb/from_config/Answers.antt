@@ -1,6 +1,6 @@
 use Rattle.std.proofs.Common.{List, [], map, sym, ap, subst, ◌∙◌}
 use Rattle.gw_configuration.specs.declared.object.Object.{Object}
-use Rattle.gw_priority.specs.Commandable.{no_command}
+use Rattle.gw_tables.specs.priority.Commandable.{no_command}
 use Rattle.gw_objects.specs.History.{IsStateAfter}
 use Rattle.gw_objects.specs.Objects.{default_of, defaults_of}
 use Rattle.gw_objects.proofs.Histories.{start_states}

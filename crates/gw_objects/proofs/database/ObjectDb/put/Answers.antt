@@ -1,6 +1,6 @@
 use Rattle.std.proofs.Common.{◌≡◌, ℕ, List, ◌∷◌, option_map, refl, sym, ap, subst, ◌∙◌}
 use Rattle.std.specs.Prelude.{slice_get}
-use Rattle.gw_priority.specs.History.{Act}
+use Rattle.gw_tables.specs.priority.History.{Act}
 use Rattle.gw_objects.specs.declared.value.PropertyValue.{PropertyValue}
 use Rattle.gw_objects.specs.History.{IsStateAfter, acted, put_at}
 use Rattle.gw_objects.specs.Objects.{Database, Slots}

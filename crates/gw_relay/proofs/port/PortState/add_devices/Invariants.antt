@@ -1,5 +1,5 @@
 use Rattle.std.proofs.Common.{◌≡◌, ◌++◌}
-use Rattle.gw_bdt_fdt.specs.internal.Iterators.{addresses_left}
+use Rattle.gw_tables.specs.bdt_fdt.internal.Iterators.{addresses_left}
 use Rattle.gw_relay.specs.Cast.{devices}
 use Rattle.gw_relay.proofs.port.PortState.add_devices.Given as goal
 

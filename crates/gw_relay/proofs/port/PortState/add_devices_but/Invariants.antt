@@ -1,6 +1,6 @@
 use Rattle.std.proofs.Common.{◌≡◌, ◌++◌, filter, not}
-use Rattle.gw_bdt_fdt.specs.internal.Iterators.{addresses_left}
-use Rattle.gw_bdt_fdt.specs.Registrations.{same}
+use Rattle.gw_tables.specs.bdt_fdt.internal.Iterators.{addresses_left}
+use Rattle.gw_tables.specs.bdt_fdt.Registrations.{same}
 use Rattle.gw_relay.specs.Cast.{devices_but}
 use Rattle.gw_relay.proofs.port.PortState.add_devices_but.Given as goal
 

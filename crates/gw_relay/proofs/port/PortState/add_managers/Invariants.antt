@@ -1,5 +1,5 @@
 use Rattle.std.proofs.Common.{◌≡◌, ◌++◌, map}
-use Rattle.gw_bdt_fdt.specs.internal.Iterators.{peers_left}
+use Rattle.gw_tables.specs.bdt_fdt.internal.Iterators.{peers_left}
 use Rattle.gw_relay.specs.Cast.{directed, managers}
 use Rattle.gw_relay.proofs.port.PortState.add_managers.Given as goal
 

@@ -1,7 +1,7 @@
 use Rattle.std.proofs.Common.{◌≡◌}
 use Rattle.std.specs.List.{list_any}
-use Rattle.gw_bdt_fdt.specs.internal.Iterators.{peers_left}
-use Rattle.gw_bdt_fdt.specs.Peers.{is_of, peers}
+use Rattle.gw_tables.specs.bdt_fdt.internal.Iterators.{peers_left}
+use Rattle.gw_tables.specs.bdt_fdt.Peers.{is_of, peers}
 use Rattle.gw_relay.proofs.port.PortState.is_peer.Given as goal
 
 -- the entries that are left have it exactly where all have it

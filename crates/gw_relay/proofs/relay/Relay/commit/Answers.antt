@@ -1,6 +1,6 @@
 use Rattle.std.proofs.Common.{◌≡◌, ◌∙◌, sym, ap, subst, length}
-use Rattle.gw_routes.specs.History.{IsStateAfter}
-use Rattle.gw_routes.specs.Table.{Table}
+use Rattle.gw_tables.specs.routes.History.{IsStateAfter}
+use Rattle.gw_tables.specs.routes.Table.{Table}
 use Rattle.gw_relay.specs.History.{learned_after}
 use Rattle.gw_relay.specs.State.{Relay, ports_after}
 use Rattle.gw_relay.proofs.Histories.{changes_extend}

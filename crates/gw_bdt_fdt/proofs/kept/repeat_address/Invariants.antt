@@ -1,7 +1,0 @@
-use Rattle.std.proofs.Common.{◌≡◌, drop}
-use Rattle.gw_bdt_fdt.specs.Kept.{repeat_address}
-use Rattle.gw_bdt_fdt.proofs.kept.repeat_address.Given as goal
-
--- what is left repeats an address if the whole does
-abbrev pub invariant-loop-place : goal.invariant-loop-place
-invariant-loop-place l = repeat_address (drop l.place l.devices) ≡ repeat_address l.devices

@@ -1,6 +1,0 @@
-use Rattle.gw_routes.specs.History.{learned_after}
-use Rattle.gw_routes.proofs.Words.{fixed_ways_stay}
-use Rattle.gw_routes.proofs.laws.fixed_ways.Goals as goal
-
-pub returns : goal.returns
-returns c = λ direct configured h net. fixed_ways_stay direct configured (learned_after h) net

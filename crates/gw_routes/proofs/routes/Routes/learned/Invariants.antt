@@ -1,6 +1,0 @@
-use Rattle.std.proofs.Common.{◌≡◌, ◌++◌}
-use Rattle.gw_routes.proofs.routes.Routes.learned.Given as goal
-
--- what is pushed and what is left are all learned routes
-abbrev pub invariant-loop-net : goal.invariant-loop-net
-invariant-loop-net l = l.learned.items ++ l.net-iterator ≡ l.self.learned

@@ -1,0 +1,3 @@
+pub mod bdt_fdt
+pub mod routes
+pub mod priority

@@ -1,0 +1,73 @@
+-- How registrations are kept: by the tick with which each ends.
+use Rattle.std.specs.Prelude.{◌≡◌, ℕ, ◌+◌, ◌-◌, ◌^◌, ◌≤◌, Bool, nat_lt, List, length, map, IsTrue}
+use Rattle.std.specs.List.{AllByRecursion, IsDistinct, list_any}
+use Rattle.std.specs.Map.{keys_of}
+use Rattle.std.specs.Cmp.Lexicographic.{slice_cmp}
+use Rattle.std.specs.Ordering.{is_eq, nat_cmp, ordering_then}
+use Rattle.std.specs.declared.cmp.Ordering.{Ordering}
+use Rattle.gw_addr.specs.declared.bip.BipAddr.{BipAddr}
+use Rattle.gw_tables.specs.declared.bdt_fdt.leases.Lease.{Lease}
+use Rattle.gw_tables.specs.declared.bdt_fdt.kept.KeptDevice.{KeptDevice}
+use Rattle.gw_tables.specs.declared.bdt_fdt.fdt.TheConstants.{GRACE, MAX_REGISTRATIONS}
+use Rattle.gw_tables.specs.bdt_fdt.Registrations.{same, Registration, Registrations}
+
+-- addresses, each with its lease, in order
+abbrev pub LeaseList : Type 0
+LeaseList = List (BipAddr × Lease)
+
+-- a lease, so many ticks from the start on
+abbrev pub row_at : ℕ → BipAddr × Lease → BipAddr × Registration
+row_at ticks e = (e.0, record { time_to_live = e.1.time_to_live; left = e.1.deadline - ticks })
+
+-- the table that leases are after so many ticks
+abbrev pub table_at : ℕ → LeaseList → Registrations
+table_at ticks leases = record { ticks = ticks; rows = map (row_at ticks) leases }
+
+-- a lease doesn't end with a tick, or before it
+abbrev pub holds_at : ℕ → BipAddr × Lease → Bool
+holds_at ticks e = nat_lt ticks e.1.deadline
+
+-- a lease has no more ticks to come than its time to live and the grace
+abbrev pub is_granted : ℕ → BipAddr × Lease → Type 0
+is_granted ticks e = e.1.deadline ≤ ticks + e.1.time_to_live + GRACE
+
+-- what is kept of leases, so many ticks from the start on
+pub record AreKept (ticks : ℕ) (leases : LeaseList) : Type 0 where
+  pub few : length leases ≤ MAX_REGISTRATIONS
+  pub below : ticks ≤ 2 ^ 63
+  pub hold : AllByRecursion (λ e. IsTrue (holds_at ticks e)) leases
+  pub granted : AllByRecursion (is_granted ticks) leases
+
+-- an address with the lease of a device that was kept after so many ticks
+abbrev pub lease_kept : ℕ → KeptDevice → BipAddr × Lease
+lease_kept ticks d = (d.address, record { time_to_live = d.time_to_live; deadline = ticks + d.left })
+
+-- ---- the ordered set of ends
+
+-- the end of a lease: the tick with which it is gone, and its address
+abbrev pub End : Type 0
+End = ℕ × BipAddr
+
+abbrev pub end_of : BipAddr × Lease → End
+end_of e = (e.1.deadline, e.0)
+
+-- how addresses are ordered: by their octets, then by their ports
+abbrev pub address_cmp : BipAddr → BipAddr → Ordering
+address_cmp a b = ordering_then (slice_cmp nat_cmp a.ip b.ip) (nat_cmp a.udp b.udp)
+
+-- how ends are ordered: by the tick, then by the address
+abbrev pub end_cmp : End → End → Ordering
+end_cmp x y = ordering_then (nat_cmp x.0 y.0) (address_cmp x.1 y.1)
+
+-- two ends are one
+abbrev pub tied : End → End → Bool
+tied x y = is_eq (end_cmp x y)
+
+-- the ends are exactly those of the leases
+abbrev pub AreEnds : List End → LeaseList → Type 0
+AreEnds ends leases = (q : End) → list_any (tied q) ends ≡ list_any (tied q) (map end_of leases)
+
+-- what is kept of leases and their ends: the ends are theirs, and no address has two
+pub record AreTied (ordered : List End) (leases : LeaseList) : Type 0 where
+  pub ends : AreEnds ordered leases
+  pub once : IsDistinct same (keys_of leases)

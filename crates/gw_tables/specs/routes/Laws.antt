@@ -1,0 +1,29 @@
+-- What the definitions of a history and of a way come to, in plain words.
+use Rattle.std.specs.Prelude.{◌≡◌, ℕ, List, [], ◌++◌, IsTrue, nat_eq, is_some}
+use Rattle.std.specs.List.{list_any, IsDistinct}
+use Rattle.gw_tables.specs.routes.Table.{Routed, is_fixed, route_of, table_of, way}
+use Rattle.gw_tables.specs.routes.History.{History, networks_learned, learned_after, table_after}
+
+-- No network is twice among those of a history.
+abbrev pub EachIsLearnedOnce : Type 0
+EachIsLearnedOnce = (h : History) → IsDistinct nat_eq (networks_learned h)
+
+-- A network is among them exactly where a learning of the history names it.
+abbrev pub NamedAreLearned : Type 0
+NamedAreLearned = (h : History) (net : ℕ) →
+    list_any (nat_eq net) (networks_learned h) ≡ is_some (route_of h net)
+
+-- Later learnings leave the networks of a history in their places, and put others after them.
+abbrev pub PlacesAreKept : Type 0
+PlacesAreKept = (later h : History) →
+    (others : List ℕ) × (networks_learned (later ++ h) ≡ networks_learned h ++ others)
+
+-- A network has the route of its last learning.
+abbrev pub LastLearningHolds : Type 0
+LastLearningHolds = (h : History) (net : ℕ) → route_of (learned_after h) net ≡ route_of h net
+
+-- No history changes the way of a direct or configured network.
+abbrev pub FixedWaysStay : Type 0
+FixedWaysStay = (direct : List ℕ) (configured : Routed) (h : History) (net : ℕ) →
+    IsTrue (is_fixed (table_of direct configured []) net) →
+    way (table_after direct configured h) net ≡ way (table_of direct configured []) net
