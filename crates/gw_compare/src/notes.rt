@@ -3,7 +3,7 @@ ghost use Rattle.std.specs.Prelude.{◌≡◌, ◌++◌, IfOk, OnOk};
 ghost use Rattle.gw_compare.specs.Notes.{AreNotes, IsSameness, frame_text, note_text, notes_text, parts_text};
 
 use gw_configuration::Config;
-use gw_sameness::{Same, are_same};
+use gw_configuration::sameness::{Same, are_same};
 use std::alloc::{AllocError, Global};
 
 /// Which parts of two configurations are the same. A false says nothing.

@@ -10,9 +10,9 @@ use Rattle.gw_configuration.specs.declared.object.ObjectKind.{ObjectKind}
 use Rattle.gw_configuration.specs.declared.object.ObjectKind.TheVariants as kinds
 use Rattle.gw_configuration.specs.Duplicates.{unique}
 use Rattle.gw_configuration.specs.Located.{Find, Located, at_key, unless, whole}
-use Rattle.gw_config_tables.specs.Field.{Field, fault_of_fields, is_key, located_as, located_beside, located_in, stranger}
-use Rattle.gw_config_tables.specs.Tables.{device_fields, format_in, object_fields, peer_fields, port_fields, route_fields}
-use Rattle.gw_config_tables.specs.Tables.{rule_fields, set_fields, top_fields}
+use Rattle.gw_policy_text.specs.keys.Field.{Field, fault_of_fields, is_key, located_as, located_beside, located_in, stranger}
+use Rattle.gw_policy_text.specs.keys.Tables.{device_fields, format_in, object_fields, peer_fields, port_fields, route_fields}
+use Rattle.gw_policy_text.specs.keys.Tables.{rule_fields, set_fields, top_fields}
 use Rattle.gw_policy_text.specs.Document.{configuration_of, parts_of}
 use Rattle.gw_policy_text.specs.Parts.{count_at, device_of, device_parts, object_of_kind, object_parts, peer_parts, port_parts, route_parts}
 use Rattle.gw_policy_text.specs.Policy.{rule_of, rule_parts, set_of, set_parts}

@@ -5,7 +5,7 @@ use Rattle.std.specs.Fmt.{signed_decimal}
 use Rattle.toml.specs.Data.{Data, string, integer, float, boolean, datetime, array, table}
 use Rattle.gw_configuration.specs.declared.fault.ConfigFault.{ConfigFault}
 use Rattle.gw_configuration.specs.declared.fault.ConfigFault.TheVariants.{UnknownKey, Missing}
-use Rattle.gw_config_tables.specs.Value.{values_of}
+use Rattle.gw_policy_text.specs.keys.Value.{values_of}
 
 -- the words of a value
 

@@ -10,10 +10,10 @@ use Rattle.gw_configuration.specs.declared.located.Place.TheVariants.{Text, Top,
 use Rattle.gw_configuration.specs.declared.located.Place.TheVariants.{Object, Set, Rule}
 use Rattle.gw_configuration.specs.declared.object.ObjectKind.{ObjectKind}
 use Rattle.gw_configuration.specs.Located.{Find, at_key}
-use Rattle.gw_config_tables.specs.Field.{Field, stranger}
-use Rattle.gw_config_tables.specs.Tables.{device_fields, format_in, object_fields, peer_fields, port_fields, route_fields}
-use Rattle.gw_config_tables.specs.Tables.{rule_fields, set_fields, top_fields}
-use Rattle.gw_config_tables.specs.Value.{kind_in}
+use Rattle.gw_policy_text.specs.keys.Field.{Field, stranger}
+use Rattle.gw_policy_text.specs.keys.Tables.{device_fields, format_in, object_fields, peer_fields, port_fields, route_fields}
+use Rattle.gw_policy_text.specs.keys.Tables.{rule_fields, set_fields, top_fields}
+use Rattle.gw_policy_text.specs.keys.Value.{kind_in}
 use Rattle.gw_policy_text.specs.Document.{configuration_of}
 use Rattle.gw_policy_text.specs.Parts.{device_of, object_of_kind, peer_of, port_of, route_of}
 use Rattle.gw_policy_text.specs.Policy.{rule_of, set_of}

@@ -25,10 +25,10 @@ use Rattle.gw_configuration.specs.declared.shape.Names.{Names}
 use Rattle.gw_configuration.specs.declared.shape.Shape.{Shape}
 use Rattle.gw_configuration.specs.declared.shape.Shape.TheVariants.{One, List as Listing, Ranges, Items}
 use Rattle.gw_configuration.specs.Located.{Located, Read}
-use Rattle.gw_config_tables.specs.Items.{items_named, number_named, set_name_in}
-use Rattle.gw_config_tables.specs.Range.{between, bounds_of}
-use Rattle.gw_config_tables.specs.Value.{list_in}
-use Rattle.gw_config_tables.specs.Written.{mask_written}
+use Rattle.gw_policy_text.specs.keys.Items.{items_named, number_named, set_name_in}
+use Rattle.gw_policy_text.specs.keys.Range.{between, bounds_of}
+use Rattle.gw_policy_text.specs.keys.Value.{list_in}
+use Rattle.gw_policy_text.specs.keys.Written.{mask_written}
 use Rattle.gw_config_faults.specs.Keys.{fields_at, keys_words}
 use Rattle.gw_config_faults.specs.Near.{near_words, noun_of}
 use Rattle.gw_config_faults.specs.Place.{table_at, value_at}

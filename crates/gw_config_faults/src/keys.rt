@@ -2,16 +2,16 @@
 ghost use Rattle.std.specs.Prelude.{◌≡◌, ◌++◌, codes, OnOk};
 ghost use Rattle.std.specs.List.{flat_map};
 ghost use Rattle.toml.specs.View.{table_view};
-ghost use Rattle.gw_config_tables.specs.Tables as spec;
+ghost use Rattle.gw_policy_text.specs.keys.Tables as spec;
 ghost use Rattle.gw_config_faults.specs.Keys.{fields_at, keys_words, kind_fields, kind_in_table, one_more};
 ghost use Rattle.gw_config_faults.specs.Place.{table_at};
 
 use crate::near::put_text;
 use crate::words::table_at;
-use gw_config_tables::Field;
-use gw_config_tables::tables::{self, COMMON_RULE_FIELDS, format_of};
-use gw_config_tables::value::{kind, member};
 use gw_configuration::{Format, ObjectKind, Place};
+use gw_policy_text::keys::Field;
+use gw_policy_text::keys::tables::{self, COMMON_RULE_FIELDS, format_of};
+use gw_policy_text::keys::value::{kind, member};
 use std::alloc::AllocError;
 use toml::Table;
 

@@ -7,8 +7,8 @@ ghost use Rattle.gw_configuration.specs.Located.{located_view};
 
 use crate::words::table_at;
 use gw_addr::put_decimal;
-use gw_config_tables::value::{self, member};
 use gw_configuration::{ConfigFault, Located};
+use gw_policy_text::keys::value::{self, member};
 use std::alloc::AllocError;
 use toml::{Table, Value};
 

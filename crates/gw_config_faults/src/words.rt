@@ -6,8 +6,8 @@ ghost use Rattle.gw_configuration.specs.Located.{numbered};
 ghost use Rattle.gw_configuration.specs.Located.{located_view};
 
 use gw_addr::put_decimal;
-use gw_config_tables::value::{member, string};
 use gw_configuration::{Located, Place};
+use gw_policy_text::keys::value::{member, string};
 use std::alloc::AllocError;
 use toml::Table;
 

@@ -16,6 +16,7 @@ mod policing;
 mod port;
 mod route;
 mod run_options;
+pub mod sameness;
 mod set;
 mod shape;
 mod stations;

@@ -8,9 +8,9 @@ use crate::advice::{put_head, put_tail};
 use crate::objects::{put_device, put_objects};
 use crate::ports::{put_ports, put_routes};
 use crate::rules::put_rules;
+use gw_configuration::sameness::{Same, are_same};
 use gw_configuration::{Config, ConfigFault};
 use gw_policy_text::read_config;
-use gw_sameness::{Same, are_same};
 use std::alloc::{AllocError, Global};
 
 /// Writes a configuration of format 1 or 2 as a text of format 3 that is read as the same one: the same

@@ -7,7 +7,7 @@ use Rattle.toml.specs.declared.value.Value.{Value}
 use Rattle.gw_addr.specs.Reading.{◌>>=◌}
 use Rattle.gw_configuration.specs.declared.fault.ConfigFault.{ConfigFault}
 use Rattle.gw_configuration.specs.declared.fault.ConfigFault.TheVariants.{Memory}
-use Rattle.gw_config_tables.specs.Items.{each}
+use Rattle.gw_policy_text.specs.keys.Items.{each}
 use Rattle.gw_configuration.specs.Located.{Read}
 
 -- what was read before, and what is still read

@@ -4,3 +4,4 @@ pub mod Each
 pub mod EachAt
 pub mod Limits
 pub mod TwoFormats
+pub mod keys_lemmas

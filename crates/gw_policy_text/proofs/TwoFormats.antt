@@ -21,11 +21,11 @@ use Rattle.gw_configuration.specs.declared.shape.Shape.TheVariants.{One}
 use Rattle.gw_configuration.specs.Configuration.{Configuration, format_of}
 use Rattle.gw_configuration.specs.Duplicates.{unique}
 use Rattle.gw_configuration.specs.Located.{Find, Located, Read, at_key, of_text, unless, whole}
-use Rattle.gw_config_tables.specs.Field.{Field, at_field, fault_of, fault_where, field_fault, field_with, has, is_key, is_this, item_of, item_with, located_as, located_beside, located_in, position_in, stranger}
-use Rattle.gw_config_tables.specs.Items.{each}
-use Rattle.gw_config_tables.specs.Range.{is_kind, is_missing, is_range, is_too_many}
-use Rattle.gw_config_tables.specs.Tables.{common_top_fields, format_in, format_read, may, needs, number, tables, top_fields}
-use Rattle.gw_config_tables.specs.Value.{list_in, natural_within, number_in, reading}
+use Rattle.gw_policy_text.specs.keys.Field.{Field, at_field, fault_of, fault_where, field_fault, field_with, has, is_key, is_this, item_of, item_with, located_as, located_beside, located_in, position_in, stranger}
+use Rattle.gw_policy_text.specs.keys.Items.{each}
+use Rattle.gw_policy_text.specs.keys.Range.{is_kind, is_missing, is_range, is_too_many}
+use Rattle.gw_policy_text.specs.keys.Tables.{common_top_fields, format_in, format_read, may, needs, number, tables, top_fields}
+use Rattle.gw_policy_text.specs.keys.Value.{list_in, natural_within, number_in, reading}
 use Rattle.gw_policy_text.specs.Document.{configuration_of, document, located_configuration, parts_of, parts_of_format}
 use Rattle.gw_policy_text.specs.Parts.{each_at, list_at, number_at, port_in, ports_at}
 use Rattle.gw_policy_text.specs.Policy.{Policy, audit_in, crowd, note_in, policy_at, policy_of, rule_in, rule_of, rules_behind}

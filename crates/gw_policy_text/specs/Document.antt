@@ -11,8 +11,8 @@ use Rattle.gw_configuration.specs.declared.located.Place.TheVariants.{Top}
 use Rattle.gw_configuration.specs.Configuration.{Configuration}
 use Rattle.gw_configuration.specs.Duplicates.{unique}
 use Rattle.gw_configuration.specs.Located.{Find, Read, of_text, unless, whole, without_place}
-use Rattle.gw_config_tables.specs.Field.{located_in}
-use Rattle.gw_config_tables.specs.Tables.{format_in, top_fields}
+use Rattle.gw_policy_text.specs.keys.Field.{located_in}
+use Rattle.gw_policy_text.specs.keys.Tables.{format_in, top_fields}
 use Rattle.gw_policy_text.specs.Parts.{device_at, format_at, objects_at, ports_at, routes_at}
 use Rattle.gw_policy_text.specs.Policy.{policy_at}
 

@@ -2,3 +2,4 @@ pub mod Document
 pub mod Parts
 pub mod Policy
 pub mod TwoFormats
+pub mod keys

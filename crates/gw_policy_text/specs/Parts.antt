@@ -27,12 +27,12 @@ use Rattle.gw_configuration.specs.Located.{Find, Located, Read, unless, whole}
 use Rattle.gw_configuration.specs.States.{States}
 use Rattle.gw_configuration.specs.Subnet.{Subnet}
 use Rattle.gw_configuration.specs.Text.{text_within}
-use Rattle.gw_config_tables.specs.Field.{at_field, field_fault, located_in}
-use Rattle.gw_config_tables.specs.Items.{each}
-use Rattle.gw_config_tables.specs.Tables.{device_fields, object_fields, peer_fields, port_fields, route_fields}
-use Rattle.gw_config_tables.specs.Tables.{type_field}
-use Rattle.gw_config_tables.specs.Value.{address_in, kind_in, list_in, mask_in, number_in}
-use Rattle.gw_config_tables.specs.Value.{signed_in, subnet_in, table_in, text_in}
+use Rattle.gw_policy_text.specs.keys.Field.{at_field, field_fault, located_in}
+use Rattle.gw_policy_text.specs.keys.Items.{each}
+use Rattle.gw_policy_text.specs.keys.Tables.{device_fields, object_fields, peer_fields, port_fields, route_fields}
+use Rattle.gw_policy_text.specs.keys.Tables.{type_field}
+use Rattle.gw_policy_text.specs.keys.Value.{address_in, kind_in, list_in, mask_in, number_in}
+use Rattle.gw_policy_text.specs.keys.Value.{signed_in, subnet_in, table_in, text_in}
 
 -- the value at a key
 abbrev pub at : List ℕ → Members → Read Data

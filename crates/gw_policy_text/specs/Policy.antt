@@ -22,11 +22,11 @@ use Rattle.gw_configuration.specs.declared.located.Place.TheVariants as places
 use Rattle.gw_configuration.specs.declared.set.Set.{Set}
 use Rattle.gw_configuration.specs.declared.shape.Shape.TheVariants.{Items}
 use Rattle.gw_configuration.specs.Located.{Find, Located, Read, unless, whole}
-use Rattle.gw_config_tables.specs.Field.{located_beside, located_in}
-use Rattle.gw_config_tables.specs.Items.{each, ranges_in, set_name_in}
-use Rattle.gw_config_tables.specs.Range.{range_in}
-use Rattle.gw_config_tables.specs.Tables.{rule_fields, scalar_of, set_fields}
-use Rattle.gw_config_tables.specs.Value.{boolean_in, rule_name_in, table_in}
+use Rattle.gw_policy_text.specs.keys.Field.{located_beside, located_in}
+use Rattle.gw_policy_text.specs.keys.Items.{each, ranges_in, set_name_in}
+use Rattle.gw_policy_text.specs.keys.Range.{range_in}
+use Rattle.gw_policy_text.specs.keys.Tables.{rule_fields, scalar_of, set_fields}
+use Rattle.gw_policy_text.specs.keys.Value.{boolean_in, rule_name_in, table_in}
 use Rattle.gw_policy_text.specs.Parts.{at, each_at, list_at, list_or, optional_text, within}
 
 -- sets

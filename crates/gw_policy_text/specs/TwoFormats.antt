@@ -21,11 +21,11 @@ use Rattle.gw_configuration.specs.declared.shape.Shape.TheVariants.{One}
 use Rattle.gw_configuration.specs.Configuration.{Configuration, format_of}
 use Rattle.gw_configuration.specs.Duplicates.{unique}
 use Rattle.gw_configuration.specs.Located.{Find, Read, of_text, unless, whole}
-use Rattle.gw_config_tables.specs.Field.{Field, located_in}
-use Rattle.gw_config_tables.specs.Items.{each}
-use Rattle.gw_config_tables.specs.Range.{range_in}
-use Rattle.gw_config_tables.specs.Tables.{common_port_fields, common_rule_fields, format_in, may, needs, number, scalar_of, tables}
-use Rattle.gw_config_tables.specs.Value.{table_in}
+use Rattle.gw_policy_text.specs.keys.Field.{Field, located_in}
+use Rattle.gw_policy_text.specs.keys.Items.{each}
+use Rattle.gw_policy_text.specs.keys.Range.{range_in}
+use Rattle.gw_policy_text.specs.keys.Tables.{common_port_fields, common_rule_fields, format_in, may, needs, number, scalar_of, tables}
+use Rattle.gw_policy_text.specs.keys.Value.{table_in}
 use Rattle.gw_policy_text.specs.Document.{document, located_configuration}
 use Rattle.gw_policy_text.specs.Parts.{address_at, device_at, each_at, list_at, number_at, objects_at, peers_at, routes_at}
 use Rattle.gw_policy_text.specs.Policy.{Policy, boolean_at, rule_name_at}

@@ -3,17 +3,17 @@
 ghost use Rattle.std.specs.Prelude.{◌≡◌, IfOk, IsTrue};
 ghost use Rattle.toml.specs.View.{table_view};
 ghost use Rattle.gw_policy_text.specs.Parts.{device_of, device_parts};
-ghost use Rattle.gw_config_tables.specs.Field.{located_in};
+ghost use Rattle.gw_policy_text.specs.keys.Field.{located_in};
 ghost use Rattle.gw_configuration.specs.Configuration.{is_named};
 ghost use Rattle.gw_configuration.specs.Reading.{Finds, Gives, NamesLocated};
 ghost use Rattle.gw_configuration.specs.declared.located.Place.TheVariants as places;
-ghost use Rattle.gw_config_tables.specs.Tables.{device_fields};
+ghost use Rattle.gw_policy_text.specs.keys.Tables.{device_fields};
 
+use crate::keys::located_in;
+use crate::keys::tables::device_fields;
 use crate::reading::{
     instance_at, long_at, network_at, octet_at, optional_text, short_at, text_at,
 };
-use gw_config_tables::located_in;
-use gw_config_tables::tables::device_fields;
 use gw_configuration::{ConfigFault, Device, Located, Place};
 use std::alloc::Global;
 use toml::Table;

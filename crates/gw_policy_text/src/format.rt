@@ -4,8 +4,8 @@ ghost use Rattle.gw_policy_text.specs.Parts.{format_at};
 ghost use Rattle.gw_configuration.specs.Reading.{Gives};
 ghost use Rattle.toml.specs.View.{table_view};
 
+use crate::keys::tables::format_numbered;
 use crate::reading::number_at;
-use gw_config_tables::tables::format_numbered;
 use gw_configuration::{ConfigFault, Format};
 use toml::Table;
 

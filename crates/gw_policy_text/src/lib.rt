@@ -3,6 +3,7 @@
 
 mod device;
 mod format;
+pub mod keys;
 pub mod laws;
 mod objects;
 mod parts;

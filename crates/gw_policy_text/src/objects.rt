@@ -4,25 +4,25 @@ ghost use Rattle.std.specs.List.{list_all};
 ghost use Rattle.gw_addr.specs.Reading as plain;
 ghost use Rattle.toml.specs.View.{table_view, view};
 ghost use Rattle.gw_policy_text.specs.Parts.{binary_value, character_string_value, count_at, each_at, integer_value, kind_at, multi_state_value, object_in, object_of, object_of_kind, object_parts, positive_integer_value, signed_at, states_with, type_located, value_of};
-ghost use Rattle.gw_config_tables.specs.Field.{located_in};
-ghost use Rattle.gw_config_tables.specs.Items.{each};
+ghost use Rattle.gw_policy_text.specs.keys.Field.{located_in};
+ghost use Rattle.gw_policy_text.specs.keys.Items.{each};
 ghost use Rattle.gw_configuration.specs.Configuration.{is_named};
 ghost use Rattle.gw_configuration.specs.Located.{located_view};
 ghost use Rattle.gw_configuration.specs.Reading.{Finds, Gives, NamesFault, NamesLocated};
-ghost use Rattle.gw_config_tables.specs.Tables.{object_fields};
-ghost use Rattle.gw_config_tables.specs.Value.{text_in};
+ghost use Rattle.gw_policy_text.specs.keys.Tables.{object_fields};
+ghost use Rattle.gw_policy_text.specs.keys.Value.{text_in};
 ghost use Rattle.gw_configuration.specs.declared.located.Place.TheVariants as places;
 
+use crate::keys::located_in;
+use crate::keys::tables::{
+    binary_fields, character_string_fields, integer_fields, multi_state_fields,
+    positive_integer_fields, type_field,
+};
+use crate::keys::value::{self, string, table};
 use crate::reading::{
     any_list, at, instance_at, list_at, long_at, number_at, optional_text, short_at, text_at,
 };
 use gw_addr::Sequence;
-use gw_config_tables::located_in;
-use gw_config_tables::tables::{
-    binary_fields, character_string_fields, integer_fields, multi_state_fields,
-    positive_integer_fields, type_field,
-};
-use gw_config_tables::value::{self, string, table};
 use gw_configuration::{
     ConfigFault, Located, MAX_STATES, MultiState, Object, ObjectKind, ObjectValue, Place, Text,
 };

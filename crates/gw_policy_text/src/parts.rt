@@ -9,11 +9,11 @@ ghost use Rattle.gw_configuration.specs.Configuration.{is_by, is_named};
 ghost use Rattle.gw_configuration.specs.Reading.{Finds, Gives};
 
 use crate::format::format_at;
+use crate::keys::value;
 use crate::policy::policy_at;
 use crate::reading::{at, list_at};
 use crate::{device, objects, port, route};
 use gw_addr::{MAX_PORTS, Sequence};
-use gw_config_tables::value;
 use gw_configuration::{
     ConfigFault, Device, Format, Located, MAX_OBJECTS, MAX_ROUTES, Object, Parts, Port, Route,
 };

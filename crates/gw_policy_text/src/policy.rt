@@ -8,14 +8,14 @@ ghost use Rattle.gw_rules.specs.RuleList.{keeps_counts};
 ghost use Rattle.gw_configuration.specs.Configuration.{is_plain, keeps_rules};
 ghost use Rattle.gw_rules.specs.declared.format.Format.TheVariants as formats;
 ghost use Rattle.gw_configuration.specs.Reading.{Finds, Gives};
-ghost use Rattle.gw_config_tables.specs.Items.{each};
+ghost use Rattle.gw_policy_text.specs.keys.Items.{each};
 ghost use Rattle.gw_policy_text.specs.Policy.{audit_in, has_no_audit, has_no_note, note_in, optional_boolean, policy_at, policy_of, set_tables};
 
+use crate::keys::value::{boolean, member, table};
 use crate::reading::{any_list, list_at, optional_text};
 use crate::rules::rules;
 use crate::sets::sets;
 use gw_addr::Sequence;
-use gw_config_tables::value::{boolean, member, table};
 use gw_configuration::{ConfigFault, Format, Located, Policing, Text};
 use gw_rules::{MAX_RULES, Rule, RuleList};
 use std::alloc::Global;

@@ -4,20 +4,20 @@ ghost use Rattle.std.specs.Prelude.{◌≡◌, ◌≤◌, ◌||◌, ◌==◌, co
 ghost use Rattle.std.specs.List.{list_all};
 ghost use Rattle.toml.specs.View.{table_view, view};
 ghost use Rattle.gw_policy_text.specs.Parts.{each_at, has_no_stations, peer_in, peer_of, peer_parts, peers_at, port_in, port_of, port_parts, stations_at};
-ghost use Rattle.gw_config_tables.specs.Items.{each};
-ghost use Rattle.gw_config_tables.specs.Value.{subnet_in};
+ghost use Rattle.gw_policy_text.specs.keys.Items.{each};
+ghost use Rattle.gw_policy_text.specs.keys.Value.{subnet_in};
 ghost use Rattle.gw_rules.specs.Format.{names_stations};
-ghost use Rattle.gw_config_tables.specs.Field.{located_in};
+ghost use Rattle.gw_policy_text.specs.keys.Field.{located_in};
 ghost use Rattle.gw_configuration.specs.Reading.{Finds, Gives, NamesLocated};
 ghost use Rattle.gw_configuration.specs.declared.located.Place.TheVariants as places;
-ghost use Rattle.gw_config_tables.specs.Tables.{port_fields};
+ghost use Rattle.gw_policy_text.specs.keys.Tables.{port_fields};
 ghost use Rattle.gw_addr.specs.Reading as plain;
 
+use crate::keys::located_in;
+use crate::keys::tables::{peer_fields, port_located};
+use crate::keys::value::{self, table};
 use crate::reading::{address_at, list_at, mask_at, network_at};
 use gw_addr::{BdtEntry, Sequence};
-use gw_config_tables::located_in;
-use gw_config_tables::tables::{peer_fields, port_located};
-use gw_config_tables::value::{self, table};
 use gw_configuration::{
     ConfigFault, Format, Located, MAX_PEERS, MAX_STATIONS, Peers, Place, Port, Stations, Subnet,
 };

@@ -3,14 +3,14 @@ ghost use Rattle.std.specs.Prelude.{◌≡◌, ◌<◌, ◌≤◌, Err, length};
 ghost use Rattle.std.specs.Str.{IsUtf8};
 ghost use Rattle.toml.specs.View.{table_view};
 ghost use Rattle.gw_policy_text.specs.Document.{configuration, configuration_of, document};
-ghost use Rattle.gw_config_tables.specs.Field.{located_in};
+ghost use Rattle.gw_policy_text.specs.keys.Field.{located_in};
 ghost use Rattle.gw_configuration.specs.Reading.{Finds, Gives, NamesLocated};
-ghost use Rattle.gw_config_tables.specs.Tables.{format_in, top_fields};
+ghost use Rattle.gw_policy_text.specs.keys.Tables.{format_in, top_fields};
 ghost use Rattle.gw_configuration.specs.declared.fault.ConfigFault.TheVariants.{NotToml, TooMany};
 ghost use Rattle.gw_configuration.specs.declared.located.Place.TheVariants as places;
 
+use crate::keys::tables::{format_of, top_located};
 use crate::parts::parts;
-use gw_config_tables::tables::{format_of, top_located};
 use gw_configuration::{Config, ConfigFault, Located};
 use std::alloc::Global;
 use toml::Table;

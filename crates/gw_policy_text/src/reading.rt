@@ -6,8 +6,8 @@ ghost use Rattle.toml.specs.View.{table_view, view};
 ghost use Rattle.gw_policy_text.specs.Parts.{address_at, at, list_at, list_or, mask_at, number_at, optional_text, text_at};
 ghost use Rattle.gw_configuration.specs.Reading.{Gives, NamesFault};
 
+use crate::keys::value::{self, member, string};
 use gw_addr::{BipAddr, Mask, NetNum};
-use gw_config_tables::value::{self, member, string};
 use gw_configuration::{ConfigFault, Instance, Text};
 use std::alloc::Global;
 use toml::{Table, Value};
@@ -132,7 +132,7 @@ pub(crate) fn any_list<'a>(key: &str, table: &'a Table) -> Result<&'a [Value], C
 
 /// The values of the list at a key that may be missing, `least` to `most` of them. `Kind`, `Range`
 /// or `TooMany`.
-#[tactic(auto, using(gw_config_tables::proofs::Values::length_view))]
+#[tactic(auto, using(crate::proofs::keys_lemmas::Values::length_view))]
 pub(crate) fn list_at<'a>(
     least: usize,
     most: usize,

@@ -8,11 +8,11 @@ ghost use Rattle.gw_configuration.specs.Configuration.{is_by};
 ghost use Rattle.gw_configuration.specs.Reading.{Finds};
 ghost use Rattle.gw_addr.specs.Reading as plain;
 
+use crate::keys::located_in;
+use crate::keys::tables::route_fields;
+use crate::keys::value::table;
 use crate::reading::{address_at, network_at, number_at};
 use gw_addr::Sequence;
-use gw_config_tables::located_in;
-use gw_config_tables::tables::route_fields;
-use gw_config_tables::value::table;
 use gw_configuration::{ConfigFault, Located, Place, Route};
 use std::alloc::Global;
 use toml::{Table, Value};

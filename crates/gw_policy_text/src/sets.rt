@@ -6,15 +6,15 @@ ghost use Rattle.toml.specs.View.{table_view, view};
 ghost use Rattle.gw_configuration.specs.Reading.{Finds, Gives};
 ghost use Rattle.gw_policy_text.specs.Parts.{each_at, list_or};
 ghost use Rattle.gw_policy_text.specs.Policy.{is_mention, is_used, mentions, mentions_for, mentions_in, set_in, set_of, set_parts};
-ghost use Rattle.gw_config_tables.specs.Value.{table_in};
+ghost use Rattle.gw_policy_text.specs.keys.Value.{table_in};
 ghost use Rattle.gw_rules.specs.declared.field.TheConstants.FieldName.{ALL};
 
+use crate::keys::items::set_name;
+use crate::keys::located_in;
+use crate::keys::tables::set_fields;
+use crate::keys::value::{self, table};
 use crate::reading::{any_list, at};
 use gw_addr::Sequence;
-use gw_config_tables::items::set_name;
-use gw_config_tables::located_in;
-use gw_config_tables::tables::set_fields;
-use gw_config_tables::value::{self, table};
 use gw_configuration::{ConfigFault, Located, Place, Set};
 use gw_rules::{FieldName, RuleName};
 use std::alloc::Global;
@@ -65,7 +65,7 @@ fn set_parts(rules: &[Value], table: &Table) -> Result<Set, ConfigFault>
 }
 
 /// Whether one of the rules names a set.
-#[tactic(auto, using(gw_config_tables::proofs::Values::any_view))]
+#[tactic(auto, using(crate::proofs::keys_lemmas::Values::any_view))]
 fn is_used(rules: &[Value], name: &str) -> bool
     ensures { result ≡ is_used (map view rules.now) name.now }
 {
@@ -106,7 +106,7 @@ fn mentions_for(name: &str, table: &Table, field: FieldName) -> bool
     }
 }
 
-#[tactic(auto, using(gw_config_tables::proofs::Values::any_view))]
+#[tactic(auto, using(crate::proofs::keys_lemmas::Values::any_view))]
 fn are_mentions(name: &str, items: &[Value]) -> bool
     ensures { result ≡ list_any (is_mention name.now) (map view items.now) }
 {

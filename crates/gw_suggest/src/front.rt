@@ -3,10 +3,10 @@ ghost use Rattle.std.specs.Prelude.{◌≡◌, ◌≤◌, ◌++◌, length, IfOk
 ghost use Rattle.gw_suggest.specs.Suggestion.{IsInFront};
 
 use crate::fault::SuggestFault;
+use gw_configuration::sameness::are_same;
 use gw_configuration::{Config, ConfigFault};
 use gw_policy_text::read_config;
 use gw_rules::Rule;
-use gw_sameness::are_same;
 use std::alloc::{AllocError, Global};
 
 /// What the table of a rule begins with.

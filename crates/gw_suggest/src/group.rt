@@ -5,9 +5,9 @@ ghost use Rattle.gw_rules.specs.Fields.{value_of, with_value};
 ghost use Rattle.gw_rules.specs.Range.{admits};
 ghost use Rattle.gw_suggest.specs.Own.{admits_but, covers, covers_but, is_reading, own_ranges, own_service, own_values};
 
+use gw_configuration::sameness::are_same;
 use gw_regions::united;
 use gw_rules::{Ask, FieldName, Fields, Operation, Range, Ranges};
-use gw_sameness::are_same;
 use std::alloc::{AllocError, Global};
 
 /// Ranges for each of the twelve fields, as a rule has them.

@@ -1,5 +1,5 @@
 use Rattle.std.proofs.Common.{◌≡◌, length}
-use Rattle.gw_config_tables.specs.Value.{text_in}
+use Rattle.gw_policy_text.specs.keys.Value.{text_in}
 use Rattle.gw_policy_text.proofs.Each.{IsReadTo}
 use Rattle.gw_policy_text.proofs.objects.texts.Given as goal
 

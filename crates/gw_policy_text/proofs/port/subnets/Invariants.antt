@@ -1,5 +1,5 @@
 use Rattle.std.proofs.Common.{◌≡◌, length}
-use Rattle.gw_config_tables.specs.Value.{subnet_in}
+use Rattle.gw_policy_text.specs.keys.Value.{subnet_in}
 use Rattle.gw_policy_text.proofs.Each.{IsReadTo}
 use Rattle.gw_policy_text.proofs.port.subnets.Given as goal
 

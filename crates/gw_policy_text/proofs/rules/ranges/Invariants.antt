@@ -1,7 +1,7 @@
 use Rattle.std.proofs.Common.{◌≡◌, true}
 use Rattle.std.specs.List.{list_all}
 use Rattle.gw_rules.specs.Bounds.{is_within}
-use Rattle.gw_config_tables.specs.Range.{bounds_of, range_in}
+use Rattle.gw_policy_text.specs.keys.Range.{bounds_of, range_in}
 use Rattle.gw_policy_text.proofs.Each.{IsReadTo}
 use Rattle.gw_policy_text.proofs.rules.ranges.Given as goal
 

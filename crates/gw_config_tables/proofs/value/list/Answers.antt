@@ -1,7 +1,0 @@
-use Rattle.toml.specs.Data.{as_array}
-use Rattle.toml.specs.View.{view}
-use Rattle.gw_config_tables.proofs.Values.{list_given}
-use Rattle.gw_config_tables.proofs.value.list.Goals as goal
-
-pub returns-in-Some : goal.returns-in-Some
-returns-in-Some c = list_given (as_array (view c.args.value.now)) c.in-Some.items.now.items c.as_slice.result.now c.in-Some.ensures c.as_slice.ensures.value

@@ -1,5 +1,0 @@
-use Rattle.gw_config_tables.proofs.Named.{named_same}
-use Rattle.gw_config_tables.proofs.value.operation_named.Goals as goal
-
-pub returns : goal.returns
-returns c = named_same c.args.text.now c.from_name.result c.from_name.ensures
