@@ -5,15 +5,15 @@ use Rattle.std.specs.List.{flat_map, list_any}
 use Rattle.std.proofs.lemmas.Bool.{and_parts, both_ways, eqb-true, or_cases, or_left, or_right}
 use Rattle.std.proofs.lemmas.List.Folds.{list_any-append}
 use Rattle.gw_configuration.specs.Configuration.{Configuration}
-use Rattle.gw_regions.specs.Regions.{Region, lies, lies_in_one}
+use Rattle.gw_ask_sets.specs.regions.Regions.{Region, lies, lies_in_one}
 use Rattle.gw_rules.specs.Ask.{Ask}
 use Rattle.gw_rules.specs.Fields.{value_of}
 use Rattle.gw_rules.proofs.EachField.{each_field_at}
-use Rattle.gw_shapes.specs.Regions.{region_of}
-use Rattle.gw_shapes.specs.Shape.{IsWithin, LiesIn, LiesInOne, Shape}
-use Rattle.gw_shapes.specs.Shapes.{shapes}
-use Rattle.gw_shapes.specs.declared.side.Side.{Side}
-use Rattle.gw_shapes.proofs.RegionLaw.{either, inner_one, is_inner, whole_one}
+use Rattle.gw_ask_sets.specs.shapes.Regions.{region_of}
+use Rattle.gw_ask_sets.specs.shapes.Shape.{IsWithin, LiesIn, LiesInOne, Shape}
+use Rattle.gw_ask_sets.specs.shapes.Shapes.{shapes}
+use Rattle.gw_ask_sets.specs.declared.shapes.side.Side.{Side}
+use Rattle.gw_ask_sets.proofs.shapes_lemmas.RegionLaw.{either, inner_one, is_inner, whole_one}
 use Rattle.gw_compare.specs.Asks.{AreAsksOf, asks_of, is_same, is_same_side, other_region}
 
 parted : (xs ys : List Region) (ask : Ask) → lies_in_one (xs ++ ys) ask ≡ (lies_in_one xs ask || lies_in_one ys ask)

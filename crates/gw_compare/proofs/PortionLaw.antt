@@ -1,8 +1,8 @@
 -- A portion keeps a comparison right of the asks and rules that it is of.
 use Rattle.std.proofs.Common.{◌≡◌, List, subst}
-use Rattle.gw_regions.specs.Comparing.{IsComparison}
-use Rattle.gw_regions.specs.Regions.{Region}
-use Rattle.gw_regions.specs.declared.comparison.Found.{Found}
+use Rattle.gw_ask_sets.specs.regions.Comparing.{IsComparison}
+use Rattle.gw_ask_sets.specs.regions.Regions.{Region}
+use Rattle.gw_ask_sets.specs.declared.regions.comparison.Found.{Found}
 use Rattle.gw_rules.specs.declared.rule.Rule.{Rule}
 
 pub goes_on : (asks shapes : List Region) (old one new other : List Rule) (found more : List Found) (left rest : List Region)

@@ -6,10 +6,10 @@ use Rattle.std.proofs.lemmas.List.Elements.{All-from_recursion, recursion_from_A
 use Rattle.std.proofs.lemmas.List.Sorted.{All-permutation, list_any-IsPermutation}
 use Rattle.gw_rules.specs.Ask.{Ask}
 use Rattle.gw_rules.specs.declared.rule.Rule.{Rule}
-use Rattle.gw_regions.specs.Comparing.{IsDecided, IsSummary, differs}
-use Rattle.gw_regions.specs.Presence.{NoneIsMeant, OrNoneIsMeant}
-use Rattle.gw_regions.specs.Regions.{Region, lies, lies_in_one}
-use Rattle.gw_regions.specs.declared.comparison.Found.{Found}
+use Rattle.gw_ask_sets.specs.regions.Comparing.{IsDecided, IsSummary, differs}
+use Rattle.gw_ask_sets.specs.regions.Presence.{NoneIsMeant, OrNoneIsMeant}
+use Rattle.gw_ask_sets.specs.regions.Regions.{Region, lies, lies_in_one}
+use Rattle.gw_ask_sets.specs.declared.regions.comparison.Found.{Found}
 
 each_permuted : (P : Found → Type 0) (xs ys : List Found) → IsPermutation xs ys → AllByRecursion P xs → AllByRecursion P ys
 each_permuted P xs ys moved all = recursion_from_All P ys (All-permutation P xs ys moved (All-from_recursion P xs all))

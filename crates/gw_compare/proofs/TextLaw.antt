@@ -3,11 +3,11 @@ use Rattle.std.proofs.Common.{◌≡◌, ◌≢◌, ◌∙◌, inl, inr, ap, ref
 use Rattle.std.specs.Prelude.{if◌then◌else◌}
 use Rattle.std.proofs.lemmas.Bool.{and_parts, both_ways, eqb-true}
 use Rattle.gw_configuration.specs.Configuration.{Configuration}
-use Rattle.gw_regions.specs.Comparing.{IsDecided, differs, is_found, unlike}
-use Rattle.gw_regions.specs.Presence.{NoneIsMeant}
-use Rattle.gw_regions.specs.Regions.{Region, lies, lies_in_one}
-use Rattle.gw_regions.specs.Values.{has, is_any}
-use Rattle.gw_regions.specs.declared.comparison.Found.{Found}
+use Rattle.gw_ask_sets.specs.regions.Comparing.{IsDecided, differs, is_found, unlike}
+use Rattle.gw_ask_sets.specs.regions.Presence.{NoneIsMeant}
+use Rattle.gw_ask_sets.specs.regions.Regions.{Region, lies, lies_in_one}
+use Rattle.gw_ask_sets.specs.regions.Values.{has, is_any}
+use Rattle.gw_ask_sets.specs.declared.regions.comparison.Found.{Found}
 use Rattle.gw_rules.specs.Ask.{Ask}
 use Rattle.gw_rules.specs.Fields.{value_of}
 use Rattle.gw_rules.specs.declared.field.FieldName.{FieldName}

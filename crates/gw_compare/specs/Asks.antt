@@ -2,14 +2,14 @@
 use Rattle.std.specs.Prelude.{◌≡◌, ◌⊎◌, Bool, true, not, ◌&&◌, ◌==◌, if◌then◌else◌, List, [], ◌∷◌, ◌++◌, map}
 use Rattle.std.specs.List.{flat_map, list_any}
 use Rattle.gw_configuration.specs.Configuration.{Configuration}
-use Rattle.gw_regions.specs.Regions.{Region, lies_in_one}
+use Rattle.gw_ask_sets.specs.regions.Regions.{Region, lies_in_one}
 use Rattle.gw_rules.specs.Ask.{Ask}
 use Rattle.gw_rules.specs.Fields.{value_of}
 use Rattle.gw_rules.specs.Rule.{each_field}
-use Rattle.gw_shapes.specs.Regions.{region_of}
-use Rattle.gw_shapes.specs.Shape.{LiesInOne, Shape}
-use Rattle.gw_shapes.specs.Shapes.{shapes}
-use Rattle.gw_shapes.specs.declared.side.Side.{Side}
+use Rattle.gw_ask_sets.specs.shapes.Regions.{region_of}
+use Rattle.gw_ask_sets.specs.shapes.Shape.{LiesInOne, Shape}
+use Rattle.gw_ask_sets.specs.shapes.Shapes.{shapes}
+use Rattle.gw_ask_sets.specs.declared.shapes.side.Side.{Side}
 
 -- two sides are the same, and two shapes
 abbrev pub is_same_side : Side → Side → Bool

@@ -1,9 +1,9 @@
 -- A comparison of two configurations that goes on in portions.
 use Rattle.std.specs.Prelude.{ℕ, Bool, ◌||◌, ◌==◌, nat_le, List, ◌∷◌, [], ◌++◌, length, codes, decimal}
 use Rattle.gw_configuration.specs.Configuration.{Configuration}
-use Rattle.gw_regions.specs.Comparing.{IsComparison}
-use Rattle.gw_regions.specs.Regions.{Region}
-use Rattle.gw_regions.specs.declared.comparison.Found.{Found}
+use Rattle.gw_ask_sets.specs.regions.Comparing.{IsComparison}
+use Rattle.gw_ask_sets.specs.regions.Regions.{Region}
+use Rattle.gw_ask_sets.specs.declared.regions.comparison.Found.{Found}
 use Rattle.gw_compare.specs.Asks.{asks_of}
 
 -- how far it is: what it found, what it hasn't looked at, and how many steps it used

@@ -2,10 +2,10 @@
 use Rattle.std.specs.Prelude.{◌≡◌, ℕ, ◌==◌, if◌then◌else◌, List, [], ◌∷◌, ◌++◌, length, codes, decimal}
 use Rattle.std.specs.List.Sorted.{IsNonDecreasingBy}
 use Rattle.gw_configuration.specs.Configuration.{Configuration}
-use Rattle.gw_regions.specs.Comparing.{IsSummary}
-use Rattle.gw_regions.specs.Presence.{OrNoneIsMeant}
-use Rattle.gw_regions.specs.Regions.{Region}
-use Rattle.gw_regions.specs.declared.comparison.Found.{Found}
+use Rattle.gw_ask_sets.specs.regions.Comparing.{IsSummary}
+use Rattle.gw_ask_sets.specs.regions.Presence.{OrNoneIsMeant}
+use Rattle.gw_ask_sets.specs.regions.Regions.{Region}
+use Rattle.gw_ask_sets.specs.declared.regions.comparison.Found.{Found}
 use Rattle.gw_compare.specs.Asks.{asks_of}
 use Rattle.gw_compare.specs.Groups.{regions_text}
 use Rattle.gw_compare.specs.Notes.{AreNotes}

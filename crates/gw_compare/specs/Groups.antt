@@ -4,8 +4,8 @@ use Rattle.std.specs.Prelude.{take, codes}
 use Rattle.std.specs.Prelude.{decimal}
 use Rattle.std.specs.Cmp.Lexicographic.{pointwise}
 use Rattle.std.specs.List.{filter, flat_map, list_any}
-use Rattle.gw_regions.specs.Comparing.{unlike}
-use Rattle.gw_regions.specs.declared.comparison.Found.{Found}
+use Rattle.gw_ask_sets.specs.regions.Comparing.{unlike}
+use Rattle.gw_ask_sets.specs.declared.regions.comparison.Found.{Found}
 use Rattle.gw_rules.specs.declared.rule.Rule.{Rule}
 use Rattle.gw_compare.specs.Lines.{line_text, names_text, verdict_text}
 

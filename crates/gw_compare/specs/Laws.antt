@@ -2,16 +2,16 @@
 use Rattle.std.specs.Prelude.{◌≡◌, ◌≢◌, ◌⊎◌, ℕ, true, false, count_by, List, None}
 use Rattle.std.specs.List.{AllByRecursion}
 use Rattle.gw_configuration.specs.Configuration.{Configuration}
-use Rattle.gw_regions.specs.Comparing.{IsDecided, differs, is_found}
-use Rattle.gw_regions.specs.Regions.{lies}
-use Rattle.gw_regions.specs.Values.{has, is_any}
-use Rattle.gw_regions.specs.declared.comparison.Found.{Found}
+use Rattle.gw_ask_sets.specs.regions.Comparing.{IsDecided, differs, is_found}
+use Rattle.gw_ask_sets.specs.regions.Regions.{lies}
+use Rattle.gw_ask_sets.specs.regions.Values.{has, is_any}
+use Rattle.gw_ask_sets.specs.declared.regions.comparison.Found.{Found}
 use Rattle.gw_rules.specs.Ask.{Ask}
 use Rattle.gw_rules.specs.Fields.{value_of}
 use Rattle.gw_rules.specs.RuleList.{allows}
 use Rattle.gw_rules.specs.declared.field.FieldName.{FieldName}
-use Rattle.gw_shapes.specs.Shape.{LiesInOne}
-use Rattle.gw_shapes.specs.Shapes.{shapes}
+use Rattle.gw_ask_sets.specs.shapes.Shape.{LiesInOne}
+use Rattle.gw_ask_sets.specs.shapes.Shapes.{shapes}
 use Rattle.gw_compare.specs.Comparison.{IsComparisonText}
 use Rattle.gw_compare.specs.Groups.{firsts, is_like}
 use Rattle.gw_compare.specs.declared.comparison.Compared.{Compared}

@@ -1,7 +1,7 @@
 -- The line of a region in which every ask is decided otherwise.
 use Rattle.std.specs.Prelude.{ℕ, ◌-◌, Bool, not, ◌==◌, if◌then◌else◌, List, [], ◌∷◌, ◌++◌, slice_get, codes}
 use Rattle.std.specs.Option.{option_map_or}
-use Rattle.gw_regions.specs.declared.comparison.Found.{Found}
+use Rattle.gw_ask_sets.specs.declared.regions.comparison.Found.{Found}
 use Rattle.gw_rules.specs.declared.rule.Rule.{Rule}
 use Rattle.gw_compare.specs.Words.{any_of, region_text}
 

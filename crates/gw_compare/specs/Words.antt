@@ -7,10 +7,10 @@ use Rattle.std.specs.Option.{option_to_list}
 use Rattle.gw_addr.specs.Address.{address_in, text_of}
 use Rattle.gw_log_words.specs.Words.{name_text}
 use Rattle.gw_names.specs.Names.{object_type_name, property_name, service_name}
-use Rattle.gw_regions.specs.Ranges.{both}
-use Rattle.gw_regions.specs.Regions.{Region}
-use Rattle.gw_regions.specs.Values.{has_operation, is_any}
-use Rattle.gw_regions.specs.declared.values.Values.{Values}
+use Rattle.gw_ask_sets.specs.regions.Ranges.{both}
+use Rattle.gw_ask_sets.specs.regions.Regions.{Region}
+use Rattle.gw_ask_sets.specs.regions.Values.{has_operation, is_any}
+use Rattle.gw_ask_sets.specs.declared.regions.values.Values.{Values}
 use Rattle.gw_rules.specs.Bounds.{bounds}
 use Rattle.gw_rules.specs.Field.{field_key}
 use Rattle.gw_rules.specs.Fields.{value_of}

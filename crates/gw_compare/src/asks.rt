@@ -2,12 +2,12 @@
 ghost use Rattle.std.specs.Prelude.{◌≡◌, ◌++◌, IfOk, OnOk, map};
 ghost use Rattle.std.specs.List.{flat_map, list_any};
 ghost use Rattle.gw_compare.specs.Asks.{AreAsksOf, asks_of, is_same, is_same_side, other_region};
-ghost use Rattle.gw_shapes.specs.Regions.{region_of};
+ghost use Rattle.gw_ask_sets.specs.shapes.Regions.{region_of};
 
+use gw_ask_sets::regions::Region;
+use gw_ask_sets::shapes::{Shape, Side, region_of, shapes_of};
 use gw_configuration::Config;
-use gw_regions::Region;
 use gw_rules::FieldName;
-use gw_shapes::{Shape, Side, region_of, shapes_of};
 use std::alloc::{AllocError, Global};
 
 fn push_regions(alloc: Global, out: &mut Vec<Region>, shapes: &[Shape]) -> Result<(), AllocError>

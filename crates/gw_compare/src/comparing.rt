@@ -7,8 +7,8 @@ ghost use Rattle.gw_compare.specs.Comparison.{AppendsComparison};
 use crate::asks::asks_of;
 use crate::comparison::{Compared, comparison_of, put_whole, summary_of};
 use gw_addr::{keep_whole, put_decimal, put_slice};
+use gw_ask_sets::regions::{Comparison, MAX_STEPS, Policies, Region};
 use gw_configuration::Config;
-use gw_regions::{Comparison, MAX_STEPS, Policies, Region};
 use std::alloc::{AllocError, Global};
 use std::marker::Model;
 

@@ -3,16 +3,16 @@ ghost use Rattle.std.specs.Prelude.{◌≡◌, ◌++◌, ◌∷◌, ◌==◌, []
 ghost use Rattle.std.specs.List.Sorted.{IsNonDecreasingBy, IsPermutation};
 ghost use Rattle.gw_compare.specs.Asks.{asks_of};
 ghost use Rattle.gw_compare.specs.Comparison.{AppendsComparison, IsComparisonText, compared_by, ending_text, kinds_text, rank};
-ghost use Rattle.gw_regions.specs.Comparing.{IsComparison, IsSummary};
-ghost use Rattle.gw_regions.specs.Presence.{OrNoneIsMeant};
+ghost use Rattle.gw_ask_sets.specs.regions.Comparing.{IsComparison, IsSummary};
+ghost use Rattle.gw_ask_sets.specs.regions.Presence.{OrNoneIsMeant};
 ghost use Rattle.gw_rules.specs.declared.rule.Rule.{Rule as SpecRule};
 
 use crate::Comparing;
 use crate::groups::{Listing, put_regions};
 use crate::notes::notes;
 use gw_addr::{keep_whole, put_decimal, put_slice};
+use gw_ask_sets::regions::{Comparison, Found, MAX_STEPS, Region, Summary};
 use gw_configuration::Config;
-use gw_regions::{Comparison, Found, MAX_STEPS, Region, Summary};
 use std::alloc::{AllocError, Global};
 
 /// How the policies of two configurations compare.
@@ -115,7 +115,7 @@ pub(crate) fn summary_of(
     ensures or_none { IfOk result (λ s. OrNoneIsMeant asks.now s.found.items) }
     ensures in_order { IfOk result (λ s. IsNonDecreasingBy rank s.found.items) }
 {
-    let mut summary = gw_regions::summary_of(alloc, asks, comparison)?;
+    let mut summary = gw_ask_sets::regions::summary_of(alloc, asks, comparison)?;
     sort_found(&mut summary.found)?;
     Ok(summary)
 }

@@ -6,11 +6,11 @@ ghost use Rattle.gw_compare.specs.Groups.{before_text, count_text, firsts, found
 ghost use Rattle.gw_compare.specs.Groups.{group_text, groups_text, is_like, more_text, now_text, regions_text};
 ghost use Rattle.gw_compare.specs.Groups.{was_text};
 ghost use Rattle.gw_compare.specs.Lines.{line_text};
-ghost use Rattle.gw_regions.specs.Comparing.{unlike};
+ghost use Rattle.gw_ask_sets.specs.regions.Comparing.{unlike};
 
 use crate::lines::{put_line, put_lines, put_names, verdict};
 use gw_addr::put_decimal;
-use gw_regions::Found;
+use gw_ask_sets::regions::Found;
 use gw_rules::Rule;
 use std::alloc::{AllocError, Global};
 

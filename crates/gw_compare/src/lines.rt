@@ -5,7 +5,7 @@ ghost use Rattle.gw_compare.specs.Lines.{deciders_text, line_text, names_text, r
 ghost use Rattle.gw_compare.specs.Words.{any_of};
 
 use crate::words::put_region;
-use gw_regions::Found;
+use gw_ask_sets::regions::Found;
 use gw_rules::Rule;
 use std::alloc::{AllocError, Global};
 

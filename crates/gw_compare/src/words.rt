@@ -3,8 +3,8 @@ ghost use Rattle.std.specs.Prelude.{◌≡◌, ◌++◌, ◌∷◌, [], codes, o
 ghost use Rattle.std.specs.List.{flat_map};
 ghost use Rattle.std.specs.Option.{option_to_list};
 ghost use Rattle.gw_log_words.specs.Words.{name_text};
-ghost use Rattle.gw_regions.specs.Ranges.{both};
-ghost use Rattle.gw_regions.specs.Values.{has_operation};
+ghost use Rattle.gw_ask_sets.specs.regions.Ranges.{both};
+ghost use Rattle.gw_ask_sets.specs.regions.Values.{has_operation};
 ghost use Rattle.gw_rules.specs.Operation.{operation_name};
 ghost use Rattle.gw_rules.specs.declared.operation.TheConstants.Operation.{ALL};
 ghost use Rattle.gw_compare.specs.Words.{any_of, end_text, item_text, items, named_text, noun_of};
@@ -12,8 +12,8 @@ ghost use Rattle.gw_compare.specs.Words.{numbers_text, operations_of, operations
 ghost use Rattle.gw_compare.specs.Words.{region_text, station_text, values_text, word_of};
 
 use gw_addr::{BipAddr, Sequence, put_decimal};
+use gw_ask_sets::regions::{Region, Values, both};
 use gw_names::{object_type_name, property_name, service_name};
-use gw_regions::{Region, Values, both};
 use gw_rules::{FieldName, Format, Operation, Range};
 use std::alloc::{AllocError, Global};
 

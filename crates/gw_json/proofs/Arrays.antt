@@ -6,9 +6,9 @@ use Rattle.json.specs.Json.{Json, array, number, Members, member, no_members}
 use Rattle.json.specs.Token.{Token, begin_array, begin_object, end_array, end_object, key, string}
 use Rattle.json.specs.Written.{Written, Writes as PutsToken}
 use Rattle.json.specs.Tree.{items_tokens, json_tokens, members_tokens}
-use Rattle.gw_regions.specs.Regions.{Region}
-use Rattle.gw_regions.specs.declared.comparison.Found.{Found}
-use Rattle.gw_regions.specs.declared.values.Values.{Values}
+use Rattle.gw_ask_sets.specs.regions.Regions.{Region}
+use Rattle.gw_ask_sets.specs.declared.regions.comparison.Found.{Found}
+use Rattle.gw_ask_sets.specs.declared.regions.values.Values.{Values}
 use Rattle.gw_rules.specs.declared.field.FieldName.{FieldName}
 use Rattle.gw_rules.specs.declared.operation.Operation.{Operation}
 use Rattle.gw_rules.specs.declared.operation.TheConstants.Operation.{ALL}

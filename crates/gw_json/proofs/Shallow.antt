@@ -6,16 +6,16 @@ use Rattle.std.specs.Option.{option_map_or}
 use Rattle.std.proofs.lemmas.Bool.{cases_Bool}
 use Rattle.json.specs.Json.{Json, null, boolean, number, string, array, object, no_items, item, Members, no_members, member}
 use Rattle.json.specs.Tree.{depth}
-use Rattle.gw_regions.specs.Values.{has_operation}
+use Rattle.gw_ask_sets.specs.regions.Values.{has_operation}
 use Rattle.gw_json.specs.Comparison.{end_value, fields_members, found_value, named_operation, operations_value, other_fields, range_value, range_values, ranges_value, rule_value, rules_value, station_end, summary_value, values_value, verdict_word}
 use Rattle.gw_json.specs.Laws.{ComparisonsRead, SummariesRead}
 use Rattle.gw_json.proofs.Documents.{AreShallow, IsShallow, array_shallow, boolean_shallow, chosen_shallow, line_read, member_shallow, none_shallow, null_shallow, number_shallow, object_shallow, or_shallow, string_shallow, wider}
 use Rattle.gw_json.proofs.Plain.{Each}
-use Rattle.gw_regions.specs.Ranges.{between, both, greater, lesser}
-use Rattle.gw_regions.specs.Regions.{Region}
-use Rattle.gw_regions.specs.Values.{is_any}
-use Rattle.gw_regions.specs.declared.comparison.Found.{Found}
-use Rattle.gw_regions.specs.declared.values.Values.{Values}
+use Rattle.gw_ask_sets.specs.regions.Ranges.{between, both, greater, lesser}
+use Rattle.gw_ask_sets.specs.regions.Regions.{Region}
+use Rattle.gw_ask_sets.specs.regions.Values.{is_any}
+use Rattle.gw_ask_sets.specs.declared.regions.comparison.Found.{Found}
+use Rattle.gw_ask_sets.specs.declared.regions.values.Values.{Values}
 use Rattle.gw_rules.specs.Field.{field_key}
 use Rattle.gw_rules.specs.Bounds.{bounds}
 use Rattle.gw_rules.specs.Fields.{value_of}

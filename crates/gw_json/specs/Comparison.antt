@@ -6,11 +6,11 @@ use Rattle.json.specs.Json.{Json, null, boolean, number, string, array, object, 
 use Rattle.gw_audit.specs.Line.{key_octets}
 use Rattle.gw_json.specs.Document.{items_of}
 use Rattle.gw_json.specs.Text.{station_word}
-use Rattle.gw_regions.specs.Ranges.{both}
-use Rattle.gw_regions.specs.Regions.{Region}
-use Rattle.gw_regions.specs.Values.{has_operation, is_any}
-use Rattle.gw_regions.specs.declared.comparison.Found.{Found}
-use Rattle.gw_regions.specs.declared.values.Values.{Values}
+use Rattle.gw_ask_sets.specs.regions.Ranges.{both}
+use Rattle.gw_ask_sets.specs.regions.Regions.{Region}
+use Rattle.gw_ask_sets.specs.regions.Values.{has_operation, is_any}
+use Rattle.gw_ask_sets.specs.declared.regions.comparison.Found.{Found}
+use Rattle.gw_ask_sets.specs.declared.regions.values.Values.{Values}
 use Rattle.gw_rules.specs.Field.{field_key}
 use Rattle.gw_rules.specs.Bounds.{bounds}
 use Rattle.gw_rules.specs.Fields.{value_of}

@@ -12,7 +12,7 @@ use Rattle.gw_json.specs.Document.{line_of}
 use Rattle.gw_json.specs.Log.{IsEntryIn, denial_line, front_octets_text, front_text, octets_line, shown_members, text_line}
 use Rattle.gw_json.specs.Value.{answer_value, denial_value, front_members, front_octets_members, no_front, octets_value, text_value}
 use Rattle.gw_json.specs.Why.{IsAnswerIn}
-use Rattle.gw_regions.specs.declared.comparison.Found.{Found}
+use Rattle.gw_ask_sets.specs.declared.regions.comparison.Found.{Found}
 use Rattle.gw_rules.specs.declared.rule.Rule.{Rule}
 
 -- a line that is read as this value: it has no control octet, so no line feed, but the one at its end

@@ -6,8 +6,8 @@ ghost use Rattle.json.specs.Json.{array};
 ghost use Rattle.json.specs.Print.{print};
 ghost use Rattle.json.specs.Token.{boolean, key, number};
 ghost use Rattle.json.specs.Tree.{json_tokens};
-ghost use Rattle.gw_regions.specs.Ranges.{both};
-ghost use Rattle.gw_regions.specs.Values.{has_operation};
+ghost use Rattle.gw_ask_sets.specs.regions.Ranges.{both};
+ghost use Rattle.gw_ask_sets.specs.regions.Values.{has_operation};
 ghost use Rattle.gw_rules.specs.Bounds.{bounds};
 ghost use Rattle.gw_rules.specs.declared.format.Format.TheVariants.{Three};
 ghost use Rattle.gw_rules.specs.declared.operation.TheConstants.Operation.{ALL};
@@ -17,7 +17,7 @@ ghost use Rattle.gw_json.specs.internal.Tokens.{asks_tokens, deciders_tokens, ex
 
 use crate::document::{put_line, write_count, write_number, write_truth};
 use crate::value::{station_of, station_word};
-use gw_regions::{Found, Region, Values, both};
+use gw_ask_sets::regions::{Found, Region, Values, both};
 use gw_rules::{FieldName, Format, NO_RULE, Operation, Range, Rule};
 use json::Writer;
 use std::alloc::{AllocError, Global};

@@ -6,7 +6,7 @@ use Rattle.std.proofs.lemmas.Option.{slice_get-get_or, slice_get_past}
 use Rattle.gw_rules.specs.RuleList.{HasNumber}
 use Rattle.gw_rules.specs.declared.rule.Rule.{Rule}
 use Rattle.gw_lint.specs.Finding.{Finds}
-use Rattle.gw_shapes.specs.Shape.{Shape}
+use Rattle.gw_ask_sets.specs.shapes.Shape.{Shape}
 use Rattle.gw_lint.specs.declared.finding.Finding.{Finding}
 
 -- each of the findings that are there says what is true

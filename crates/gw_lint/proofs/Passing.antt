@@ -19,11 +19,11 @@ use Rattle.gw_rules.specs.declared.range.Range.{Range}
 use Rattle.gw_rules.specs.declared.rule.Rule.{Rule}
 use Rattle.gw_rules.proofs.EachField.{each_field_at}
 use Rattle.gw_rules.proofs.First.{allows_iff}
-use Rattle.gw_shapes.specs.Cover.{takes_side}
-use Rattle.gw_shapes.specs.Meeting.{meets}
-use Rattle.gw_shapes.specs.Shape.{IsWithin, LiesIn, Shape}
-use Rattle.gw_shapes.proofs.Covering.{sided}
-use Rattle.gw_shapes.proofs.Narrowing.{met}
+use Rattle.gw_ask_sets.specs.shapes.Cover.{takes_side}
+use Rattle.gw_ask_sets.specs.shapes.Meeting.{meets}
+use Rattle.gw_ask_sets.specs.shapes.Shape.{IsWithin, LiesIn, Shape}
+use Rattle.gw_ask_sets.proofs.shapes_lemmas.Covering.{sided}
+use Rattle.gw_ask_sets.proofs.shapes_lemmas.Narrowing.{met}
 use Rattle.gw_lint.specs.Laws.{NoBroadcastIsAllowed}
 use Rattle.gw_lint.specs.Notes.{lets_broadcasts}
 use Rattle.gw_lint.specs.Passage.{holds_shape, is_cast, opener, settles}

@@ -6,10 +6,10 @@ use Rattle.std.proofs.lemmas.List.Quantifiers.{position-Some}
 use Rattle.std.proofs.lemmas.Option.{slice_get-get_or, slice_get_within}
 use Rattle.gw_rules.specs.RuleList.{HasNumber}
 use Rattle.gw_rules.specs.declared.rule.Rule.{Rule}
-use Rattle.gw_shapes.specs.Cover.{takes_all}
+use Rattle.gw_ask_sets.specs.shapes.Cover.{takes_all}
 use Rattle.gw_lint.specs.Finding.{IsTakenBy, taker}
-use Rattle.gw_shapes.specs.Shape.{Shape}
-use Rattle.gw_shapes.proofs.Covering.{all_taken}
+use Rattle.gw_ask_sets.specs.shapes.Shape.{Shape}
+use Rattle.gw_ask_sets.proofs.shapes_lemmas.Covering.{all_taken}
 
 pub denied : (met nothing : Bool) → nothing ≡ not met → nothing ≡ false → met ≡ true
 denied true nothing e f = refl

@@ -2,9 +2,9 @@
 use Rattle.std.specs.Prelude.{◌≡◌, ℕ, ◌-◌, ◌<◌, true, List, length, Option, Some, None, position, slice_get, take}
 use Rattle.gw_rules.specs.RuleList.{HasNumber}
 use Rattle.gw_rules.specs.declared.rule.Rule.{Rule}
-use Rattle.gw_shapes.specs.Cover.{MatchesNothing, TakesAll, is_met, takes_all}
-use Rattle.gw_shapes.specs.Search.{IsFirstFor, IsNeverFirst}
-use Rattle.gw_shapes.specs.Shape.{Shape}
+use Rattle.gw_ask_sets.specs.shapes.Cover.{MatchesNothing, TakesAll, is_met, takes_all}
+use Rattle.gw_ask_sets.specs.shapes.Search.{IsFirstFor, IsNeverFirst}
+use Rattle.gw_ask_sets.specs.shapes.Shape.{Shape}
 use Rattle.gw_lint.specs.declared.finding.Finding.{Finding}
 use Rattle.gw_lint.specs.declared.finding.Finding.TheVariants as finding
 

@@ -4,7 +4,7 @@ use Rattle.gw_rules.specs.Ask.{Ask, IsFor}
 use Rattle.gw_rules.specs.RuleList.{allows}
 use Rattle.gw_rules.specs.declared.operation.Operation.TheVariants.{Cast}
 use Rattle.gw_rules.specs.declared.rule.Rule.{Rule}
-use Rattle.gw_shapes.specs.Shape.{LiesInOne, Shape}
+use Rattle.gw_ask_sets.specs.shapes.Shape.{LiesInOne, Shape}
 use Rattle.gw_lint.specs.Notes.{lets_broadcasts}
 
 -- Where it is made, no ask of these shapes to pass a broadcast on is allowed.

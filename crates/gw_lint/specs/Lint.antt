@@ -4,7 +4,7 @@ use Rattle.gw_configuration.specs.Configuration.{Configuration}
 use Rattle.gw_lint.specs.Finding.{AreTrue}
 use Rattle.gw_lint.specs.Notes.{notes_text}
 use Rattle.gw_script.specs.Order.{in_order}
-use Rattle.gw_shapes.specs.Shapes.{shapes}
+use Rattle.gw_ask_sets.specs.shapes.Shapes.{shapes}
 use Rattle.gw_lint.specs.Text.{line_text}
 use Rattle.gw_lint.specs.declared.finding.Finding.{Finding}
 

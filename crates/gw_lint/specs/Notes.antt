@@ -12,10 +12,10 @@ use Rattle.gw_rules.specs.declared.field.FieldName.{FieldName}
 use Rattle.gw_rules.specs.declared.field.TheConstants.FieldName.{ALL}
 use Rattle.gw_rules.specs.declared.range.Range.{Range}
 use Rattle.gw_rules.specs.declared.rule.Rule.{Rule}
-use Rattle.gw_shapes.specs.Meeting.{overlaps}
+use Rattle.gw_ask_sets.specs.shapes.Meeting.{overlaps}
 use Rattle.gw_script.specs.Order.{in_order}
 use Rattle.gw_lint.specs.Passage.{answers, is_cast, is_routed, is_unnamed, opener, opens_beyond, requests}
-use Rattle.gw_shapes.specs.Shape.{Shape}
+use Rattle.gw_ask_sets.specs.shapes.Shape.{Shape}
 use Rattle.gw_lint.specs.Text.{rule_text}
 use Rattle.gw_lint.specs.Trust.{ending_words, is_open_end, is_open_for, is_source_alone, is_source_network_alone}
 use Rattle.gw_lint.specs.Trust.{port_words, reach_words, source_words}

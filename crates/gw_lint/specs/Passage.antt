@@ -11,12 +11,12 @@ use Rattle.gw_rules.specs.RuleList.{allows_at}
 use Rattle.gw_rules.specs.declared.format.Format.{Format}
 use Rattle.gw_rules.specs.declared.operation.Operation.TheVariants as operations
 use Rattle.gw_rules.specs.declared.rule.Rule.{Rule}
-use Rattle.gw_shapes.specs.Cover.{takes_side}
-use Rattle.gw_shapes.specs.Meeting.{has_number, meets}
-use Rattle.gw_shapes.specs.Pieces.{numbers}
-use Rattle.gw_shapes.specs.Shape.{Shape}
-use Rattle.gw_shapes.specs.Shapes.{aimed, bound, only, own}
-use Rattle.gw_shapes.specs.declared.side.Side.{Side}
+use Rattle.gw_ask_sets.specs.shapes.Cover.{takes_side}
+use Rattle.gw_ask_sets.specs.shapes.Meeting.{has_number, meets}
+use Rattle.gw_ask_sets.specs.shapes.Pieces.{numbers}
+use Rattle.gw_ask_sets.specs.shapes.Shape.{Shape}
+use Rattle.gw_ask_sets.specs.shapes.Shapes.{aimed, bound, only, own}
+use Rattle.gw_ask_sets.specs.declared.shapes.side.Side.{Side}
 
 -- in each field that the rule names, one of its ranges holds all that the shape has there
 abbrev pub holds_shape : Shape → Rule → Bool

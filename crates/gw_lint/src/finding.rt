@@ -3,8 +3,8 @@ ghost use Rattle.std.specs.Prelude.{◌≡◌, ◌<◌, ◌-◌, IfOk, IfSome, l
 ghost use Rattle.gw_rules.specs.RuleList.{HasNumber};
 ghost use Rattle.gw_lint.specs.Finding.{AreTrue, Finds, taker};
 
+use gw_ask_sets::shapes::{Outcome, Shape, matches_nothing, search_for, takes_all};
 use gw_rules::{Ask, Rule, RuleList};
-use gw_shapes::{Outcome, Shape, matches_nothing, search_for, takes_all};
 use std::alloc::{AllocError, Global};
 
 /// How many steps a search for an ask that one rule decides has at most.

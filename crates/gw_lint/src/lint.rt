@@ -6,8 +6,8 @@ use crate::finding::findings_of;
 use crate::note::put_notes;
 use crate::text::put_lines;
 use gw_addr::{keep_whole, put_slice};
+use gw_ask_sets::shapes::shapes_of;
 use gw_configuration::Config;
-use gw_shapes::shapes_of;
 use std::alloc::{AllocError, Global};
 
 /// Appends a line for each rule of which there is something to say, in order of the rules, and after

@@ -1,7 +1,7 @@
 //! Notes on rules that may not mean what they say.
 ghost use Rattle.std.specs.Prelude.{◌≡◌, ◌&&◌, ◌==◌, ◌++◌, find, is_some, length, OnOk};
 ghost use Rattle.std.specs.List.{filter, flat_map, list_any};
-ghost use Rattle.gw_shapes.specs.Meeting.{overlaps};
+ghost use Rattle.gw_ask_sets.specs.shapes.Meeting.{overlaps};
 ghost use Rattle.gw_lint.specs.Notes.{answer_note, answer_notes, answer_words, cast_note, field_notes, has_overlap};
 ghost use Rattle.gw_lint.specs.Notes.{head_text, is_known, is_unknown, lets_broadcasts, lets_unnamed, network_note};
 ghost use Rattle.gw_lint.specs.Notes.{network_words, note_text, notes_text, object_note, overlap_note, overlap_words};
@@ -13,9 +13,9 @@ use crate::passage::{answers, is_cast, is_routed, is_unnamed, opener, opens_beyo
 use crate::text::put_rule;
 use crate::trust_note::put_trust_notes;
 use gw_addr::{put_decimal, put_slice};
+use gw_ask_sets::shapes::{Shape, overlaps};
 use gw_configuration::{Config, Port, Route};
 use gw_rules::{FieldName, Range, Rule, RuleList};
-use gw_shapes::{Shape, overlaps};
 use std::alloc::AllocError;
 
 /// Appends all notes: rule by rule, then port by port, and then that on broadcasts.

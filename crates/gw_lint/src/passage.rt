@@ -5,9 +5,11 @@ ghost use Rattle.gw_lint.specs.Passage.{opens_beyond, requests, routed, settler,
 
 use crate::text::allows_at;
 use gw_addr::NetNum;
+use gw_ask_sets::shapes::{
+    Origin, Shape, Side, aimed, bound, has_number, meets, numbers, only, takes_side,
+};
 use gw_configuration::Port;
 use gw_rules::{FieldName, Format, Operation, Rule, RuleList};
-use gw_shapes::{Origin, Shape, Side, aimed, bound, has_number, meets, numbers, only, takes_side};
 
 /// Whether in each field that the rule names one of its ranges holds all that the shape has there.
 fn holds_shape(shape: &Shape, rule: &Rule) -> bool

@@ -9,9 +9,9 @@ ghost use Rattle.gw_lint.specs.Text.{says_same, source_text, value_text};
 
 use crate::Finding;
 use gw_addr::{BipAddr, put_decimal};
+use gw_ask_sets::shapes::rule_at;
 use gw_audit::operation_named;
 use gw_rules::{Ask, FieldName, RuleList};
-use gw_shapes::rule_at;
 use std::alloc::AllocError;
 
 /// What is written for a field that the ask doesn't have.

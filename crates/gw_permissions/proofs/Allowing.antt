@@ -13,11 +13,11 @@ use Rattle.gw_rules.specs.declared.field.FieldName.{FieldName}
 use Rattle.gw_rules.specs.declared.rule.Rule.{Rule}
 use Rattle.gw_rules.proofs.EachField.{each_field_at}
 use Rattle.gw_rules.proofs.First.{allows_iff, first_iff}
-use Rattle.gw_shapes.specs.Cover.{takes_side}
-use Rattle.gw_shapes.specs.Meeting.{meets}
-use Rattle.gw_shapes.specs.Shape.{LiesIn, Shape}
-use Rattle.gw_shapes.proofs.Covering.{negated, sided}
-use Rattle.gw_shapes.proofs.Narrowing.{met}
+use Rattle.gw_ask_sets.specs.shapes.Cover.{takes_side}
+use Rattle.gw_ask_sets.specs.shapes.Meeting.{meets}
+use Rattle.gw_ask_sets.specs.shapes.Shape.{LiesIn, Shape}
+use Rattle.gw_ask_sets.proofs.shapes_lemmas.Covering.{negated, sided}
+use Rattle.gw_ask_sets.proofs.shapes_lemmas.Narrowing.{met}
 use Rattle.gw_permissions.specs.Laws.{EachAskIsAllowed, IsListed, NoAskIsAllowed, OnlyListedAllow}
 use Rattle.gw_permissions.specs.Passing.{decides_all, matches_all, may_allow, may_pass, reached}
 

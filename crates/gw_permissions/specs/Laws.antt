@@ -3,7 +3,7 @@ use Rattle.std.specs.Prelude.{◌≡◌, ℕ, ◌≤◌, true, false, List, Some
 use Rattle.gw_rules.specs.Ask.{Ask}
 use Rattle.gw_rules.specs.RuleList.{HasNumber, allows, first}
 use Rattle.gw_rules.specs.declared.rule.Rule.{Rule}
-use Rattle.gw_shapes.specs.Shape.{LiesIn, Shape}
+use Rattle.gw_ask_sets.specs.shapes.Shape.{LiesIn, Shape}
 use Rattle.gw_permissions.specs.Passing.{decides_all, may_allow, may_pass, reached}
 
 -- a rule has a line: it may allow asks of the shape, and is one of those to which they come

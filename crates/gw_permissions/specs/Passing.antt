@@ -5,9 +5,9 @@ use Rattle.std.specs.Option.{option_map_or}
 use Rattle.gw_rules.specs.Fields.{value_of}
 use Rattle.gw_rules.specs.Rule.{each_field, ranges_of}
 use Rattle.gw_rules.specs.declared.rule.Rule.{Rule}
-use Rattle.gw_shapes.specs.Cover.{takes_side}
-use Rattle.gw_shapes.specs.Meeting.{meets}
-use Rattle.gw_shapes.specs.Shape.{Shape}
+use Rattle.gw_ask_sets.specs.shapes.Cover.{takes_side}
+use Rattle.gw_ask_sets.specs.shapes.Meeting.{meets}
+use Rattle.gw_ask_sets.specs.shapes.Shape.{Shape}
 
 -- in each field that the rule names one of its ranges holds all that the shape has there: it matches each ask of the shape
 abbrev pub matches_all : Shape → Rule → Bool

@@ -17,7 +17,7 @@ use Rattle.gw_rules.specs.Format.{names_stations}
 use Rattle.gw_rules.specs.Hides.{hides_from_network}
 use Rattle.gw_rules.specs.declared.rule.Rule.{Rule}
 use Rattle.gw_script.specs.Order.{in_order}
-use Rattle.gw_shapes.specs.Shape.{Shape}
+use Rattle.gw_ask_sets.specs.shapes.Shape.{Shape}
 use Rattle.gw_permissions.specs.Passing.{decides_all, may_allow, may_pass, reached}
 use Rattle.gw_permissions.specs.Questions.{claiming, entering, reading}
 use Rattle.gw_permissions.specs.Words.{rule_words}

@@ -1,11 +1,11 @@
 -- The shapes of the asks of which a line says who may raise them. Each holds shapes of a configuration of format 3, or parts of
--- them (`Shapes.antt` of gw_shapes).
+-- them (`Shapes.antt` of gw_ask_sets::shapes).
 use Rattle.std.specs.Prelude.{ℕ}
 use Rattle.gw_rules.specs.declared.format.Format.TheVariants.{Three}
 use Rattle.gw_rules.specs.declared.operation.Operation.TheVariants as operations
-use Rattle.gw_shapes.specs.Pieces.{numbers}
-use Rattle.gw_shapes.specs.Shape.{Shape}
-use Rattle.gw_shapes.specs.Shapes.{bound, foreign, network as any_network, nothing, only, own}
+use Rattle.gw_ask_sets.specs.shapes.Pieces.{numbers}
+use Rattle.gw_ask_sets.specs.shapes.Shape.{Shape}
+use Rattle.gw_ask_sets.specs.shapes.Shapes.{bound, foreign, network as any_network, nothing, only, own}
 use Rattle.gw_permissions.specs.declared.questions.Point.{Point}
 
 -- to enter by the port of this number, which has this network

@@ -7,8 +7,8 @@ ghost use Rattle.gw_permissions.specs.Permissions.{every_words, extent_words, gr
 use crate::passing::{decides_all, may_allow, may_pass, reached};
 use crate::words::put_rule;
 use gw_addr::put_text_number;
+use gw_ask_sets::shapes::Shape;
 use gw_rules::Rule;
-use gw_shapes::Shape;
 use std::alloc::AllocError;
 
 /// What a rule may let others do.

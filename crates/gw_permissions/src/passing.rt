@@ -1,11 +1,11 @@
 //! Which rules may allow asks of a shape.
 ghost use Rattle.std.specs.Prelude.{◌≡◌, ◌-◌, ◌≤◌, length, position, take};
 ghost use Rattle.std.specs.List.{list_any};
-ghost use Rattle.gw_shapes.specs.Meeting.{meets};
+ghost use Rattle.gw_ask_sets.specs.shapes.Meeting.{meets};
 ghost use Rattle.gw_permissions.specs.Passing.{decides_all, matches_all, may_allow, may_pass, reached};
 
+use gw_ask_sets::shapes::{Shape, meets, takes_side};
 use gw_rules::{FieldName, Rule};
-use gw_shapes::{Shape, meets, takes_side};
 
 /// Whether the rule matches each ask of the shape: in each field that it names one of its ranges holds
 /// all that the shape has there.

@@ -2,8 +2,8 @@
 ghost use Rattle.std.specs.Prelude.{◌≡◌};
 ghost use Rattle.gw_permissions.specs.Questions.{claiming, entering, reading};
 
+use gw_ask_sets::shapes::{Origin, Shape, Side, bound, numbers, only};
 use gw_rules::{Format, Operation, Range};
-use gw_shapes::{Origin, Shape, Side, bound, numbers, only};
 
 /// A property of an object, by its type and instance.
 #[derive(Clone, Copy)]

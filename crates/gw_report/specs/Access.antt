@@ -3,7 +3,7 @@ use Rattle.std.specs.Prelude.{◌≡◌, ⊤, Bool, true, false, List}
 use Rattle.gw_rules.specs.Ask.{Ask}
 use Rattle.gw_rules.specs.RuleList.{allows}
 use Rattle.gw_rules.specs.declared.rule.Rule.{Rule}
-use Rattle.gw_shapes.specs.Shape.{LiesIn, Shape}
+use Rattle.gw_ask_sets.specs.shapes.Shape.{LiesIn, Shape}
 use Rattle.gw_report.specs.declared.passing.Extent.{Extent}
 use Rattle.gw_report.specs.declared.passing.Extent.TheVariants as extent
 

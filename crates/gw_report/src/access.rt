@@ -1,11 +1,11 @@
 //! Who may do what: a table by network and operation, and the lines that `check --explain` has.
 
 use crate::passing::{Extent, extent_of};
+use gw_ask_sets::shapes::{Shape, shapes_of};
 use gw_configuration::{Config, Port};
 use gw_page::{Element, Page};
 use gw_permissions::put_permissions;
 use gw_rules::Operation;
-use gw_shapes::{Shape, shapes_of};
 use itoa::Buffer;
 use std::alloc::{AllocError, Global};
 

@@ -1,12 +1,12 @@
 //! How much of the asks of a shape a policy allows.
 ghost use Rattle.std.specs.Prelude.{◌≡◌, ◌-◌, ◌≤◌, ◌<◌, false, length, position, take, true, IfSome};
 ghost use Rattle.std.specs.List.{list_any};
-ghost use Rattle.gw_shapes.specs.Meeting.{meets};
+ghost use Rattle.gw_ask_sets.specs.shapes.Meeting.{meets};
 ghost use Rattle.gw_permissions.specs.Passing.{decides_all, matches_all, may_allow, may_pass, reached};
 ghost use Rattle.gw_report.specs.Access.{AreDecided, IsExtent};
 
+use gw_ask_sets::shapes::{Shape, meets, takes_side};
 use gw_rules::{FieldName, Rule};
-use gw_shapes::{Shape, meets, takes_side};
 
 /// How much of some asks a policy allows.
 #[derive(Clone, Copy)]

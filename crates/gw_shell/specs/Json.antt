@@ -10,9 +10,9 @@ use Rattle.gw_config_faults.specs.Explanation.{ExplainsText}
 use Rattle.gw_json.specs.Check.{checked_value, fault_value}
 use Rattle.gw_json.specs.Comparison.{found_value, summary_value}
 use Rattle.gw_json.specs.Document.{line_of}
-use Rattle.gw_regions.specs.Comparing.{IsSummary}
-use Rattle.gw_regions.specs.Regions.{Region}
-use Rattle.gw_regions.specs.declared.comparison.Found.{Found}
+use Rattle.gw_ask_sets.specs.regions.Comparing.{IsSummary}
+use Rattle.gw_ask_sets.specs.regions.Regions.{Region}
+use Rattle.gw_ask_sets.specs.declared.regions.comparison.Found.{Found}
 use Rattle.gw_ending.specs.declared.fault.Fault.{Fault}
 use Rattle.gw_ending.specs.declared.fault.Fault.TheVariants as fault
 

@@ -15,13 +15,13 @@ ghost use Rattle.gw_shell.specs.Program.{LeavesCheckedJson, LeavesComparedJson, 
 use crate::comparing::{Lines, print_lines};
 use crate::configured::configuration_of;
 use crate::program::{print, print_made};
+use gw_ask_sets::regions::{Found, MAX_STEPS, summarize};
 use gw_compare::{Compared, asks_of};
 use gw_config_faults::explain;
 use gw_configuration::{Config, ConfigFault};
 use gw_ending::Fault;
 use gw_json::{put_check, put_fault, put_found, put_summary};
 use gw_points::put_points;
-use gw_regions::{Found, MAX_STEPS, summarize};
 use gw_rules::Rule;
 use std::alloc::{AllocError, Global};
 use std::io::{BufWriter, Write};

@@ -9,7 +9,7 @@ use Rattle.std.specs.Prelude.{if◌then◌else◌, not}
 use Rattle.gw_rules.specs.Ask.{Ask}
 use Rattle.gw_rules.specs.RuleList.{allows}
 use Rattle.gw_rules.specs.declared.rule.Rule.{Rule}
-use Rattle.gw_regions.proofs.RangeLaw.{or_none}
+use Rattle.gw_ask_sets.proofs.regions_lemmas.RangeLaw.{or_none}
 use Rattle.gw_suggest.specs.Given.{Adds, AddsAll, Has, denied}
 
 pub adds_known : (asks : List Ask) (ask : Ask) → Has asks ask → Adds asks asks ask

@@ -13,10 +13,10 @@ use Rattle.gw_rules.specs.declared.field.FieldName.{FieldName}
 use Rattle.gw_rules.specs.declared.field.FieldName.TheVariants.{Operation, Port, SourceNetwork, SourceKey, DestinationNetwork, Service, ObjectType, Instance, Property, Priority, Sender, Station}
 use Rattle.gw_rules.specs.declared.field.TheConstants.FieldName.{ALL}
 use Rattle.gw_rules.specs.declared.range.Range.{Range}
-use Rattle.gw_regions.specs.Merging.{AreUnited}
-use Rattle.gw_regions.proofs.ComparingLaw.{all_same, every_field}
-use Rattle.gw_regions.proofs.MergingLaw.{either}
-use Rattle.gw_regions.proofs.RangeLaw.{and_all, and_none, or_none}
+use Rattle.gw_ask_sets.specs.regions.Merging.{AreUnited}
+use Rattle.gw_ask_sets.proofs.regions_lemmas.ComparingLaw.{all_same, every_field}
+use Rattle.gw_ask_sets.proofs.regions_lemmas.MergingLaw.{either}
+use Rattle.gw_ask_sets.proofs.regions_lemmas.RangeLaw.{and_all, and_none, or_none}
 use Rattle.gw_suggest.specs.Own.{Group, CoverAlike, admits_but, covered, covers, covers_but}
 
 -- ---- one field

@@ -14,8 +14,8 @@ use Rattle.gw_rules.specs.declared.field.FieldName.{FieldName}
 use Rattle.gw_rules.specs.declared.field.FieldName.TheVariants.{Operation, Port, SourceNetwork, SourceKey, DestinationNetwork, Service, ObjectType, Instance, Property, Priority, Sender, Station}
 use Rattle.gw_rules.specs.declared.rule.Rule.{Rule}
 use Rattle.gw_rules.proofs.EachField.{each_field_at, each_field_from}
-use Rattle.gw_regions.specs.Deciding.{decided}
-use Rattle.gw_regions.proofs.AllowsLaw.{decided_allows}
+use Rattle.gw_ask_sets.specs.regions.Deciding.{decided}
+use Rattle.gw_ask_sets.proofs.regions_lemmas.AllowsLaw.{decided_allows}
 use Rattle.gw_suggest.specs.Given.{HaveSame, akin, filled, filled_from, of_both}
 use Rattle.gw_suggest.specs.Laws.{AllowsEach, AllowsNoOther, AllowsWhatMatches, FillsNoOther, HasValuesOf}
 use Rattle.gw_suggest.specs.Own.{Group, covered, covers, is_reading, own_ranges, own_rule, own_service, own_values}

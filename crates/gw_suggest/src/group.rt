@@ -5,8 +5,8 @@ ghost use Rattle.gw_rules.specs.Fields.{value_of, with_value};
 ghost use Rattle.gw_rules.specs.Range.{admits};
 ghost use Rattle.gw_suggest.specs.Own.{admits_but, covers, covers_but, is_reading, own_ranges, own_service, own_values};
 
+use gw_ask_sets::regions::united;
 use gw_configuration::sameness::are_same;
-use gw_regions::united;
 use gw_rules::{Ask, FieldName, Fields, Operation, Range, Ranges};
 use std::alloc::{AllocError, Global};
 

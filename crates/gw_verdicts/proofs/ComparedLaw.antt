@@ -6,12 +6,12 @@ use Rattle.gw_compare.specs.Laws.{IsAskOf}
 use Rattle.gw_compare.proofs.TextLaw.{alike_is_alike, found_is_all, lines_are_true}
 use Rattle.gw_core.specs.Asks.{asks}
 use Rattle.gw_core.specs.History.{state_after}
-use Rattle.gw_regions.specs.Comparing.{IsDecided}
-use Rattle.gw_regions.specs.Regions.{lies}
+use Rattle.gw_ask_sets.specs.regions.Comparing.{IsDecided}
+use Rattle.gw_ask_sets.specs.regions.Regions.{lies}
 use Rattle.gw_rules.specs.Ask.{Ask}
 use Rattle.gw_rules.proofs.EachAsk.{each_weaker}
-use Rattle.gw_shapes.specs.Shape.{LiesInOne}
-use Rattle.gw_shapes.specs.Shapes.{shapes}
+use Rattle.gw_ask_sets.specs.shapes.Shape.{LiesInOne}
+use Rattle.gw_ask_sets.specs.shapes.Shapes.{shapes}
 use Rattle.gw_verdicts.specs.Compared.{EventsAreAlike, EventsAreCompared, LinesAreTrueOfEvents, OfBoth}
 use Rattle.gw_verdicts.proofs.ShapeLaw.{asks_lie_in_shapes}
 

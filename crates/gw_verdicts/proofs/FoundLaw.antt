@@ -3,10 +3,10 @@ use Rattle.std.proofs.Common.{◌≡◌, ℕ, true, List}
 use Rattle.gw_rules.specs.RuleList.{HasNumber}
 use Rattle.gw_rules.specs.declared.rule.Rule.{Rule}
 use Rattle.gw_rules.proofs.First.{first_iff}
-use Rattle.gw_shapes.specs.Search.{IsNeverFirst}
-use Rattle.gw_shapes.specs.Shape.{Shape}
-use Rattle.gw_shapes.specs.Shapes.{shapes}
-use Rattle.gw_shapes.proofs.Narrowing.{deciding_rule}
+use Rattle.gw_ask_sets.specs.shapes.Search.{IsNeverFirst}
+use Rattle.gw_ask_sets.specs.shapes.Shape.{Shape}
+use Rattle.gw_ask_sets.specs.shapes.Shapes.{shapes}
+use Rattle.gw_ask_sets.proofs.shapes_lemmas.Narrowing.{deciding_rule}
 use Rattle.gw_lint.specs.Finding.{Finds}
 use Rattle.gw_lint.specs.declared.finding.Finding.{Finding}
 use Rattle.gw_lint.specs.declared.finding.Finding.TheVariants as finding

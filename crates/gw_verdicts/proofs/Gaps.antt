@@ -8,10 +8,10 @@ use Rattle.gw_configuration.specs.declared.port.Port.{Port as ConfiguredPort}
 use Rattle.gw_relay.specs.History.{Acts as PortActs}
 use Rattle.gw_relay.specs.History.{all_after, ports_from}
 use Rattle.gw_rules.specs.Range.{holds}
-use Rattle.gw_shapes.specs.Pieces.{above, below}
-use Rattle.gw_shapes.specs.Shape.{IsWithin}
-use Rattle.gw_shapes.specs.Shapes.{gaps, gaps_between, network, only, split}
-use Rattle.gw_shapes.specs.declared.side.Side.{Side}
+use Rattle.gw_ask_sets.specs.shapes.Pieces.{above, below}
+use Rattle.gw_ask_sets.specs.shapes.Shape.{IsWithin}
+use Rattle.gw_ask_sets.specs.shapes.Shapes.{gaps, gaps_between, network, only, split}
+use Rattle.gw_ask_sets.specs.declared.shapes.side.Side.{Side}
 
 -- a network that no port has now is none of the ports'
 pub apart : (number : ℕ) (ports : List ConfiguredPort) (acts : List PortActs) (n : ℕ)

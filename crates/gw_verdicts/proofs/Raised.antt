@@ -41,11 +41,11 @@ use Rattle.gw_core.specs.Asks.{apdu_asks, asks_for}
 use Rattle.gw_core.specs.Receive.{message}
 use Rattle.gw_core.specs.Reply.{apdu_for, apdu_of, apdu_towards, context_of, is_broadcast, is_device}
 use Rattle.gw_core.specs.State.{device_network}
-use Rattle.gw_shapes.specs.Shape.{IsWithin, LiesIn, LiesInOne, Shape}
-use Rattle.gw_shapes.specs.Shapes.{aimed, answer, bound, claim_shapes, enter_shapes, message_shapes, named, near_shapes, network as any_network, nothing, only, own, passed_shapes, perhaps, perhaps_in, plain, request_or_message, request_shapes, shapes_from, some, some_in, table_shapes}
-use Rattle.gw_shapes.specs.declared.shapes.Origin.{Origin}
-use Rattle.gw_shapes.specs.declared.side.Side.{Side}
-use Rattle.gw_shapes.proofs.Lying.{in_front, in_rest, lies_by}
+use Rattle.gw_ask_sets.specs.shapes.Shape.{IsWithin, LiesIn, LiesInOne, Shape}
+use Rattle.gw_ask_sets.specs.shapes.Shapes.{aimed, answer, bound, claim_shapes, enter_shapes, message_shapes, named, near_shapes, network as any_network, nothing, only, own, passed_shapes, perhaps, perhaps_in, plain, request_or_message, request_shapes, shapes_from, some, some_in, table_shapes}
+use Rattle.gw_ask_sets.specs.declared.shapes.shapes.Origin.{Origin}
+use Rattle.gw_ask_sets.specs.declared.shapes.side.Side.{Side}
+use Rattle.gw_ask_sets.proofs.shapes_lemmas.Lying.{in_front, in_rest, lies_by}
 use Rattle.gw_verdicts.proofs.Brought.{IsBrought}
 use Rattle.gw_verdicts.proofs.DeviceAsks.{DeviceCases, DeviceKnown, each_device}
 use Rattle.gw_verdicts.proofs.Knowing.{bounds_known}

@@ -57,10 +57,10 @@ use Rattle.gw_core.proofs.RespondLemmas.{four_none}
 use Rattle.gw_core_laws.proofs.StandLemmas.{acts_leave_the_tables}
 use Rattle.gw_core_laws.proofs.Whence.{Heard, InPorts, IsHeard, all_ports, heard_at, port_bounds}
 use Rattle.gw_verdicts.specs.Laws.{AsksLieInShapes, IsCarried, IsInstance, IsNumbered, IsOnNetwork, NeverFirstNeverDecides}
-use Rattle.gw_shapes.specs.Shape.{IsWithin, LiesInOne, Shape}
-use Rattle.gw_shapes.specs.Shapes.{claim_shapes, enter_shapes, foreign, foreign_shapes, gaps, near_shapes, network, own, own_shapes, perhaps, shapes, shapes_from, shapes_of, shapes_within, some, table_shapes}
-use Rattle.gw_shapes.specs.declared.side.Side.{Side}
-use Rattle.gw_shapes.proofs.Lying.{in_front, in_rest}
+use Rattle.gw_ask_sets.specs.shapes.Shape.{IsWithin, LiesInOne, Shape}
+use Rattle.gw_ask_sets.specs.shapes.Shapes.{claim_shapes, enter_shapes, foreign, foreign_shapes, gaps, near_shapes, network, own, own_shapes, perhaps, shapes, shapes_from, shapes_of, shapes_within, some, table_shapes}
+use Rattle.gw_ask_sets.specs.declared.shapes.side.Side.{Side}
+use Rattle.gw_ask_sets.proofs.shapes_lemmas.Lying.{in_front, in_rest}
 use Rattle.gw_verdicts.proofs.Brought.{Brought, IsBrought, brought_at}
 use Rattle.gw_verdicts.proofs.DeviceAsks.{DeviceKnown}
 use Rattle.gw_verdicts.proofs.Gaps.{WithinOne, apart, in_gap}

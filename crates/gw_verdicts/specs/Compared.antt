@@ -5,8 +5,8 @@ use Rattle.gw_configuration.specs.Configuration.{Configuration}
 use Rattle.gw_compare.specs.Comparison.{IsComparisonText}
 use Rattle.gw_compare.specs.declared.comparison.Compared.{Compared}
 use Rattle.gw_compare.specs.declared.comparison.Compared.TheVariants as compared
-use Rattle.gw_regions.specs.Comparing.{IsDecided, differs, is_found}
-use Rattle.gw_regions.specs.Regions.{lies}
+use Rattle.gw_ask_sets.specs.regions.Comparing.{IsDecided, differs, is_found}
+use Rattle.gw_ask_sets.specs.regions.Regions.{lies}
 use Rattle.gw_rules.specs.Ask.{Ask}
 use Rattle.gw_rules.specs.RuleList.{allows}
 use Rattle.gw_verdicts.specs.Laws.{OfEachAsk}

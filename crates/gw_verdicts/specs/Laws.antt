@@ -28,9 +28,9 @@ use Rattle.gw_core.specs.declared.event.Counts.{Counts}
 use Rattle.gw_lint.specs.Finding.{Finds}
 use Rattle.gw_lint.specs.declared.finding.Finding.{Finding}
 use Rattle.gw_lint.specs.declared.finding.Finding.TheVariants as finding
-use Rattle.gw_shapes.specs.Search.{IsNeverFirst}
-use Rattle.gw_shapes.specs.Shape.{LiesInOne}
-use Rattle.gw_shapes.specs.Shapes.{shapes}
+use Rattle.gw_ask_sets.specs.shapes.Search.{IsNeverFirst}
+use Rattle.gw_ask_sets.specs.shapes.Shape.{LiesInOne}
+use Rattle.gw_ask_sets.specs.shapes.Shapes.{shapes}
 use Rattle.gw_verdicts.specs.Why.{answer_to, note_text}
 use Rattle.gw_warnings.specs.Warnings.{register_ask}
 

@@ -9,9 +9,9 @@ use Rattle.gw_configuration.specs.declared.device.Device.{Device}
 use Rattle.gw_configuration.specs.declared.port.Port.{Port}
 use Rattle.gw_json.specs.Check.{device_value, format_number, networks_value}
 use Rattle.gw_json.specs.Comparison.{named_operation, operations_value, other_fields, range_values, rule_value, rules_value, values_value, verdict_word}
-use Rattle.gw_regions.specs.Regions.{Region}
-use Rattle.gw_regions.specs.declared.comparison.Found.{Found}
-use Rattle.gw_regions.specs.declared.values.Values.{Values}
+use Rattle.gw_ask_sets.specs.regions.Regions.{Region}
+use Rattle.gw_ask_sets.specs.declared.regions.comparison.Found.{Found}
+use Rattle.gw_ask_sets.specs.declared.regions.values.Values.{Values}
 use Rattle.gw_rules.specs.Field.{field_key}
 use Rattle.gw_rules.specs.Fields.{value_of}
 use Rattle.gw_rules.specs.declared.field.FieldName.{FieldName}

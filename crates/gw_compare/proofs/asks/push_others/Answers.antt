@@ -1,4 +1,4 @@
-use Rattle.gw_shapes.proofs.Listing.{flat_end, flat_step}
+use Rattle.gw_ask_sets.proofs.shapes_lemmas.Listing.{flat_end, flat_step}
 use Rattle.gw_compare.specs.Asks.{other_region}
 use Rattle.gw_compare.proofs.asks.push_others.Goals as goal
 

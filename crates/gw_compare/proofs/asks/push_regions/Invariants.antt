@@ -1,5 +1,5 @@
 use Rattle.std.proofs.Common.{◌≡◌, ◌++◌, map, take}
-use Rattle.gw_shapes.specs.Regions.{region_of}
+use Rattle.gw_ask_sets.specs.shapes.Regions.{region_of}
 use Rattle.gw_compare.proofs.asks.push_regions.Given as goal
 
 abbrev pub invariant-loop-shape : goal.invariant-loop-shape

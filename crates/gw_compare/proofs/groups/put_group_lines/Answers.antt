@@ -3,7 +3,7 @@ use Rattle.std.specs.Prelude.{◌&&◌, if◌then◌else◌}
 use Rattle.gw_compare.specs.Groups.{is_like}
 use Rattle.gw_compare.specs.Lines.{line_text}
 use Rattle.gw_compare.proofs.GroupLaw.{member_bound, member_count, member_step}
-use Rattle.gw_regions.specs.declared.comparison.Found.{Found}
+use Rattle.gw_ask_sets.specs.declared.regions.comparison.Found.{Found}
 use Rattle.gw_compare.proofs.groups.put_group_lines.Goals as goal
 
 pub loop-each-preserved : goal.loop-each-preserved

@@ -1,7 +1,7 @@
 use Rattle.std.proofs.Common.{◌≡◌, ◌∙◌, ◌++◌, ap, get_or, rules, sym}
 use Rattle.gw_compare.specs.Lines.{line_text}
-use Rattle.gw_regions.specs.declared.comparison.Found.{Found}
-use Rattle.gw_shapes.proofs.Listing.{flat_step}
+use Rattle.gw_ask_sets.specs.declared.regions.comparison.Found.{Found}
+use Rattle.gw_ask_sets.proofs.shapes_lemmas.Listing.{flat_step}
 use Rattle.gw_compare.proofs.lines.put_lines.Goals as goal
 
 pub loop-each-preserved : goal.loop-each-preserved

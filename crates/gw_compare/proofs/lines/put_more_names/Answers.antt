@@ -1,7 +1,7 @@
 use Rattle.std.proofs.Common.{◌++◌}
 use Rattle.std.specs.Prelude.{codes}
 use Rattle.gw_compare.specs.Lines.{rule_name}
-use Rattle.gw_shapes.proofs.Listing.{flat_end, flat_step}
+use Rattle.gw_ask_sets.proofs.shapes_lemmas.Listing.{flat_end, flat_step}
 use Rattle.gw_compare.proofs.lines.put_more_names.Goals as goal
 
 pub loop-number-preserved : goal.loop-number-preserved

@@ -1,8 +1,8 @@
 use Rattle.std.proofs.Common.{◌∷◌, []}
 use Rattle.std.specs.Prelude.{if◌then◌else◌}
 use Rattle.gw_rules.specs.declared.operation.TheConstants.Operation.{ALL}
-use Rattle.gw_regions.specs.Values.{has_operation}
-use Rattle.gw_shapes.proofs.Listing.{flat_end, flat_step}
+use Rattle.gw_ask_sets.specs.regions.Values.{has_operation}
+use Rattle.gw_ask_sets.proofs.shapes_lemmas.Listing.{flat_end, flat_step}
 use Rattle.gw_compare.proofs.words.operations_of.Goals as goal
 
 pub loop-operation-preserved : goal.loop-operation-preserved

@@ -2,7 +2,7 @@ use Rattle.std.proofs.Common.{◌≡◌, ◌∷◌, [], take}
 use Rattle.std.specs.Prelude.{if◌then◌else◌}
 use Rattle.std.specs.List.{flat_map}
 use Rattle.gw_rules.specs.declared.operation.TheConstants.Operation.{ALL}
-use Rattle.gw_regions.specs.Values.{has_operation}
+use Rattle.gw_ask_sets.specs.regions.Values.{has_operation}
 use Rattle.gw_compare.proofs.words.operations_of.Given as goal
 
 abbrev pub invariant-loop-operation : goal.invariant-loop-operation

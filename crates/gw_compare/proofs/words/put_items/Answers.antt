@@ -1,5 +1,5 @@
 use Rattle.gw_compare.specs.Words.{item_text}
-use Rattle.gw_shapes.proofs.Listing.{flat_end, flat_step}
+use Rattle.gw_ask_sets.proofs.shapes_lemmas.Listing.{flat_end, flat_step}
 use Rattle.gw_compare.proofs.words.put_items.Goals as goal
 
 pub loop-field-preserved : goal.loop-field-preserved

@@ -1,7 +1,7 @@
 use Rattle.std.proofs.Common.{[]}
 use Rattle.std.specs.Option.{option_to_list}
-use Rattle.gw_regions.specs.Ranges.{both}
-use Rattle.gw_shapes.proofs.Listing.{flat_end, flat_step}
+use Rattle.gw_ask_sets.specs.regions.Ranges.{both}
+use Rattle.gw_ask_sets.proofs.shapes_lemmas.Listing.{flat_end, flat_step}
 use Rattle.gw_compare.proofs.words.ranges_within.Goals as goal
 
 pub loop-range-preserved : goal.loop-range-preserved

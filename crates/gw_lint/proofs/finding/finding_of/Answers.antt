@@ -2,7 +2,7 @@ use Rattle.std.proofs.Common.{◌≡◌, ◌∙◌, ◌-◌, ℕ, List, Some, ap
 use Rattle.std.proofs.lemmas.Option.{slice_get_within}
 use Rattle.gw_rules.specs.declared.rule.Rule.{Rule}
 use Rattle.gw_lint.proofs.Taking.{denied, taken_by}
-use Rattle.gw_shapes.specs.Cover.{is_met}
+use Rattle.gw_ask_sets.specs.shapes.Cover.{is_met}
 use Rattle.gw_lint.specs.Finding.{taker}
 use Rattle.gw_lint.proofs.finding.finding_of.Goals as goal
 

@@ -1,5 +1,5 @@
 use Rattle.gw_lint.specs.Notes.{overlap_note}
-use Rattle.gw_shapes.proofs.Listing.{flat_end, flat_step}
+use Rattle.gw_ask_sets.proofs.shapes_lemmas.Listing.{flat_end, flat_step}
 use Rattle.gw_lint.proofs.note.put_overlap_notes.Goals as goal
 
 pub loop-field-preserved : goal.loop-field-preserved

@@ -1,7 +1,7 @@
 use Rattle.std.proofs.Common.{rules, ◌≡◌, ◌++◌, get_or, subst, sym}
 use Rattle.gw_configuration.specs.declared.route.Route.{Route}
 use Rattle.gw_permissions.specs.Permissions.{route_line}
-use Rattle.gw_shapes.proofs.Listing.{flat_step}
+use Rattle.gw_ask_sets.proofs.shapes_lemmas.Listing.{flat_step}
 use Rattle.gw_permissions.proofs.networks.put_routes.Goals as goal
 
 pub loop-route-preserved : goal.loop-route-preserved

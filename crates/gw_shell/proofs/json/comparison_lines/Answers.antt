@@ -4,9 +4,9 @@ use Rattle.std.specs.List.{flat_map}
 use Rattle.gw_compare.specs.Comparison.{compared_by}
 use Rattle.gw_json.specs.Comparison.{found_value, summary_value}
 use Rattle.gw_json.specs.Document.{line_of}
-use Rattle.gw_regions.specs.Comparing.{IsSummary}
-use Rattle.gw_regions.specs.Regions.{Region}
-use Rattle.gw_regions.specs.declared.comparison.Found.{Found}
+use Rattle.gw_ask_sets.specs.regions.Comparing.{IsSummary}
+use Rattle.gw_ask_sets.specs.regions.Regions.{Region}
+use Rattle.gw_ask_sets.specs.declared.regions.comparison.Found.{Found}
 use Rattle.gw_rules.specs.declared.rule.Rule.{Rule}
 use Rattle.gw_shell.proofs.json.comparison_lines.Goals as goal
 

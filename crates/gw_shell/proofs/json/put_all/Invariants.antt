@@ -2,7 +2,7 @@ use Rattle.std.proofs.Common.{◌≡◌, ◌++◌, take}
 use Rattle.std.specs.List.{flat_map}
 use Rattle.gw_json.specs.Comparison.{found_value}
 use Rattle.gw_json.specs.Document.{line_of}
-use Rattle.gw_regions.specs.declared.comparison.Found.{Found}
+use Rattle.gw_ask_sets.specs.declared.regions.comparison.Found.{Found}
 use Rattle.gw_shell.proofs.json.put_all.Given as goal
 
 abbrev pub invariant-loop-each : goal.invariant-loop-each

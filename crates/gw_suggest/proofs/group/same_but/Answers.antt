@@ -3,7 +3,7 @@ use Rattle.std.proofs.lemmas.List.{get_or_default}
 use Rattle.gw_rules.specs.Ask.{Ask}
 use Rattle.gw_rules.specs.declared.field.FieldName.{FieldName}
 use Rattle.gw_rules.specs.declared.field.TheConstants.FieldName.{ALL}
-use Rattle.gw_regions.proofs.WideningLaw.{so_far}
+use Rattle.gw_ask_sets.proofs.regions_lemmas.WideningLaw.{so_far}
 use Rattle.gw_suggest.specs.Own.{admits_but}
 use Rattle.gw_suggest.proofs.GroupLaw.{same_but_law}
 use Rattle.gw_suggest.proofs.group.same_but.Goals as goal

@@ -1,6 +1,6 @@
 use Rattle.std.proofs.Common.{◌∙◌, List, subst}
-use Rattle.gw_regions.specs.Comparing.{IsComparison}
-use Rattle.gw_regions.specs.Regions.{Region}
+use Rattle.gw_ask_sets.specs.regions.Comparing.{IsComparison}
+use Rattle.gw_ask_sets.specs.regions.Regions.{Region}
 use Rattle.gw_compare.proofs.comparing.Comparing.new.Goals as goal
 
 pub returns-clause-is_right : goal.returns-clause-is_right

@@ -1,7 +1,7 @@
 use Rattle.std.proofs.Common.{◌∙◌, ◌++◌, ℕ, List, ap, subst}
-use Rattle.gw_regions.specs.Comparing.{IsComparison, IsSummary}
-use Rattle.gw_regions.specs.Presence.{OrNoneIsMeant}
-use Rattle.gw_regions.specs.Regions.{Region}
+use Rattle.gw_ask_sets.specs.regions.Comparing.{IsComparison, IsSummary}
+use Rattle.gw_ask_sets.specs.regions.Presence.{OrNoneIsMeant}
+use Rattle.gw_ask_sets.specs.regions.Regions.{Region}
 use Rattle.gw_compare.specs.Comparing.{IsUnderWay, Progress}
 use Rattle.gw_compare.specs.Comparison.{AppendsComparison}
 use Rattle.gw_compare.proofs.comparing.Comparing.put.Goals as goal

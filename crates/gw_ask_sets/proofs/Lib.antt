@@ -1,0 +1,2 @@
+pub mod regions_lemmas
+pub mod shapes_lemmas

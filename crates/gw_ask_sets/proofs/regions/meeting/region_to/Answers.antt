@@ -1,0 +1,7 @@
+use Rattle.std.proofs.Common.{rules, of_calls}
+use Rattle.std.proofs.lemmas.Result.{IfOk-weaker}
+use Rattle.gw_ask_sets.proofs.regions.meeting.region_to.Goals as goal
+
+pub returns : goal.returns
+returns c =
+    IfOk-weaker c.try_from_each.result _ _ (λ region each field. let called = each field in search (of_calls, rules)) c.try_from_each.ensures

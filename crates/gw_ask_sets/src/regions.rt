@@ -1,0 +1,30 @@
+//! Regions of asks, and what two policies decide otherwise.
+//!
+//! A region has a set of values for each of the twelve fields. A rule parts it exactly: into the asks that
+//! the rule matches, and pieces of those that it doesn't. So a comparison finds the regions in which one
+//! policy allows what the other denies.
+mod comparing;
+mod comparison;
+mod coverage;
+mod deciders;
+mod deciding;
+pub mod laws;
+mod meeting;
+mod merging;
+mod presence;
+mod ranges;
+mod region;
+mod summary;
+mod values;
+mod widening;
+
+pub use comparing::{MAX_STEPS, Policies, compare};
+pub use comparison::{Comparison, Found};
+pub use deciders::DEFAULT;
+pub use meeting::ask_in;
+pub use merging::merge;
+pub use ranges::{both, united};
+pub use region::{Region, lies, part};
+pub use summary::{Summary, summarize, summary_of};
+pub use values::Values;
+pub use widening::widen;

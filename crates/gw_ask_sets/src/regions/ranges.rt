@@ -1,0 +1,260 @@
+//! What two lists of ranges share, and what is left of one outside the other.
+ghost use Rattle.std.specs.Prelude.{◌≡◌, ◌≤◌, ◌+◌, ◌++◌, ◌||◌, ℕ, true, IfOk, IfSome, OnOk};
+ghost use Rattle.std.specs.List.{flat_map, list_any};
+ghost use Rattle.std.specs.Option.{option_to_list};
+ghost use Rattle.gw_rules.specs.Range.{holds};
+ghost use Rattle.gw_ask_sets.specs.regions.Merging.{AreUnited};
+ghost use Rattle.gw_ask_sets.specs.regions.Ranges.{both, first_number, greater, lesser, outside, over, shared, shared_with, under, without, without_one};
+
+use gw_addr::Sequence;
+use gw_rules::Range;
+use std::alloc::{AllocError, Global};
+
+pub(crate) fn greater(a: u64, b: u64) -> u64
+    ensures { result ≡ greater a b }
+{
+    if a < b { b } else { a }
+}
+
+fn lesser(a: u64, b: u64) -> u64
+    ensures { result ≡ lesser a b }
+{
+    if b < a { b } else { a }
+}
+
+/// The numbers of both ranges, if there are some.
+pub fn both(a: &Range, b: &Range) -> Option<Range>
+    ensures { result ≡ both a.now b.now }
+{
+    let low = greater(a.low, b.low);
+    let high = lesser(a.high, b.high);
+    if low <= high {
+        Some(Range { low, high })
+    } else {
+        None
+    }
+}
+
+/// The numbers of one range below another one.
+fn under(a: &Range, b: &Range) -> Option<Range>
+    ensures { result ≡ under a.now b.now }
+{
+    if a.low < b.low {
+        let high = if a.high < b.low { a.high } else { b.low - 1 };
+        Some(Range { low: a.low, high })
+    } else {
+        None
+    }
+}
+
+/// The numbers of one range above another one.
+fn over(a: &Range, b: &Range) -> Option<Range>
+    ensures { result ≡ over a.now b.now }
+{
+    if b.high < a.high {
+        let low = if b.high < a.low { a.low } else { b.high + 1 };
+        Some(Range { low, high: a.high })
+    } else {
+        None
+    }
+}
+
+fn push_some(out: &mut Sequence<Range>, range: Option<Range>) -> Result<(), AllocError>
+    ensures { OnOk result (out.new ≡ out.old ++ option_to_list range) }
+{
+    if let Some(range) = range {
+        out.push(range)?;
+    }
+    Ok(())
+}
+
+fn push_shared(out: &mut Sequence<Range>, x: &Range, ys: &[Range]) -> Result<(), AllocError>
+    ensures { OnOk result (out.new ≡ out.old ++ shared_with ys.now x.now) }
+{
+    for y in ys {
+        push_some(out, both(x, y))?;
+    }
+    Ok(())
+}
+
+/// The numbers that both lists hold.
+pub(crate) fn shared(
+    alloc: Global,
+    xs: &[Range],
+    ys: &[Range],
+) -> Result<Sequence<Range>, AllocError>
+    ensures { IfOk result (λ list. list ≡ shared xs.now ys.now) }
+{
+    let mut out = Sequence::new(alloc);
+    for x in xs {
+        push_shared(&mut out, x, ys)?;
+    }
+    Ok(out)
+}
+
+fn push_outside(out: &mut Sequence<Range>, y: &Range, x: &Range) -> Result<(), AllocError>
+    ensures { OnOk result (out.new ≡ out.old ++ outside y.now x.now) }
+{
+    push_some(out, under(x, y))?;
+    push_some(out, over(x, y))
+}
+
+/// The numbers of the list outside a range.
+fn without_one(alloc: Global, xs: &[Range], y: &Range) -> Result<Sequence<Range>, AllocError>
+    ensures { IfOk result (λ list. list ≡ without_one xs.now y.now) }
+{
+    let mut out = Sequence::new(alloc);
+    for x in xs {
+        push_outside(&mut out, y, x)?;
+    }
+    Ok(out)
+}
+
+pub(crate) fn copy(alloc: Global, xs: &[Range]) -> Result<Sequence<Range>, AllocError>
+    ensures { IfOk result (λ list. list ≡ xs.now) }
+{
+    let mut out = Sequence::new(alloc);
+    for x in xs {
+        out.push(*x)?;
+    }
+    Ok(out)
+}
+
+/// The numbers of the list outside all of these ranges.
+pub(crate) fn without(
+    alloc: Global,
+    xs: &[Range],
+    ys: &[Range],
+) -> Result<Sequence<Range>, AllocError>
+    ensures { IfOk result (λ list. list ≡ without xs.now ys.now) }
+{
+    let mut rest = copy(alloc, xs)?;
+    for y in ys {
+        rest = without_one(alloc, rest.as_slice(), y)?;
+    }
+    Ok(rest)
+}
+
+/// A number that a range and one of the list hold, if there is one.
+fn common_with(x: &Range, ys: &[Range]) -> Option<u64>
+    ensures { result ≡ first_number (shared_with ys.now x.now) }
+{
+    for y in ys {
+        if let Some(range) = both(x, y) {
+            return Some(range.low);
+        }
+    }
+    None
+}
+
+/// A number that both lists hold, if there is one. It takes no memory.
+pub(crate) fn common_number(xs: &[Range], ys: &[Range]) -> Option<u64>
+    ensures { result ≡ first_number (shared xs.now ys.now) }
+{
+    for x in xs {
+        if let Some(number) = common_with(x, ys) {
+            return Some(number);
+        }
+    }
+    None
+}
+
+/// Whether two lists are the same.
+pub(crate) fn same_ranges(a: &[Range], b: &[Range]) -> bool
+    ensures { result ≡ true → a.now ≡ b.now }
+{
+    if a.len() != b.len() {
+        return false;
+    }
+    for place in 0..a.len() {
+        if a[place].low != b[place].low || a[place].high != b[place].high {
+            return false;
+        }
+    }
+    true
+}
+
+/// Whether a range begins at the end of another one, right after it, or before that.
+fn reaches(a: &Range, b: &Range) -> bool
+    ensures { result ≡ true → b.now.low ≤ a.now.high + 1 }
+{
+    b.low <= a.high || b.low - 1 == a.high
+}
+
+/// One range in the place of two, if they overlap or one follows right after the other.
+#[tactic(auto, using(crate::proofs::regions_lemmas::JoiningLaw::none_before, crate::proofs::regions_lemmas::JoiningLaw::none_after, crate::proofs::regions_lemmas::JoiningLaw::both_held))]
+fn joined(a: &Range, b: &Range) -> Option<Range>
+    ensures { IfSome result (λ range. (number : ℕ) →
+        holds number range ≡ (holds number a.now || holds number b.now)) }
+{
+    if a.high < a.low {
+        return Some(*b);
+    }
+    if b.high < b.low {
+        return Some(*a);
+    }
+    if reaches(a, b) && reaches(b, a) {
+        let low = lesser(a.low, b.low);
+        let high = greater(a.high, b.high);
+        return Some(Range { low, high });
+    }
+    None
+}
+
+/// Puts the lower one of two ranges after the others, and gives back the other one; or one in the place of
+/// both.
+#[tactic(auto, using(crate::proofs::regions_lemmas::JoiningLaw::carried_both, crate::proofs::regions_lemmas::JoiningLaw::carried_first, crate::proofs::regions_lemmas::JoiningLaw::carried_second))]
+fn put_lower(out: &mut Sequence<Range>, a: Range, b: Range) -> Result<Range, AllocError>
+    ensures { IfOk result (λ rest. (number : ℕ) →
+        (list_any (holds number) out.new || holds number rest)
+        ≡ ((list_any (holds number) out.old || holds number a) || holds number b)) }
+{
+    if let Some(both) = joined(&a, &b) {
+        return Ok(both);
+    }
+    if b.low < a.low {
+        out.push(b)?;
+        return Ok(a);
+    }
+    out.push(a)?;
+    Ok(b)
+}
+
+/// The numbers of the list and of a range. A list in order stays so, and ranges that follow one another are
+/// made one.
+fn inserted(alloc: Global, list: &[Range], range: Range) -> Result<Sequence<Range>, AllocError>
+    ensures { IfOk result (λ all. (number : ℕ) →
+        list_any (holds number) all ≡ (list_any (holds number) list.now || holds number range)) }
+{
+    let mut out = Sequence::new(alloc);
+    let mut carried = range;
+    for next in list {
+        carried = put_lower(&mut out, carried, *next)?;
+    }
+    out.push(carried)?;
+    Ok(out)
+}
+
+/// The numbers of both lists.
+fn with_all(
+    alloc: Global,
+    list: Sequence<Range>,
+    more: &[Range],
+) -> Result<Sequence<Range>, AllocError>
+    ensures { IfOk result (λ all. AreUnited all list more.now) }
+{
+    let mut all = list;
+    for range in more {
+        all = inserted(alloc, all.as_slice(), *range)?;
+    }
+    Ok(all)
+}
+
+/// The numbers of both lists, in order, and each range as long as it can be. An `Err` if there is no memory.
+pub fn united(alloc: Global, xs: &[Range], ys: &[Range]) -> Result<Sequence<Range>, AllocError>
+    ensures { IfOk result (λ all. AreUnited all xs.now ys.now) }
+{
+    let none = Sequence::new(alloc);
+    let some = with_all(alloc, none, xs)?;
+    with_all(alloc, some, ys)
+}

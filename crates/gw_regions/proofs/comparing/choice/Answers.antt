@@ -1,4 +1,0 @@
-use Rattle.gw_regions.proofs.comparing.choice.Goals as goal
-
-pub returns : goal.returns
-returns c = λ region one two. c.look_by_first.ensures c.args.old.now c.args.new.now region one two

@@ -1,7 +1,0 @@
-use Rattle.gw_regions.specs.Steps.{AreSteps, stage}
-use Rattle.gw_regions.proofs.comparison.Comparison.take_steps.Given as goal
-
-abbrev pub invariant-loop-used : goal.invariant-loop-used
-invariant-loop-used l =
-    AreSteps l.policies.shapes.now l.policies.old.now l.policies.new.now l.used
-    (stage l.fn.self.found.items l.fn.self.left.items) (stage l.self.found.items l.self.left.items)

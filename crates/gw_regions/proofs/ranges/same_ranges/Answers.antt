@@ -1,7 +1,0 @@
-use Rattle.std.proofs.Common.{arith}
-use Rattle.std.proofs.lemmas.List.{ext_get_or}
-use Rattle.gw_regions.specs.Ranges.{between}
-use Rattle.gw_regions.proofs.ranges.same_ranges.Goals as goal
-
-pub returns : goal.returns
-returns c = λ e. ext_get_or (between 0 0) c.args.a.now c.args.b.now (omega arith) (λ k within. c.loop-place.invariant k (between 0 0) (omega arith))

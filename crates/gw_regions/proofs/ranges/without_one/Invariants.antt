@@ -1,6 +1,0 @@
-use Rattle.std.proofs.Common.{◌≡◌, take}
-use Rattle.gw_regions.specs.Ranges.{without_one}
-use Rattle.gw_regions.proofs.ranges.without_one.Given as goal
-
-abbrev pub invariant-loop-x : goal.invariant-loop-x
-invariant-loop-x l = l.out ≡ without_one (take l.x-index l.xs) l.y

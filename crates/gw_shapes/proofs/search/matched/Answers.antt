@@ -1,7 +1,0 @@
-use Rattle.gw_shapes.proofs.Narrowing.{matched_next}
-use Rattle.gw_shapes.proofs.search.matched.Goals as goal
-
-pub loop-shape-preserved : goal.loop-shape-preserved
-loop-shape-preserved c =
-    matched_next c.args.shapes.now c.loop-shape.shape-index _ c.args.rule.now c.loop-shape.regions.items c.push_matched.new.regions.items
-    c.loop-shape-test.true c.loop-shape.invariant c.in_ok-push_matched.ensures

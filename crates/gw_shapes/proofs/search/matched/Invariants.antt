@@ -1,6 +1,0 @@
-use Rattle.std.proofs.Common.{take}
-use Rattle.gw_shapes.specs.Search.{AreMatched}
-use Rattle.gw_shapes.proofs.search.matched.Given as goal
-
-abbrev pub invariant-loop-shape : goal.invariant-loop-shape
-invariant-loop-shape l = AreMatched (take l.shape-index l.shapes) l.rule l.regions.items

@@ -1,9 +1,0 @@
-use Rattle.gw_shapes.proofs.Listing.{port_step}
-use Rattle.gw_shapes.proofs.shapes.push_own.Goals as goal
-
-pub loop-place-preserved : goal.loop-place-preserved
-loop-place-preserved c =
-    let grown = c.in_ok-push_within.ensures in
-    let grown = rw (c.own-from.ensures, c.from.ensures, c.get.ensures.value) at grown in
-    port_step c.args.format c.args.device c.loop-place.place c.args.ports.now c.index-ports-place.result c.loop-place.out.items
-    c.push_within.new.out.items _ c.loop-place-test.true c.index-ports-place.is grown c.loop-place.invariant

@@ -1,9 +1,0 @@
-use Rattle.std.proofs.Common.{◌≡◌, ◌++◌, ◌+◌, drop}
-use Rattle.gw_shapes.specs.Shapes.{own_shapes}
-use Rattle.gw_shapes.proofs.shapes.push_own.Given as goal
-
--- what is made and what is left are all shapes
-abbrev pub invariant-loop-place : goal.invariant-loop-place
-invariant-loop-place l =
-    l.out.items ++ own_shapes l.format l.device (1 + l.place) (drop l.place l.ports)
-    ≡ l.fn.out.items ++ own_shapes l.format l.device 1 l.ports
