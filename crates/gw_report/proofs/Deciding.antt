@@ -4,8 +4,8 @@ use Rattle.std.proofs.lemmas.Option.{slice_get-get_or}
 use Rattle.gw_rules.specs.RuleList.{HasNumber}
 use Rattle.gw_rules.specs.declared.rule.Rule.{Rule}
 use Rattle.gw_ask_sets.specs.shapes.Shape.{Shape}
-use Rattle.gw_permissions.specs.Passing.{decides_all, may_allow, may_pass}
-use Rattle.gw_permissions.proofs.Allowing.{each_ask_is_allowed, no_ask_is_allowed}
+use Rattle.gw_policy_review.specs.permissions.Passing.{decides_all, may_allow, may_pass}
+use Rattle.gw_policy_review.proofs.permissions_lemmas.Allowing.{each_ask_is_allowed, no_ask_is_allowed}
 use Rattle.gw_report.specs.Access.{AreDecided}
 
 -- if no rule may allow any, none is allowed

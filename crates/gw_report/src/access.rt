@@ -4,7 +4,7 @@ use crate::passing::{Extent, extent_of};
 use gw_ask_sets::shapes::{Shape, shapes_of};
 use gw_configuration::{Config, Port};
 use gw_page::{Element, Page};
-use gw_permissions::put_permissions;
+use gw_policy_review::permissions::put_permissions;
 use gw_rules::Operation;
 use itoa::Buffer;
 use std::alloc::{AllocError, Global};

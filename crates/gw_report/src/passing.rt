@@ -2,7 +2,7 @@
 ghost use Rattle.std.specs.Prelude.{◌≡◌, ◌-◌, ◌≤◌, ◌<◌, false, length, position, take, true, IfSome};
 ghost use Rattle.std.specs.List.{list_any};
 ghost use Rattle.gw_ask_sets.specs.shapes.Meeting.{meets};
-ghost use Rattle.gw_permissions.specs.Passing.{decides_all, matches_all, may_allow, may_pass, reached};
+ghost use Rattle.gw_policy_review.specs.permissions.Passing.{decides_all, matches_all, may_allow, may_pass, reached};
 ghost use Rattle.gw_report.specs.Access.{AreDecided, IsExtent};
 
 use gw_ask_sets::shapes::{Shape, meets, takes_side};

@@ -2,9 +2,9 @@
 -- what can't be meant; with `--lint` also which rules never decide.
 use Rattle.std.specs.Prelude.{◌≡◌, ℕ, Bool, true, false, List, ◌++◌}
 use Rattle.gw_configuration.specs.Configuration.{Configuration}
-use Rattle.gw_lint.specs.Lint.{AppendsLint}
-use Rattle.gw_permissions.specs.Permissions.{permissions}
-use Rattle.gw_warnings.specs.Warnings.{warnings_text}
+use Rattle.gw_policy_review.specs.lint.Lint.{AppendsLint}
+use Rattle.gw_policy_review.specs.permissions.Permissions.{permissions}
+use Rattle.gw_policy_review.specs.warnings.Warnings.{warnings_text}
 use Rattle.gw_shell.specs.Configured.{summary}
 
 -- the summary of a configuration, and who may do what and what can't be meant if that is asked for

@@ -6,9 +6,9 @@ ghost use Rattle.gw_shell.specs.Checked.{IsChecked, explained_text};
 
 use crate::configured::summary;
 use gw_configuration::Config;
-use gw_lint::put_lint;
-use gw_permissions::put_permissions;
-use gw_warnings::put_warnings;
+use gw_policy_review::lint::put_lint;
+use gw_policy_review::permissions::put_permissions;
+use gw_policy_review::warnings::put_warnings;
 use std::alloc::{AllocError, Global};
 
 /// What `check` prints of a configuration: its summary, and after it what else is asked for.

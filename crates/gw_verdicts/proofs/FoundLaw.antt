@@ -7,9 +7,9 @@ use Rattle.gw_ask_sets.specs.shapes.Search.{IsNeverFirst}
 use Rattle.gw_ask_sets.specs.shapes.Shape.{Shape}
 use Rattle.gw_ask_sets.specs.shapes.Shapes.{shapes}
 use Rattle.gw_ask_sets.proofs.shapes_lemmas.Narrowing.{deciding_rule}
-use Rattle.gw_lint.specs.Finding.{Finds}
-use Rattle.gw_lint.specs.declared.finding.Finding.{Finding}
-use Rattle.gw_lint.specs.declared.finding.Finding.TheVariants as finding
+use Rattle.gw_policy_review.specs.lint.Finding.{Finds}
+use Rattle.gw_policy_review.specs.declared.lint.finding.Finding.{Finding}
+use Rattle.gw_policy_review.specs.declared.lint.finding.Finding.TheVariants as finding
 use Rattle.gw_verdicts.specs.Laws.{FoundNeverDecides, says_never}
 use Rattle.gw_verdicts.proofs.ShapeLaw.{never_first_never_decides}
 

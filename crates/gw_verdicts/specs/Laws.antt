@@ -25,14 +25,14 @@ use Rattle.gw_core.specs.Asks.{asks}
 use Rattle.gw_core.specs.Denials.{default_name}
 use Rattle.gw_core.specs.History.{effects, state_after}
 use Rattle.gw_core.specs.declared.event.Counts.{Counts}
-use Rattle.gw_lint.specs.Finding.{Finds}
-use Rattle.gw_lint.specs.declared.finding.Finding.{Finding}
-use Rattle.gw_lint.specs.declared.finding.Finding.TheVariants as finding
+use Rattle.gw_policy_review.specs.lint.Finding.{Finds}
+use Rattle.gw_policy_review.specs.declared.lint.finding.Finding.{Finding}
+use Rattle.gw_policy_review.specs.declared.lint.finding.Finding.TheVariants as finding
 use Rattle.gw_ask_sets.specs.shapes.Search.{IsNeverFirst}
 use Rattle.gw_ask_sets.specs.shapes.Shape.{LiesInOne}
 use Rattle.gw_ask_sets.specs.shapes.Shapes.{shapes}
 use Rattle.gw_verdicts.specs.Why.{answer_to, note_text}
-use Rattle.gw_warnings.specs.Warnings.{register_ask}
+use Rattle.gw_policy_review.specs.warnings.Warnings.{register_ask}
 
 -- a datagram of octets from an address, or a tick, as each event of the code is
 abbrev pub IsCarried : Event → Type 0

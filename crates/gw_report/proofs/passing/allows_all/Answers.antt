@@ -1,5 +1,5 @@
 use Rattle.std.proofs.Common.{rules, ◌≡◌, ◌∙◌, get_or, sym, true}
-use Rattle.gw_permissions.specs.Passing.{may_allow}
+use Rattle.gw_policy_review.specs.permissions.Passing.{may_allow}
 use Rattle.gw_report.proofs.Deciding.{all}
 use Rattle.gw_report.proofs.passing.allows_all.Goals as goal
 

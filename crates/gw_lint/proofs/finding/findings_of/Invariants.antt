@@ -1,6 +1,0 @@
-use Rattle.std.proofs.Common.{◌≡◌, length}
-use Rattle.gw_lint.proofs.Found.{Each}
-use Rattle.gw_lint.proofs.finding.findings_of.Given as goal
-
-abbrev pub invariant-loop-place : goal.invariant-loop-place
-invariant-loop-place l = (length l.findings.items ≡ l.place) × Each l.shapes l.rules l.findings.items

@@ -1,8 +1,0 @@
-use Rattle.std.proofs.Common.{◌≡◌, ◌++◌, take}
-use Rattle.std.specs.List.{flat_map}
-use Rattle.gw_lint.specs.Notes.{overlap_note}
-use Rattle.gw_lint.proofs.note.put_overlap_notes.Given as goal
-
-abbrev pub invariant-loop-field : goal.invariant-loop-field
-invariant-loop-field l =
-    l.out.items ≡ l.fn.out.items ++ flat_map (overlap_note l.rules l.number l.rule) (take l.field-index l.fields)

@@ -1,7 +1,0 @@
-use Rattle.std.proofs.Common.{◌≡◌, ◌++◌, take}
-use Rattle.gw_lint.specs.Notes.{answer_notes}
-use Rattle.gw_script.specs.Order.{in_order}
-use Rattle.gw_lint.proofs.note.put_ports_notes.Given as goal
-
-abbrev pub invariant-loop-place : goal.invariant-loop-place
-invariant-loop-place l = l.out.items ≡ l.fn.out.items ++ in_order (answer_notes l.config) 1 (take l.place l.ports)

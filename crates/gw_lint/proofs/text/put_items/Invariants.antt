@@ -1,7 +1,0 @@
-use Rattle.std.proofs.Common.{◌≡◌, ◌++◌, take}
-use Rattle.std.specs.List.{flat_map}
-use Rattle.gw_lint.specs.Text.{item_text}
-use Rattle.gw_lint.proofs.text.put_items.Given as goal
-
-abbrev pub invariant-loop-field : goal.invariant-loop-field
-invariant-loop-field l = l.out.items ≡ l.fn.out.items ++ flat_map (item_text l.ask) (take l.field-index l.fields)

@@ -1,7 +1,0 @@
-use Rattle.std.proofs.Common.{◌≡◌, ◌++◌, take}
-use Rattle.gw_permissions.specs.Permissions.{object_lines}
-use Rattle.gw_script.specs.Order.{in_order}
-use Rattle.gw_permissions.proofs.objects.put_objects.Given as goal
-
-abbrev pub invariant-loop-place : goal.invariant-loop-place
-invariant-loop-place l = l.out.items ≡ l.fn.out.items ++ in_order (object_lines l.config) 1 (take l.place l.objects)

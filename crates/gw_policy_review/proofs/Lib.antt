@@ -1,0 +1,3 @@
+pub mod permissions_lemmas
+pub mod warnings_lemmas
+pub mod lint_lemmas

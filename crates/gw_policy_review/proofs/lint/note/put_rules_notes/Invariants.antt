@@ -1,0 +1,7 @@
+use Rattle.std.proofs.Common.{◌≡◌, ◌++◌, take}
+use Rattle.gw_policy_review.specs.lint.Notes.{rule_notes}
+use Rattle.gw_script.specs.Order.{in_order}
+use Rattle.gw_policy_review.proofs.lint.note.put_rules_notes.Given as goal
+
+abbrev pub invariant-loop-place : goal.invariant-loop-place
+invariant-loop-place l = l.out.items ≡ l.fn.out.items ++ in_order (rule_notes l.shapes l.config) 1 (take l.place l.rules)

@@ -1,0 +1,78 @@
+-- What findings say of the rules.
+use Rattle.std.proofs.Common.{◌≡◌, ◌∙◌, inl, inr, ℕ, ◌+◌, ◌-◌, ◌<◌, List, [], ◌∷◌, ◌++◌, Some, None, get_or, length, sym, ap, subst, arith, slice_get}
+use Rattle.std.proofs.lemmas.Bool.{cases_order}
+use Rattle.std.proofs.lemmas.List.{get_or_append_left, get_or_at, length-append}
+use Rattle.std.proofs.lemmas.Option.{slice_get-get_or, slice_get_past}
+use Rattle.gw_rules.specs.RuleList.{HasNumber}
+use Rattle.gw_rules.specs.declared.rule.Rule.{Rule}
+use Rattle.gw_policy_review.specs.lint.Finding.{Finds}
+use Rattle.gw_ask_sets.specs.shapes.Shape.{Shape}
+use Rattle.gw_policy_review.specs.declared.lint.finding.Finding.{Finding}
+
+-- each of the findings that are there says what is true
+abbrev pub Each : List Shape → List Rule → List Finding → Type 0
+Each boxes rules findings = (number : ℕ) (rule : Rule) (found : Finding) → HasNumber rules number rule
+    → slice_get findings (number - 1) ≡ Some found → Finds boxes rules number rule found
+
+-- what is at a place before the end, at the end, and after it
+in_front : (xs : List Finding) (y f : Finding) (place : ℕ) → place < length xs → slice_get (xs ++ y ∷ []) place ≡ Some f → slice_get xs place ≡ Some f
+in_front xs y f place within there =
+    let longer : place < length (xs ++ y ∷ []) = omega (arith, within, length-append xs (y ∷ [])) in
+    slice_get-get_or xs place f within ∙ ap Some (sym (get_or_append_left xs (y ∷ []) f place within))
+    ∙ sym (slice_get-get_or (xs ++ y ∷ []) place f longer) ∙ there
+
+at_end : (xs : List Finding) (y f : Finding) (place : ℕ) → length xs ≡ place → slice_get (xs ++ y ∷ []) place ≡ Some f → y ≡ f
+at_end xs y f place ends there =
+    let longer : place < length (xs ++ y ∷ []) = omega (arith, ends, length-append xs (y ∷ [])) in
+    let same : Some y ≡ Some f =
+    ap Some (sym (get_or_at xs y [] f place ends)) ∙ sym (slice_get-get_or (xs ++ y ∷ []) place f longer) ∙ there in
+    cc
+
+past_end : (xs : List Finding) (y f : Finding) (place : ℕ) → length xs < place → slice_get (xs ++ y ∷ []) place ≡ Some f → ⊥
+past_end xs y f place past there =
+    let none : slice_get (xs ++ y ∷ []) place ≡ None = slice_get_past (xs ++ y ∷ []) place (omega (arith, past, length-append xs (y ∷ []))) in
+    let both : None ≡ Some f = sym none ∙ there in
+    absurd cc
+
+one_rule : (rules : List Rule) (number : ℕ) (one other : Rule) → HasNumber rules number one → HasNumber rules number other → one ≡ other
+one_rule rules number one other a b =
+    let both : Some one ≡ Some other = sym a.there ∙ b.there in
+    cc
+
+-- one finding more
+pub each_next : (shapes : List Shape) (rules : List Rule) (findings : List Finding) (place : ℕ) (rule : Rule) (found : Finding)
+    → length findings ≡ place → HasNumber rules (place + 1) rule → Finds shapes rules (place + 1) rule found → Each shapes rules findings
+    → Each shapes rules (findings ++ found ∷ [])
+each_next shapes rules findings place rule found ends has tells each n r f numbered there =
+    let counted = numbered.counted in
+    elim (cases_order (n - 1) (length findings)) [
+      | inl same ↦
+          let next : place + 1 ≡ n = omega (arith, same, ends, counted) in
+          let is : found ≡ f = at_end findings found f (n - 1) (sym same) there in
+          let here : HasNumber rules n rule = subst (λ (m : ℕ). HasNumber rules m rule) next has in
+          let said : Finds shapes rules n rule found = subst (λ (m : ℕ). Finds shapes rules m rule found) next tells in
+          subst (λ (x : Rule). Finds shapes rules n x f) (one_rule rules n rule r here numbered)
+          (subst (λ (x : Finding). Finds shapes rules n rule x) is said)
+      | inr apart ↦ elim apart [
+        | inl below ↦ each n r f numbered (in_front findings found f (n - 1) below there)
+        | inr above ↦ absurd (past_end findings found f (n - 1) above there)
+      ]
+    ]
+
+-- one finding more, and how many there are
+pub all_next : (shapes : List Shape) (rules : List Rule) (findings more : List Finding) (place : ℕ) (rule : Rule) (found : Finding)
+    → more ≡ findings ++ found ∷ [] → HasNumber rules (place + 1) rule → Finds shapes rules (place + 1) rule found
+    → (length findings ≡ place) × Each shapes rules findings → (length more ≡ place + 1) × Each shapes rules more
+all_next shapes rules findings more place rule found grown has tells (count, each) = (
+  omega (arith, count, ap length grown, length-append findings (found ∷ [])),
+  subst (λ (xs : List Finding). Each shapes rules xs) (sym grown) (each_next shapes rules findings place rule found count has tells each),
+)
+
+-- the rule at a place has the number after it
+pub numbered : (rules all : List Rule) (place : ℕ) (rule : Rule) → all ≡ rules → place < length all → rule ≡ get_or all place rule
+    → HasNumber rules (place + 1) rule
+numbered rules all place rule same within there =
+    let back : place + 1 - 1 ≡ place = omega arith in record {
+      counted = omega arith;
+      there = ap (slice_get rules) back ∙ ap (λ (xs : List Rule). slice_get xs place) (sym same) ∙ slice_get-get_or all place rule within ∙ ap Some (sym there);
+    }

@@ -1,0 +1,7 @@
+use Rattle.std.proofs.Common.{◌≡◌, ◌++◌, take}
+use Rattle.std.specs.List.{flat_map}
+use Rattle.gw_policy_review.specs.permissions.Permissions.{reading_lines}
+use Rattle.gw_policy_review.proofs.permissions.objects.put_object.Given as goal
+
+abbrev pub invariant-loop-port : goal.invariant-loop-port
+invariant-loop-port l = l.out.items ≡ l.fn.out.items ++ flat_map (reading_lines l.config l.number l.object) (take l.port-index l.config.ports)

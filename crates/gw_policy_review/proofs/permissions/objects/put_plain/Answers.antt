@@ -1,0 +1,24 @@
+use Rattle.std.proofs.Common.{arith, length, rules, ◌≡◌, get_or, subst, ◌++◌, ◌+◌, sym}
+use Rattle.gw_configuration.specs.declared.object.Object.{Object}
+use Rattle.gw_policy_review.specs.permissions.Permissions.{plain_lines}
+use Rattle.gw_script.proofs.Order.{in_order_end, in_order_none, in_order_step}
+use Rattle.gw_policy_review.proofs.permissions.objects.put_plain.Goals as goal
+
+pub loop-place-init : goal.loop-place-init
+loop-place-init c = in_order_none (plain_lines c.args.rules.now c.args.ports.now) c.args.out.now.items
+
+pub loop-place-preserved : goal.loop-place-preserved
+loop-place-preserved c =
+    let text = plain_lines c.args.rules.now c.args.ports.now in
+    let item = c.index-objects-place.result in
+    let here : get_or c.args.objects.now c.loop-place.place item ≡ item = search rules in
+    let then : c.put_plain_object.new.out.items ≡ c.loop-place.out.items ++ text (c.loop-place.place + 1) item = search rules in
+    in_order_step text c.args.out.now.items c.loop-place.out.items c.put_plain_object.new.out.items c.args.objects.now c.loop-place.place item
+    c.loop-place-test.true c.loop-place.invariant
+    (subst (λ (x : Object). c.put_plain_object.new.out.items ≡ c.loop-place.out.items ++ text (c.loop-place.place + 1) x) (sym here) then)
+
+pub returns : goal.returns
+returns c =
+    let ends : c.loop-place.place ≡ length c.args.objects.now = omega (arith, c.loop-place.auto.place-end, c.loop-place-test.false) in
+    in_order_end (plain_lines c.args.rules.now c.args.ports.now) c.args.out.now.items c.loop-place.out.items c.args.objects.now
+    c.loop-place.place ends c.loop-place.invariant

@@ -1,0 +1,3 @@
+pub mod permissions
+pub mod warnings
+pub mod lint

@@ -1,0 +1,24 @@
+-- What `check --lint` says of a configuration.
+use Rattle.std.specs.Prelude.{◌≡◌, ℕ, Bool, List, ◌++◌}
+use Rattle.gw_configuration.specs.Configuration.{Configuration}
+use Rattle.gw_policy_review.specs.lint.Finding.{AreTrue}
+use Rattle.gw_policy_review.specs.lint.Notes.{notes_text}
+use Rattle.gw_script.specs.Order.{in_order}
+use Rattle.gw_ask_sets.specs.shapes.Shapes.{shapes}
+use Rattle.gw_policy_review.specs.lint.Text.{line_text}
+use Rattle.gw_policy_review.specs.declared.lint.finding.Finding.{Finding}
+
+-- the lines of what is found of the rules, in their order, and the notes after them
+abbrev pub lint_text : Configuration → Bool → List Finding → List ℕ
+lint_text c explains findings = in_order (line_text explains c.rules) 1 findings ++ notes_text (shapes c) c
+
+-- A text is a lint of a configuration: it is the text of one finding for each rule, each true over the shapes of the
+-- gateway's asks.
+pub record IsLint (c : Configuration) (explains : Bool) (text : List ℕ) : Type 0 where
+  pub findings : List Finding
+  pub are_true : AreTrue (shapes c) c.rules findings
+  pub shown : text ≡ lint_text c explains findings
+
+-- a lint follows what a buffer held
+abbrev pub AppendsLint : Configuration → Bool → List ℕ → List ℕ → Type 0
+AppendsLint c explains old new = (text : List ℕ) × IsLint c explains text × (new ≡ old ++ text)

@@ -1,0 +1,33 @@
+-- What the lines on rules say of asks.
+use Rattle.std.specs.Prelude.{◌≡◌, ℕ, ◌≤◌, true, false, List, Some}
+use Rattle.gw_rules.specs.Ask.{Ask}
+use Rattle.gw_rules.specs.RuleList.{HasNumber, allows, first}
+use Rattle.gw_rules.specs.declared.rule.Rule.{Rule}
+use Rattle.gw_ask_sets.specs.shapes.Shape.{LiesIn, Shape}
+use Rattle.gw_policy_review.specs.permissions.Passing.{decides_all, may_allow, may_pass, reached}
+
+-- a rule has a line: it may allow asks of the shape, and is one of those to which they come
+pub record IsListed (shape : Shape) (rules : List Rule) (number : ℕ) : Type 0 where
+  pub rule : Rule
+  pub numbered : HasNumber rules number rule
+  pub near : number ≤ reached shape rules
+  pub allows : may_allow shape rule ≡ true
+
+-- An ask of the shape that is allowed is allowed by a rule that has a line.
+abbrev pub OnlyListedAllow : Type 0
+OnlyListedAllow =
+    (shape : Shape) (rules : List Rule) (ask : Ask) → LiesIn shape ask → allows rules ask ≡ true →
+    (number : ℕ) × (first rules ask ≡ Some number) × IsListed shape rules number
+
+-- If a line says that no rule lets anyone, no ask of the shape is allowed.
+abbrev pub NoAskIsAllowed : Type 0
+NoAskIsAllowed =
+    (shape : Shape) (rules : List Rule) (ask : Ask) → may_pass shape rules ≡ false → LiesIn shape ask →
+    allows rules ask ≡ false
+
+-- If a line says that a rule lets everyone, the rule allows each ask of the shape.
+abbrev pub EachAskIsAllowed : Type 0
+EachAskIsAllowed =
+    (shape : Shape) (rules : List Rule) (number : ℕ) (rule : Rule) (ask : Ask) → HasNumber rules number rule →
+    may_allow shape rule ≡ true → decides_all shape rules number rule ≡ true → LiesIn shape ask →
+    (first rules ask ≡ Some number) × (allows rules ask ≡ true)

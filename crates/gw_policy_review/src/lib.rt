@@ -1,0 +1,6 @@
+//! What a reader of a policy wants to know: who may do what, which settings are surely mistakes, and which rules can never decide.
+#![tactic(auto)]
+
+pub mod lint;
+pub mod permissions;
+pub mod warnings;

@@ -1,0 +1,13 @@
+//! What is odd about a policy: rules that can never decide, since no ask that the gateway raises
+//! reaches them, and rules that may not mean what they say.
+mod finding;
+pub mod laws;
+mod lint;
+mod note;
+mod passage;
+mod text;
+mod trust;
+mod trust_note;
+
+pub use finding::{Finding, MAX_STEPS, finding_of, findings_of};
+pub use lint::put_lint;

@@ -1,0 +1,53 @@
+//! What `check --lint` says of a configuration.
+ghost use Rattle.std.specs.Prelude.{◌≡◌, IfOk, OnErr, OnOk};
+ghost use Rattle.gw_policy_review.specs.lint.Lint.{AppendsLint, IsLint};
+
+use crate::lint::finding::findings_of;
+use crate::lint::note::put_notes;
+use crate::lint::text::put_lines;
+use gw_addr::{keep_whole, put_slice};
+use gw_ask_sets::shapes::shapes_of;
+use gw_configuration::Config;
+use std::alloc::{AllocError, Global};
+
+/// Appends a line for each rule of which there is something to say, in order of the rules, and after
+/// them the notes. If the rules are to be explained, a rule that decides has a line too, with an ask
+/// that it decides.
+///
+/// ```text
+/// rule 1 no-late-writes: matches no ask that this gateway raises
+/// rule 3 all: decides, for one, operation=cast port=1 source_network=1 source=0.0.0.0:0 ..
+/// rule 6 hide-door: never decides: rule 5 all-reads takes all that it matches, and says the opposite
+/// rule 9 rest: never decides: the rules before it together take all that it matches
+/// rule 12 odd-ones: can't tell within the steps given
+/// note: rule 3 all: look at instance: two of its ranges overlap
+/// ```
+///
+/// An `Err` only where a growth of memory was refused: the buffer then holds what it held.
+pub fn put_lint(
+    alloc: Global,
+    config: &Config,
+    explains: bool,
+    out: &mut Vec<u8>,
+) -> Result<(), AllocError>
+    ensures ok { OnOk result (AppendsLint config.now explains out.old.items out.new.items) }
+    ensures err { OnErr result (out.new.items ≡ out.old.items) }
+{
+    let text = lint(alloc, config, explains)?;
+    let len = out.len();
+    let put = put_slice(out, &text);
+    keep_whole(out, len, put)
+}
+
+/// The lines of the rules, and the notes after them.
+fn lint(alloc: Global, config: &Config, explains: bool) -> Result<Vec<u8>, AllocError>
+    ensures { IfOk result (λ text. IsLint config.now explains text.items) }
+{
+    let shapes = shapes_of(alloc, config)?;
+    let rules = config.rules();
+    let findings = findings_of(alloc, &shapes, rules)?;
+    let mut text = Vec::new(alloc);
+    put_lines(&mut text, explains, rules, &findings)?;
+    put_notes(&mut text, &shapes, config)?;
+    Ok(text)
+}

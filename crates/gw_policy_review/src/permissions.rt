@@ -1,0 +1,13 @@
+//! Who may do what under a configuration: the lines that `check --explain` has of it.
+mod grants;
+pub mod laws;
+mod networks;
+mod notes;
+mod objects;
+mod passing;
+mod permissions;
+mod ports;
+mod questions;
+mod words;
+
+pub use permissions::put_permissions;

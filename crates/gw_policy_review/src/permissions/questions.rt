@@ -1,0 +1,62 @@
+//! The shapes of the asks of which a line says who may raise them.
+ghost use Rattle.std.specs.Prelude.{◌≡◌};
+ghost use Rattle.gw_policy_review.specs.permissions.Questions.{claiming, entering, reading};
+
+use gw_ask_sets::shapes::{Origin, Shape, Side, bound, numbers, only};
+use gw_rules::{Format, Operation, Range};
+
+/// A property of an object, by its type and instance.
+#[derive(Clone, Copy)]
+pub(crate) struct Point {
+    /// The number of the object's type (clause 21).
+    pub kind: u64,
+    /// The object's instance.
+    pub instance: u64,
+    /// The number of the property (clause 21).
+    pub property: u64,
+}
+
+/// An absent field.
+const NOTHING: Side = Side {
+    absent: true,
+    range: Range { low: 1, high: 0 },
+};
+
+/// Any network (clause 6).
+const ANY_NETWORK: Side = Side {
+    absent: false,
+    range: Range {
+        low: 1,
+        high: 65534,
+    },
+};
+
+/// Asks to enter by the port of this number, which has this network.
+pub(crate) fn entering(number: u64, network: u64) -> Shape
+    ensures { result ≡ entering number network }
+{
+    let from = Origin::own(Format::Three, number, network);
+    bound(&from, Operation::Enter, NOTHING, NOTHING)
+}
+
+/// Asks to speak for any network, by any of so many ports.
+pub(crate) fn claiming(ports: u64) -> Shape
+    ensures { result ≡ claiming ports }
+{
+    let from = Origin::foreign(Format::Three, ports, &ANY_NETWORK);
+    bound(&from, Operation::Claim, NOTHING, NOTHING)
+}
+
+/// Asks to read a property of an object of the device, which has this network, by claims of another
+/// network and any of so many ports.
+pub(crate) fn reading(ports: u64, device: u64, network: u64, point: Point) -> Shape
+    ensures { result ≡ reading ports device network point }
+{
+    let from = Origin::foreign(Format::Three, ports, &only(network));
+    Shape {
+        object_type: only(point.kind),
+        instance: only(point.instance),
+        property: only(point.property),
+        ..bound(&from, Operation::Read, numbers(12, 14), only(device))
+    }
+}

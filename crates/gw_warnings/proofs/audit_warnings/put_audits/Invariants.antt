@@ -1,8 +1,0 @@
-use Rattle.std.proofs.Common.{take}
-use Rattle.gw_script.specs.Order.{in_order}
-use Rattle.gw_warnings.specs.Warnings.{audit_lines}
-use Rattle.gw_addr.proofs.Appended.{IsGrown}
-use Rattle.gw_warnings.proofs.audit_warnings.put_audits.Given as goal
-
-abbrev pub invariant-loop-index : goal.invariant-loop-index
-invariant-loop-index l = IsGrown (in_order (audit_lines l.audits) 0 (take l.index l.rules)) l.fn.out l.out

@@ -1,8 +1,0 @@
-use Rattle.std.proofs.Common.{take}
-use Rattle.gw_script.specs.Order.{in_order}
-use Rattle.gw_warnings.specs.Warnings.{port_lines}
-use Rattle.gw_addr.proofs.Appended.{IsGrown}
-use Rattle.gw_warnings.proofs.port_warnings.put_ports.Given as goal
-
-abbrev pub invariant-loop-place : goal.invariant-loop-place
-invariant-loop-place l = IsGrown (in_order (port_lines l.ports) 0 (take l.place l.ports)) l.fn.out l.out

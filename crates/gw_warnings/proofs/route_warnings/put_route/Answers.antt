@@ -1,4 +1,0 @@
-use Rattle.gw_warnings.proofs.route_warnings.put_route.Goals as goal
-
-pub returns : goal.returns
-returns c = rw (c.saturating_sub-place.ensures, c.from.ensures) at c.put_next.ensures
