@@ -12,8 +12,8 @@ use Rattle.gw_state_text.specs.declared.fault.StateFault.{StateFault}
 use Rattle.gw_notices.specs.Reload.{name_of}
 use Rattle.gw_wire.specs.declared.store.StoreFault.{StoreFault}
 use Rattle.gw_wire.specs.declared.store.StoreFault.TheVariants as store
-use Rattle.gw_suggest.specs.declared.fault.SuggestFault.{SuggestFault}
-use Rattle.gw_suggest.specs.declared.fault.SuggestFault.TheVariants as suggest
+use Rattle.gw_policy_drafts.specs.declared.suggestion.fault.SuggestFault.{SuggestFault}
+use Rattle.gw_policy_drafts.specs.declared.suggestion.fault.SuggestFault.TheVariants as suggest
 use Rattle.gw_system.specs.Obstacle.{obstacle_words}
 use Rattle.gw_system.specs.declared.obstacle.Obstacle.{Obstacle}
 use Rattle.gw_watch_files.specs.declared.fault.TrialFault.{TrialFault}
@@ -22,8 +22,8 @@ use Rattle.gw_ending.specs.declared.fault.Fault.{Fault}
 use Rattle.gw_ending.specs.declared.fault.Fault.TheVariants as fault
 use Rattle.gw_configuration.specs.declared.fault.ConfigFault.{ConfigFault}
 use Rattle.gw_configuration.specs.declared.fault.ConfigFault.TheVariants as config
-use Rattle.gw_migration.specs.declared.fault.MigrationFault.{MigrationFault}
-use Rattle.gw_migration.specs.declared.fault.MigrationFault.TheVariants as migration
+use Rattle.gw_policy_drafts.specs.declared.migration.fault.MigrationFault.{MigrationFault}
+use Rattle.gw_policy_drafts.specs.declared.migration.fault.MigrationFault.TheVariants as migration
 use Rattle.gw_replay.specs.declared.replaying.RunFault.{RunFault}
 use Rattle.gw_replay.specs.declared.replaying.RunFault.TheVariants as run
 use Rattle.gw_script.specs.declared.flaw.LineFlaw.{LineFlaw}

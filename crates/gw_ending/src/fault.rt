@@ -7,12 +7,12 @@ ghost use Rattle.gw_ending.specs.declared.fault.Fault.TheVariants.{CommandLine, 
 
 use gw_command_line::WordsFault;
 use gw_configuration::ConfigFault;
-use gw_migration::MigrationFault;
 use gw_notices::name_of;
+use gw_policy_drafts::migration::MigrationFault;
+use gw_policy_drafts::suggestion::SuggestFault;
 use gw_replay::RunFault;
 use gw_script::{LineFlaw, LinesFault};
 use gw_state_text::{FaultKind, StateFault};
-use gw_suggest::SuggestFault;
 use gw_system::{Obstacle, obstacle_words};
 use gw_watch_files::TrialFault;
 use gw_wire::StoreFault;

@@ -11,8 +11,10 @@ use crate::words::{call, put, status_text};
 use gw_addr::BipAddr;
 use gw_cases::{MemReader, MemWriter, number_behind};
 use gw_configuration::Port;
-use gw_shell::{ConfigFiles, FailedStep, Fault, Host, LogFailure, Obstacle, Reason, SocketFailure, Step, run};
 use gw_log_words::{Calendar, Moment, moment_after};
+use gw_shell::{
+    ConfigFiles, FailedStep, Fault, Host, LogFailure, Obstacle, Reason, SocketFailure, Step, run,
+};
 use gw_system::{ReadFailure, Requests};
 use gw_wire::{Got, RECEIVE_ROOM, Store, StoreFault, Wire, WireFault};
 use itoa::Buffer;

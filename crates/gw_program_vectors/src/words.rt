@@ -2,7 +2,7 @@
 
 use gw_configuration::ConfigFault;
 use gw_log_words::Moment;
-use gw_migration::MigrationFault;
+use gw_policy_drafts::migration::MigrationFault;
 use gw_script::LineFlaw;
 use gw_shell::{Choice, Fault, Obstacle, RunOptions, Shown, WordsFault, choice_of, end};
 use gw_state_text::{FaultKind, StateFault};

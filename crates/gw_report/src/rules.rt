@@ -2,8 +2,8 @@
 
 use crate::log::Denials;
 use gw_configuration::{Config, Text};
-use gw_migration::put_field;
 use gw_page::{Element, Page};
+use gw_policy_drafts::migration::put_field;
 use gw_rules::{FieldName, NO_RULE, Rule};
 use std::alloc::{AllocError, Global};
 

@@ -2,10 +2,10 @@
 use Rattle.std.proofs.Common.{◌≡◌, ◌⊎◌, ℕ, List, [], Bool, true, false, Result, Ok, Err, inl, inr, rules, sym}
 use Rattle.std.proofs.lemmas.List.{append-nil}
 use Rattle.gw_configuration.specs.declared.fault.ConfigFault.TheVariants as config
-use Rattle.gw_suggest.specs.Suggestion.{LeavesMade, LeavesSuggestion}
-use Rattle.gw_suggest.specs.declared.fault.SuggestFault.{SuggestFault}
-use Rattle.gw_suggest.specs.declared.fault.SuggestFault.TheVariants as suggest
-use Rattle.gw_suggest.specs.declared.suggestion.Manner.{Manner}
+use Rattle.gw_policy_drafts.specs.suggestion.Suggestion.{LeavesMade, LeavesSuggestion}
+use Rattle.gw_policy_drafts.specs.declared.suggestion.fault.SuggestFault.{SuggestFault}
+use Rattle.gw_policy_drafts.specs.declared.suggestion.fault.SuggestFault.TheVariants as suggest
+use Rattle.gw_policy_drafts.specs.declared.suggestion.suggestion.Manner.{Manner}
 use Rattle.gw_shell.specs.Suggesting.{Suggests, WritesFront, first_suggestion_fault}
 
 -- what was made is written in part only after a failed write

@@ -1,6 +1,6 @@
 -- What `why` leaves written, at each outcome: over the definitions of `gw_verdicts`.
 use Rattle.std.specs.Prelude.{◌≡◌, ⊤, ℕ, Bool, true, false, List, [], Option, Result, Ok, Err, option_map}
-use Rattle.gw_asks.specs.Asks.{ask_lines}
+use Rattle.gw_verdicts.specs.asks.Asks.{ask_lines}
 use Rattle.gw_verdicts.specs.Why.{IsAnswered, ShowsNoAsk}
 use Rattle.gw_rules.specs.declared.rule.Rule.{Rule}
 use Rattle.gw_ending.specs.Lines.{Leaves}

@@ -8,9 +8,9 @@ use Rattle.std.specs.declared.alloc.AllocError.{AllocError}
 use Rattle.gw_compare.specs.declared.comparison.Compared.{Compared}
 use Rattle.gw_compare.specs.declared.comparison.Compared.TheVariants as compared
 use Rattle.gw_configuration.specs.Configuration.{Configuration}
-use Rattle.gw_migration.specs.Migration.{Migrates}
+use Rattle.gw_policy_drafts.specs.migration.Migration.{Migrates}
 use Rattle.gw_points.specs.Points.{points_text}
-use Rattle.gw_migration.specs.declared.fault.MigrationFault.TheVariants as migration
+use Rattle.gw_policy_drafts.specs.declared.migration.fault.MigrationFault.TheVariants as migration
 use Rattle.gw_rules.specs.declared.format.Format.TheVariants as formats
 use Rattle.gw_command_line.specs.declared.command_line.Choice.{Choice}
 use Rattle.gw_command_line.specs.declared.command_line.Choice.TheVariants as choice
@@ -40,7 +40,7 @@ use Rattle.gw_service.specs.Serving.{IsFlushedFor}
 use Rattle.gw_service.specs.StampedRun.{TimedMachine}
 use Rattle.gw_shell.specs.Serving.{LeavesRun}
 use Rattle.gw_shell.specs.Suggesting.{Suggests}
-use Rattle.gw_suggest.specs.declared.suggestion.Manner.{Manner}
+use Rattle.gw_policy_drafts.specs.declared.suggestion.suggestion.Manner.{Manner}
 use Rattle.gw_shell.specs.Translating.{Translates}
 
 -- what the words of a call choose, or why they choose nothing

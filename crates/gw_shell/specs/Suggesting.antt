@@ -1,8 +1,8 @@
--- What `suggest` leaves written, at each outcome: over the definitions of `gw_suggest`.
+-- What `suggest` leaves written, at each outcome: over the definitions of `gw_policy_drafts::suggestion`.
 use Rattle.std.specs.Prelude.{◌≡◌, ◌⊎◌, ℕ, Bool, true, false, List, ◌++◌, Result, Ok, Err}
-use Rattle.gw_suggest.specs.Suggestion.{IsSuggested}
-use Rattle.gw_suggest.specs.declared.fault.SuggestFault.{SuggestFault}
-use Rattle.gw_suggest.specs.declared.suggestion.Manner.{Manner}
+use Rattle.gw_policy_drafts.specs.suggestion.Suggestion.{IsSuggested}
+use Rattle.gw_policy_drafts.specs.declared.suggestion.fault.SuggestFault.{SuggestFault}
+use Rattle.gw_policy_drafts.specs.declared.suggestion.suggestion.Manner.{Manner}
 use Rattle.gw_ending.specs.Ending.{fault_of_suggestion}
 use Rattle.gw_ending.specs.declared.fault.Fault.{Fault}
 use Rattle.gw_ending.specs.declared.fault.Fault.TheVariants as fault

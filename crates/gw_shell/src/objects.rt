@@ -11,11 +11,11 @@ ghost use Rattle.gw_shell.specs.Program.{LeavesOfLog, LeavesOpened};
 
 use crate::configured::configuration_in;
 use crate::files::ConfigFiles;
-use gw_asks::{AskLines, Lent};
 use gw_configuration::Config;
 use gw_ending::{Fault, first_lines_fault, report_unread};
 use gw_json::{log_in_json, why_in_json};
 use gw_script::{OctetSink, OctetSource};
+use gw_verdicts::asks::{AskLines, Lent};
 use std::alloc::Global;
 use std::io::{BufWriter, Write};
 

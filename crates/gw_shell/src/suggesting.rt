@@ -10,10 +10,10 @@ ghost use Rattle.gw_shell.specs.Program.{LeavesSuggested, LeavesSuggestedIn};
 ghost use Rattle.gw_shell.specs.Suggesting.{Suggests, first_suggestion_fault};
 
 use crate::files::ConfigFiles;
-use gw_asks::{AskLines, Lent};
 use gw_ending::{Fault, report_unread};
+use gw_policy_drafts::suggestion::{Manner, SuggestFault};
 use gw_script::{OctetSink, OctetSource};
-use gw_suggest::{Manner, SuggestFault};
+use gw_verdicts::asks::{AskLines, Lent};
 use std::alloc::Global;
 use std::io::{BufWriter, Write};
 
@@ -31,7 +31,7 @@ pub fn suggest<R: OctetSource, W: Write + Drop>(
         (writer_contents W.contents writer.new) (λ log before. Suggests text.now manner log before result) }
     ensures flushed { OnOk result (writer_buffer writer.new ≡ []) }
 {
-    let suggestion = gw_suggest::suggest(alloc, text, manner, reader, writer);
+    let suggestion = gw_policy_drafts::suggestion::suggest(alloc, text, manner, reader, writer);
     let is_flushed = writer.flush().is_ok();
     first_fault(suggestion, is_flushed)
 }

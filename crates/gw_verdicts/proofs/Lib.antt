@@ -10,3 +10,4 @@ pub mod Raised
 pub mod RelayAsks
 pub mod ShapeLaw
 pub mod WhyLaw
+pub mod asks_lemmas

@@ -1,3 +1,4 @@
 pub mod Compared
 pub mod Laws
 pub mod Why
+pub mod asks

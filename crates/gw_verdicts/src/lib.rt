@@ -3,6 +3,7 @@
 #![tactic(auto)]
 
 mod asking;
+pub mod asks;
 pub mod laws;
 
 pub use asking::why;

@@ -1,6 +1,6 @@
 use Rattle.std.proofs.Common.{◌∙◌, ap, refl, subst, ℕ, List, Option, option_map}
 use Rattle.std.specs.Io.Buffered.{writer_contents}
-use Rattle.gw_asks.specs.Asks.{ask_lines}
+use Rattle.gw_verdicts.specs.asks.Asks.{ask_lines}
 use Rattle.gw_ending.specs.Unread.{unread_after}
 use Rattle.gw_shell.specs.Objects.{LeavesJudgedIn}
 use Rattle.gw_shell.proofs.objects.judge_shown.Goals as goal

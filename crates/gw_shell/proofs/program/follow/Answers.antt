@@ -10,7 +10,7 @@ use Rattle.gw_command_line.specs.declared.command_line.Choice.TheVariants as cho
 use Rattle.gw_shell.specs.Objects.{LeavesJudgedIn}
 use Rattle.gw_shell.specs.Program.{LeavesAnsweredIn, LeavesReloadIn, LeavesReportIn, LeavesStateIn, LeavesSuggestedIn}
 use Rattle.gw_shell.specs.declared.asking.Answering.{Answering}
-use Rattle.gw_suggest.specs.declared.suggestion.Manner.{Manner}
+use Rattle.gw_policy_drafts.specs.declared.suggestion.suggestion.Manner.{Manner}
 use Rattle.gw_shell.proofs.ChoiceLemmas.{followed, reported}
 use Rattle.gw_notices.proofs.AppendLemmas.{appends_nothing}
 use Rattle.gw_shell.proofs.program.follow.Goals as goal

@@ -1,6 +1,6 @@
 use Rattle.std.proofs.Common.{sym, subst, Result, IsSomeAnd}
 use Rattle.std.specs.Io.Buffered.{writer_contents}
-use Rattle.gw_suggest.specs.Suggestion.{LeavesSuggestion}
+use Rattle.gw_policy_drafts.specs.suggestion.Suggestion.{LeavesSuggestion}
 use Rattle.gw_shell.specs.Suggesting.{Suggests, first_suggestion_fault}
 use Rattle.gw_ending.specs.declared.fault.Fault.{Fault}
 use Rattle.gw_shell.proofs.ReplayLemmas.{kept, weaker}

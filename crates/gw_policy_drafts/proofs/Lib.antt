@@ -1,0 +1,2 @@
+pub mod suggestion_lemmas
+pub mod migration_lemmas

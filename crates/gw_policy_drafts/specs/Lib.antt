@@ -1,0 +1,2 @@
+pub mod suggestion
+pub mod migration

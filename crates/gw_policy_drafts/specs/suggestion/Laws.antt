@@ -1,0 +1,43 @@
+-- What is allowed with suggested rules in front of a policy's.
+use Rattle.std.specs.Prelude.{◌≡◌, ◌≢◌, ◌≤◌, ℕ, Bool, true, false, not, ◌&&◌, ◌||◌, List, ◌++◌, length, Some, Any}
+use Rattle.std.specs.List.{list_any, Contains}
+use Rattle.gw_rules.specs.Ask.{Ask}
+use Rattle.gw_rules.specs.Fields.{value_of}
+use Rattle.gw_rules.specs.RuleList.{allows}
+use Rattle.gw_rules.specs.declared.field.FieldName.{FieldName}
+use Rattle.gw_rules.specs.declared.field.FieldName.TheVariants.{Service}
+use Rattle.gw_rules.specs.declared.rule.Rule.{Rule}
+use Rattle.gw_policy_drafts.specs.suggestion.Given.{akin, filled, of_both}
+use Rattle.gw_policy_drafts.specs.suggestion.Own.{is_reading}
+use Rattle.gw_policy_drafts.specs.suggestion.Suggestion.{IsSuggestion, matched, wanted}
+use Rattle.gw_policy_drafts.specs.declared.suggestion.suggestion.Manner.{Manner}
+
+-- in each field that one ask has the other has its value; in the service of a read or a list only if it is kept
+pub record HasValuesOf (keeps : Bool) (given ask : Ask) : Type 0 where
+  pub others : (field : FieldName) (number : ℕ) → field ≢ Service
+      → value_of field given ≡ Some number → value_of field ask ≡ Some number
+  pub service : (number : ℕ) → (keeps || not (is_reading given)) ≡ true → given.service ≡ Some number → ask.service ≡ Some number
+
+-- With the rules in front, an ask is allowed exactly if it matches one of them or was allowed before.
+abbrev pub AllowsWhatMatches : Type 0
+AllowsWhatMatches = (keeps : Bool) (asks : List Ask) (suggested old : List Rule) (ask : Ask) → IsSuggestion keeps asks suggested
+    → allows (suggested ++ old) ask ≡ (matched suggested ask || allows old ask)
+
+-- Each ask for which they are made is allowed.
+abbrev pub AllowsEach : Type 0
+AllowsEach = (manner : Manner) (asks : List Ask) (suggested old : List Rule) (ask : Ask)
+    → IsSuggestion manner.keeps_services (wanted manner asks) suggested → Contains asks ask
+    → allows (suggested ++ old) ask ≡ true
+
+-- An ask that they newly allow has the values of one for which they are made: no value that wasn't seen, and no two that
+-- weren't seen together.
+abbrev pub AllowsNoOther : Type 0
+AllowsNoOther = (keeps : Bool) (asks : List Ask) (suggested old : List Rule) (ask : Ask) → IsSuggestion keeps asks suggested
+    → allows (suggested ++ old) ask ≡ true → allows old ask ≡ false → Any (λ given. HasValuesOf keeps given ask) asks
+
+-- If they are filled, it has the object of one, the property and the priority of another one, and all else of both: of the
+-- same station, for the same operation and destination.
+abbrev pub FillsNoOther : Type 0
+FillsNoOther = (keeps : Bool) (asks : List Ask) (suggested old : List Rule) (ask : Ask)
+    → IsSuggestion keeps (filled asks) suggested → allows (suggested ++ old) ask ≡ true → allows old ask ≡ false
+    → Any (λ one. Any (λ other. (akin one other ≡ true) × HasValuesOf keeps (of_both one other) ask) asks) asks

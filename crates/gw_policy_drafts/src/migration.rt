@@ -1,0 +1,13 @@
+//! A configuration of format 1 or 2, written as a text of format 3 that says the same.
+mod advice;
+mod fault;
+mod lines;
+mod migration;
+mod objects;
+mod ports;
+mod rules;
+mod subnets;
+
+pub use fault::MigrationFault;
+pub use migration::migrate;
+pub use rules::{put_field, put_operation, put_station};

@@ -1,7 +1,0 @@
-use Rattle.std.proofs.Common.{◌≡◌, take}
-use Rattle.gw_rules.specs.Ask.{Ask}
-use Rattle.gw_suggest.specs.Own.{covered}
-use Rattle.gw_suggest.proofs.joining.join_by.Given as goal
-
-abbrev pub invariant-loop-group : goal.invariant-loop-group
-invariant-loop-group l = (ask : Ask) → covered l.done.items ask ≡ covered (take l.group-index l.groups) ask

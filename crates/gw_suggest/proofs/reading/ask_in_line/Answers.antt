@@ -1,7 +1,0 @@
-use Rattle.std.proofs.Common.{List, ℕ, subst, sym}
-use Rattle.gw_audit.specs.Entry.{ShowsAsk}
-use Rattle.gw_suggest.proofs.LinesLaw.{tells_none}
-use Rattle.gw_suggest.proofs.reading.ask_in_line.Goals as goal
-
-pub returns-in-None : goal.returns-in-None
-returns-in-None c = tells_none c.args.line.now c.words_of.result.now c.words_of.ensures c.in-None.ensures.only
