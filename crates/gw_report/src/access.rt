@@ -1,9 +1,9 @@
 //! Who may do what: a table by network and operation, and the lines that `check --explain` has.
 
+use crate::page::{Element, Page};
 use crate::passing::{Extent, extent_of};
 use gw_ask_sets::shapes::{Shape, shapes_of};
 use gw_configuration::{Config, Port};
-use gw_page::{Element, Page};
 use gw_policy_review::permissions::put_permissions;
 use gw_rules::Operation;
 use itoa::Buffer;

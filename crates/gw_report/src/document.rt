@@ -1,16 +1,16 @@
 //! The whole page.
 ghost use Rattle.std.specs.Prelude.{IfOk};
-ghost use Rattle.gw_page.specs.Page.{IsPage};
+ghost use Rattle.gw_report.specs.page.Page.{IsPage};
 
 use crate::access::put_access;
 use crate::fault::ReportFault;
 use crate::log::{Denials, read_log};
+use crate::page::{Element, Page};
 use crate::plots::put_denials;
 use crate::rules::put_rules;
 use crate::site::put_site;
 use gw_configuration::{Config, Object, Text};
 use gw_names::object_type_name;
-use gw_page::{Element, Page};
 use gw_script::OctetSource;
 use std::alloc::{AllocError, Global};
 

@@ -2,7 +2,7 @@
 
 use crate::counts::{Count, Counts};
 use crate::log::Denials;
-use gw_page::{Element, Label, Page, Place, Shape, Size};
+use crate::page::{Element, Label, Page, Place, Shape, Size};
 use itoa::Buffer;
 use std::alloc::{AllocError, Global};
 

@@ -1,8 +1,8 @@
 //! The rules of a policy, with their notes.
 
 use crate::log::Denials;
+use crate::page::{Element, Page};
 use gw_configuration::{Config, Text};
-use gw_page::{Element, Page};
 use gw_policy_drafts::migration::put_field;
 use gw_rules::{FieldName, NO_RULE, Rule};
 use std::alloc::{AllocError, Global};

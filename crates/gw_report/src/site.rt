@@ -1,9 +1,9 @@
 //! A site as a picture: the gateway, its ports with their networks, peers and routers, and its device.
 
+use crate::page::{Element, Label, Page, Place, Shape, Size};
 use crate::words::shortened;
 use gw_addr::{BdtEntry, NetNum};
 use gw_configuration::{Config, Device, Port, Route};
-use gw_page::{Element, Label, Page, Place, Shape, Size};
 use itoa::Buffer;
 use std::alloc::{AllocError, Global};
 

@@ -1,4 +1,4 @@
--- What `check --json`, `compare --json` and `objects --csv` print, over the definitions of `gw_json` and `gw_points`.
+-- What `check --json`, `compare --json` and `objects --csv` print, over the definitions of `gw_json` and `gw_report::points`.
 use Rattle.std.specs.Prelude.{◌≡◌, ◌⊎◌, ⊤, ℕ, ◌==◌, List, [], ◌++◌, length, take, Option, Some, None, Result, Ok, Err}
 use Rattle.std.specs.List.{flat_map}
 use Rattle.gw_compare.specs.Asks.{asks_of}

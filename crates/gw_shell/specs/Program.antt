@@ -9,7 +9,7 @@ use Rattle.gw_compare.specs.declared.comparison.Compared.{Compared}
 use Rattle.gw_compare.specs.declared.comparison.Compared.TheVariants as compared
 use Rattle.gw_configuration.specs.Configuration.{Configuration}
 use Rattle.gw_policy_drafts.specs.migration.Migration.{Migrates}
-use Rattle.gw_points.specs.Points.{points_text}
+use Rattle.gw_report.specs.points.Points.{points_text}
 use Rattle.gw_policy_drafts.specs.declared.migration.fault.MigrationFault.TheVariants as migration
 use Rattle.gw_rules.specs.declared.format.Format.TheVariants as formats
 use Rattle.gw_command_line.specs.declared.command_line.Choice.{Choice}

@@ -1,7 +1,7 @@
--- What `report` makes, at each outcome: over the definitions of `gw_page`.
+-- What `report` makes, at each outcome: over the definitions of `gw_report::page`.
 use Rattle.std.specs.Prelude.{◌≡◌, ⊤, ℕ, List, Option, Some, None, Result, Ok, Err}
 use Rattle.gw_configuration.specs.Configuration.{Configuration}
-use Rattle.gw_page.specs.Page.{IsPage}
+use Rattle.gw_report.specs.page.Page.{IsPage}
 use Rattle.gw_ending.specs.declared.fault.Fault.{Fault}
 use Rattle.gw_ending.specs.declared.fault.Fault.TheVariants as fault
 

@@ -1,0 +1,199 @@
+//! A page as it grows.
+
+ghost use Rattle.std.specs.Prelude.{◌≡◌, ◌++◌, [], decimal, OnErr, OnOk};
+ghost use Rattle.gw_report.specs.page.Escape.{escaped};
+ghost use Rattle.gw_report.specs.page.Mark.{mark_text};
+ghost use Rattle.gw_report.specs.page.Page.{IsPage};
+
+use crate::page::drawing::{Label, Place, Shape, Size};
+use crate::page::element::Element;
+use crate::page::escape::put_escaped;
+use crate::page::mark::Mark;
+use gw_addr::{keep_whole, put_slice};
+use itoa::Buffer;
+use std::alloc::{AllocError, Global};
+use std::marker::Model;
+
+/// A page as far as it is made. Contracts see its octets, which are always constants, numbers and escaped texts.
+///
+/// Each function appends, and its `Err` comes only from a refused growth of memory.
+#[derive(Drop)]
+pub struct Page {
+    octets: Vec<u8>,
+}
+
+impl Model for Page {
+    ghost use Rattle.std.specs.Prelude.{List, ℕ};
+    ghost use Rattle.gw_report.specs.page.Page.{IsPage};
+
+    ghost Value = { List ℕ };
+
+    ghost view = { λ p. p.octets.items };
+
+    ghost invariant = { λ p. IsPage p.octets.items };
+}
+
+/// Appends octets, or nothing.
+fn put_whole(out: &mut Vec<u8>, octets: &[u8]) -> Result<(), AllocError>
+    ensures ok { OnOk result (out.new.items ≡ out.old.items ++ octets.now) }
+    ensures err { OnErr result (out.new.items ≡ out.old.items) }
+{
+    let len = out.len();
+    let put = put_slice(out, octets);
+    keep_whole(out, len, put)
+}
+
+impl Page {
+    /// A page that has nothing yet.
+    pub fn new(alloc: Global) -> Self
+        ensures { result ≡ [] }
+    {
+        Page {
+            octets: Vec::new(alloc),
+        }
+    }
+
+    /// Its octets: constants, numbers and escaped texts.
+    pub fn into_octets(self) -> Vec<u8>
+        ensures octets { result.items ≡ self }
+        ensures page { IsPage result.items }
+    {
+        let Page { octets } = self;
+        octets
+    }
+
+    /// Appends what is a page itself.
+    fn put(&mut self, octets: &[u8]) -> Result<(), AllocError>
+        requires { IsPage octets.now }
+        ensures ok { OnOk result (self.new ≡ self.old ++ octets.now) }
+        ensures err { OnErr result (self.new ≡ self.old) }
+    {
+        put_whole(&mut self.octets, octets)
+    }
+
+    /// Appends a constant.
+    #[tactic(auto, using(crate::proofs::page_lemmas::Pages::constant))]
+    pub fn mark(&mut self, mark: Mark) -> Result<(), AllocError>
+        ensures ok { OnOk result (self.new ≡ self.old ++ mark_text mark) }
+        ensures err { OnErr result (self.new ≡ self.old) }
+    {
+        self.put(mark.text().as_bytes())
+    }
+
+    /// Appends a number in decimal digits.
+    #[tactic(auto, using(crate::proofs::page_lemmas::Pages::count))]
+    pub fn number(&mut self, number: u64) -> Result<(), AllocError>
+        ensures ok { OnOk result (self.new ≡ self.old ++ decimal number) }
+        ensures err { OnErr result (self.new ≡ self.old) }
+    {
+        self.put(Buffer::new().format(number).as_bytes())
+    }
+
+    /// Appends a text, whatever it holds: what HTML gives a meaning and what controls a terminal is written as entities.
+    #[tactic(auto, using(crate::proofs::page_lemmas::Pages::foreign))]
+    pub fn text(&mut self, text: &str) -> Result<(), AllocError>
+        ensures ok { OnOk result (self.new ≡ self.old ++ escaped text.now) }
+        ensures err { OnErr result (self.new ≡ self.old) }
+    {
+        let mut octets = Vec::new(*self.octets.allocator());
+        put_escaped(&mut octets, text.as_bytes())?;
+        self.put(&octets)
+    }
+
+    /// Begins a document of this title.
+    pub fn begin(&mut self, title: &str) -> Result<(), AllocError>
+        ensures { OnOk result (self.new ≡
+            ((self.old ++ mark_text Mark.Begin) ++ escaped title.now) ++ mark_text Mark.Style) }
+    {
+        self.mark(Mark::Begin)?;
+        self.text(title)?;
+        self.mark(Mark::Style)
+    }
+
+    /// Ends the document.
+    pub fn end(&mut self) -> Result<(), AllocError>
+        ensures { OnOk result (self.new ≡ self.old ++ mark_text Mark.End) }
+    {
+        self.mark(Mark::End)
+    }
+
+    /// Begins an element.
+    pub fn open(&mut self, element: Element) -> Result<(), AllocError>
+        ensures { OnOk result (self.new ≡ self.old ++ mark_text (Mark.Open element)) }
+    {
+        self.mark(Mark::Open(element))
+    }
+
+    /// Ends an element.
+    pub fn close(&mut self, element: Element) -> Result<(), AllocError>
+        ensures { OnOk result (self.new ≡ self.old ++ mark_text (Mark.Close element)) }
+    {
+        self.mark(Mark::Close(element))
+    }
+
+    /// Appends an element that has this text.
+    pub fn element(&mut self, element: Element, text: &str) -> Result<(), AllocError>
+        ensures { OnOk result (self.new ≡
+            ((self.old ++ mark_text (Mark.Open element)) ++ escaped text.now) ++ mark_text (Mark.Close element)) }
+    {
+        self.open(element)?;
+        self.text(text)?;
+        self.close(element)
+    }
+
+    /// Appends a cell of a table that has this number.
+    pub fn number_cell(&mut self, number: u64) -> Result<(), AllocError>
+        ensures { OnOk result (self.new ≡ ((self.old ++ mark_text (Mark.Open Element.Number)) ++ decimal number)
+            ++ mark_text (Mark.Close Element.Number)) }
+    {
+        self.open(Element::Number)?;
+        self.number(number)?;
+        self.close(Element::Number)
+    }
+
+    /// Begins a picture of this height.
+    pub fn open_picture(&mut self, height: u64) -> Result<(), AllocError>
+        ensures { OnOk result (self.new ≡
+            ((self.old ++ mark_text Mark.Picture) ++ decimal height) ++ mark_text Mark.PictureBody) }
+    {
+        self.mark(Mark::Picture)?;
+        self.number(height)?;
+        self.mark(Mark::PictureBody)
+    }
+
+    /// Ends a picture.
+    pub fn close_picture(&mut self) -> Result<(), AllocError>
+        ensures { OnOk result (self.new ≡ self.old ++ mark_text Mark.PictureEnd) }
+    {
+        self.mark(Mark::PictureEnd)
+    }
+
+    /// Draws a rectangle, whose left upper corner is at the place.
+    pub fn draw(&mut self, shape: Shape, at: Place, size: Size) -> Result<(), AllocError> {
+        self.mark(Mark::Shape(shape))?;
+        self.put_place(at)?;
+        self.mark(Mark::Width)?;
+        self.number(size.width)?;
+        self.mark(Mark::Height)?;
+        self.number(size.height)?;
+        self.mark(Mark::ShapeEnd)
+    }
+
+    /// Draws a text, which begins at the place.
+    pub fn label(&mut self, label: Label, at: Place, text: &str) -> Result<(), AllocError> {
+        self.mark(Mark::Label(label))?;
+        self.put_place(at)?;
+        self.mark(Mark::LabelBody)?;
+        self.text(text)?;
+        self.mark(Mark::LabelEnd)
+    }
+
+    /// Appends both distances of a place.
+    fn put_place(&mut self, at: Place) -> Result<(), AllocError>
+        ensures { OnOk result (self.new ≡ ((self.old ++ decimal at.x) ++ mark_text Mark.Down) ++ decimal at.y) }
+    {
+        self.number(at.x)?;
+        self.mark(Mark::Down)?;
+        self.number(at.y)
+    }
+}

@@ -1,0 +1,122 @@
+//! Cells and lines of a table of separated values (RFC 4180).
+
+ghost use Rattle.std.specs.Prelude.{◌≡◌, ◌++◌, ◌∷◌, [], map, IfOk, OnOk};
+ghost use Rattle.std.specs.List.{flat_map, list_any};
+ghost use Rattle.gw_report.specs.points.Cells.{cell_text, doubled, guarded, is_marked, is_one_of, marks, next_text, quoted, risks, row_text};
+
+use gw_addr::{put_octet, put_slice};
+use std::alloc::{AllocError, Global};
+
+/// The octets that only a quoted cell can have.
+const MARKS: [u8; 4] = [b';', b'"', b'\r', b'\n'];
+
+/// With which octets a text begins that a spreadsheet takes for a formula, and the apostrophe that keeps it a text.
+const RISKS: [u8; 7] = [b'=', b'+', b'-', b'@', b'\t', b'\r', b'\''];
+
+fn is_mark(octet: u8) -> bool
+    ensures { result ≡ is_one_of marks octet }
+{
+    MARKS.iter().any(|mark| octet == *mark)
+}
+
+fn is_marked(cell: &[u8]) -> bool
+    ensures { result ≡ is_marked cell.now }
+{
+    cell.iter().any(|octet| is_mark(*octet))
+}
+
+/// Appends an octet of a quoted cell, a quote twice.
+fn put_doubled(out: &mut Vec<u8>, octet: u8) -> Result<(), AllocError>
+    ensures { OnOk result (out.new.items ≡ out.old.items ++ doubled octet) }
+{
+    if octet == b'"' {
+        put_octet(out, octet)?;
+    }
+    put_octet(out, octet)
+}
+
+fn put_each_doubled(out: &mut Vec<u8>, cell: &[u8]) -> Result<(), AllocError>
+    ensures { OnOk result (out.new.items ≡ out.old.items ++ flat_map doubled cell.now) }
+{
+    for octet in cell {
+        put_doubled(out, *octet)?;
+    }
+    Ok(())
+}
+
+fn put_quoted(out: &mut Vec<u8>, cell: &[u8]) -> Result<(), AllocError>
+    ensures { OnOk result (out.new.items ≡ out.old.items ++ quoted cell.now) }
+{
+    put_octet(out, b'"')?;
+    put_each_doubled(out, cell)?;
+    put_octet(out, b'"')
+}
+
+/// Appends a cell, between quotes if it has to be.
+#[tactic(auto, unfolding(crate::specs::points::Cells::cell_text))]
+pub(crate) fn put_cell(out: &mut Vec<u8>, cell: &[u8]) -> Result<(), AllocError>
+    ensures { OnOk result (out.new.items ≡ out.old.items ++ cell_text cell.now) }
+{
+    if is_marked(cell) {
+        put_quoted(out, cell)
+    } else {
+        put_slice(out, cell)
+    }
+}
+
+pub(crate) fn put_next(out: &mut Vec<u8>, cell: &[u8]) -> Result<(), AllocError>
+    ensures { OnOk result (out.new.items ≡ out.old.items ++ next_text cell.now) }
+{
+    put_octet(out, b';')?;
+    put_cell(out, cell)
+}
+
+fn put_others(out: &mut Vec<u8>, cells: &[&[u8]]) -> Result<(), AllocError>
+    ensures { OnOk result (out.new.items ≡ out.old.items ++ flat_map (λ cell. next_text cell.now) cells.now) }
+{
+    for cell in cells {
+        put_next(out, cell)?;
+    }
+    Ok(())
+}
+
+/// Appends a line of these cells: the first, the others, and the two octets at its end.
+pub(crate) fn put_row(out: &mut Vec<u8>, first: &[u8], others: &[&[u8]]) -> Result<(), AllocError>
+    ensures { OnOk result (out.new.items ≡ out.old.items
+        ++ row_text (first.now ∷ map (λ cell. cell.now) others.now)) }
+{
+    put_cell(out, first)?;
+    put_others(out, others)?;
+    put_end(out)?;
+    Ok(())
+}
+
+/// Appends the two octets at the end of a line.
+pub(crate) fn put_end(out: &mut Vec<u8>) -> Result<(), AllocError>
+    ensures { OnOk result (out.new.items ≡ out.old.items ++ 13 ∷ 10 ∷ []) }
+{
+    put_slice(out, b"\r\n")
+}
+
+fn is_risk(octet: u8) -> bool
+    ensures { result ≡ is_one_of risks octet }
+{
+    RISKS.iter().any(|risk| octet == *risk)
+}
+
+/// The cell of a text: with an apostrophe in front if a spreadsheet would take it for a formula.
+#[tactic(auto, unfolding(crate::specs::points::Cells::guarded))]
+pub(crate) fn guarded(alloc: Global, text: &str) -> Result<Vec<u8>, AllocError>
+    ensures { IfOk result (λ cell. cell.items ≡ guarded text.now) }
+{
+    let octets = text.as_bytes();
+    let Some(first) = octets.first() else {
+        return Ok(Vec::new(alloc));
+    };
+    let mut cell = Vec::new(alloc);
+    if is_risk(*first) {
+        cell.push(b'\'')?;
+    }
+    put_slice(&mut cell, octets)?;
+    Ok(cell)
+}
