@@ -6,10 +6,10 @@ use Rattle.gw_configuration.specs.declared.port.Port.{Port}
 use Rattle.gw_relay.specs.Initial.{port_states_with}
 use Rattle.gw_relay.specs.declared.port.PortState.{PortState}
 use Rattle.gw_tables.specs.routes.Table.{Routed}
-use Rattle.gw_saved.specs.declared.counts.SavedCounts.{SavedCounts}
-use Rattle.gw_saved.specs.declared.origin.OriginPort.{OriginPort}
-use Rattle.gw_saved.specs.declared.port.SavedPort.{SavedPort}
-use Rattle.gw_saved.specs.Saved.{SavedObject, are_countable, are_few}
+use Rattle.gw_state.specs.declared.counts.SavedCounts.{SavedCounts}
+use Rattle.gw_state.specs.declared.origin.OriginPort.{OriginPort}
+use Rattle.gw_state.specs.declared.port.SavedPort.{SavedPort}
+use Rattle.gw_state.specs.Saved.{SavedObject, are_countable, are_few}
 use Rattle.gw_core.specs.Resumed.{saved_ports}
 
 -- at most one port is saved of each

@@ -4,10 +4,10 @@ use Rattle.gw_configuration.specs.Configuration.{Configuration}
 use Rattle.gw_objects.specs.Objects.{database_of}
 use Rattle.gw_relay.specs.Initial.{resumed}
 use Rattle.gw_relay.specs.declared.port.PortState.{PortState}
-use Rattle.gw_saved.specs.Carried.{routes_carried, states_carried, tables_carried}
-use Rattle.gw_saved.specs.declared.origin.OriginPort.{OriginPort}
-use Rattle.gw_saved.specs.declared.port.SavedPort.{SavedPort}
-use Rattle.gw_saved.specs.Saved.{Origin, Saved, origin_of, saved_objects, saved_port}
+use Rattle.gw_state.specs.Carried.{routes_carried, states_carried, tables_carried}
+use Rattle.gw_state.specs.declared.origin.OriginPort.{OriginPort}
+use Rattle.gw_state.specs.declared.port.SavedPort.{SavedPort}
+use Rattle.gw_state.specs.Saved.{Origin, Saved, origin_of, saved_objects, saved_port}
 use Rattle.gw_core.specs.State.{State}
 
 -- each port with what was configured of it and the tables that it has now

@@ -31,7 +31,7 @@ use gw_frames::npdu::NpduFault;
 use gw_relay::{Change as RelayChange, Relay, Sends, Turn};
 use gw_rule_index::Policy;
 use gw_rules::{Authorizer, Recorder, RuleList};
-use gw_saved::{Origin, Saved, SavedCounts};
+use gw_state::{Origin, Saved, SavedCounts};
 use std::alloc::{AllocError, Global};
 use std::marker::Model;
 

@@ -3,7 +3,7 @@ ghost use Rattle.std.specs.Prelude.{◌≡◌, [], length, IfOk, vec_capacity};
 ghost use Rattle.gw_core.specs.Resumed.{saved_ports};
 
 use gw_relay::PortState;
-use gw_saved::{OriginPort, SavedPort};
+use gw_state::{OriginPort, SavedPort};
 use std::alloc::{AllocError, Global};
 
 /// An empty list with memory for these ports.

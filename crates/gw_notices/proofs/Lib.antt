@@ -1,3 +1,4 @@
 mod AnnouncementLemmas
 pub mod AppendLemmas
 mod StatsLemmas
+pub mod rule_changes_lemmas

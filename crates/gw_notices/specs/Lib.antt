@@ -3,3 +3,4 @@ pub mod Notices
 pub mod Reload
 pub mod Stats
 pub mod Watch
+pub mod rule_changes

@@ -4,14 +4,14 @@ use Rattle.gw_config_faults.specs.Explanation.{ExplainsText}
 use Rattle.gw_configuration.specs.Configuration.{Configuration}
 use Rattle.gw_configuration.specs.declared.fault.ConfigFault.{ConfigFault}
 use Rattle.gw_configuration.specs.declared.fault.ConfigFault.TheVariants as config
-use Rattle.gw_rule_changes.specs.Changes.{changes_of, changes_text}
+use Rattle.gw_notices.specs.rule_changes.Changes.{changes_of, changes_text}
 use Rattle.gw_rules.specs.declared.rule.Rule.{Rule}
-use Rattle.gw_saved.specs.Saved.{Saved}
+use Rattle.gw_state.specs.Saved.{Saved}
 use Rattle.gw_state_words.specs.Words.{take_over_words}
 use Rattle.gw_system.specs.Obstacle.{obstacle_words}
 use Rattle.gw_system.specs.declared.reading.ReadFailure.{ReadFailure}
 use Rattle.gw_system.specs.declared.reading.ReadFailure.TheVariants as reading
-use Rattle.gw_takeover.specs.Findings.{take_over}
+use Rattle.gw_state_words.specs.takeover.Findings.{take_over}
 use Rattle.gw_tally.specs.Tally.{one_more}
 use Rattle.gw_notices.specs.declared.reload.ReloadCounts.{ReloadCounts}
 use Rattle.gw_notices.specs.declared.reload.ReloadFault.{ReloadFault}

@@ -8,6 +8,7 @@ mod losses;
 mod note;
 mod notices;
 mod reload;
+pub mod rule_changes;
 mod stats;
 mod troubles;
 mod watch_report;

@@ -5,15 +5,15 @@ ghost use Rattle.gw_notices.specs.Reload.{IsRefusalLine, located_line, name_of, 
 ghost use Rattle.gw_system.specs.Requests.{text_found};
 
 use crate::reload::ReloadFault;
+use crate::rule_changes::{changes_of, put_changes};
 use gw_addr::put_decimal;
 use gw_config_faults::{Explanation, explain};
 use gw_configuration::{Config, ConfigFault};
-use gw_rule_changes::{changes_of, put_changes};
 use gw_rules::RuleList;
-use gw_saved::Saved;
+use gw_state::Saved;
 use gw_state_words::put_take_over;
+use gw_state_words::takeover::take_over;
 use gw_system::{Obstacle, ReadFailure};
-use gw_takeover::take_over;
 use std::alloc::{AllocError, Global};
 
 /// The line of a configuration that a gateway with these rules in force takes over, of which this was saved: how many rules it

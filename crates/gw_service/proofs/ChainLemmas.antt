@@ -8,7 +8,7 @@ use Rattle.std.specs.Prelude.{Result, Ok, Err, Bool, IfSome}
 use Rattle.std.specs.Global.{Vec}
 use Rattle.gw_configuration.specs.Configuration.{Configuration}
 use Rattle.gw_core.specs.Resumed.{carried, saved, saved_of}
-use Rattle.gw_saved.specs.Saved.{Origin, origin_of}
+use Rattle.gw_state.specs.Saved.{Origin, origin_of}
 use Rattle.gw_script.specs.Event.{Event}
 use Rattle.gw_script.specs.Event as event
 use Rattle.gw_script.specs.declared.sink.WriteFailed.{WriteFailed}

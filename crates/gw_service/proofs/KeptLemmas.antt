@@ -4,7 +4,7 @@ use Rattle.std.specs.Io.KnownBytes.{Appends, append_known}
 use Rattle.gw_configuration.specs.Configuration.{Configuration}
 use Rattle.gw_core.specs.State.{State}
 use Rattle.gw_core.specs.declared.event.Counts.{Counts}
-use Rattle.gw_saved.specs.Saved.{Origin, origin_of}
+use Rattle.gw_state.specs.Saved.{Origin, origin_of}
 use Rattle.gw_serving.specs.Serve.{Scene, scene, zero_counts}
 use Rattle.gw_serving.specs.Stretch.{moment}
 use Rattle.gw_serving.specs.Tally.{no_tally}

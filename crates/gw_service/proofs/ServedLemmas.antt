@@ -9,7 +9,7 @@ use Rattle.gw_core.specs.History.{state_after, state_from, no_counts}
 use Rattle.gw_core.specs.Resumed.{saved}
 use Rattle.gw_core.specs.State.{State}
 use Rattle.gw_core.specs.declared.event.Counts.{Counts}
-use Rattle.gw_saved.specs.Saved.{Saved}
+use Rattle.gw_state.specs.Saved.{Saved}
 use Rattle.gw_script.specs.Event.{Event}
 use Rattle.gw_serving.proofs.ServeLemmas.{lead_along, lead_nowhere}
 use Rattle.gw_serving.specs.Serve.{EndsBy, LeadTo, Scene, Turn, count_fault, count_turn, counts_after, counts_of, empty_turn, failed_turn}

@@ -7,7 +7,7 @@ use Rattle.gw_configuration.specs.Configuration.{Configuration}
 use Rattle.gw_policy_text.specs.Document.{configuration}
 use Rattle.gw_core.specs.Resumed.{carried, saved}
 use Rattle.gw_core.specs.State.{State}
-use Rattle.gw_saved.specs.Saved.{Origin, origin_of}
+use Rattle.gw_state.specs.Saved.{Origin, origin_of}
 use Rattle.gw_script.specs.Event.{Event}
 use Rattle.gw_script.specs.Event as event
 use Rattle.gw_script.specs.declared.sink.WriteFailed.{WriteFailed}

@@ -2,7 +2,7 @@
 use Rattle.std.specs.Prelude.{◌≡◌, ⊤, ℕ, Bool, true, is_some, not, List, [], Option, Some, None}
 use Rattle.gw_configuration.specs.Configuration.{Configuration}
 use Rattle.gw_core.specs.State.{State}
-use Rattle.gw_saved.specs.Saved.{origin_of}
+use Rattle.gw_state.specs.Saved.{origin_of}
 use Rattle.gw_script.specs.Event.{Event}
 use Rattle.gw_serving.specs.Keeping.{HasPassed, IsTried, KeepsAtTick, failing_of}
 use Rattle.gw_wire.specs.declared.store.StoreFault.{StoreFault}

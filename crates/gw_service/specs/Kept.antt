@@ -3,7 +3,7 @@ use Rattle.std.specs.Prelude.{◌≡◌, ◌⊎◌, ⊤, ℕ, ◌&&◌, ◌||◌
 use Rattle.std.specs.Global.{Vec}
 use Rattle.gw_configuration.specs.Configuration.{Configuration}
 use Rattle.gw_core.specs.State.{State}
-use Rattle.gw_saved.specs.Saved.{Saved, origin_of}
+use Rattle.gw_state.specs.Saved.{Saved, origin_of}
 use Rattle.gw_core.specs.Guard.{PassesBoth}
 use Rattle.gw_serving.specs.Keeping.{IsTried, nothing_kept}
 use Rattle.gw_serving.specs.Serve.{scene, zero_counts}

@@ -9,7 +9,7 @@ use Rattle.gw_core.specs.Resumed.{carried, saved_of}
 use Rattle.gw_core.specs.State.{State}
 use Rattle.gw_policy_text.specs.Document.{configuration}
 use Rattle.gw_relay.specs.declared.port.PortState.{PortState}
-use Rattle.gw_saved.specs.Saved.{Origin, origin_of}
+use Rattle.gw_state.specs.Saved.{Origin, origin_of}
 use Rattle.gw_system.specs.declared.obstacle.Obstacle.TheVariants as obstacle
 use Rattle.gw_system.specs.declared.reading.ReadFailure.{ReadFailure}
 use Rattle.gw_system.specs.declared.reading.ReadFailure.TheVariants as reading

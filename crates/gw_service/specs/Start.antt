@@ -6,7 +6,7 @@ use Rattle.gw_core.specs.Resumed.{carried}
 use Rattle.gw_core.specs.State.{State}
 use Rattle.gw_core.specs.declared.event.Counts.{Counts}
 use Rattle.gw_configuration.specs.Shown.{shown}
-use Rattle.gw_saved.specs.Saved.{Saved}
+use Rattle.gw_state.specs.Saved.{Saved}
 use Rattle.gw_state_text.specs.Place.{IsPlaceOf}
 use Rattle.gw_state_text.specs.Text.{state_text}
 use Rattle.gw_state_text.specs.declared.fault.FaultKind.{FaultKind}

@@ -3,7 +3,7 @@
 ghost use Rattle.std.specs.Prelude.{◌≡◌, IfErr, IfOk, true};
 ghost use Rattle.std.specs.Cmp.Lexicographic.{pointwise};
 ghost use Rattle.gw_core.specs.Resumed.{saved_of};
-ghost use Rattle.gw_saved.specs.Saved.{origin_of};
+ghost use Rattle.gw_state.specs.Saved.{origin_of};
 ghost use Rattle.gw_service.specs.Keeping.{IsSuccessor};
 ghost use Rattle.gw_notices.specs.Reload.{reload_line};
 ghost use Rattle.gw_service.specs.Reload.{IsAdopted, IsPortsOrMemory, IsRefused, IsReloaded, have_same_ports, same_port};
@@ -15,7 +15,7 @@ use gw_core::Gateway;
 use gw_notices::{ReloadFault, reload_line};
 use gw_policy_text::read_config;
 use gw_relay::PortState;
-use gw_saved::{Origin, Saved};
+use gw_state::{Origin, Saved};
 use gw_system::{Obstacle, ReadFailure};
 use std::alloc::{AllocError, Global};
 

@@ -5,7 +5,7 @@ ghost use Rattle.std.specs.Prelude.{◌≡◌, ◌+◌, ◌≤◌, ◌<◌, ◌^
 ghost use Rattle.std.specs.Option.{option_map_or};
 ghost use Rattle.std.specs.Io.KnownBytes.{Appends, Keeps};
 ghost use Rattle.gw_configuration.specs.Configuration.{Configuration};
-ghost use Rattle.gw_saved.specs.Saved.{origin_of};
+ghost use Rattle.gw_state.specs.Saved.{origin_of};
 ghost use Rattle.gw_serving.specs.Serve.{scene};
 ghost use Rattle.gw_serving.specs.Stretch.{CanCount, moment};
 ghost use Rattle.gw_system.specs.Requests.{Asking, GoesOn, IsAsking, asked, text_found};
@@ -28,9 +28,9 @@ use gw_notices::{
     ReloadCounts, ReloadFault, Troubles, line_with_place, refusal_line, report_notices, write_note,
 };
 use gw_policy_text::MAX_OCTETS;
-use gw_saved::Origin;
 use gw_script::OctetSink;
 use gw_serving::{Pause, ServeFault, ServeState};
+use gw_state::Origin;
 use gw_system::{ReadFailure, Requests};
 use gw_wire::{Store, Wire};
 use std::alloc::Global;

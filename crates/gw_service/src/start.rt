@@ -8,7 +8,7 @@ use crate::counts::go_on_from;
 use crate::fault::ServiceFault;
 use gw_configuration::{Config, put_shown};
 use gw_core::{Counts, Gateway};
-use gw_saved::Saved;
+use gw_state::Saved;
 use gw_state_text::{FaultKind, StateFault, read_state};
 use gw_state_words::put_dropped;
 use gw_system::ReadFailure;

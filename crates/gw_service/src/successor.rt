@@ -4,7 +4,7 @@ ghost use Rattle.std.specs.Prelude.{IfOk};
 ghost use Rattle.gw_service.specs.Keeping.{IsSuccessor};
 
 use gw_configuration::Config;
-use gw_saved::Origin;
+use gw_state::Origin;
 use gw_tally::Tally;
 use gw_watching::Marks;
 use std::alloc::{AllocError, Global};

@@ -15,9 +15,9 @@ use Rattle.gw_objects.specs.Values.{same_value}
 use Rattle.gw_objects.proofs.SameValues.{same_values_are_equal}
 use Rattle.gw_tables.specs.declared.routes.route.Route.{Route}
 use Rattle.gw_tables.specs.routes.Table.{Routed}
-use Rattle.gw_saved.specs.declared.port.SavedPort.{SavedPort}
-use Rattle.gw_saved.specs.Carried.{same_entry}
-use Rattle.gw_saved.specs.Saved.{Saved, SavedObject}
+use Rattle.gw_state.specs.declared.port.SavedPort.{SavedPort}
+use Rattle.gw_state.specs.Carried.{same_entry}
+use Rattle.gw_state.specs.Saved.{Saved, SavedObject}
 use Rattle.gw_codecs.specs.tags.Object.{Object}
 use Rattle.gw_serving.specs.Keeping.{AlikeButTicksIsEqual, AlikeIsEqual, EqualIsAlike, alike_but_ticks, but_ticks, has_device, has_devices, is_same_object, is_same_port, is_same_route, is_same_slot, lasting_of, lasting_port, lasts_alike}
 

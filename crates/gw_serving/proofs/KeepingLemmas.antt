@@ -2,7 +2,7 @@
 use Rattle.std.proofs.Common.{◌≡◌, refl, sym, ap, subst, true≢false, ℕ, ◌+◌, ◌<◌, Bool, true, false, List, Option, nat_le, inl, inr, arith}
 use Rattle.std.specs.Prelude.{Result, Ok, Err}
 use Rattle.std.proofs.lemmas.Bool.{leb-false}
-use Rattle.gw_saved.specs.Saved.{Origin, Saved}
+use Rattle.gw_state.specs.Saved.{Origin, Saved}
 use Rattle.gw_core.specs.Resumed.{saved_of}
 use Rattle.gw_core.specs.State.{State}
 use Rattle.gw_serving.specs.Keeping.{IsRecent, KeepsChanged, Keeping, KeptBy, TicksBy, TicksKeepRecent, alike_but_ticks, is_due, is_kept}

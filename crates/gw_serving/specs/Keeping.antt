@@ -6,10 +6,10 @@ use Rattle.std.specs.List.{list_any}
 use Rattle.gw_objects.specs.declared.value.PropertyValue.{PropertyValue}
 use Rattle.gw_objects.specs.Values.{same_value}
 use Rattle.gw_tables.specs.declared.routes.route.Route.{Route}
-use Rattle.gw_saved.specs.declared.port.SavedPort.{SavedPort}
+use Rattle.gw_state.specs.declared.port.SavedPort.{SavedPort}
 use Rattle.gw_tables.specs.bdt_fdt.Registrations.{same as same_address}
-use Rattle.gw_saved.specs.Carried.{same_entry}
-use Rattle.gw_saved.specs.Saved.{Origin, Saved, SavedObject}
+use Rattle.gw_state.specs.Carried.{same_entry}
+use Rattle.gw_state.specs.Saved.{Origin, Saved, SavedObject}
 use Rattle.gw_state_text.specs.Text.{state_text}
 use Rattle.gw_script.specs.Event.{Event}
 use Rattle.gw_core.specs.History.{next}

@@ -2,12 +2,12 @@
 
 ghost use Rattle.std.specs.Prelude.{◌≡◌, Bool};
 ghost use Rattle.std.specs.Cmp.Lexicographic.{pointwise};
-ghost use Rattle.gw_saved.specs.Carried.{same_entry};
+ghost use Rattle.gw_state.specs.Carried.{same_entry};
 ghost use Rattle.gw_serving.specs.Keeping.{alike_but_ticks, has_device, has_devices, is_same, is_same_object, is_same_port, is_same_route, is_same_slot, lasts_alike};
 
 use gw_addr::{BdtEntry, NetNum};
 use gw_objects::PropertyValue;
-use gw_saved::{Saved, SavedObject, SavedPort};
+use gw_state::{Saved, SavedObject, SavedPort};
 use gw_tables::routes::Route;
 
 /// What of two saved states is compared.

@@ -8,7 +8,7 @@ ghost use Rattle.gw_wire.specs.Store.{Holds};
 
 use crate::alike::{Part, is_same};
 use gw_core::{AllAsked, Gateway, Guard, Taken};
-use gw_saved::{Origin, Saved};
+use gw_state::{Origin, Saved};
 use gw_state_text::put_state;
 use gw_wire::{Store, StoreFault};
 use std::alloc::Global;

@@ -1,7 +1,7 @@
 -- What `state` says of the text of a state.
 use Rattle.std.specs.Prelude.{◌≡◌, ⊤, ℕ, List, Result, Ok, Err}
 use Rattle.gw_configuration.specs.Configuration.{Configuration}
-use Rattle.gw_saved.specs.Saved.{Saved}
+use Rattle.gw_state.specs.Saved.{Saved}
 use Rattle.gw_state_text.specs.Place.{IsPlaceOf}
 use Rattle.gw_state_text.specs.Text.{state_text}
 use Rattle.gw_state_words.specs.Words.{state_words}

@@ -7,7 +7,7 @@ ghost use Rattle.gw_shell.specs.Kept.{IsSaidOf, IsSaidOfText};
 
 use gw_configuration::Config;
 use gw_ending::Fault;
-use gw_saved::Saved;
+use gw_state::Saved;
 use gw_state_text::read_state;
 use gw_state_words::put_state_words;
 use std::alloc::{AllocError, Global};

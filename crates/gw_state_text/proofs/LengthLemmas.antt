@@ -17,9 +17,9 @@ use Rattle.gw_tables.specs.declared.bdt_fdt.kept.KeptDevice.{KeptDevice}
 use Rattle.gw_configuration.specs.declared.object.ObjectKind.{ObjectKind}
 use Rattle.gw_objects.specs.declared.value.PropertyValue.{PropertyValue}
 use Rattle.gw_tables.specs.declared.routes.route.Route.{Route}
-use Rattle.gw_saved.specs.declared.counts.SavedCounts.{SavedCounts}
-use Rattle.gw_saved.specs.declared.port.SavedPort.{SavedPort}
-use Rattle.gw_saved.specs.Saved.{SavedObject, are_countable}
+use Rattle.gw_state.specs.declared.counts.SavedCounts.{SavedCounts}
+use Rattle.gw_state.specs.declared.port.SavedPort.{SavedPort}
+use Rattle.gw_state.specs.Saved.{SavedObject, are_countable}
 use Rattle.gw_state_text.specs.Fit.{AreOfKind, FitsDevices, FitsEntries, FitsKind, FitsObjects, FitsPorts, FitsRoutes}
 use Rattle.gw_state_text.specs.Items.{AllFit, AreItems}
 use Rattle.gw_state_text.specs.Laws.{TextsAreShort}

@@ -8,7 +8,7 @@ use Rattle.gw_addr.specs.Address.{text_of}
 use Rattle.gw_addr.specs.Text.{four_text}
 use Rattle.gw_tables.specs.declared.bdt_fdt.kept.KeptDevice.{KeptDevice}
 use Rattle.gw_tables.specs.declared.routes.route.Route.{Route}
-use Rattle.gw_saved.specs.declared.counts.SavedCounts.{SavedCounts}
+use Rattle.gw_state.specs.declared.counts.SavedCounts.{SavedCounts}
 use Rattle.gw_state_text.specs.Text.{counts_line, device_line, entry_line, port_line, route_line}
 use Rattle.gw_state_text.specs.internal.Lines.{counts_on, device_on, entry_on, port_on, route_on}
 

@@ -1,7 +1,7 @@
 -- An object and its slots, read one after the other.
 use Rattle.std.proofs.Common.{◌≡◌, ◌∙◌, ℕ, List, ◌++◌, Option}
 use Rattle.gw_objects.specs.declared.value.PropertyValue.{PropertyValue}
-use Rattle.gw_saved.specs.Saved.{SavedObject}
+use Rattle.gw_state.specs.Saved.{SavedObject}
 use Rattle.gw_codecs.specs.tags.Object.{object_view}
 use Rattle.gw_state_text.specs.Text.{object_text, slots_text}
 use Rattle.gw_state_text.specs.declared.object.Head.{Head}

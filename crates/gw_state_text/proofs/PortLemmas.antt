@@ -5,7 +5,7 @@ use Rattle.std.proofs.lemmas.List.Concat.{flat_map-cons}
 use Rattle.gw_addr.specs.declared.bip.BipAddr.{BipAddr}
 use Rattle.gw_addr.specs.declared.entry.BdtEntry.{BdtEntry}
 use Rattle.gw_tables.specs.declared.bdt_fdt.kept.KeptDevice.{KeptDevice}
-use Rattle.gw_saved.specs.declared.port.SavedPort.{SavedPort}
+use Rattle.gw_state.specs.declared.port.SavedPort.{SavedPort}
 use Rattle.gw_state_text.specs.Text.{device_line, entry_line, entry_word, peer_word, port_line, port_text}
 use Rattle.gw_state_text.specs.internal.Block.{StopsAfter}
 use Rattle.gw_state_text.specs.internal.Lines.{port_on}

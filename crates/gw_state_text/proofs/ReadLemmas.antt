@@ -20,7 +20,7 @@ use Rattle.gw_addr.proofs.Addresses.{address_of_parts}
 use Rattle.gw_addr.proofs.Lacking.{not_in_decimal}
 use Rattle.gw_tables.specs.declared.bdt_fdt.kept.KeptDevice.{KeptDevice}
 use Rattle.gw_tables.specs.declared.routes.route.Route.{Route}
-use Rattle.gw_saved.specs.declared.counts.SavedCounts.{SavedCounts}
+use Rattle.gw_state.specs.declared.counts.SavedCounts.{SavedCounts}
 use Rattle.gw_state_text.specs.Fit.{AreCounts, IsDevice, IsPlace, IsRoute}
 use Rattle.gw_state_text.specs.Lines.{counts_at, device_at, entry_at, port_at, route_at}
 use Rattle.gw_state_text.specs.Words.{◌>>=◌, address_in, address_to, after_word, mask_in, mask_to, network_to, number_in, number_to, parted_at, small_in, small_to}

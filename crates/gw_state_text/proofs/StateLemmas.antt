@@ -2,9 +2,9 @@
 use Rattle.std.proofs.Common.{◌≡◌, ◌∙◌, ℕ, List, [], ◌++◌, length, refl, sym, ap, append-nil, append_assoc}
 use Rattle.std.specs.List.{flat_map}
 use Rattle.gw_tables.specs.declared.routes.route.Route.{Route}
-use Rattle.gw_saved.specs.declared.counts.SavedCounts.{SavedCounts}
-use Rattle.gw_saved.specs.declared.port.SavedPort.{SavedPort}
-use Rattle.gw_saved.specs.Saved.{Saved, SavedObject}
+use Rattle.gw_state.specs.declared.counts.SavedCounts.{SavedCounts}
+use Rattle.gw_state.specs.declared.port.SavedPort.{SavedPort}
+use Rattle.gw_state.specs.Saved.{Saved, SavedObject}
 use Rattle.gw_state_text.specs.Text.{counts_line, end_line, first_line, object_text, port_text, route_line, state_text}
 use Rattle.gw_state_text.specs.internal.Block.{StopsAfter}
 use Rattle.gw_state_text.specs.internal.Lines.{counts_on}

@@ -16,12 +16,12 @@ use Rattle.gw_configuration.specs.Kinds.{kind_numbered}
 use Rattle.gw_objects.specs.declared.value.PropertyValue.{PropertyValue}
 use Rattle.gw_objects.specs.declared.value.PropertyValue.TheVariants.{Binary, State, Text, Integer, PositiveInteger}
 use Rattle.gw_tables.specs.declared.routes.route.Route.{Route}
-use Rattle.gw_saved.specs.declared.port.SavedPort.{SavedPort}
-use Rattle.gw_saved.specs.Saved.{Saved, SavedObject, are_countable}
+use Rattle.gw_state.specs.declared.port.SavedPort.{SavedPort}
+use Rattle.gw_state.specs.Saved.{Saved, SavedObject, are_countable}
 use Rattle.gw_codecs.specs.tags.Number.{IsSigned}
 use Rattle.gw_codecs.specs.tags.Object.{IsObject, Object}
 use Rattle.gw_state_text.specs.Items.{AreItems}
-use Rattle.gw_saved.specs.declared.counts.SavedCounts.{SavedCounts}
+use Rattle.gw_state.specs.declared.counts.SavedCounts.{SavedCounts}
 
 -- ---- values of the types of the code
 

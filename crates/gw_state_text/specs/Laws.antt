@@ -1,6 +1,6 @@
 -- What holds of the texts of all states that fit.
 use Rattle.std.specs.Prelude.{◌≡◌, ℕ, ◌≤◌, length, Ok}
-use Rattle.gw_saved.specs.Saved.{Saved}
+use Rattle.gw_state.specs.Saved.{Saved}
 use Rattle.gw_state_text.specs.Fit.{AreFit}
 use Rattle.gw_state_text.specs.Reading.{state_of}
 use Rattle.gw_state_text.specs.Text.{state_text}

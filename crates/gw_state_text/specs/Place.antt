@@ -1,6 +1,6 @@
 -- The line at which a text stops being that of a state.
 use Rattle.std.specs.Prelude.{◌≡◌, ℕ, ◌+◌, ◌==◌, List, ◌++◌, count_by}
-use Rattle.gw_saved.specs.Saved.{Saved}
+use Rattle.gw_state.specs.Saved.{Saved}
 use Rattle.gw_state_text.specs.Text.{state_text}
 
 -- the text of some state begins so

@@ -11,9 +11,9 @@ use Rattle.gw_tables.specs.declared.bdt_fdt.kept.KeptDevice.{KeptDevice}
 use Rattle.gw_objects.specs.declared.value.PropertyValue.{PropertyValue}
 use Rattle.gw_objects.specs.Table.{value_of}
 use Rattle.gw_tables.specs.declared.routes.route.Route.{Route}
-use Rattle.gw_saved.specs.declared.counts.SavedCounts.{SavedCounts}
-use Rattle.gw_saved.specs.declared.port.SavedPort.{SavedPort}
-use Rattle.gw_saved.specs.Saved.{Saved, SavedObject}
+use Rattle.gw_state.specs.declared.counts.SavedCounts.{SavedCounts}
+use Rattle.gw_state.specs.declared.port.SavedPort.{SavedPort}
+use Rattle.gw_state.specs.Saved.{Saved, SavedObject}
 use Rattle.gw_codecs.specs.tags.Object.{Object}
 use Rattle.gw_codecs.specs.tags.Value.{value_encoding}
 

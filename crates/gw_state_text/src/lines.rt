@@ -4,7 +4,7 @@ ghost use Rattle.std.specs.Prelude.{◌≡◌, ℕ, List, IfSome};
 ghost use Rattle.std.specs.Option.{IsSomeAnd};
 ghost use Rattle.gw_state_text.specs.internal.Put.{IsPut};
 ghost use Rattle.gw_addr.specs.Entry.{IsBdtEntry};
-ghost use Rattle.gw_saved.specs.Saved.{are_countable};
+ghost use Rattle.gw_state.specs.Saved.{are_countable};
 ghost use Rattle.gw_state_text.specs.Text.{counts_line, device_line, entry_line, port_line, route_line};
 ghost use Rattle.gw_state_text.specs.internal.Lines.{counts_on, device_on, entry_on, port_on, route_on};
 ghost use Rattle.gw_state_text.specs.Lines.{counts_at, device_at, entry_at, port_at, route_at};
@@ -13,7 +13,7 @@ ghost use Rattle.gw_state_text.specs.Fit.{AreCounts, IsDevice, IsPlace, IsRoute}
 
 use crate::words::{address_to, after_word, mask_to, network_to, number_to, octet_to, short_to};
 use gw_addr::{BdtEntry, BipAddr, Mask, NetNum, put_decimal, put_octet, put_slice};
-use gw_saved::{MAX_COUNT, SavedCounts};
+use gw_state::{MAX_COUNT, SavedCounts};
 use gw_tables::bdt_fdt::KeptDevice;
 use gw_tables::routes::Route;
 use std::alloc::AllocError;

@@ -23,7 +23,7 @@ use gw_addr::{put_decimal, put_octet, put_slice};
 use gw_codecs::tags::ObjectId;
 use gw_configuration::{MAX_OBJECTS, ObjectKind};
 use gw_objects::PropertyValue;
-use gw_saved::SavedObject;
+use gw_state::SavedObject;
 use gw_tables::priority::{LOWEST, PRIORITIES, PriorityArray, RESERVED};
 use std::alloc::{AllocError, Global};
 use std::array;

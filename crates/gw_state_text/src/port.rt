@@ -15,7 +15,7 @@ use crate::lines::{port_at, put_port};
 use crate::tables::{Devices, Entries};
 use gw_addr::{BdtEntry, BipAddr, MAX_PORTS, NetNum, Sequence};
 use gw_configuration::Peers;
-use gw_saved::SavedPort;
+use gw_state::SavedPort;
 use gw_tables::bdt_fdt::{Bdt, KeptDevice, KeptDevices};
 use std::alloc::{AllocError, Global};
 

@@ -4,7 +4,7 @@ ghost use Rattle.std.specs.Prelude.{◌≡◌, ◌≤◌, ◌-◌, ◌+◌, ◌=
 ghost use Rattle.std.specs.List.{list_any};
 ghost use Rattle.gw_state_text.specs.Fit.{AreFit};
 ghost use Rattle.gw_state_text.specs.Place.{IsPlaceOf, line_count};
-ghost use Rattle.gw_saved.specs.Saved.{Saved as SavedState};
+ghost use Rattle.gw_state.specs.Saved.{Saved as SavedState};
 ghost use Rattle.gw_state_text.specs.Reading.{IsReadAs, ReadsLines, ReadsState, is_whole, kind_at, lines_of, state_of};
 ghost use Rattle.gw_state_text.specs.Text.{state_text};
 ghost use Rattle.gw_state_text.specs.internal.Stop.{StopsIn};
@@ -16,7 +16,7 @@ use crate::object::Objects;
 use crate::port::Ports;
 use crate::tables::Routes;
 use crate::words::after_word;
-use gw_saved::{Saved, SavedFault};
+use gw_state::{Saved, SavedFault};
 use std::alloc::Global;
 
 /// Reads the state that a text is of ([`put_state`](crate::put_state) writes it). Nothing else has this

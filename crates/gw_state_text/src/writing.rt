@@ -10,7 +10,7 @@ use crate::object::Objects;
 use crate::port::Ports;
 use crate::tables::Routes;
 use gw_addr::put_slice;
-use gw_saved::Saved;
+use gw_state::Saved;
 use std::alloc::AllocError;
 
 /// Appends the text of a state. After an `Err` a front of it may be there.

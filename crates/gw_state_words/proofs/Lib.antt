@@ -1,2 +1,3 @@
 mod Appending
 mod TextLaws
+pub mod takeover_lemmas

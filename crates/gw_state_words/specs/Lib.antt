@@ -1,2 +1,3 @@
 pub mod Words
 pub mod Laws
+pub mod takeover

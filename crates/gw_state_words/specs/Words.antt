@@ -10,29 +10,29 @@ use Rattle.gw_configuration.specs.Configuration.{Configuration}
 use Rattle.gw_names.specs.Names.{object_type_name}
 use Rattle.gw_objects.specs.declared.value.PropertyValue.{PropertyValue}
 use Rattle.gw_objects.specs.declared.value.PropertyValue.TheVariants.{Binary, State, Text, Integer, PositiveInteger}
-use Rattle.gw_saved.specs.Saved.{Saved}
-use Rattle.gw_saved.specs.declared.counts.SavedCounts.{SavedCounts}
-use Rattle.gw_takeover.specs.declared.finding.Absence.{Absence}
-use Rattle.gw_takeover.specs.declared.finding.Absence.TheVariants.{NotConfigured, Twice}
-use Rattle.gw_takeover.specs.declared.finding.Finding.{Finding}
-use Rattle.gw_takeover.specs.declared.finding.Finding.TheVariants.{Port, NewPort, LostPort, Route, Value, NewObject, LostObject}
-use Rattle.gw_takeover.specs.declared.finding.Held.{Held}
-use Rattle.gw_takeover.specs.declared.finding.Held.TheVariants.{Slot, Default}
-use Rattle.gw_takeover.specs.declared.finding.Loss.{Loss}
-use Rattle.gw_takeover.specs.declared.finding.Loss.TheVariants as losses
-use Rattle.gw_takeover.specs.declared.finding.ObjectName.{ObjectName}
-use Rattle.gw_takeover.specs.declared.finding.PortName.{PortName}
-use Rattle.gw_takeover.specs.declared.finding.RouteFate.{RouteFate}
-use Rattle.gw_takeover.specs.declared.finding.RouteFate.TheVariants as routes
-use Rattle.gw_takeover.specs.declared.finding.RouteFinding.{RouteFinding}
-use Rattle.gw_takeover.specs.declared.finding.Sizes.{Sizes}
-use Rattle.gw_takeover.specs.declared.finding.TableFate.{TableFate}
-use Rattle.gw_takeover.specs.declared.finding.TableFate.TheVariants as tables
-use Rattle.gw_takeover.specs.declared.finding.ValueFate.{ValueFate}
-use Rattle.gw_takeover.specs.declared.finding.ValueFate.TheVariants as values
-use Rattle.gw_takeover.specs.declared.finding.ValueFinding.{ValueFinding}
-use Rattle.gw_takeover.specs.Findings.{TakeOver, findings}
-use Rattle.gw_takeover.specs.Losses.{loss_of}
+use Rattle.gw_state.specs.Saved.{Saved}
+use Rattle.gw_state.specs.declared.counts.SavedCounts.{SavedCounts}
+use Rattle.gw_state_words.specs.declared.takeover.finding.Absence.{Absence}
+use Rattle.gw_state_words.specs.declared.takeover.finding.Absence.TheVariants.{NotConfigured, Twice}
+use Rattle.gw_state_words.specs.declared.takeover.finding.Finding.{Finding}
+use Rattle.gw_state_words.specs.declared.takeover.finding.Finding.TheVariants.{Port, NewPort, LostPort, Route, Value, NewObject, LostObject}
+use Rattle.gw_state_words.specs.declared.takeover.finding.Held.{Held}
+use Rattle.gw_state_words.specs.declared.takeover.finding.Held.TheVariants.{Slot, Default}
+use Rattle.gw_state_words.specs.declared.takeover.finding.Loss.{Loss}
+use Rattle.gw_state_words.specs.declared.takeover.finding.Loss.TheVariants as losses
+use Rattle.gw_state_words.specs.declared.takeover.finding.ObjectName.{ObjectName}
+use Rattle.gw_state_words.specs.declared.takeover.finding.PortName.{PortName}
+use Rattle.gw_state_words.specs.declared.takeover.finding.RouteFate.{RouteFate}
+use Rattle.gw_state_words.specs.declared.takeover.finding.RouteFate.TheVariants as routes
+use Rattle.gw_state_words.specs.declared.takeover.finding.RouteFinding.{RouteFinding}
+use Rattle.gw_state_words.specs.declared.takeover.finding.Sizes.{Sizes}
+use Rattle.gw_state_words.specs.declared.takeover.finding.TableFate.{TableFate}
+use Rattle.gw_state_words.specs.declared.takeover.finding.TableFate.TheVariants as tables
+use Rattle.gw_state_words.specs.declared.takeover.finding.ValueFate.{ValueFate}
+use Rattle.gw_state_words.specs.declared.takeover.finding.ValueFate.TheVariants as values
+use Rattle.gw_state_words.specs.declared.takeover.finding.ValueFinding.{ValueFinding}
+use Rattle.gw_state_words.specs.takeover.Findings.{TakeOver, findings}
+use Rattle.gw_state_words.specs.takeover.Losses.{loss_of}
 
 -- ---- numbers, texts and values
 

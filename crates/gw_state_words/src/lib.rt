@@ -5,6 +5,7 @@ pub mod laws;
 mod lines;
 mod state;
 mod summary;
+pub mod takeover;
 mod words;
 
 pub use state::{put_dropped, put_state_words};

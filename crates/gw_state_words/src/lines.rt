@@ -2,15 +2,15 @@
 ghost use Rattle.std.specs.Prelude.{◌≡◌, ◌++◌, codes, OnOk};
 ghost use Rattle.gw_state_words.specs.Words.{beside_words, by_words, default_words, ending_words, finding_words, held_words, line, lost_object_words, lost_port_words, new_words, other_words, port_line_words, reason_words, refusal_words, route_words, slots_words, table_line_words, table_words, verdict_words, way_words, written_words};
 
+use crate::takeover::{
+    Absence, Finding, Held, ObjectName, PortName, RouteFate, RouteFinding, Sizes, TableFate,
+    ValueFate, ValueFinding,
+};
 use crate::words::{
     put_absence, put_counted, put_devices, put_numbered, put_object, put_peers, put_port,
     put_tables, put_value,
 };
 use gw_addr::put_decimal;
-use gw_takeover::{
-    Absence, Finding, Held, ObjectName, PortName, RouteFate, RouteFinding, Sizes, TableFate,
-    ValueFate, ValueFinding,
-};
 use std::alloc::AllocError;
 
 /// Appends the line of what is found of a part.

@@ -4,11 +4,11 @@ ghost use Rattle.std.specs.List.{flat_map};
 ghost use Rattle.gw_state_words.specs.Words.{counts_line, dropped_line, dropped_words, line, state_words};
 
 use crate::lines::put_line;
+use crate::takeover::{Finding, take_over};
 use crate::words::put_counted;
 use gw_addr::{keep_whole, put_slice};
 use gw_configuration::Config;
-use gw_saved::{Saved, SavedCounts};
-use gw_takeover::{Finding, take_over};
+use gw_state::{Saved, SavedCounts};
 use std::alloc::{AllocError, Global};
 
 /// Appends what a saved state holds, line by line, and what of it a gateway of this configuration takes over

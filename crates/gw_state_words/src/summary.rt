@@ -4,11 +4,11 @@ ghost use Rattle.std.specs.List.{flat_map};
 ghost use Rattle.gw_state_words.specs.Words.{is_loss, kept_words, kinds, loss_words, many_word, one_word, short_held_words, short_value_words, short_words, take_over_words};
 
 use crate::lines::{put_reason, put_refusal};
+use crate::takeover::{Finding, Held, Loss, RouteFinding, TakeOver, ValueFinding};
 use crate::words::{
     put_absence, put_counted, put_devices, put_identifier, put_numbered, put_port, put_value,
 };
 use gw_addr::{keep_whole, put_decimal, put_slice};
-use gw_takeover::{Finding, Held, Loss, RouteFinding, TakeOver, ValueFinding};
 use std::alloc::{AllocError, Global};
 
 /// The kinds of losses, in the order in which they are reported.

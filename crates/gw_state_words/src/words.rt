@@ -4,10 +4,10 @@ ghost use Rattle.std.specs.List.{flat_map};
 ghost use Rattle.gw_addr.specs.Station.{digit_of, two_digits};
 ghost use Rattle.gw_state_words.specs.Words.{absence_words, active_words, counted, devices_words, identifier_words, is_plain, numbered_words, object_words, peers_words, port_words, quoted, shown, tables_words, type_words, value_words};
 
+use crate::takeover::{Absence, ObjectName, PortName, Sizes};
 use gw_addr::put_decimal;
 use gw_names::object_type_name;
 use gw_objects::PropertyValue;
-use gw_takeover::{Absence, ObjectName, PortName, Sizes};
 use std::alloc::AllocError;
 
 /// Appends a number of things, by the word for one of them and the word for any other number.

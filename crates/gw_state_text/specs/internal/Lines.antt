@@ -7,7 +7,7 @@ use Rattle.gw_addr.specs.Address.{text_of}
 use Rattle.gw_addr.specs.Text.{four_text}
 use Rattle.gw_tables.specs.declared.bdt_fdt.kept.KeptDevice.{KeptDevice}
 use Rattle.gw_tables.specs.declared.routes.route.Route.{Route}
-use Rattle.gw_saved.specs.declared.counts.SavedCounts.{SavedCounts}
+use Rattle.gw_state.specs.declared.counts.SavedCounts.{SavedCounts}
 
 abbrev pub counts_on : SavedCounts → List ℕ → List ℕ
 counts_on counts rest =

@@ -3,7 +3,7 @@ use Rattle.std.proofs.lemmas.Bool.{eqb-true}
 use Rattle.std.proofs.lemmas.List.{nil_from_length}
 use Rattle.gw_state_text.proofs.StateLemmas.{after_end, at_counts, at_end, at_first, counted, in_objects, in_ports, in_routes, read_objects, read_ports, read_routes, state_found, stops_so}
 use Rattle.std.proofs.lemmas.Bool.{and_from}
-use Rattle.gw_saved.specs.Saved.{Saved, are_countable, are_few}
+use Rattle.gw_state.specs.Saved.{Saved, are_countable, are_few}
 use Rattle.gw_state_text.specs.declared.fault.Stop.{Stop}
 use Rattle.gw_state_text.proofs.BlockLemmas.{stop_is}
 use Rattle.gw_state_text.proofs.StepLemmas.{Counted, counts_missed, counts_range, end_missed, few_parts, more_after, objects_fail, ports_fail, routes_fail, saved_is, state_read_so, version_missed, whole_of}

@@ -4,7 +4,7 @@ use Rattle.gw_tables.specs.declared.bdt_fdt.tables.PortTables.{PortTables}
 use Rattle.gw_configuration.specs.declared.port.Port.{Port}
 use Rattle.gw_relay.proofs.Peers.{all_peers_once}
 use Rattle.gw_relay.specs.State.{Relay}
-use Rattle.gw_saved.specs.declared.counts.SavedCounts.{SavedCounts}
+use Rattle.gw_state.specs.declared.counts.SavedCounts.{SavedCounts}
 use Rattle.gw_core.proofs.Resuming.{length_with}
 use Rattle.gw_core.proofs.gateway.Gateway.resume.Goals as goal
 

@@ -1,7 +1,7 @@
 use Rattle.std.proofs.Common.{ap, length, List, arith}
-use Rattle.gw_saved.specs.declared.port.SavedPort.{SavedPort}
-use Rattle.gw_saved.specs.declared.origin.OriginPort.{OriginPort}
-use Rattle.gw_saved.specs.declared.counts.SavedCounts.{SavedCounts}
+use Rattle.gw_state.specs.declared.port.SavedPort.{SavedPort}
+use Rattle.gw_state.specs.declared.origin.OriginPort.{OriginPort}
+use Rattle.gw_state.specs.declared.counts.SavedCounts.{SavedCounts}
 use Rattle.gw_tables.specs.routes.Table.{Routed}
 use Rattle.gw_core.proofs.Resuming.{accepted, few_saved}
 use Rattle.gw_core.proofs.gateway.Gateway.save.Goals as goal

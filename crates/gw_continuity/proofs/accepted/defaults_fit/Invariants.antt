@@ -1,7 +1,0 @@
-use Rattle.std.proofs.Common.{take}
-use Rattle.std.specs.List.{AllByRecursion}
-use Rattle.gw_continuity.specs.StateOf.{IsDefaultInRange}
-use Rattle.gw_continuity.proofs.accepted.defaults_fit.Given as goal
-
-abbrev pub invariant-loop-object : goal.invariant-loop-object
-invariant-loop-object l = AllByRecursion IsDefaultInRange (take l.object-index l.objects)

@@ -1,6 +1,0 @@
-//! That nothing is lost: a gateway that takes over what was saved of another one of the same configuration goes on as if
-//! it had never stopped.
-#![tactic(auto)]
-
-mod accepted;
-pub mod laws;

@@ -1,8 +1,0 @@
-use Rattle.gw_keeping.proofs.Runs.{runs_end_current, watched_runs_end_current}
-use Rattle.gw_keeping.proofs.laws.at_each_end.Goals as goal
-
-pub returns-clause-ended : goal.returns-clause-ended
-returns-clause-ended g c = runs_end_current
-
-pub returns-clause-watched : goal.returns-clause-watched
-returns-clause-watched g c = watched_runs_end_current

@@ -1,4 +1,0 @@
-//! That a keeper keeps what lasts of a gateway: its store is up to date before each answer, and at every pause.
-#![tactic(auto)]
-
-pub mod laws;

@@ -1,5 +1,0 @@
-//! That what a gateway saves fits its text, which is read back, and that what takes it over is in the same state.
-#![tactic(auto)]
-
-pub mod laws;
-mod typed;

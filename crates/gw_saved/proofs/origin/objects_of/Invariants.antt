@@ -1,6 +1,0 @@
-use Rattle.std.proofs.Common.{◌≡◌, map, take}
-use Rattle.gw_saved.specs.Saved.{origin_object}
-use Rattle.gw_saved.proofs.origin.objects_of.Given as goal
-
-abbrev pub invariant-loop-object : goal.invariant-loop-object
-invariant-loop-object l = l.origins.items ≡ map origin_object (take l.object-index l.objects)

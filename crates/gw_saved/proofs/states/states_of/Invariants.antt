@@ -1,6 +1,0 @@
-use Rattle.std.proofs.Common.{◌≡◌, take}
-use Rattle.gw_saved.specs.Carried.{states_carried}
-use Rattle.gw_saved.proofs.states.states_of.Given as goal
-
-abbrev pub invariant-loop-object : goal.invariant-loop-object
-invariant-loop-object l = l.states.items ≡ states_carried (take l.object-index l.objects) l.saved

@@ -1,0 +1,3 @@
+pub mod continuity
+pub mod restoring
+pub mod keeping

@@ -1,0 +1,158 @@
+-- That a keeper keeps what lasts of a gateway.
+use Rattle.std.specs.Prelude.{◌≡◌, ℕ, Bool, true, false, List, Option, Some, None, Result, Ok, Err, ⊤}
+use Rattle.gw_configuration.specs.Configuration.{Configuration}
+use Rattle.gw_state.specs.Saved.{Saved, origin_of}
+use Rattle.gw_script.specs.Event.{Event}
+use Rattle.gw_core.specs.History.{next}
+use Rattle.gw_core.specs.Lasting.{lasts}
+use Rattle.gw_core.specs.Resumed.{saved_of}
+use Rattle.gw_core.specs.State.{State}
+use Rattle.gw_serving.specs.Keeping.{HasPassed, IsHeld, IsRecent, IsTried, IsUnkept, IsUpToDate, KeepsAtTick, Keeping, lasting_of}
+use Rattle.gw_serving.specs.Serve.{Turn}
+use Rattle.gw_serving.specs.Stretch.{EndsFaulty, EndsStretch, Moment}
+use Rattle.gw_core.specs.declared.guard.Both.{Both}
+use Rattle.gw_serving.specs.declared.serving.ServeFault.{ServeFault}
+use Rattle.gw_wire.specs.declared.store.StoreFault.{StoreFault}
+use Rattle.gw_serving.specs.declared.stretch.Pause.{Pause}
+use Rattle.gw_watching.specs.Watching.{Watching}
+use Rattle.gw_service.specs.Chain.{AreLinks, IsTicked, Link, Look, Manner, Runs, Stage}
+use Rattle.gw_service.specs.Keeping.{failing_in}
+use Rattle.gw_service.specs.Kept.{Given, KeepsFirst, RunsKept, RunsWatched, manner_of, reporting_of, watched_manner_of}
+use Rattle.gw_service.specs.Serving.{Ends, Service}
+use Rattle.gw_service.specs.Stats.{Reporting}
+use Rattle.gw_service.specs.declared.fault.ServiceFault.{ServiceFault}
+use Rattle.gw_service.specs.declared.keeping.Kept.{Kept}
+use Rattle.gw_service.specs.declared.keeping.Kept.TheVariants.{In}
+
+-- ---- what a keeper has
+
+-- what is kept lasts as what is due, or the last try failed
+abbrev pub LastsAs : Result Saved StoreFault → Saved → Type 0
+LastsAs (Ok s) due = lasting_of s ≡ lasting_of due
+LastsAs (Err fault) due = ⊤
+
+-- The store is up to date in this state, or the last try failed.
+pub record IsCurrent {S : Type 0} (held : S → Option (List ℕ)) (k : Keeping S) (w : State) : Type 0 where
+  pub text : IsHeld (held k.store) k.kept
+  pub lasts : LastsAs k.kept (saved_of k.origin w)
+
+-- ---- at each event
+
+-- After each event the store holds the text of what is kept, as it did before.
+abbrev pub HeldStays : {S : Type 0} → (S → Option (List ℕ)) → Type 0
+HeldStays {S} held = (k l : Keeping S) (w : State) (event : Event) (passes : Bool) →
+    HasPassed held k w event l passes → IsHeld (held k.store) k.kept → IsHeld (held l.store) l.kept
+
+-- If an event lasts and may be answered, the store is up to date in the state after it.
+abbrev pub AnsweredIsKept : {S : Type 0} → (S → Option (List ℕ)) → Type 0
+AnsweredIsKept {S} held = (k l : Keeping S) (w : State) (event : Event) →
+    HasPassed held k w event l true → lasts w event ≡ true → IsHeld (held k.store) k.kept →
+    IsUpToDate l.origin (next w event) (held l.store)
+
+-- If its datagrams are withheld, it is an event that lasts; the store holds the text of the state after it, or what it held.
+abbrev pub WithheldIsOldOrNew : {S : Type 0} → (S → Option (List ℕ)) → Type 0
+WithheldIsOldOrNew {S} held = (k l : Keeping S) (w : State) (event : Event) →
+    HasPassed held k w event l false → (lasts w event ≡ true) × IsUnkept held k (saved_of k.origin (next w event)) l
+
+-- ---- at each try
+
+-- After a try the keeper is current.
+abbrev pub TriedIsCurrent : {S : Type 0} → (S → Option (List ℕ)) → Type 0
+TriedIsCurrent {S} held = (k l : Keeping S) (w : State) → IsTried held k w l → IsCurrent held l w
+
+-- After what it does at a tick it is current, if it was.
+abbrev pub TicksKeepCurrent : {S : Type 0} → (S → Option (List ℕ)) → Type 0
+TicksKeepCurrent {S} held = (k l : Keeping S) (w : State) → KeepsAtTick held k w l → IsCurrent held k w → IsCurrent held l w
+
+-- ---- at each end
+
+-- At each pause of a stretch the keeper is current, if it was at its beginning.
+abbrev pub PausesKeep : {S : Type 0} → (S → Option (List ℕ)) → Type 0
+PausesKeep {S} held = (count : ℕ) (before after : Moment (Keeping S)) (pause : Pause) →
+    EndsStretch (HasPassed held) count before (Ok pause) after → IsCurrent held before.guard before.scene.gateway →
+    IsCurrent held after.guard after.scene.gateway
+
+-- If it ends in a fault, the keeper is current in the state before the last event, of which nothing was sent.
+abbrev pub FaultsKeep : {S : Type 0} → (S → Option (List ℕ)) → Type 0
+FaultsKeep {S} held = (count : ℕ) (before after : Moment (Keeping S)) (fault : ServeFault) →
+    (end : EndsFaulty (HasPassed held) count before fault after) → IsCurrent held before.guard before.scene.gateway →
+    IsCurrent held after.guard end.then.scene.gateway
+
+-- A keeper that is current and whose last try didn't fail has a store that is up to date.
+abbrev pub CurrentIsUpToDate : {S : Type 0} → (S → Option (List ℕ)) → Type 0
+CurrentIsUpToDate {S} held = (k : Keeping S) (w : State) (s : Saved) → k.kept ≡ Ok s → IsCurrent held k w →
+    IsUpToDate k.origin w (held k.store)
+
+-- ---- over a run
+
+-- The state is kept in a store, by a keeper of this configuration that is current in this state.
+pub record KeepsCurrent {S : Type 0} (held : S → Option (List ℕ)) (kept : Kept S) (c : Configuration) (w : State) : Type 0 where
+  pub keeper : Keeping S
+  pub is : kept ≡ In keeper
+  pub origin : keeper.origin ≡ origin_of c
+  pub current : IsCurrent held keeper w
+
+-- So it is at a stage of a run, of the configuration that is in force there. The part of the guard that keeps the state is given.
+abbrev pub KeepsAt : {S K : Type 0} → (S → Option (List ℕ)) → (K → Kept S) → Stage K → Type 0
+KeepsAt held part s = KeepsCurrent held (part s.now.guard) s.config s.now.scene.gateway
+
+-- So it is at the end of a run. If its last event ended in a fault, the state is that before this event, of which nothing was sent.
+abbrev pub KeepsAtEnd : {S K : Type 0} → (S → Option (List ℕ)) → (K → Kept S) → (manner : Manner K) → (count : ℕ) → (first : Stage K)
+    → (answer : Result (Unit {0}) ServeFault) → (links : List Link) → (last : Stage K) → Runs manner count first answer links last → Type 0
+KeepsAtEnd held part manner count first (Ok done) links last runs = KeepsAt held part last
+KeepsAtEnd held part manner count first (Err fault) links last runs =
+    KeepsCurrent held (part last.now.guard) last.config runs.ends.ends.then.scene.gateway
+
+-- the guard of a run that isn't watched keeps the state itself, and the first part of one that is
+abbrev pub itself : {S : Type 0} → Kept S → Kept S
+itself kept = kept
+
+abbrev pub first_part : {S L : Type 0} → Both (Kept S) (Watching L L) → Kept S
+first_part both = both.first
+
+-- If a store is given, the state is kept in it and current at once.
+abbrev pub FirstIsCurrent : {S : Type 0} → (S → Option (List ℕ)) → Type 0
+FirstIsCurrent {S} held = (store : S) (c : Configuration) (w : State) (kept : Kept S) → KeepsFirst held (Some store) c w kept →
+    KeepsCurrent held kept c w
+
+-- If it is current at a stage, it is wherever links lead from there: through reloads and events whose datagrams are withheld too.
+abbrev pub RunsKeepCurrent : {S : Type 0} → (S → Option (List ℕ)) → Type 0
+RunsKeepCurrent {S} held = (how : Reporting) (s t : Stage (Kept S)) (links : List Link) → AreLinks (manner_of held how) s links t →
+    KeepsAt held itself s → KeepsAt held itself t
+
+abbrev pub WatchedRunsKeepCurrent : {S L : Type 0} → (S → Option (List ℕ)) → (L → Option (List ℕ)) → Type 0
+WatchedRunsKeepCurrent {S} {L} held log_held = (how : Reporting) (s t : Stage (Both (Kept S) (Watching L L))) (links : List Link) →
+    AreLinks (watched_manner_of held log_held how) s links t → KeepsAt held first_part s → KeepsAt held first_part t
+
+-- So a run to which a store is given keeps the state in it to its end.
+abbrev pub RunsEndCurrent : {S Q L : Type 0} → Given S Q L → Type 0
+RunsEndCurrent {S} given = (store : S) → given.store ≡ Some store → (c : Configuration) (how : Service) (before after : Ends)
+    (text : List ℕ) (outcome : Result (Unit {0}) ServiceFault) → (run : RunsKept given c how before after text outcome) →
+    KeepsAtEnd given.held itself (manner_of given.held (reporting_of given how run.gateway)) how.turns _ run.answer run.runs.links
+    run.runs.last run.runs.runs
+
+abbrev pub WatchedRunsEndCurrent : {S Q L : Type 0} → Given S Q L → Type 0
+WatchedRunsEndCurrent {S} {Q} {L} given = (store : S) → given.store ≡ Some store → (watcher : Watching L L) (c : Configuration)
+    (how : Service) (before after : Ends) (text : List ℕ) (outcome : Result (Unit {0}) ServiceFault) →
+    (run : RunsWatched given watcher c how before after text outcome) →
+    KeepsAtEnd given.held first_part (watched_manner_of given.held given.log_held (reporting_of given how run.gateway)) how.turns _
+    run.answer run.runs.links run.runs.last run.runs.runs
+
+-- Where it is current and no last try failed, the store is up to date, as that of a gateway of the configuration in force.
+abbrev pub KeptIsUpToDate : {S : Type 0} → (S → Option (List ℕ)) → Type 0
+KeptIsUpToDate {S} held = (kept : Kept S) (c : Configuration) (w : State) → (now : KeepsCurrent held kept c w) →
+    failing_in kept ≡ None → IsUpToDate (origin_of c) w (held now.keeper.store)
+
+-- After each tick of a run the text is that of a state fewer than ten ticks ago, or of one that differs only in its ticks; or the last
+-- try failed.
+abbrev pub IsRecentIn : {S : Type 0} → Kept S → State → Type 0
+IsRecentIn {S} kept w = (k : Keeping S) → kept ≡ In k → IsRecent k.kept (saved_of k.origin w)
+
+abbrev pub RunsKeepRecent : {S : Type 0} → (S → Option (List ℕ)) → Type 0
+RunsKeepRecent {S} held = (how : Reporting) (s t : Stage (Kept S)) (turns : List Turn) (look : Look) (text : List ℕ) →
+    IsTicked (manner_of held how) s turns look text t → IsRecentIn t.now.guard t.now.scene.gateway
+
+abbrev pub WatchedRunsKeepRecent : {S L : Type 0} → (S → Option (List ℕ)) → (L → Option (List ℕ)) → Type 0
+WatchedRunsKeepRecent {S} {L} held log_held = (how : Reporting) (s t : Stage (Both (Kept S) (Watching L L))) (turns : List Turn)
+    (look : Look) (text : List ℕ) → IsTicked (watched_manner_of held log_held how) s turns look text t →
+    IsRecentIn t.now.guard.first t.now.scene.gateway

@@ -1,0 +1,45 @@
+-- What of a saved state is dropped, by kinds.
+use Rattle.std.specs.Prelude.{ℕ, Bool, not, ◌==◌, ◌&&◌, if◌then◌else◌, Option, Some, None}
+use Rattle.gw_state_words.specs.declared.takeover.finding.Finding.{Finding}
+use Rattle.gw_state_words.specs.declared.takeover.finding.Finding.TheVariants.{Port, NewPort, LostPort, Route, Value, NewObject, LostObject}
+use Rattle.gw_state_words.specs.declared.takeover.finding.Held.{Held}
+use Rattle.gw_state_words.specs.declared.takeover.finding.Held.TheVariants.{Slot, Default}
+use Rattle.gw_state_words.specs.declared.takeover.finding.Loss.{Loss}
+use Rattle.gw_state_words.specs.declared.takeover.finding.Loss.TheVariants as losses
+use Rattle.gw_state_words.specs.declared.takeover.finding.RouteFate.{RouteFate}
+use Rattle.gw_state_words.specs.declared.takeover.finding.RouteFate.TheVariants as routes
+use Rattle.gw_state_words.specs.declared.takeover.finding.TableFate.{TableFate}
+use Rattle.gw_state_words.specs.declared.takeover.finding.TableFate.TheVariants as tables
+use Rattle.gw_state_words.specs.declared.takeover.finding.ValueFate.{ValueFate}
+use Rattle.gw_state_words.specs.declared.takeover.finding.ValueFate.TheVariants as values
+
+abbrev pub table_loss : TableFate → Option Loss
+table_loss tables.OtherPeers = Some losses.Table
+table_loss tables.AsConfigured = None
+table_loss tables.TakenOver = None
+
+abbrev pub route_loss : RouteFate → Option Loss
+route_loss routes.TakenOver = None
+route_loss _ = Some losses.Route
+
+abbrev pub held_loss : Held → Loss
+held_loss (Slot priority) = losses.Slot
+held_loss Default = losses.Default
+
+abbrev pub value_loss : Held → ValueFate → Option Loss
+value_loss held values.TakenOver = None
+value_loss held _ = Some (held_loss held)
+
+-- nothing was written to it
+abbrev pub object_loss : ℕ → Bool → Option Loss
+object_loss slots default = if (slots == 0) && not default then None else Some losses.Object
+
+-- the kind of what is dropped, or none if nothing is
+abbrev pub loss_of : Finding → Option Loss
+loss_of (Port number port sizes table) = table_loss table
+loss_of (NewPort number port) = None
+loss_of (LostPort port sizes absence) = Some losses.Port
+loss_of (Route route) = route_loss route.fate
+loss_of (Value value) = value_loss value.held value.fate
+loss_of (NewObject object) = None
+loss_of (LostObject object slots default absence) = object_loss slots default

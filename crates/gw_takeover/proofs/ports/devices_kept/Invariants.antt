@@ -1,6 +1,0 @@
-use Rattle.std.proofs.Common.{◌≡◌, ◌≤◌, ◌*◌, take}
-use Rattle.gw_takeover.specs.Findings.{devices_kept}
-use Rattle.gw_takeover.proofs.ports.devices_kept.Given as goal
-
-abbrev pub invariant-loop-port : goal.invariant-loop-port
-invariant-loop-port l = (l.devices ≡ devices_kept (take l.port-index l.ports) l.saved) × (l.devices ≤ 128 * l.port-index)

@@ -1,8 +1,0 @@
-use Rattle.std.proofs.Common.{◌≡◌, ◌++◌, map, take}
-use Rattle.gw_takeover.specs.Findings.{finding_of_route}
-use Rattle.gw_takeover.proofs.routes.add_routes.Given as goal
-
-abbrev pub invariant-loop-learned : goal.invariant-loop-learned
-invariant-loop-learned l =
-    l.found.items
-    ≡ l.fn.found.items ++ map (finding_of_route l.config l.saved.ports l.kept) (take l.learned-index l.saved.routes)
