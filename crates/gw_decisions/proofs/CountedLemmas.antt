@@ -2,7 +2,7 @@
 use Rattle.std.proofs.Common.{◌≡◌, ◌∙◌, refl, sym, ap, ℕ, ◌+◌, ◌<◌, List, [], ◌∷◌, ◌++◌, length, arith}
 use Rattle.std.specs.Prelude.{◌==◌, if◌then◌else◌, slice_index}
 use Rattle.gw_core.specs.declared.asked.Asked.{Asked}
-use Rattle.gw_tally.specs.Tally.{CountsOne, one_more, place_of}
+use Rattle.gw_decisions.specs.tally.Tally.{CountsOne, one_more, place_of}
 use Rattle.gw_decisions.specs.Counted.{AreCounted, counted_on}
 
 pub counted_along : (k count : ℕ) (one two : List Asked) → counted_on k count (one ++ two) ≡ counted_on k (counted_on k count one) two

@@ -1,1 +1,2 @@
 pub mod CountedLemmas
+pub mod tally_lemmas

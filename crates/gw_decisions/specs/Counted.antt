@@ -1,7 +1,7 @@
 -- How many asks the rule of each number decides.
 use Rattle.std.specs.Prelude.{◌≡◌, ℕ, ◌<◌, ◌==◌, if◌then◌else◌, List, [], ◌∷◌, length, slice_index}
 use Rattle.gw_core.specs.declared.asked.Asked.{Asked}
-use Rattle.gw_tally.specs.Tally.{one_more, place_of}
+use Rattle.gw_decisions.specs.tally.Tally.{one_more, place_of}
 
 -- a count of the asks that the rule of this number decided, or none at 0: one more for each, up to 2^64 - 1
 abbrev pub counted_on : ℕ → ℕ → List Asked → ℕ

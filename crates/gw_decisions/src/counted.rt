@@ -3,8 +3,8 @@
 ghost use Rattle.gw_core.specs.declared.asked.Asked.{Asked};
 ghost use Rattle.gw_decisions.specs.Counted.{AreCounted};
 
+use crate::tally::Tally;
 use gw_core::Asked;
-use gw_tally::Tally;
 
 /// Counts by which rule each ask was decided. A count of 2^64 - 1 stays.
 pub fn count_asked(tally: &mut Tally, asked: &[Asked])

@@ -2,5 +2,6 @@
 #![tactic(auto)]
 
 mod counted;
+pub mod tally;
 
 pub use counted::count_asked;

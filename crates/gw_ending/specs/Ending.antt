@@ -16,8 +16,8 @@ use Rattle.gw_policy_drafts.specs.declared.suggestion.fault.SuggestFault.{Sugges
 use Rattle.gw_policy_drafts.specs.declared.suggestion.fault.SuggestFault.TheVariants as suggest
 use Rattle.gw_system.specs.Obstacle.{obstacle_words}
 use Rattle.gw_system.specs.declared.obstacle.Obstacle.{Obstacle}
-use Rattle.gw_watch_files.specs.declared.fault.TrialFault.{TrialFault}
-use Rattle.gw_watch_files.specs.declared.fault.TrialFault.TheVariants as trial
+use Rattle.gw_watching.specs.declared.files.fault.TrialFault.{TrialFault}
+use Rattle.gw_watching.specs.declared.files.fault.TrialFault.TheVariants as trial
 use Rattle.gw_ending.specs.declared.fault.Fault.{Fault}
 use Rattle.gw_ending.specs.declared.fault.Fault.TheVariants as fault
 use Rattle.gw_configuration.specs.declared.fault.ConfigFault.{ConfigFault}

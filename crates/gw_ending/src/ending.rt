@@ -20,7 +20,7 @@ use gw_policy_drafts::migration::MigrationFault;
 use gw_script::{LineFlaw, OctetSink, WriteFailed, write_whole};
 use gw_state_text::StateFault;
 use gw_system::{Obstacle, obstacle_words};
-use gw_watch_files::TrialFault;
+use gw_watching::files::TrialFault;
 use gw_wire::StoreFault;
 use itoa::Buffer;
 use std::process::ExitCode;

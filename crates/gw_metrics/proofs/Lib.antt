@@ -2,3 +2,4 @@ pub mod Lines
 pub mod Names
 pub mod Reading
 pub mod Samples
+pub mod file_lemmas

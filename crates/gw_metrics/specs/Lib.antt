@@ -2,3 +2,4 @@ pub mod Escape
 pub mod Family
 pub mod Laws
 pub mod Text
+pub mod file

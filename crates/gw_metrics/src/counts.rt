@@ -1,7 +1,7 @@
 //! What is written of a gateway.
 
+use gw_decisions::tally::Tally;
 use gw_rules::RuleList;
-use gw_tally::Tally;
 
 /// How many datagrams weren't passed on, by the reason.
 #[derive(Clone, Copy)]

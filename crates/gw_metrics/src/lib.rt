@@ -6,6 +6,7 @@
 mod counts;
 mod escape;
 mod family;
+pub mod file;
 pub mod laws;
 mod text;
 

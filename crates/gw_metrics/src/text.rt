@@ -10,8 +10,8 @@ use crate::counts::{Counts, Drops, Reloads, StateTries};
 use crate::escape::put_escaped;
 use crate::family::{Family, Label};
 use gw_addr::{keep_whole, put_decimal, put_slice};
+use gw_decisions::tally::Tally;
 use gw_rules::{Rule, RuleList};
-use gw_tally::Tally;
 use itoa::Buffer;
 use std::alloc::{AllocError, Global};
 

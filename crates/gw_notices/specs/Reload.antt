@@ -12,7 +12,7 @@ use Rattle.gw_system.specs.Obstacle.{obstacle_words}
 use Rattle.gw_system.specs.declared.reading.ReadFailure.{ReadFailure}
 use Rattle.gw_system.specs.declared.reading.ReadFailure.TheVariants as reading
 use Rattle.gw_state_words.specs.takeover.Findings.{take_over}
-use Rattle.gw_tally.specs.Tally.{one_more}
+use Rattle.gw_decisions.specs.tally.Tally.{one_more}
 use Rattle.gw_notices.specs.declared.reload.ReloadCounts.{ReloadCounts}
 use Rattle.gw_notices.specs.declared.reload.ReloadFault.{ReloadFault}
 use Rattle.gw_notices.specs.declared.reload.ReloadFault.TheVariants as fault

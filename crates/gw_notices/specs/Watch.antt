@@ -1,7 +1,7 @@
 -- What is reported of what watches a gateway.
 use Rattle.std.specs.Prelude.{ℕ, ◌+◌, ◌==◌, if◌then◌else◌, List, [], ◌++◌, length, codes, decimal, Option, Some, None}
 use Rattle.gw_rules.specs.declared.rule.Rule.{Rule}
-use Rattle.gw_tally.specs.Tally.{tally_text}
+use Rattle.gw_decisions.specs.tally.Tally.{tally_text}
 use Rattle.gw_notices.specs.declared.watch_report.LogCount.{LogCount}
 use Rattle.gw_notices.specs.declared.watch_report.WatchCounts.{WatchCounts}
 

@@ -1,7 +1,7 @@
 //! Why a configuration that was read again isn't taken over, and how often one was read again.
 
 ghost use Rattle.std.specs.Prelude.{◌≡◌};
-ghost use Rattle.gw_tally.specs.Tally.{one_more};
+ghost use Rattle.gw_decisions.specs.tally.Tally.{one_more};
 ghost use Rattle.gw_notices.specs.Reload.{counts_since, with_refused, with_taken_over};
 
 use gw_configuration::ConfigFault;

@@ -4,12 +4,12 @@ ghost use Rattle.std.specs.Prelude.{◌≡◌, ◌++◌, ◌+◌, codes, decimal
 ghost use Rattle.std.specs.Io.KnownBytes.{Appends};
 ghost use Rattle.gw_script.specs.Order.{in_order};
 ghost use Rattle.gw_notices.specs.Watch.{asks_text, audit_text, beside_text, counts_text, logs_text, trial_text, unseen_text, watch_text};
-ghost use Rattle.gw_tally.specs.Tally.{line_in, rule_line};
+ghost use Rattle.gw_decisions.specs.tally.Tally.{line_in, rule_line};
 
 use crate::stats::write_count;
+use gw_decisions::tally::Tally;
 use gw_rules::{Rule, RuleList};
 use gw_script::{OctetSink, WriteFailed, write_whole};
-use gw_tally::Tally;
 
 /// What is counted of a log beside the log.
 #[derive(Clone, Copy)]

@@ -6,7 +6,7 @@ use gw_policy_drafts::migration::MigrationFault;
 use gw_script::LineFlaw;
 use gw_shell::{Choice, Fault, Obstacle, RunOptions, Shown, WordsFault, choice_of, end};
 use gw_state_text::{FaultKind, StateFault};
-use gw_watch_files::TrialFault;
+use gw_watching::files::TrialFault;
 use gw_wire::StoreFault;
 use itoa::Buffer;
 use std::alloc::{AllocError, Global};

@@ -13,7 +13,7 @@ use Rattle.gw_replay.specs.Decisions.{AreCountedFrom, AreFirst, BeginsWithNone, 
 use Rattle.gw_script.specs.Event.{Event}
 use Rattle.gw_script.specs.Reader.{BeginsLong}
 use Rattle.gw_script.specs.Script.{AreLines, lines_of}
-use Rattle.gw_tally.specs.Tally.{IsTally, tally_text}
+use Rattle.gw_decisions.specs.tally.Tally.{IsTally, tally_text}
 use Rattle.gw_decisions.specs.Counted.{AreCounted, counted_on}
 use Rattle.gw_decisions.proofs.CountedLemmas.{counted_along, counted_none}
 

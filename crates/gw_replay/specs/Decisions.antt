@@ -8,7 +8,7 @@ use Rattle.gw_core.specs.State.{State}
 use Rattle.gw_replay.specs.declared.counting.Uncounted.{Uncounted}
 use Rattle.gw_script.specs.Event.{Event}
 use Rattle.gw_script.specs.Script.{AreLines, IsLine, lines_of}
-use Rattle.gw_tally.specs.Tally.{tally_text}
+use Rattle.gw_decisions.specs.tally.Tally.{tally_text}
 use Rattle.gw_decisions.specs.Counted.{AreCounted, counted_on}
 
 -- a fresh gateway

@@ -7,14 +7,14 @@ ghost use Rattle.gw_core.specs.Asked.{asked_at};
 ghost use Rattle.gw_core.specs.History.{next};
 ghost use Rattle.gw_replay.specs.Decisions.{AreCountedFrom, IsNext, IsReport, fresh};
 ghost use Rattle.gw_script.specs.Event.{event_view};
-ghost use Rattle.gw_tally.specs.Tally.{IsTally, tally_text};
+ghost use Rattle.gw_decisions.specs.tally.Tally.{IsTally, tally_text};
 ghost use Rattle.gw_decisions.specs.Counted.{AreCounted};
 
 use gw_configuration::Config;
 use gw_core::{Counts, Event, Gateway, take_event_watched};
 use gw_decisions::count_asked;
+use gw_decisions::tally::{Tally, put_tally};
 use gw_script::{LineReader, MAX_DATAGRAM, NextLine, OctetSource, parse_line};
-use gw_tally::{Tally, put_tally};
 use std::alloc::{AllocError, Global};
 
 /// The asks aren't counted: memory was refused, a read failed, or a count of the gateway is at its end.
@@ -30,7 +30,7 @@ struct Counting {
     tally: Tally,
 }
 
-/// How many asks of a script each rule of this configuration decides, in lines as `gw_tally` writes them: the asks of the
+/// How many asks of a script each rule of this configuration decides, in lines as `gw_decisions::tally` writes them: the asks of the
 /// events of all its lines, or of those before the first that writes none, in a fresh gateway. `None` if memory was
 /// refused, a read failed, or an event would pass the end of a count.
 pub fn count_script<R: OctetSource>(

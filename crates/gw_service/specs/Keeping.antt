@@ -13,7 +13,7 @@ use Rattle.gw_notices.specs.declared.losses.Losses.{Losses}
 use Rattle.gw_service.specs.declared.successor.Successor.{Successor}
 use Rattle.gw_notices.specs.declared.troubles.Troubles.{Troubles}
 use Rattle.gw_notices.specs.Notices.{of_state}
-use Rattle.gw_tally.specs.Tally.{IsTally}
+use Rattle.gw_decisions.specs.tally.Tally.{IsTally}
 
 -- what is made of this configuration: what can be written, which rules are audited, and counts of which none began
 pub record IsSuccessor (c : Configuration) (s : Successor) : Type 0 where

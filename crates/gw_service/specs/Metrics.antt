@@ -7,7 +7,7 @@ use Rattle.gw_metrics.specs.declared.counts.Counts.{Counts}
 use Rattle.gw_metrics.specs.declared.counts.Drops.{Drops}
 use Rattle.gw_metrics.specs.declared.counts.Reloads.{Reloads}
 use Rattle.gw_metrics.specs.declared.counts.StateTries.{StateTries}
-use Rattle.gw_metrics_file.specs.Writing.{Writing, WritesAtTick}
+use Rattle.gw_metrics.specs.file.Writing.{Writing, WritesAtTick}
 use Rattle.gw_relay.specs.declared.port.PortState.{PortState}
 use Rattle.gw_rules.specs.declared.rule.Rule.{Rule}
 use Rattle.gw_serving.specs.Reports.{report_of}

@@ -9,10 +9,10 @@ use Rattle.gw_rules.specs.declared.rule.Rule.{Rule}
 use Rattle.gw_core.specs.declared.guard.Both.{Both}
 use Rattle.gw_system.specs.Host.{LogOpening}
 use Rattle.gw_system.specs.declared.reading.ReadFailure.{ReadFailure}
-use Rattle.gw_tally.specs.Tally.{IsTally}
-use Rattle.gw_watch_files.specs.Trial.{IsAuditBy, IsTrialBy}
-use Rattle.gw_watch_files.specs.declared.fault.WatchFault.{WatchFault}
-use Rattle.gw_watch_files.specs.declared.fault.WatchFault.TheVariants as watch
+use Rattle.gw_decisions.specs.tally.Tally.{IsTally}
+use Rattle.gw_watching.specs.files.Trial.{IsAuditBy, IsTrialBy}
+use Rattle.gw_watching.specs.declared.files.fault.WatchFault.{WatchFault}
+use Rattle.gw_watching.specs.declared.files.fault.WatchFault.TheVariants as watch
 use Rattle.gw_watching.specs.Watching.{Watching, with_marks}
 use Rattle.gw_watching.specs.declared.beside.Beside.{Beside}
 use Rattle.gw_service.specs.Keeping.{IsKeptAtTick, IsKeptFor, failing_in}

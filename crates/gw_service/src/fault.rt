@@ -3,7 +3,7 @@
 use gw_serving::ServeFault;
 use gw_state_text::StateFault;
 use gw_system::{LogFailure, Obstacle, OpenFailure, SocketFailure};
-use gw_watch_files::{TrialFault, WatchFault};
+use gw_watching::files::{TrialFault, WatchFault};
 use gw_wire::StoreFault;
 use std::alloc::AllocError;
 

@@ -12,12 +12,12 @@ ghost use Rattle.gw_notices.specs.declared.troubles.Troubles.{Troubles};
 
 use crate::successor::Successor;
 use gw_core::{AllAsked, Gateway, Guard, Taken};
+use gw_decisions::tally::Tally;
 use gw_metrics::StateTries;
 use gw_notices::{Losses, Troubles};
 use gw_script::OctetSink;
 use gw_serving::Keeper;
 use gw_state::Origin;
-use gw_tally::Tally;
 use gw_wire::{Store, StoreFault};
 use std::alloc::Global;
 

@@ -2,20 +2,20 @@
 
 ghost use Rattle.std.specs.Prelude.{◌≡◌, ◌≤◌, length, map, option_map};
 ghost use Rattle.gw_addr.specs.declared.TheConstants.{MAX_PORTS};
-ghost use Rattle.gw_metrics_file.specs.Writing.{nothing_written};
+ghost use Rattle.gw_metrics.specs.file.Writing.{nothing_written};
 ghost use Rattle.gw_service.specs.Metrics.{AreCounts, PutsDue, PutsInto, device_count, drops_of, reloads_of};
 
 use crate::keeping::StateKeeper;
 use arrayvec::ArrayVec;
 use gw_addr::MAX_PORTS;
 use gw_core::Gateway;
+use gw_decisions::tally::Tally;
+use gw_metrics::file::Metrics;
 use gw_metrics::{Counts, Drops, Reloads, StateTries};
-use gw_metrics_file::Metrics;
 use gw_notices::{Losses, ReloadCounts};
 use gw_relay::PortState;
 use gw_rules::RuleList;
 use gw_serving::Report;
-use gw_tally::Tally;
 use gw_wire::Store;
 use std::alloc::Global;
 

@@ -23,7 +23,7 @@ use crate::reload::{Adopted, reloaded};
 use crate::stats::Schedule;
 use gw_core::{Both, Gateway};
 use gw_log_words::Notes;
-use gw_metrics_file::Metrics;
+use gw_metrics::file::Metrics;
 use gw_notices::{
     ReloadCounts, ReloadFault, Troubles, line_with_place, refusal_line, report_notices, write_note,
 };

@@ -4,8 +4,8 @@ ghost use Rattle.std.specs.Prelude.{IfOk};
 ghost use Rattle.gw_service.specs.Keeping.{IsSuccessor};
 
 use gw_configuration::Config;
+use gw_decisions::tally::Tally;
 use gw_state::Origin;
-use gw_tally::Tally;
 use gw_watching::Marks;
 use std::alloc::{AllocError, Global};
 

@@ -6,10 +6,10 @@ ghost use Rattle.gw_service.specs.Watch.{AreCountsOf, AreCountsUnder, IsAuditUnd
 
 use crate::fault::ServiceFault;
 use gw_configuration::{Config, RunOptions};
+use gw_decisions::tally::Tally;
 use gw_rule_index::Policy;
 use gw_system::Host;
-use gw_tally::Tally;
-use gw_watch_files::{open_audit, open_trial};
+use gw_watching::files::{open_audit, open_trial};
 use gw_watching::{Beside, Marks, Watcher};
 use std::alloc::{AllocError, Global};
 

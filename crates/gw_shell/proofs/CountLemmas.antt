@@ -4,7 +4,7 @@ use Rattle.gw_configuration.specs.Configuration.{Configuration}
 use Rattle.gw_rules.specs.declared.rule.Rule.{Rule}
 use Rattle.gw_script.specs.declared.lines.LinesFault.{LinesFault}
 use Rattle.gw_script.specs.declared.lines.LinesFault.TheVariants as lines
-use Rattle.gw_tally.specs.Counting.{IsCounted}
+use Rattle.gw_decisions.specs.tally.Counting.{IsCounted}
 use Rattle.gw_shell.specs.Asking.{Counts, ReportsUnread, asks_in}
 use Rattle.gw_ending.specs.Lines.{fault_of_lines}
 use Rattle.gw_shell.specs.Program.{LeavesAnswered}

@@ -5,8 +5,8 @@ use Rattle.gw_verdicts.specs.Why.{IsAnswered, ShowsNoAsk}
 use Rattle.gw_rules.specs.declared.rule.Rule.{Rule}
 use Rattle.gw_ending.specs.Lines.{Leaves}
 use Rattle.gw_ending.specs.Unread.{unread_after}
-use Rattle.gw_tally.specs.Counting.{CountsAll, EndsAtLine}
-use Rattle.gw_tally.specs.Tally.{tally_text}
+use Rattle.gw_decisions.specs.tally.Counting.{CountsAll, EndsAtLine}
+use Rattle.gw_decisions.specs.tally.Tally.{tally_text}
 use Rattle.gw_ending.specs.declared.fault.Fault.{Fault}
 use Rattle.gw_ending.specs.declared.fault.Fault.TheVariants as fault
 

@@ -7,16 +7,16 @@ ghost use Rattle.gw_script.specs.Known.{OnKnown};
 ghost use Rattle.gw_shell.specs.Asking.{Answers, Counts, ReportsUnread, asks_in};
 ghost use Rattle.gw_shell.specs.Files.{result_map};
 ghost use Rattle.gw_shell.specs.Program.{LeavesAnswered, LeavesAnsweredIn, LeavesCounts};
-ghost use Rattle.gw_tally.specs.Tally.{tally_text};
+ghost use Rattle.gw_decisions.specs.tally.Tally.{tally_text};
 
 use crate::configured::configuration_in;
 use crate::files::ConfigFiles;
 use crate::program::print_made;
 use gw_configuration::Config;
+use gw_decisions::tally::{Tally, count_asks, put_tally};
 use gw_ending::{Fault, first_lines_fault, report_unread};
 use gw_rules::RuleList;
 use gw_script::{OctetSink, OctetSource};
-use gw_tally::{Tally, count_asks, put_tally};
 use gw_verdicts::asks::{AskLines, Lent};
 use std::alloc::{AllocError, Global};
 use std::io::{BufWriter, Write};

@@ -1,2 +1,3 @@
 pub mod RecordLemmas
 pub mod TrialLemmas
+pub mod files_lemmas

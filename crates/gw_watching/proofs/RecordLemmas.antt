@@ -6,7 +6,7 @@ use Rattle.gw_audit.specs.Line.{line_text}
 use Rattle.gw_audit.specs.declared.denial.Denial.{Denial}
 use Rattle.gw_core.specs.declared.asked.Asked.{Asked}
 use Rattle.gw_rules.specs.declared.rule.Rule.{Rule}
-use Rattle.gw_tally.specs.Tally.{one_more}
+use Rattle.gw_decisions.specs.tally.Tally.{one_more}
 use Rattle.gw_watching.specs.Beside.{IsEnded, IsPut, IsRecorded, ended}
 use Rattle.gw_watching.specs.declared.beside.Beside.{Beside}
 use Rattle.gw_watching.specs.Records.{last_number, lines_behind, record_of, recorded, records}

@@ -12,7 +12,7 @@ use Rattle.gw_rules.specs.Asker.{verdict, verdicts_of}
 use Rattle.gw_rules.specs.Authorizer.{denied_of, refusal}
 use Rattle.gw_rules.specs.RuleList.{allows, first}
 use Rattle.gw_rules.specs.declared.rule.Rule.{Rule}
-use Rattle.gw_tally.specs.Tally.{one_more}
+use Rattle.gw_decisions.specs.tally.Tally.{one_more}
 use Rattle.gw_watching.specs.Laws.{AllAreAsked, TrialIsDenials}
 use Rattle.gw_watching.specs.Records.{denied_by, record_of, recorded, records}
 

@@ -34,4 +34,3 @@ run_records chosen naming last w [] = []
 run_records chosen naming last w (e ∷ events) =
     let now = records chosen (naming (next w e).rules) last (next w e).ticks (asked_at w e) in
     now ++ run_records chosen naming (last_number last now) (next w e) events
-

@@ -2,3 +2,4 @@ pub mod Records
 pub mod Beside
 pub mod Watching
 pub mod Laws
+pub mod files

@@ -8,7 +8,7 @@ use Rattle.gw_core.specs.Denials.{rule_name}
 use Rattle.gw_core.specs.declared.asked.Asked.{Asked}
 use Rattle.gw_rules.specs.RuleList.{allows, first}
 use Rattle.gw_rules.specs.declared.rule.Rule.{Rule}
-use Rattle.gw_tally.specs.Tally.{one_more}
+use Rattle.gw_decisions.specs.tally.Tally.{one_more}
 
 -- ---- which
 

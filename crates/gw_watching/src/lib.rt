@@ -6,6 +6,7 @@
 mod audit;
 mod beside;
 mod choice;
+pub mod files;
 pub mod laws;
 mod trial;
 mod watcher;

@@ -8,9 +8,9 @@ use crate::audit::Marks;
 use crate::beside::Beside;
 use gw_core::{AllAsked, Asked, Gateway, Guard, Taken};
 use gw_decisions::count_asked;
+use gw_decisions::tally::Tally;
 use gw_rule_index::Policy;
 use gw_script::OctetSink;
-use gw_tally::Tally;
 use std::alloc::Global;
 use std::marker::Model;
 

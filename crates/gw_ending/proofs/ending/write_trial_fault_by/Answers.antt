@@ -1,7 +1,7 @@
 use Rattle.std.proofs.Common.{codes, subst, sym, ℕ, List, OnOk}
 use Rattle.std.specs.Io.KnownBytes.{Appends}
 use Rattle.gw_ending.specs.Ending.{trial_line, unread_line}
-use Rattle.gw_watch_files.specs.declared.fault.TrialFault.{TrialFault}
+use Rattle.gw_watching.specs.declared.files.fault.TrialFault.{TrialFault}
 use Rattle.gw_ending.proofs.ending.write_trial_fault_by.Goals as goal
 
 pub returns-in-Unreadable-clause-ok : goal.returns-in-Unreadable-clause-ok

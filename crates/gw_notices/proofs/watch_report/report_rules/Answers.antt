@@ -1,5 +1,5 @@
 use Rattle.std.proofs.Common.{◌≡◌, ◌+◌, arith, get_or, length, rules}
-use Rattle.gw_tally.specs.Tally.{line_in}
+use Rattle.gw_decisions.specs.tally.Tally.{line_in}
 use Rattle.gw_notices.proofs.StatsLemmas.{told_all, told_none, told_one}
 use Rattle.gw_notices.proofs.watch_report.report_rules.Goals as goal
 

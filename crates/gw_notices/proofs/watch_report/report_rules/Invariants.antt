@@ -1,7 +1,7 @@
 use Rattle.std.proofs.Common.{take}
 use Rattle.std.specs.Io.KnownBytes.{Appends}
 use Rattle.gw_script.specs.Order.{in_order}
-use Rattle.gw_tally.specs.Tally.{line_in}
+use Rattle.gw_decisions.specs.tally.Tally.{line_in}
 use Rattle.gw_notices.proofs.watch_report.report_rules.Given as goal
 
 -- The lines of the rules so far were written, if writing never fails, and it goes on to never fail.

@@ -2,7 +2,7 @@ use Rattle.std.proofs.Common.{ap, sym, ◌∙◌, ◌≡◌, ◌+◌, List, ℕ,
 use Rattle.std.specs.Global.{Vec}
 use Rattle.gw_core.specs.State.{State}
 use Rattle.gw_rules.specs.declared.rule.Rule.{Rule}
-use Rattle.gw_tally.specs.Tally.{tally_text}
+use Rattle.gw_decisions.specs.tally.Tally.{tally_text}
 use Rattle.gw_replay.proofs.CountingLemmas.{if_some, reported}
 use Rattle.gw_replay.proofs.counting.count_script.Goals as goal
 

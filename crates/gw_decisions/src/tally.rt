@@ -1,0 +1,10 @@
+//! How many asks of a log each rule of a policy decides.
+//!
+//! [`count_asks`] reads the asks line by line and keeps only the counts; [`put_tally`] writes them, a line for each rule.
+mod counting;
+mod tally;
+mod text;
+
+pub use counting::count_asks;
+pub use tally::Tally;
+pub use text::put_tally;

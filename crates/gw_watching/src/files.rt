@@ -1,0 +1,8 @@
+//! The files of what watches a gateway: a policy on trial with its log, and an audit.
+mod fault;
+mod fitting;
+mod numbers;
+mod opening;
+
+pub use fault::{TrialFault, WatchFault};
+pub use opening::{open_audit, open_trial};
