@@ -62,7 +62,7 @@ SOME = {
 }
 
 
-# ---- shapes, as docs and `gw_shapes` have them: a side is whether the field may be absent, and its least and greatest number
+# ---- shapes, as docs and `gw_ask_sets::shapes` have them: a side is whether the field may be absent, and its least and greatest number
 
 NOTHING = (True, None)
 # The least and the greatest number that a datagram can carry in a field.

@@ -1,5 +1,5 @@
 #!/usr/bin/env python3
-"""Draws docs/layers.svg: the crates in the rows in which docs/ARCHITECTURE.md lists them, each with the crates of crates.txt that it
+"""Draws docs/layers.svg: the crates in the groups in which docs/ARCHITECTURE.md lists them, each with the crates of crates.txt that it
 uses. A crate that another one of them uses is left out. With --check it only says whether the picture is up to date."""
 import html
 import re
@@ -7,47 +7,36 @@ import sys
 from pathlib import Path
 
 DOCS = Path(__file__).resolve().parent
-BESIDE = "Beside the rows"
-TESTS = re.compile(r"gw_cases|gw_\w+_vectors")
+TESTS = "Tests"
 WIDTH, WHOLE, LINE, GAP = 1100, 796, 15, 8
 
-# What the crates beside the rows are about.
+# What the crates are about whose names don't say it.
 NOTES = {
-    "gw_script": "the text of scripts",
+    "gw_names": "the standard's names",
+    "gw_script": "texts, line by line",
+    "gw_codecs": "tags, APDUs, services",
+    "gw_log_words": "words and times of a log",
     "gw_config_faults": "where a text's fault is",
-    "gw_migration": "format 3 of an older text",
-    "gw_shapes": "which asks there are",
-    "gw_regions": "what two policies decide",
-    "gw_permissions": "who may do what",
-    "gw_sameness": "two configurations alike",
-    "gw_compare": "two policies compared",
-    "gw_warnings": "surely mistakes",
-    "gw_lint": "rules that never decide",
-    "gw_verdicts": "which rules decide",
-    "gw_decisions": "asks of events, counted",
-    "gw_replay": "a script, played",
-    "gw_core_laws": "what every gateway does",
+    "gw_tables": "peers, routes, slots",
+    "gw_core": "one event in, effects out",
+    "gw_core_laws": "what holds of every gateway",
+    "gw_decisions": "how often rules decide",
     "gw_state_text": "a saved state as a text",
-    "gw_continuity": "that nothing is lost",
-    "gw_takeover": "what of a state is kept",
-    "gw_state_words": "that in words",
-    "gw_keeping": "that what lasts is kept",
+    "gw_state_words": "what of it is kept",
+    "gw_state_laws": "that nothing is lost",
+    "gw_serving": "a gateway over a wire",
     "gw_watching": "a trial, an audit, counts",
-    "gw_watch_files": "their files",
-    "gw_notices": "what an operator reads",
-    "gw_ending": "how the program ends",
-    "gw_rule_changes": "rules new, gone, moved",
-    "gw_suggest": "rules from what was seen",
-    "gw_tally": "how often rules decide",
-    "gw_log_words": "a log's words and time",
     "gw_metrics": "counts for a collector",
-    "gw_metrics_file": "when they are written",
-    "gw_asks": "the asks of a text",
-    "gw_json": "lines for programs",
-    "gw_points": "objects for tools",
-    "gw_page": "a page of HTML",
-    "gw_report": "a site on a page",
+    "gw_notices": "what an operator reads",
     "gw_command_line": "what the words ask for",
+    "gw_ending": "how the program ends",
+    "gw_ask_sets": "which asks there are",
+    "gw_policy_review": "permissions, warnings, lint",
+    "gw_compare": "two policies compared",
+    "gw_policy_drafts": "rules and texts to begin with",
+    "gw_json": "lines for programs",
+    "gw_report": "a site on a page",
+    "gw_verdicts": "which rules decide",
     "gw_cases": "how tests are written",
     "gw_frame_vectors": "the tests of frames and rules",
     "gw_gateway_vectors": "the tests of a gateway",
@@ -102,7 +91,7 @@ def wrapped(words, width):
 def columns_of(crates):
     """How many boxes are side by side: at most six, as many as their names leave room for, and no line much shorter than another."""
     longest = max(len(crate) for crate in crates)
-    most = min(6, (WHOLE + GAP) // (10 * longest + GAP))
+    most = min(5, (WHOLE + GAP) // (9 * longest + GAP))
     lines = -(-len(crates) // most)
     return -(-len(crates) // lines)
 
@@ -136,7 +125,7 @@ class Picture:
 
     def row(self, title, crates, y, fill):
         """Draws a row, and answers where the next one begins."""
-        columns = 4 if title == BESIDE else columns_of(crates)
+        columns = columns_of(crates)
         width = min(250, (WHOLE - GAP * (columns - 1)) // columns)
         lines = [crates[at : at + columns] for at in range(0, len(crates), columns)]
         heights = [max(self.height(crate, width) for crate in line) for line in lines]
@@ -155,18 +144,16 @@ class Picture:
 def drawn():
     uses, found = dependencies(), rows()
     picture = Picture(uses)
-    beside = next(crates for title, crates in found if title == BESIDE)
     missing = sorted(set(uses) ^ {crate for _, crates in found for crate in crates})
     if missing:
         sys.exit(f"docs/ARCHITECTURE.md and crates.txt differ: {', '.join(missing)}")
     y = 20
-    for title, crates in reversed([row for row in found if row[0] != BESIDE]):
+    for title, crates in reversed([row for row in found if row[0] != TESTS]):
         picture.said.append(title)
         y = picture.row(title, crates, y, "#f5f7fa")
-    picture.said.append(BESIDE)
-    y = picture.row(BESIDE, [crate for crate in beside if not TESTS.fullmatch(crate)], y, "#ffffff")
+    picture.said.append(TESTS)
     at = 20
-    for crate in [crate for crate in reversed(beside) if TESTS.fullmatch(crate)]:
+    for crate in reversed(dict(found)[TESTS]):
         height = picture.height(crate, 210)
         picture.box(crate, 870, at, 210, height, ("#eef6ff", "#7aa7d9"))
         at += height + 9

@@ -1,6 +1,6 @@
 #!/usr/bin/env bash
 # Makes the section CONFIGURATION KEYS of man/bacgw.1 from the tables by which the program reads a configuration
-# (crates/gw_config_tables/src/tables.rt) and the bounds of a rule's fields (crates/gw_rules/src/field.rt), and compares it with the page;
+# (crates/gw_policy_text/src/keys/tables.rt) and the bounds of a rule's fields (crates/gw_rules/src/field.rt), and compares it with the page;
 # with --print it prints it. It wants python3 and no built program. The last line says whether they agree.
 set -euo pipefail
 exec python3 - "$(cd "$(dirname "$0")/.." && pwd)" "${1:-}" <<'END'
@@ -8,11 +8,11 @@ import difflib, glob, os, re, sys
 
 os.chdir(sys.argv[1])
 PAGE, SECTION = "man/bacgw.1", ".SH CONFIGURATION KEYS"
-TABLES = open("crates/gw_config_tables/src/tables.rt").read()
+TABLES = open("crates/gw_policy_text/src/keys/tables.rt").read()
 READING = "".join(open(file).read() for file in sorted(glob.glob("crates/gw_policy_text/specs/*.antt")))
 LIMITS = {}
-LIMITED = ("gw_configuration", "gw_config_tables", "gw_rules")
-for file in [file for crate in LIMITED for file in glob.glob(f"crates/{crate}/src/*.rt")] + ["crates/gw_addr/src/lib.rt"]:
+LIMITED = ("gw_configuration/src", "gw_policy_text/src/keys", "gw_rules/src")
+for file in [file for folder in LIMITED for file in glob.glob(f"crates/{folder}/*.rt")] + ["crates/gw_addr/src/lib.rt"]:
     for name, value, shift in re.findall(r"const (MAX_\w+): \w+ = ([\d_]+)(?: << (\d+))?;", open(file).read()):
         LIMITS[name] = str(int(value) << int(shift or 0))
 SHAPES = dict(re.findall(r"const (\w+): (?:Shape|Scalar) = (.*?);", TABLES, re.S))

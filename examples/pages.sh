@@ -72,6 +72,7 @@ def check_names(page, text):
                 say(name in CRATES, page, f"no crate {name}")
             elif re.fullmatch(r"gw_\w+(::\w+)+", name):
                 check_item(page, name)
+                crate = name.split("::")[0] if os.path.isdir(f"crates/{name.replace('::', '/src/', 1)}") else crate
             elif re.fullmatch(r"[\w.*-]+(/[\w.*-]+)+/?", name) and not BUILT.search(name):
                 check_path(page, name, crate)
                 crate = named_crate(name) or crate

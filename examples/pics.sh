@@ -13,19 +13,19 @@ os.chdir(sys.argv[1])
 PAGE, BEGIN, END = "docs/PICS.md", "<!-- begin: examples/pics.sh -->\n", "<!-- end: examples/pics.sh -->\n"
 LIMITS = """
 Ports: gw_addr lib MAX_PORTS
-Entries of a port's broadcast distribution table, its own included: gw_bdt_fdt bdt MAX_ENTRIES
-Registered foreign devices of a port: gw_bdt_fdt fdt MAX_REGISTRATIONS
-Seconds of grace of a registration: gw_bdt_fdt fdt GRACE
-Networks with a route, configured and learned: gw_routes routes MAX_ROUTES
+Entries of a port's broadcast distribution table, its own included: gw_tables bdt_fdt/bdt MAX_ENTRIES
+Registered foreign devices of a port: gw_tables bdt_fdt/fdt MAX_REGISTRATIONS
+Seconds of grace of a registration: gw_tables bdt_fdt/fdt GRACE
+Networks with a route, configured and learned: gw_tables routes/routes MAX_ROUTES
 Subnets of a port's stations: gw_configuration stations MAX_STATIONS
 Value objects: gw_configuration parts MAX_OBJECTS
 States of a Multi-state Value: gw_configuration object MAX_STATES
 Highest instance of an object: gw_configuration instance MAX_INSTANCE
 Octets of a text: gw_configuration text MAX_TEXT
-Properties that a ReadPropertyMultiple names: gw_services multi MAX_REFERENCES
+Properties that a ReadPropertyMultiple names: gw_codecs services/multi MAX_REFERENCES
 Octets of an APDU: gw_objects table MAX_APDU
-Octets of an NPDU: gw_npdu writing MAX_LEN
-Octets of a datagram: gw_bvll writing MAX_LEN
+Octets of an NPDU: gw_frames npdu/writing MAX_LEN
+Octets of a datagram: gw_frames bvll/writing MAX_LEN
 Rules: gw_rules rule_list MAX_RULES
 Ranges of a rule's field: gw_rules rule MAX_LONG_RANGES
 Ranges of a field, in all rules: gw_rules rule_list MAX_RANGES_IN_ALL
@@ -47,7 +47,7 @@ def names(of):
 
 def services():
     dispatch, device, rows, bits = source("gw_device", "dispatch"), source("gw_device", "who_is", "who_has"), [], set()
-    for name, choice in re.findall(r"pub const (\w+): u8 = (\d+);", source("gw_services", "choice")):
+    for name, choice in re.findall(r"pub const (\w+): u8 = (\d+);", source("gw_codecs", "services/choice")):
         confirmed, unconfirmed = (f"{name} =>" in body(dispatch, kind) for kind in ("confirmed", "unconfirmed"))
         sent = f"encode_{name.lower()}(" in device
         rows.append([SERVICES[int(choice) + (0 if confirmed else 256)], choice, "yes" * sent, "yes" * (confirmed or unconfirmed)])
@@ -63,13 +63,13 @@ def exchanged(title, first, base, pairs, sent, heard):
     return table(title, [first, "Octet", "Initiates", "Executes"], rows)
 
 def messages():
-    pairs = re.findall(r"MessageKind::(\w+) => 0x(\w\w)", source("gw_npdu", "kind"))
+    pairs = re.findall(r"MessageKind::(\w+) => 0x(\w\w)", source("gw_frames", "npdu/kind"))
     sent = re.findall(r"(?:message_of\(|add_message\(|let kind = )MessageKind::(\w+)", source("gw_relay", "manage", "route"))
     heard = re.findall(r"is_kind\(&npdu.payload, MessageKind::(\w+)", source("gw_relay", "manage"))
     return exchanged("Messages of the network layer", "Message", 512, pairs, sent, heard)
 
 def functions():
-    pairs, receive = re.findall(r"Function::(\w+) => 0x(\w\w)", source("gw_bvll", "function")), source("gw_core", "receive")
+    pairs, receive = re.findall(r"Function::(\w+) => 0x(\w\w)", source("gw_frames", "bvll/function")), source("gw_core", "receive")
     sent = re.findall(r"(?:Function::|&Bvll::|let message = Bvll::)(\w+)", source("gw_relay", "octets", "outgoing", "cast"))
     heard = re.findall(r"Bvll::(\w+)", body(receive, "manages") + body(receive, "payload_of"))
     return exchanged("Functions of BACnet/IP", "Function", 768, pairs, sent, heard)
@@ -94,16 +94,17 @@ def objects():
 def answers():
     pattern = r"/// ([^\n]*)\.\n(?:pub\(crate\) )?const \w+: ServiceError = ServiceError \{\s*class: (\w+),\s*code: (\d+),"
     rows = [[f"Error {kind} {code}", when] for when, kind, code in re.findall(pattern, source("gw_device", "error"))]
-    reasons = re.findall(r"/// (\d+ [\w-]+)\.\n    pub const \w+: (Reject|Abort)Reason", source("gw_apdu", "reason"))
+    reasons = re.findall(r"/// (\d+ [\w-]+)\.\n    pub const \w+: (Reject|Abort)Reason", source("gw_codecs", "apdu/reason"))
     why = {"Reject": "A fault of the request's body", "Abort": "A segment of a request, or an answer that is too long"}
     rows += [[f"{kind} {reason}", "Another service" if "service" in reason else why[kind]] for reason, kind in reasons]
     return table("Answers to what can't be done", ["Answer", "If"], rows)
 
 def limits():
     rows = []
-    for what, crate, file, name in re.findall(r"(.*): (\w+) (\w+) (\w+)\n", LIMITS):
+    for what, crate, file, name in re.findall(r"(.*): (\w+) ([\w/]+) (\w+)\n", LIMITS):
         value, shift = re.search(rf"\bconst {name}: \w+ = ([\d_]+)(?: << (\d+))?;", source(crate, file)).groups()
-        rows.append([what, f"{int(value) << int(shift or 0):,}", f"`{crate}::{name}`"])
+        home = "::".join([crate, *file.split("/")[:-1]])
+        rows.append([what, f"{int(value) << int(shift or 0):,}", f"`{home}::{name}`"])
     return table("Limits", ["What", "Most", "Constant"], rows)
 
 SERVICES = names("SERVICES")

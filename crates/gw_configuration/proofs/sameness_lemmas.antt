@@ -1,2 +1,2 @@
 pub mod SubnetLaw
-mod RangesLaw
+pub mod RangesLaw

@@ -1,6 +1,6 @@
-mod Networks
-mod Firsts
-mod PortLaws
-mod RouteLaws
-mod FullLaw
-mod ObjectLaws
+pub mod Networks
+pub mod Firsts
+pub mod PortLaws
+pub mod RouteLaws
+pub mod FullLaw
+pub mod ObjectLaws

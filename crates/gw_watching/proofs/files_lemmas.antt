@@ -1,1 +1,1 @@
-mod LineLemmas
+pub mod LineLemmas
