@@ -1,22 +1,23 @@
 #!/usr/bin/env bash
-# Says whether crates/bacgw/out/bacgw is the program that the gate built from these very sources.
+# Says whether crates/bacgw/out/bacgw, or the other program, is the one that the gate built from these very sources.
 #
-#     dist/stamp.sh check    # ends with 0 exactly if it is
-#     dist/stamp.sh write    # notes that it is: `./bacgw prove` calls this once the gate has passed
+#     dist/stamp.sh check [bacgwctl]    # ends with 0 exactly if it is
+#     dist/stamp.sh write [bacgwctl]    # notes that it is: `./bacgw prove` calls this for both once the gate has passed
 #
 # The stamp is a file beside the program. It has two checksums: that of the program, and that of all files that it was proved from. It
 # wants awk, find, sort and sha256sum.
 set -euo pipefail
 
 top=$(cd "$(dirname "$(readlink -f "$0")")/.." && pwd)
-program=crates/bacgw/out/bacgw
+name=${2:-bacgw}
+program=crates/$name/out/$name
 stamp=$program.proved
 cd "$top"
 
 # The crates that the program is built from. (crates.txt has a crate after those that it needs.)
 crates_below() {
-    tac crates.txt | awk '
-        BEGIN { wanted["bacgw"] }
+    tac crates.txt | awk -v program="$name" '
+        BEGIN { wanted[program] }
         { name = $1; sub(/:$/, "", name) }
         $1 ~ /:$/ && name in wanted { print name; for (i = 2; i <= NF; i++) wanted[$i] }'
 }

@@ -39,7 +39,7 @@ fn main(rt: HostRuntime) -> ExitCode {
     let alloc = rt.alloc();
     let mut errors = rt.stderr();
     let Ok(mut output) = BufWriter::with_capacity(alloc, OUTPUT_OCTETS, io::writer(&rt)) else {
-        return end(Err(Fault::Memory), &mut errors);
+        return end("bacgw", Err(Fault::Memory), &mut errors);
     };
     run(
         alloc,

@@ -1,63 +1,29 @@
 -- The worked command lines.
-use Rattle.std.proofs.Common.{refl, Some, None, codes}
+use Rattle.std.proofs.Common.{refl}
 use Rattle.clap.proofs.OnLiterals.{clap_on_literals}
-use Rattle.gw_log_words.proofs.MomentExamples.{morning, morning_is_read}
 use Rattle.gw_command_line.specs.Calls.{CallsAreRefused, CallsAreTaken}
-use Rattle.gw_command_line.specs.Commands.{commands, first_commands}
+use Rattle.gw_command_line.specs.Commands.{commands}
 
 pub calls_are_taken : CallsAreTaken
-unfolding clap_on_literals commands first_commands
+unfolding clap_on_literals commands
 calls_are_taken = record {
-  check = λ program. record { taken = refl; asked = refl; sound = λ void. void };
-  explain = λ program. record { taken = refl; asked = refl; sound = λ void. void };
-  lint = λ program. record { taken = refl; asked = refl; sound = λ void. void };
-  migrate = λ program. record { taken = refl; asked = refl; sound = λ void. void };
-  check_json = λ program. record { taken = refl; asked = refl; sound = λ void. void };
-  replay = λ program. record { taken = refl; asked = refl; sound = λ void. void };
-  replay_explained = λ program. record { taken = refl; asked = refl; sound = λ void. void };
-  replay_counted = λ program. record { taken = refl; asked = refl; sound = λ void. void };
-  replay_of_file = λ program. record { taken = refl; asked = refl; sound = λ void. void };
-  run = λ program. record { taken = refl; asked = refl; sound = λ void. void };
-  run_whole = λ program. record { taken = refl; asked = refl; sound = λ void. void };
-  why = λ program. record { taken = refl; asked = refl; sound = λ void. void };
-  why_count = λ program. record { taken = refl; asked = refl; sound = λ void. void };
-  why_strict = λ program. record { taken = refl; asked = refl; sound = λ void. void };
-  compare = λ program. record { taken = refl; asked = refl; sound = λ void. void };
-  compare_steps = λ program. record { taken = refl; asked = refl; sound = λ void. void };
-  compare_json = λ program. record { taken = refl; asked = refl; sound = λ void. void };
-  state = λ program. record { taken = refl; asked = refl; sound = λ void. void };
-  suggest = λ program. record { taken = refl; asked = refl; sound = λ void. void };
-  suggest_whole = λ program. record { taken = refl; asked = refl; sound = λ void. void };
-  reload = λ program. record { taken = refl; asked = refl; sound = λ void. void };
-  reload_shown = λ program. record { taken = refl; asked = refl; sound = λ void. void };
-  reload_few = λ program. record { taken = refl; asked = refl; sound = λ void. void };
-  report = λ program. record { taken = refl; asked = refl; sound = λ void. void };
-  points = λ program. record { taken = refl; asked = refl; sound = λ void. void };
-  log_json = λ program. record { taken = refl; asked = refl; sound = λ void. void };
-  log_json_of_file = λ program. record { taken = refl; asked = refl; sound = λ void. void };
-  why_json = λ program. record { taken = refl; asked = refl; sound = λ void. void };
-  why_json_strict = λ program. record { taken = refl; asked = refl; sound = λ void. void };
-  log = λ program. record { taken = refl; asked = refl; sound = λ void. void None refl };
-  log_of_file = λ program. record { taken = refl; asked = refl; sound = λ void. void None refl };
-  log_since = λ program. record { taken = refl; asked = refl; sound = λ void. void (Some morning) morning_is_read };
+  check = λ program. record { taken = refl; asked = refl };
+  replay = λ program. record { taken = refl; asked = refl };
+  replay_explained = λ program. record { taken = refl; asked = refl };
+  replay_counted = λ program. record { taken = refl; asked = refl };
+  replay_of_file = λ program. record { taken = refl; asked = refl };
+  run = λ program. record { taken = refl; asked = refl };
+  run_whole = λ program. record { taken = refl; asked = refl };
 }
 
 pub calls_are_refused : CallsAreRefused
-unfolding clap_on_literals commands first_commands
+unfolding clap_on_literals commands
 calls_are_refused = record {
-  check_json_explain = λ program. (refl, refl);
-  check_json_lint = λ program. (refl, refl);
-  check_json_migrate = λ program. (refl, refl);
-  why_json_count = λ program. (refl, refl);
-  compare_json_steps = λ program. (refl, refl);
-  reload_most = λ program. (refl, refl);
   trial = λ program. (refl, refl);
   stamp = λ program. (refl, refl);
   turns = λ program. refl;
   stats = λ program. refl;
   stats_long = λ program. refl;
-  compare_most = λ program. refl;
-  reload_none = λ program. refl;
-  logs = λ program. refl;
-  points = λ program. refl;
+  lint = λ program. refl;
+  compare = λ program. refl;
 }

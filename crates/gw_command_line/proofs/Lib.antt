@@ -1,3 +1,2 @@
 mod CallLemmas
-mod ValueLemmas
 mod WordsLemmas

@@ -1,39 +1,26 @@
 -- What the program makes of words, from what a parse of them gives.
-use Rattle.std.proofs.Common.{◌≡◌, ◌≢◌, ◌∙◌, ◌⊎◌, inl, inr, refl, sym, ap, subst, rules, true, List, Option, Some, None, Result, Ok, Err, [], ◌∷◌, option_map, Box}
-use Rattle.clap.specs.Words.{IsAmong, Kinds, Row, Text, fault_of, is_simple, is_simple_and_free}
-use Rattle.std.specs.Box.{box_value}
-use Rattle.clap.specs.Simple.{subcommand_rows}
-use Rattle.clap.specs.declared.parser.matches.ArgMatches.TheViews.{out-SubCommand}
-use Rattle.clap.specs.declared.parser.matches.SubCommand.{SubCommand}
+use Rattle.std.proofs.Common.{◌≡◌, ◌⊎◌, inl, inr, refl, subst, true, List, Option, Some, None, Result, Ok, Err, []}
+use Rattle.clap.specs.Words.{IsAmong, Text, fault_of, is_simple, is_simple_and_free}
 use Rattle.clap.specs.declared.error.kind.ErrorKind.{ErrorKind}
 use Rattle.clap.specs.declared.error.kind.ErrorKind.TheVariants as parse
 use Rattle.clap.proofs.OnLiterals.{clap_on_literals}
-use Rattle.gw_command_line.specs.CommandLine.{AskFor, Chooses, IsAnswer, IsChosen, IsRefusal, IsShown}
-use Rattle.gw_command_line.specs.Commands.{commands, first_commands}
+use Rattle.gw_command_line.specs.CommandLine.{AskFor, Chooses, IsAnswer, IsChosen, IsRefusal}
+use Rattle.gw_command_line.specs.Commands.{commands}
 use Rattle.gw_command_line.specs.Requests.{Request, asked_in}
 use Rattle.gw_command_line.specs.declared.command_line.Choice.{Choice}
 use Rattle.gw_command_line.specs.declared.command_line.Choice.TheVariants as choice
-use Rattle.gw_command_line.specs.declared.fault.WordsFault.{WordsFault}
-use Rattle.gw_command_line.specs.declared.fault.WordsFault.TheVariants as fault
+use Rattle.gw_options.proofs.ParseLemmas.{memory_shows_nothing, mistake_among, no_kind}
+use Rattle.gw_options.specs.declared.fault.WordsFault.{WordsFault}
+use Rattle.gw_options.specs.declared.fault.WordsFault.TheVariants as fault
 
 -- clap says exactly which kinds of fault the program's words have
 pub commands_are_simple : is_simple_and_free commands ≡ true
-unfolding clap_on_literals commands first_commands
+unfolding clap_on_literals commands
 commands_are_simple = refl
 
 pub parse_is_simple : is_simple commands ≡ true
-unfolding clap_on_literals commands first_commands
+unfolding clap_on_literals commands
 parse_is_simple = refl
-
--- want of memory is no request to show something
-memory_shows_nothing : (k : ErrorKind) → k ≡ parse.OutOfMemory → IsShown k → ⊥
-memory_shows_nothing k memory (inl help) = let bad : parse.OutOfMemory ≡ parse.DisplayHelp = sym memory ∙ help in search rules
-memory_shows_nothing k memory (inr version) = let bad : parse.OutOfMemory ≡ parse.DisplayVersion = sym memory ∙ version in search rules
-
--- a kind that is not want of memory is among the kinds
-mistake_among : (kinds : Kinds) (k : ErrorKind) → (k ≡ parse.OutOfMemory) ⊎ IsAmong k kinds → k ≢ parse.OutOfMemory → IsAmong k kinds
-mistake_among kinds k (inl memory) other = absurd (other memory)
-mistake_among kinds k (inr among) other = among
 
 -- what is made of a failed parse answers the kinds of fault that it may have
 pub refusal_answers : (words : List Text) (k : ErrorKind) (r : Result Choice WordsFault)
@@ -43,22 +30,9 @@ refusal_answers words k (Ok (choice.Help text)) among is =
 refusal_answers words k (Ok (choice.Usage text)) among is = (k, mistake_among (fault_of commands words) k among is.2, is)
 refusal_answers words k (Err fault.CommandLine) among is = inl (k, mistake_among (fault_of commands words) k among is.2, is)
 refusal_answers words k (Err fault.Memory) among is = tt
-refusal_answers words k (Ok (choice.Check file explains lints)) among is = absurd is
-refusal_answers words k (Ok (choice.CheckJson file)) among is = absurd is
-refusal_answers words k (Ok (choice.Migrate file)) among is = absurd is
+refusal_answers words k (Ok (choice.Check file)) among is = absurd is
 refusal_answers words k (Ok (choice.Replay file explains counts)) among is = absurd is
 refusal_answers words k (Ok (choice.Run options)) among is = absurd is
-refusal_answers words k (Ok (choice.Why file counts strict)) among is = absurd is
-refusal_answers words k (Ok (choice.Compare old new most steps)) among is = absurd is
-refusal_answers words k (Ok (choice.CompareJson old new most)) among is = absurd is
-refusal_answers words k (Ok (choice.Log file start)) among is = absurd is
-refusal_answers words k (Ok (choice.Objects file)) among is = absurd is
-refusal_answers words k (Ok (choice.Judge file strict)) among is = absurd is
-refusal_answers words k (Ok (choice.Report file log)) among is = absurd is
-refusal_answers words k (Ok (choice.Points file)) among is = absurd is
-refusal_answers words k (Ok (choice.State config state)) among is = absurd is
-refusal_answers words k (Ok (choice.Reload config file was)) among is = absurd is
-refusal_answers words k (Ok (choice.Suggest file fills exact)) among is = absurd is
 
 -- nothing is chosen for which nothing can be chosen
 no_choice : {B : Type 0} (request : Option Request) (choice : Choice) → ((r : Request) → IsChosen (Some r) (Ok choice) → ⊥)
@@ -73,26 +47,9 @@ taken_answers words (Ok (choice.Help text)) none is = no_choice (asked_in words)
 taken_answers words (Ok (choice.Usage text)) none is = no_choice (asked_in words) (choice.Usage text) (λ r never. never) is
 taken_answers words (Err fault.CommandLine) none is = inr (none, is)
 taken_answers words (Err fault.Memory) none is = tt
-taken_answers words (Ok (choice.Check file explains lints)) none is = (none, is)
-taken_answers words (Ok (choice.CheckJson file)) none is = (none, is)
-taken_answers words (Ok (choice.Migrate file)) none is = (none, is)
+taken_answers words (Ok (choice.Check file)) none is = (none, is)
 taken_answers words (Ok (choice.Replay file explains counts)) none is = (none, is)
 taken_answers words (Ok (choice.Run options)) none is = (none, is)
-taken_answers words (Ok (choice.Why file counts strict)) none is = (none, is)
-taken_answers words (Ok (choice.Compare old new most steps)) none is = (none, is)
-taken_answers words (Ok (choice.CompareJson old new most)) none is = (none, is)
-taken_answers words (Ok (choice.Log file start)) none is = (none, is)
-taken_answers words (Ok (choice.Objects file)) none is = (none, is)
-taken_answers words (Ok (choice.Judge file strict)) none is = (none, is)
-taken_answers words (Ok (choice.Report file log)) none is = (none, is)
-taken_answers words (Ok (choice.Points file)) none is = (none, is)
-taken_answers words (Ok (choice.State config state)) none is = (none, is)
-taken_answers words (Ok (choice.Reload config file was)) none is = (none, is)
-taken_answers words (Ok (choice.Suggest file fills exact)) none is = (none, is)
-
-no_kind : (kinds : Kinds) (k : ErrorKind) → kinds ≡ [] → IsAmong k kinds → ⊥
-no_kind [] k none among = among
-no_kind (x ∷ kinds) k none among = search rules
 
 -- what is chosen of what is known to be asked for
 chosen : (words : List Text) (request : Request) (r : Result Choice WordsFault) → asked_in words ≡ Some request
@@ -105,50 +62,11 @@ pub chooses : (words : List Text) (request : Request) (r : Result Choice WordsFa
 chooses words request (Ok (choice.Help text)) asks is = absurd (no_kind (fault_of commands words) is.0 asks.taken is.1)
 chooses words request (Ok (choice.Usage text)) asks is = absurd (no_kind (fault_of commands words) is.0 asks.taken is.1)
 chooses words request (Err fault.CommandLine) asks (inl is) = no_kind (fault_of commands words) is.0 asks.taken is.1
-chooses words request (Err fault.CommandLine) asks (inr is) = asks.sound (chosen words request (Err fault.CommandLine) asks.asked is.1)
+chooses words request (Err fault.CommandLine) asks (inr is) = chosen words request (Err fault.CommandLine) asks.asked is.1
 chooses words request (Err fault.Memory) asks is = tt
-chooses words request (Ok (choice.Check file explains lints)) asks is =
-    chosen words request (Ok (choice.Check file explains lints)) asks.asked is.1
-chooses words request (Ok (choice.CheckJson file)) asks is =
-    chosen words request (Ok (choice.CheckJson file)) asks.asked is.1
-chooses words request (Ok (choice.Migrate file)) asks is =
-    chosen words request (Ok (choice.Migrate file)) asks.asked is.1
+chooses words request (Ok (choice.Check file)) asks is =
+    chosen words request (Ok (choice.Check file)) asks.asked is.1
 chooses words request (Ok (choice.Replay file explains counts)) asks is =
     chosen words request (Ok (choice.Replay file explains counts)) asks.asked is.1
 chooses words request (Ok (choice.Run options)) asks is =
     chosen words request (Ok (choice.Run options)) asks.asked is.1
-chooses words request (Ok (choice.Why file counts strict)) asks is =
-    chosen words request (Ok (choice.Why file counts strict)) asks.asked is.1
-chooses words request (Ok (choice.Compare old new most steps)) asks is =
-    chosen words request (Ok (choice.Compare old new most steps)) asks.asked is.1
-chooses words request (Ok (choice.CompareJson old new most)) asks is =
-    chosen words request (Ok (choice.CompareJson old new most)) asks.asked is.1
-chooses words request (Ok (choice.Log file start)) asks is =
-    chosen words request (Ok (choice.Log file start)) asks.asked is.1
-chooses words request (Ok (choice.Objects file)) asks is =
-    chosen words request (Ok (choice.Objects file)) asks.asked is.1
-chooses words request (Ok (choice.Judge file strict)) asks is =
-    chosen words request (Ok (choice.Judge file strict)) asks.asked is.1
-chooses words request (Ok (choice.Report file log)) asks is =
-    chosen words request (Ok (choice.Report file log)) asks.asked is.1
-chooses words request (Ok (choice.Points file)) asks is =
-    chosen words request (Ok (choice.Points file)) asks.asked is.1
-chooses words request (Ok (choice.State config state)) asks is =
-    chosen words request (Ok (choice.State config state)) asks.asked is.1
-chooses words request (Ok (choice.Reload config file was)) asks is =
-    chosen words request (Ok (choice.Reload config file was)) asks.asked is.1
-chooses words request (Ok (choice.Suggest file fills exact)) asks is =
-    chosen words request (Ok (choice.Suggest file fills exact)) asks.asked is.1
-
-some_same : {A : Type 0} (x y : A) → Some x ≡ Some y → x ≡ y
-some_same x y e = cc
-
--- the call that a parse entered, by its name and its rows
-pub entered_call : {Z : Type 0} (s : Option (Box SubCommand Z)) (name : Text) (rows : List Row)
-    → Some name ≡ option_map (λ b. (out-SubCommand (box_value b)).name.now) s → Some rows ≡ option_map (λ p. p.1) (subcommand_rows s)
-    → subcommand_rows s ≡ Some (name, rows)
-entered_call None name rows named has = search rules
-entered_call (Some b) name rows named has =
-    let same_name = some_same _ _ named in
-    let same_rows = some_same _ _ has in
-    rw (same_name, same_rows) refl

@@ -1,11 +1,11 @@
 -- Worked command lines: what words ask for, and which ask for nothing, whatever the program's name is.
-use Rattle.std.specs.Prelude.{◌≡◌, ℕ, true, false, List, [], ◌∷◌, Some, None, codes}
+use Rattle.std.specs.Prelude.{◌≡◌, true, false, List, [], ◌∷◌, Some, None, codes}
 use Rattle.clap.specs.Words.{Text, fault_of}
 use Rattle.clap.specs.declared.error.kind.ErrorKind.TheVariants as parse
 use Rattle.gw_command_line.specs.CommandLine.{AskFor}
-use Rattle.gw_command_line.specs.Commands.{commands, most_count}
-use Rattle.gw_command_line.specs.Requests.{Checks, ChecksJson, Compares, ComparesJson, Explains, Judges, ListsLog, ListsPoints, Migrates}
-use Rattle.gw_command_line.specs.Requests.{Reloads, Replays, Reports, Request, Serves, Shows, Suggests, TranslatesLog, asked_in}
+use Rattle.gw_command_line.specs.Commands.{commands}
+use Rattle.gw_command_line.specs.Requests.{Checks, Replays, Request, Serves, asked_in}
+use Rattle.gw_options.specs.Options.{most_count}
 
 -- these words, after the program's name, ask for this
 abbrev pub Calls : List Text → Request → Type 0
@@ -27,11 +27,7 @@ abbrev pub site : Text
 site = codes "site.toml"
 
 pub record CallsAreTaken : Type 0 where
-  pub check : Calls (codes "check" ∷ on_site []) (Checks site false false)
-  pub explain : Calls (codes "check" ∷ on_site (codes "--explain" ∷ [])) (Checks site true false)
-  pub lint : Calls (codes "check" ∷ on_site (codes "--lint" ∷ [])) (Checks site false true)
-  pub migrate : Calls (codes "check" ∷ on_site (codes "--migrate" ∷ [])) (Migrates site)
-  pub check_json : Calls (codes "check" ∷ on_site (codes "--json" ∷ [])) (ChecksJson site)
+  pub check : Calls (codes "check" ∷ on_site []) (Checks site)
   pub replay : Calls (codes "replay" ∷ []) (Replays None false false)
   pub replay_explained : Calls (codes "replay" ∷ codes "--explain" ∷ []) (Replays None true false)
   pub replay_counted : Calls (codes "replay" ∷ codes "--stats" ∷ []) (Replays None false true)
@@ -69,55 +65,12 @@ pub record CallsAreTaken : Type 0 where
         stamp = true;
         metrics = Some (codes "bacgw.prom");
       })
-  pub why : Calls (codes "why" ∷ on_site []) (Explains site false false)
-  pub why_count : Calls (codes "why" ∷ on_site (codes "--count" ∷ [])) (Explains site true false)
-  pub why_strict : Calls (codes "why" ∷ on_site (codes "--strict" ∷ [])) (Explains site false true)
-  pub compare : Calls
-      (codes "compare" ∷ on_site (codes "--with" ∷ codes "new.toml" ∷ []))
-      (Compares site (codes "new.toml") most_count false)
-  pub compare_steps : Calls
-      (codes "compare" ∷ on_site (codes "--with" ∷ codes "new.toml" ∷ codes "--most" ∷ codes "20" ∷ codes "--steps" ∷ []))
-      (Compares site (codes "new.toml") 20 true)
-  pub compare_json : Calls
-      (codes "compare" ∷ on_site (codes "--with" ∷ codes "new.toml" ∷ codes "--json" ∷ []))
-      (ComparesJson site (codes "new.toml") most_count)
-  pub state : Calls (codes "state" ∷ on_site (codes "--state" ∷ codes "state.txt" ∷ [])) (Shows site (codes "state.txt"))
-  pub suggest : Calls (codes "suggest" ∷ on_site []) (Suggests site false false)
-  pub suggest_whole : Calls (codes "suggest" ∷ on_site (codes "--fill" ∷ codes "--exact" ∷ [])) (Suggests site true true)
-  pub reload : Calls (codes "reload" ∷ on_site (codes "--reload" ∷ codes "again" ∷ [])) (Reloads site (codes "again") None)
-  pub reload_shown : Calls
-      (codes "reload" ∷ on_site (codes "--reload" ∷ codes "again" ∷ codes "--was" ∷ codes "old.toml" ∷ []))
-      (Reloads site (codes "again") (Some (codes "old.toml", most_count)))
-  pub reload_few : Calls
-      (codes "reload" ∷ on_site (codes "--reload" ∷ codes "again" ∷ codes "--was" ∷ codes "old.toml" ∷ codes "--most" ∷ codes "20" ∷ []))
-      (Reloads site (codes "again") (Some (codes "old.toml", 20)))
-  pub report : Calls (codes "report" ∷ on_site (codes "--log" ∷ codes "denials.log" ∷ [])) (Reports site (Some (codes "denials.log")))
-  pub points : Calls (codes "objects" ∷ on_site (codes "--csv" ∷ [])) (ListsPoints site)
-  pub log : Calls (codes "log" ∷ []) (TranslatesLog None None)
-  pub log_of_file : Calls (codes "log" ∷ codes "denials.log" ∷ []) (TranslatesLog (Some (codes "denials.log")) None)
-  pub log_json : Calls (codes "log" ∷ codes "--json" ∷ []) (ListsLog None)
-  pub log_json_of_file : Calls (codes "log" ∷ codes "--json" ∷ codes "denials.log" ∷ []) (ListsLog (Some (codes "denials.log")))
-  pub why_json : Calls (codes "why" ∷ on_site (codes "--json" ∷ [])) (Judges site false)
-  pub why_json_strict : Calls (codes "why" ∷ on_site (codes "--json" ∷ codes "--strict" ∷ [])) (Judges site true)
-  pub log_since : Calls (codes "log" ∷ codes "--start" ∷ codes "2026-11-25T08:00:00+01:00" ∷ [])
-      (TranslatesLog None (Some (codes "2026-11-25T08:00:00+01:00")))
 
 pub record CallsAreRefused : Type 0 where
-  pub check_json_explain : Mistakes (codes "check" ∷ on_site (codes "--json" ∷ codes "--explain" ∷ []))
-  pub check_json_lint : Mistakes (codes "check" ∷ on_site (codes "--json" ∷ codes "--lint" ∷ []))
-  pub check_json_migrate : Mistakes (codes "check" ∷ on_site (codes "--json" ∷ codes "--migrate" ∷ []))
-  pub why_json_count : Mistakes (codes "why" ∷ on_site (codes "--json" ∷ codes "--count" ∷ []))
-  pub compare_json_steps : Mistakes
-      (codes "compare" ∷ on_site (codes "--with" ∷ codes "new.toml" ∷ codes "--json" ∷ codes "--steps" ∷ []))
-  pub reload_most : Mistakes (codes "reload" ∷ on_site (codes "--reload" ∷ codes "again" ∷ codes "--most" ∷ codes "20" ∷ []))
   pub trial : Mistakes (codes "run" ∷ on_site (codes "--trial" ∷ codes "new.toml" ∷ []))
   pub stamp : Mistakes (codes "run" ∷ on_site (codes "--stamp" ∷ []))
   pub turns : OutOfRange (codes "run" ∷ on_site (codes "--turns" ∷ codes "0" ∷ []))
   pub stats : OutOfRange (codes "run" ∷ on_site (codes "--stats" ∷ codes "0" ∷ []))
   pub stats_long : OutOfRange (codes "run" ∷ on_site (codes "--stats" ∷ codes "4294967296" ∷ []))
-  pub compare_most : OutOfRange (codes "compare" ∷ on_site (codes "--with" ∷ codes "new.toml" ∷ codes "--most" ∷ codes "0" ∷ []))
-  pub reload_none : OutOfRange
-      (codes "reload" ∷ on_site (codes "--reload" ∷ codes "again" ∷ codes "--was" ∷ codes "old.toml" ∷ codes "--most" ∷ codes "0" ∷ []))
-  pub logs : (program : Text) → fault_of commands (program ∷ codes "log" ∷ codes "one.log" ∷ codes "two.log" ∷ []) ≡ parse.UnknownArgument ∷ []
-  pub points : (program : Text)
-      → fault_of commands (program ∷ codes "objects" ∷ on_site []) ≡ parse.MissingRequiredArgument ∷ []
+  pub lint : (program : Text) → fault_of commands (program ∷ codes "check" ∷ on_site (codes "--lint" ∷ [])) ≡ parse.UnknownArgument ∷ []
+  pub compare : (program : Text) → fault_of commands (program ∷ codes "compare" ∷ []) ≡ parse.UnknownArgument ∷ parse.InvalidSubcommand ∷ []

@@ -1,30 +1,17 @@
 -- Which words the program takes, and what it makes of them. `fault_of` of the crate `clap` lists the kinds of fault
 -- that a parser finds at some words, and is empty if it takes them.
-use Rattle.std.specs.Prelude.{◌≡◌, ◌≢◌, ◌⊎◌, ⊤, ℕ, List, [], Option, Some, None, Result, Ok, Err, option_map, string_bytes}
+use Rattle.std.specs.Prelude.{◌≡◌, ◌⊎◌, ⊤, List, [], Option, Some, None, Result, Ok, Err, option_map, string_bytes}
 use Rattle.clap.specs.Words.{IsAmong, Text, fault_of}
 use Rattle.clap.specs.declared.error.kind.ErrorKind.{ErrorKind}
 use Rattle.clap.specs.declared.error.kind.ErrorKind.TheVariants as parse
-use Rattle.gw_log_words.specs.Moment.{IsTextOf}
-use Rattle.gw_log_words.specs.declared.moment.Moment.{Moment}
 use Rattle.gw_command_line.specs.Commands.{commands}
-use Rattle.gw_command_line.specs.Requests.{Checks, ChecksJson, Compares, ComparesJson, Explains, Judges, ListsLog, ListsPoints, Migrates}
-use Rattle.gw_command_line.specs.Requests.{Reloads, Replays, Reports, Request, Serves, Service, Shows, Suggests, TranslatesLog, asked_in}
+use Rattle.gw_command_line.specs.Requests.{Checks, Replays, Request, Serves, Service, asked_in}
 use Rattle.gw_command_line.specs.declared.command_line.Choice.{Choice}
 use Rattle.gw_command_line.specs.declared.command_line.Choice.TheVariants as choice
 use Rattle.gw_configuration.specs.declared.run_options.RunOptions.{RunOptions}
-use Rattle.gw_command_line.specs.declared.options.Shown.{Shown}
-use Rattle.gw_command_line.specs.declared.fault.WordsFault.{WordsFault}
-use Rattle.gw_command_line.specs.declared.fault.WordsFault.TheVariants as fault
-
--- the moment at which a log began: what the text says, and none if there is none
-abbrev pub IsStart : Option Text → Option Moment → Type 0
-IsStart None start = start ≡ None
-IsStart (Some text) (Some m) = IsTextOf text m
-IsStart (Some text) None = ⊥
-
--- The text says no such moment, which makes a bad command line.
-abbrev pub IsNoStart : Option Text → WordsFault → Type 0
-IsNoStart given f = (f ≡ fault.CommandLine) × ((start : Option Moment) → ¬ (IsStart given start))
+use Rattle.gw_options.specs.Parses.{IsShown, IsWrong}
+use Rattle.gw_options.specs.declared.fault.WordsFault.{WordsFault}
+use Rattle.gw_options.specs.declared.fault.WordsFault.TheVariants as fault
 
 -- what `run` is asked for by its options
 abbrev pub service : RunOptions → Service
@@ -43,60 +30,21 @@ service options = record {
   metrics = option_map string_bytes options.metrics;
 }
 
--- what is compared before a reload: the file of the old configuration, and the most lines
-abbrev pub was_of : Shown → Text × ℕ
-was_of shown = (string_bytes shown.old, shown.most)
-
 -- a choice is what was asked for
 abbrev pub IsFor : Request → Choice → Type 0
-IsFor request (choice.Check file explains lints) = request ≡ Checks (string_bytes file) explains lints
-IsFor request (choice.CheckJson file) = request ≡ ChecksJson (string_bytes file)
-IsFor request (choice.Migrate file) = request ≡ Migrates (string_bytes file)
+IsFor request (choice.Check file) = request ≡ Checks (string_bytes file)
 IsFor request (choice.Replay file explains counts) = request ≡ Replays (option_map string_bytes file) explains counts
 IsFor request (choice.Run options) = request ≡ Serves (service options)
-IsFor request (choice.Why file counts strict) = request ≡ Explains (string_bytes file) counts strict
-IsFor request (choice.Compare old new most steps) = request ≡ Compares (string_bytes old) (string_bytes new) most steps
-IsFor request (choice.CompareJson old new most) = request ≡ ComparesJson (string_bytes old) (string_bytes new) most
-IsFor request (choice.State config state) = request ≡ Shows (string_bytes config) (string_bytes state)
-IsFor request (choice.Suggest file fills exact) = request ≡ Suggests (string_bytes file) fills exact
-IsFor request (choice.Reload config file was) = request ≡ Reloads (string_bytes config) (string_bytes file) (option_map was_of was)
-IsFor request (choice.Log file start) =
-    (text : Option Text) × (request ≡ TranslatesLog (option_map string_bytes file) text) × IsStart text start
-IsFor request (choice.Objects file) = request ≡ ListsLog (option_map string_bytes file)
-IsFor request (choice.Judge file strict) = request ≡ Judges (string_bytes file) strict
-IsFor request (choice.Report file log) = request ≡ Reports (string_bytes file) (option_map string_bytes log)
-IsFor request (choice.Points file) = request ≡ ListsPoints (string_bytes file)
 IsFor request (choice.Help text) = ⊥
 IsFor request (choice.Usage text) = ⊥
-
--- What is compared before a reload, and a bad command line if the options don't go together; memory may run out.
-abbrev pub IsWas : Option (Option (Text × ℕ)) → Result (Option Shown) WordsFault → Type 0
-IsWas (Some was) (Ok shown) = was ≡ option_map was_of shown
-IsWas None (Ok shown) = ⊥
-IsWas (Some was) (Err fault.CommandLine) = ⊥
-IsWas None (Err fault.CommandLine) = ⊤
-IsWas was (Err fault.Memory) = ⊤
-
--- No choice is what was asked for: the text at which the log is to have begun is no moment.
-abbrev pub IsVoid : Request → Type 0
-IsVoid (TranslatesLog file text) = (start : Option Moment) → ¬ (IsStart text start)
-IsVoid _ = ⊥
 
 -- a choice is what a call asks for, and a bad command line is a call that asks for nothing; memory may run out at any
 abbrev pub IsChosen : Option Request → Result Choice WordsFault → Type 0
 IsChosen (Some request) (Ok choice) = IsFor request choice
 IsChosen None (Ok choice) = ⊥
-IsChosen (Some request) (Err fault.CommandLine) = IsVoid request
+IsChosen (Some request) (Err fault.CommandLine) = ⊥
 IsChosen None (Err fault.CommandLine) = ⊤
 IsChosen request (Err fault.Memory) = ⊤
-
--- help or the version was asked for, which is printed
-abbrev pub IsShown : ErrorKind → Type 0
-IsShown kind = (kind ≡ parse.DisplayHelp) ⊎ (kind ≡ parse.DisplayVersion)
-
--- the words are wrong
-abbrev pub IsWrong : ErrorKind → Type 0
-IsWrong kind = (kind ≢ parse.DisplayHelp) × (kind ≢ parse.DisplayVersion) × (kind ≢ parse.OutOfMemory)
 
 -- what the program makes of a parse that failed: help or the version if that was asked for, and else a bad command
 -- line, with how the program is called if there is memory for it; memory may have run out in the parse, or for the
@@ -134,7 +82,6 @@ IsAnswer words (Err fault.Memory) = ⊤
 pub record AskFor (words : List Text) (request : Request) : Type 0 where
   pub taken : fault_of commands words ≡ []
   pub asked : asked_in words ≡ Some request
-  pub sound : ¬ (IsVoid request)
 
 -- it is chosen, or memory ran out
 abbrev pub Chooses : Request → Result Choice WordsFault → Type 0

@@ -6,11 +6,7 @@
 
 mod command_line;
 mod commands;
-mod fault;
 pub mod laws;
-mod options;
-mod values;
+mod moved;
 
 pub use command_line::{Choice, choice_of};
-pub use fault::WordsFault;
-pub use options::Shown;

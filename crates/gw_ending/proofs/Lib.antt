@@ -1,2 +1,1 @@
 mod AppendLemmas
-pub mod LinesLemmas

@@ -1,3 +1,1 @@
 pub mod Ending
-pub mod Lines
-pub mod Unread

@@ -1,15 +1,13 @@
 //! Why the program ends without success, and its exit status.
 
 ghost use Rattle.std.specs.Prelude.{◌≡◌, ◌≢◌};
-ghost use Rattle.gw_ending.specs.Ending.{IsUnanswered, cause_of, fault_of, fault_of_configuration, fault_of_metrics, fault_of_migration, fault_of_request, fault_of_state, fault_of_store, fault_of_suggestion, fault_of_words, is_different, of_other, reason_of, status_of, status_of_comparison, status_of_trial, store_words, trial_reason, trial_words, words_of};
-ghost use Rattle.gw_ending.specs.Lines.{fault_of_lines};
+ghost use Rattle.gw_ending.specs.Ending.{IsUnanswered, cause_of, fault_of, fault_of_configuration, fault_of_metrics, fault_of_request, fault_of_state, fault_of_store, fault_of_words, has_line, is_different, of_other, reason_of, status_of, status_of_trial, store_words, trial_reason, trial_words, words_of};
+ghost use Rattle.gw_ending.specs.Ending.{fault_of_lines};
 ghost use Rattle.gw_ending.specs.declared.fault.Fault.TheVariants.{CommandLine, Memory};
 
-use gw_command_line::WordsFault;
 use gw_configuration::ConfigFault;
 use gw_notices::name_of;
-use gw_policy_drafts::migration::MigrationFault;
-use gw_policy_drafts::suggestion::SuggestFault;
+use gw_options::WordsFault;
 use gw_replay::RunFault;
 use gw_script::{LineFlaw, LinesFault};
 use gw_state_text::{FaultKind, StateFault};
@@ -18,6 +16,15 @@ use gw_watching::files::TrialFault;
 use gw_wire::StoreFault;
 use std::alloc::AllocError;
 use std::io::ErrorKind;
+
+/// Why a configuration isn't written in format 3.
+#[derive(Clone, Copy)]
+pub enum MigrationFlaw {
+    /// It is of format 3.
+    Already,
+    /// What was written isn't read as the same configuration.
+    Unlike,
+}
 
 /// Why the program ends without success.
 #[derive(Clone, Copy)]
@@ -33,7 +40,7 @@ pub enum Fault {
     /// What the file of the configuration says is none, and why.
     Configuration(ConfigFault),
     /// The configuration isn't written in format 3, and why.
-    Migration(MigrationFault),
+    Migration(MigrationFlaw),
     /// Line `n` of the script, counted from 1, is no event; or line `n` of the asks is none; or line `n`
     /// of the log is too long.
     Line(u64),
@@ -164,13 +171,13 @@ impl Fault {
         }
     }
 
-    /// The exit status of `compare`: 1 if it found that the two configurations aren't alike, else 2.
-    pub fn status_of_comparison(self) -> u8
-        ensures { result ≡ status_of_comparison self }
+    /// Whether it has a line: not if `compare` found something, or if an answer says why it was refused.
+    pub fn has_line(self) -> bool
+        ensures { result ≡ has_line self }
     {
         match self {
-            Fault::Different => 1,
-            _ => 2,
+            Fault::Refused | Fault::Different => false,
+            _ => true,
         }
     }
 
@@ -220,13 +227,12 @@ pub fn trial_reason(fault: TrialFault) -> &'static str
 }
 
 /// Why a configuration isn't written in format 3.
-pub fn reason_of(fault: MigrationFault) -> &'static str
+pub fn reason_of(fault: MigrationFlaw) -> &'static str
     ensures { result.now ≡ reason_of fault }
 {
     match fault {
-        MigrationFault::Already => "it is of format 3",
-        MigrationFault::Unlike => "it has no text of format 3",
-        MigrationFault::Memory => "out of memory",
+        MigrationFlaw::Already => "it is of format 3",
+        MigrationFlaw::Unlike => "it has no text of format 3",
     }
 }
 
@@ -295,17 +301,6 @@ impl From<ConfigFault> for Fault {
     }
 }
 
-impl From<MigrationFault> for Fault {
-    ghost from_gives = { λ migration fault. fault ≡ fault_of_migration migration };
-
-    fn from(fault: MigrationFault) -> Fault {
-        match fault {
-            MigrationFault::Memory => Fault::Memory,
-            _ => Fault::Migration(fault),
-        }
-    }
-}
-
 impl From<StateFault> for Fault {
     ghost from_gives = { λ state fault. fault ≡ fault_of_state state state.kind };
 
@@ -327,23 +322,6 @@ impl From<RunFault> for Fault {
             RunFault::Write => Fault::Write,
             RunFault::Memory => Fault::Memory,
             RunFault::CountEnd => Fault::CountEnd,
-        }
-    }
-}
-
-impl From<SuggestFault> for Fault {
-    ghost from_gives = { λ suggest fault. fault ≡ fault_of_suggestion suggest };
-
-    fn from(fault: SuggestFault) -> Fault {
-        match fault {
-            SuggestFault::Configuration(config) => Fault::from(config),
-            SuggestFault::Read => Fault::Read,
-            SuggestFault::Line(number) => Fault::Line(number),
-            SuggestFault::TooManyAsks => Fault::TooManyAsks,
-            SuggestFault::TooManyRules => Fault::TooManyRules,
-            SuggestFault::Unlike => Fault::Unwritable,
-            SuggestFault::Write => Fault::Write,
-            SuggestFault::Memory => Fault::Memory,
         }
     }
 }

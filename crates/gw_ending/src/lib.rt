@@ -1,14 +1,11 @@
-//! How the program ends: its faults, their lines on standard error, and the exit status.
+//! How a program ends: its faults, their lines on standard error, and the exit status.
 //!
-//! [`end`] and [`end_by`] write the line of a fault and answer the status. A fault of a lower crate becomes a [`Fault`] by `From`.
+//! [`end`] and [`report_fault`] write the line of a fault after the program's name. A fault of a lower crate becomes a [`Fault`] by
+//! `From`.
 #![tactic(auto)]
 
 mod ending;
 mod fault;
-mod lines;
-mod unread;
 
-pub use ending::{end, end_by, usage_of, write_number};
-pub use fault::{Fault, words_of};
-pub use lines::first_lines_fault;
-pub use unread::report_unread;
+pub use ending::{end, report_fault, write_number};
+pub use fault::{Fault, MigrationFlaw, words_of};

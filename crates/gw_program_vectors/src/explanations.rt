@@ -1,4 +1,4 @@
-//! Replays that explain, and which rules would decide the asks of a log's lines.
+//! Replays that explain.
 
 use gw_cases::{event_lines, made, put_end};
 use gw_configuration::ConfigFault;
@@ -6,7 +6,6 @@ use gw_policy_text::read_config;
 use gw_replay::{RunFault, replay_explaining};
 use gw_script::LineFlaw;
 use gw_shell::words_of;
-use gw_verdicts::why;
 use std::alloc::Global;
 use std::io;
 use std::io::Write;
@@ -22,15 +21,5 @@ pub fn explained(alloc: Global, config: &str, body: &str, out: &mut Vec<u8>) -> 
     if let Err(RunFault::Line(_)) = end {
         write!(out, ": {}", words_of(flaw))?;
     }
-    writeln!(out)
-}
-
-/// Which rule would decide the asks of these lines, and how the answers end.
-pub fn answers(alloc: Global, config: &str, body: &str, out: &mut Vec<u8>) -> io::Result<()> {
-    let lines = event_lines(alloc, body)?;
-    let config = made(read_config(alloc, config.as_bytes()), ConfigFault::Memory)?;
-    let mut reader = lines.as_slice();
-    let end = why(alloc, &config, &mut reader, out);
-    put_end(end, out)?;
     writeln!(out)
 }

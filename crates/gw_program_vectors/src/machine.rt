@@ -7,22 +7,18 @@
 ghost use Rattle.std.specs.Prelude.{◌≡◌, ⊤, None, Some};
 ghost use Rattle.gw_system.specs.Requests.{silent};
 
-use crate::words::{call, put, status_text};
 use gw_addr::BipAddr;
-use gw_cases::{MemReader, MemWriter, number_behind};
+use gw_cases::MemWriter;
 use gw_configuration::Port;
 use gw_log_words::{Calendar, Moment, moment_after};
-use gw_shell::{
-    ConfigFiles, FailedStep, Fault, Host, LogFailure, Obstacle, Reason, SocketFailure, Step, run,
-};
+use gw_program_cases::{Left, MemFiles, Program, Section, UNREADABLE, put, put_left, put_lines};
+use gw_shell::{FailedStep, Host, LogFailure, Obstacle, Reason, SocketFailure, Step, run};
 use gw_system::{ReadFailure, Requests};
 use gw_wire::{Got, RECEIVE_ROOM, Store, StoreFault, Wire, WireFault};
 use itoa::Buffer;
 use std::alloc::{AllocError, Global};
 use std::cell::RefCell;
 use std::io;
-use std::io::{BufWriter, ErrorKind};
-use std::process::ExitCode;
 
 /// The name of the configuration that is on trial.
 const TRIAL: &str = "trial";
@@ -32,52 +28,6 @@ const BESIDE: [&str; 2] = ["trial.log", "audit.log"];
 
 /// The name of the file of the metrics.
 const METRICS: &str = "bacgw.prom";
-
-/// What the name of a file begins with that can't be read; that of a log or a state is just this.
-const UNREADABLE: &str = "unreadable";
-
-/// More octets than any run of a section writes.
-const AMPLE: usize = 1 << 20;
-
-/// How many octets of output are gathered where a section doesn't say it.
-const CAPACITY: usize = 4096;
-
-/// Files in memory, all of the same text.
-#[derive(Drop)]
-struct MemFiles<'a> {
-    text: &'a str,
-}
-
-impl<'a> ConfigFiles for MemFiles<'a> {
-    type Log = MemReader<'a>;
-
-    ghost ReadsLog = { λ _ _ _. ⊤ };
-
-    fn open_log(&self, name: &str) -> Result<MemReader<'a>, Fault> {
-        if name == UNREADABLE {
-            return Err(Fault::LogUnreadable(Obstacle::NotPermitted));
-        }
-        Ok(MemReader::new(self.text.as_bytes(), None))
-    }
-
-    ghost Reads = { λ _ _ _. ⊤ };
-
-    fn read(&self, alloc: Global, name: &str) -> Result<Vec<u8>, Fault> {
-        if name.starts_with(UNREADABLE) {
-            return Err(Fault::Unreadable(Obstacle::Absent));
-        }
-        Ok(Vec::from_slice(alloc, self.text.as_bytes())?)
-    }
-
-    ghost ReadsState = { λ _ _ _. ⊤ };
-
-    fn read_state(&self, alloc: Global, name: &str) -> Result<Vec<u8>, Fault> {
-        if name == UNREADABLE {
-            return Err(Fault::StateUnreadable(Obstacle::Folder));
-        }
-        Ok(Vec::from_slice(alloc, self.text.as_bytes())?)
-    }
-}
 
 /// A read of Binary Value 2, which the built-in policy denies.
 const DENIED_READ: [u8; 22] = [
@@ -216,7 +166,6 @@ struct MemHost<'a> {
     state: Option<Vec<u8>>,
     unkept: Option<StoreFault>,
     reload: Option<Vec<u8>>,
-    answer: Option<Vec<u8>>,
     closed: Option<Closed>,
 }
 
@@ -353,23 +302,16 @@ impl<'a> Host for MemHost<'a> {
     }
 
     fn request_reload(&self, _alloc: Global, _request: &str) -> Result<MemAsked, StoreFault> {
-        if self.answer.is_some() {
-            Ok(MemAsked)
-        } else {
-            Err(StoreFault::System)
-        }
+        Err(StoreFault::System)
     }
 
     fn await_answer(
         &self,
-        alloc: Global,
+        _alloc: Global,
         _asked: &MemAsked,
         _seconds: u8,
     ) -> Result<Option<Vec<u8>>, ReadFailure> {
-        match &self.answer {
-            Some(text) => Ok(Some(Vec::from_slice(alloc, text)?)),
-            None => Ok(None),
-        }
+        Ok(None)
     }
 
     fn calendar(&self) -> MemCalendar {
@@ -383,33 +325,6 @@ impl<'a> Host for MemHost<'a> {
     }
 }
 
-/// What one run leaves: its exit status, both streams, what the machine closed, and the text of the metrics.
-#[derive(Drop)]
-struct Left {
-    code: ExitCode,
-    output: MemWriter,
-    errors: MemWriter,
-    closed: Option<Closed>,
-    metrics: Vec<u8>,
-}
-
-/// Whether a line is there.
-fn has_line(lines: &str, wanted: &str) -> bool {
-    lines.lines().any(|line| line == wanted)
-}
-
-/// The words of a section, or the fault where there are none to be had.
-fn words_of(
-    alloc: Global,
-    line: &str,
-    lines: &str,
-) -> Result<Result<Vec<String>, Fault>, AllocError> {
-    if has_line(lines, "no words") {
-        return Ok(Err(Fault::of_words(ErrorKind::InvalidData)));
-    }
-    Ok(Ok(call(alloc, line)?))
-}
-
 /// A text, if there is one.
 fn text_if(alloc: Global, is_there: bool, text: &str) -> Result<Option<Vec<u8>>, AllocError> {
     if is_there {
@@ -421,18 +336,18 @@ fn text_if(alloc: Global, is_there: bool, text: &str) -> Result<Option<Vec<u8>>,
 
 /// The text of the state that a section has: one that is cut, one with more after its end, one whose counts and port
 /// are none, or none.
-fn state_of(alloc: Global, lines: &str) -> Result<Option<Vec<u8>>, AllocError> {
-    if has_line(lines, "state more") {
+fn state_of(alloc: Global, section: &Section<'_>) -> Result<Option<Vec<u8>>, AllocError> {
+    if section.has("state more") {
         return text_if(alloc, true, "bacgw state 1\ncounts 0 0 0\nend\nmore");
     }
-    if has_line(lines, "state counts") {
+    if section.has("state counts") {
         return text_if(
             alloc,
             true,
             "bacgw state 1\ncounts 2 1 0\nport 1 nowhere\nend\n",
         );
     }
-    text_if(alloc, has_line(lines, "state cut"), "bacgw state 1\n")
+    text_if(alloc, section.has("state cut"), "bacgw state 1\n")
 }
 
 /// A text with another in the place of this part.
@@ -454,111 +369,103 @@ fn text_with(
 
 /// The configuration that is on trial: that of the section; one with another broadcast address, or of another format; one that
 /// is none; or nothing.
-fn trial_of(alloc: Global, lines: &str, config: &str) -> Result<Option<Vec<u8>>, AllocError> {
-    if has_line(lines, "trial other ports") {
+fn trial_of(
+    alloc: Global,
+    section: &Section<'_>,
+    config: &str,
+) -> Result<Option<Vec<u8>>, AllocError> {
+    if section.has("trial other ports") {
         return text_with(alloc, config, "192.168.1.255", "192.168.1.254");
     }
-    if has_line(lines, "trial other format") {
+    if section.has("trial other format") {
         return text_with(alloc, config, "format = 1", "format = 2");
     }
-    if has_line(lines, "trial denies") {
+    if section.has("trial denies") {
         return text_with(alloc, config, "allow = true", "allow = false");
     }
-    if has_line(lines, "trial faulty") {
+    if section.has("trial faulty") {
         return text_if(alloc, true, "format = 4\n");
     }
-    text_if(alloc, has_line(lines, "trial same"), config)
+    text_if(alloc, section.has("trial same"), config)
 }
 
 /// The text that a section's request has: that of the configuration, one that is none, or nothing if it can't be read.
-fn reload_of(alloc: Global, lines: &str, config: &str) -> Result<Option<Vec<u8>>, AllocError> {
-    if has_line(lines, "reload same") {
+fn reload_of(
+    alloc: Global,
+    section: &Section<'_>,
+    config: &str,
+) -> Result<Option<Vec<u8>>, AllocError> {
+    if section.has("reload same") {
         return text_if(alloc, true, config);
     }
-    if has_line(lines, "reload faulty") {
+    if section.has("reload faulty") {
         return text_if(alloc, true, "x");
     }
-    if has_line(lines, "reload ranged") {
+    if section.has("reload ranged") {
         return text_if(alloc, true, "format = 4\n");
     }
-    if has_line(lines, "reload absent") {
+    if section.has("reload absent") {
         return text_if(alloc, true, "absent");
     }
-    text_if(alloc, has_line(lines, "reload unreadable"), "")
+    text_if(alloc, section.has("reload unreadable"), "")
 }
 
-/// What another gateway answers to a section's request: that it was taken over, or refused, or nothing.
-fn answer_of(alloc: Global, lines: &str) -> Result<Option<Vec<u8>>, AllocError> {
-    if has_line(lines, "answered") {
-        return text_if(alloc, true, "reload: 3 rules\n");
-    }
-    text_if(
-        alloc,
-        has_line(lines, "refused"),
-        "reload refused: out of memory\n",
-    )
-}
-
-/// The output of a section, which has room for so many octets after its buffer.
-fn output_of(alloc: Global, lines: &str, room: usize) -> Result<BufWriter<MemWriter>, AllocError> {
-    let narrow = MemWriter::with_room(alloc, room, !has_line(lines, "flushes fail"))?;
-    let capacity = number_behind(lines, '\n', "buffer ").unwrap_or(CAPACITY);
-    match BufWriter::with_capacity(alloc, capacity, narrow) {
-        Ok(output) => Ok(output),
-        Err(_) => Err(AllocError),
-    }
+/// What one run leaves: its exit status and both streams, what the machine closed, and the text of the metrics.
+#[derive(Drop)]
+struct Served {
+    left: Left,
+    closed: Option<Closed>,
+    metrics: Vec<u8>,
 }
 
 /// Runs the program of a section, whose output has room for so many octets.
-fn run_with(alloc: Global, config: &str, section: &str, room: usize) -> Result<Left, AllocError> {
-    let (head, input) = section.split_once("\ninput\n").unwrap_or((section, ""));
-    let (line, lines) = head.split_once('\n').unwrap_or((head, ""));
-    let words = words_of(alloc, line, lines)?;
+fn run_with(
+    alloc: Global,
+    config: &str,
+    section: &Section<'_>,
+    room: usize,
+) -> Result<Served, AllocError> {
+    let words = section.call(alloc, "bacgw")?;
     let metrics = RefCell::new(Vec::new(alloc));
     let state_text = RefCell::new(Vec::new(alloc));
     let mut host = MemHost {
         alloc,
         metrics: &metrics,
         state_text: &state_text,
-        log: number_behind(lines, '\n', "log "),
-        beside: number_behind(lines, '\n', "beside "),
-        trial: trial_of(alloc, lines, config)?,
-        is_cut: has_line(lines, "cut log"),
-        failing: number_behind(lines, '\n', "failing port "),
-        routes: has_line(lines, "routes ip"),
-        state: state_of(alloc, lines)?,
-        unkept: if has_line(lines, "store full") {
+        log: section.number("log "),
+        beside: section.number("beside "),
+        trial: trial_of(alloc, section, config)?,
+        is_cut: section.has("cut log"),
+        failing: section.number("failing port "),
+        routes: section.has("routes ip"),
+        state: state_of(alloc, section)?,
+        unkept: if section.has("store full") {
             Some(StoreFault::NoSpace)
         } else {
             None
         },
-        reload: reload_of(alloc, lines, config)?,
-        answer: answer_of(alloc, lines)?,
+        reload: reload_of(alloc, section, config)?,
         closed: None,
     };
-    let fails = has_line(lines, "input fails");
-    let mut input = MemReader::new(input.as_bytes(), if fails { Some(0) } else { None });
-    let mut output = output_of(alloc, lines, room)?;
-    let mut errors = MemWriter::with_room(
-        alloc,
-        number_behind(lines, '\n', "errors ").unwrap_or(AMPLE),
-        true,
-    )?;
+    let mut output = section.output(alloc, room)?;
+    let mut errors = section.errors(alloc)?;
     let files = MemFiles { text: config };
     let code = run(
         alloc,
         words,
         &files,
         &mut host,
-        &mut input,
+        &mut section.reader(),
         &mut output,
         &mut errors,
     );
     let (output, _unwritten) = output.into_parts();
-    Ok(Left {
-        code,
-        output,
-        errors,
+    Ok(Served {
+        left: Left {
+            code,
+            output,
+            errors,
+        },
         closed: host.closed,
         metrics: metrics
             .try_replace(Vec::new(alloc))
@@ -566,17 +473,34 @@ fn run_with(alloc: Global, config: &str, section: &str, room: usize) -> Result<L
     })
 }
 
+/// The program on a machine in memory.
+#[derive(Clone, Copy)]
+pub struct Bacgw;
+
+impl Program for Bacgw {
+    fn name(&self) -> &'static str {
+        "bacgw"
+    }
+
+    fn run(
+        &self,
+        alloc: Global,
+        config: &str,
+        section: &Section<'_>,
+        room: usize,
+    ) -> Result<Left, AllocError> {
+        Ok(run_with(alloc, config, section, room)?.left)
+    }
+}
+
 /// What the run of a section leaves: its exit status, each line of its streams, of its metrics and of its log, and what
 /// the machine closed.
-pub fn machine(alloc: Global, config: &str, section: &str, out: &mut Vec<u8>) -> io::Result<()> {
-    let (_, lines) = section.split_once('\n').unwrap_or((section, ""));
-    let room = number_behind(lines, '\n', "output ").unwrap_or(AMPLE);
-    let left = run_with(alloc, config, section, room)?;
-    put(out, &["status ", status_text(left.code), "\n"])?;
-    put_lines("out ", left.output.held(), out)?;
-    put_lines("err ", left.errors.held(), out)?;
-    put_lines("metrics ", &left.metrics, out)?;
-    match &left.closed {
+pub fn machine(alloc: Global, config: &str, text: &str, out: &mut Vec<u8>) -> io::Result<()> {
+    let section = Section::of(text);
+    let served = run_with(alloc, config, &section, section.room())?;
+    put_left(&served.left, out)?;
+    put_lines("metrics ", &served.metrics, out)?;
+    match &served.closed {
         Some(closed) => Ok(put_closed(closed, out)?),
         None => Ok(()),
     }
@@ -590,46 +514,4 @@ fn put_closed(closed: &Closed, out: &mut Vec<u8>) -> Result<(), AllocError> {
     }
     put(out, &["receives ", Buffer::new().format(sockets.receives)])?;
     put(out, &[" sends ", Buffer::new().format(sockets.sends), "\n"])
-}
-
-/// Each line of a text after a word.
-fn put_lines(word: &str, text: &[u8], out: &mut Vec<u8>) -> Result<(), AllocError> {
-    if text.is_empty() {
-        return Ok(());
-    }
-    for line in text
-        .strip_suffix(b"\n")
-        .unwrap_or(text)
-        .split(|octet| *octet == b'\n')
-    {
-        put(out, &[word])?;
-        out.extend_from_slice(line)?;
-        out.push(b'\n')?;
-    }
-    Ok(())
-}
-
-/// Runs a section with ample room for its output, and then with less, octet by octet, and says of
-/// how many octets it is. Each run with less that doesn't leave a front of them and tell that a
-/// write failed has a line of its own.
-pub fn fronts(alloc: Global, config: &str, section: &str, out: &mut Vec<u8>) -> io::Result<()> {
-    let ample = run_with(alloc, config, section, AMPLE)?;
-    let whole = ample.output.held();
-    for room in 0..whole.len() {
-        let left = run_with(alloc, config, section, room)?;
-        if !is_front(&left, &whole[..room]) {
-            put(out, &["not a front at ", Buffer::new().format(room), "\n"])?;
-        }
-    }
-    Ok(put(
-        out,
-        &["fronts of ", Buffer::new().format(whole.len()), " octets\n"],
-    )?)
-}
-
-/// Whether a run left this front and reported that a write failed.
-fn is_front(left: &Left, front: &[u8]) -> bool {
-    left.code == ExitCode::FAILURE
-        && left.output.held() == front
-        && left.errors.held() == b"bacgw: write failed\n".as_slice()
 }

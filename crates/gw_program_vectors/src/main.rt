@@ -7,6 +7,8 @@ mod words;
 
 use gw_cases::{Case, Kinds, write_groups};
 use gw_policy_text::SETTING;
+use gw_program_cases::put_fronts;
+use machine::Bacgw;
 use std::alloc::Global;
 use std::io;
 use std::io::{BufWriter, ErrorKind, Write};
@@ -32,9 +34,8 @@ impl Kinds for ProgramKinds {
         match section.kind() {
             "faults" => Some(words::faults(alloc, out)),
             "run" => Some(machine::machine(alloc, config, body, out)),
-            "fronts" => Some(machine::fronts(alloc, config, body, out)),
+            "fronts" => Some(put_fronts(&Bacgw, alloc, config, body, out)),
             "explained" => Some(explanations::explained(alloc, config, body, out)),
-            "why" => Some(explanations::answers(alloc, config, body, out)),
             _ => None,
         }
     }

@@ -1,6 +1,5 @@
 -- What a replay leaves written, from what the run and the flush after it leave.
 use Rattle.std.proofs.Common.{◌≡◌, refl, sym, subst, rules, true, false, Bool, ℕ, ◌++◌, List, Result, Ok, Err, Option, Some, None, [], ◌∷◌, length, take, IsSomeAnd, IsErrOf}
-use Rattle.std.specs.Io.KnownBytes.{Keeps}
 use Rattle.gw_replay.specs.declared.replaying.RunFault.{RunFault}
 use Rattle.gw_replay.specs.declared.replaying.RunFault.TheVariants as run
 use Rattle.gw_script.specs.Event.{Event}
@@ -13,8 +12,7 @@ use Rattle.gw_replay.specs.Flawed.{HasFlaw}
 use Rattle.gw_replay.specs.Shown.{event_text}
 use Rattle.gw_script.specs.declared.flaw.LineFlaw.{LineFlaw}
 use Rattle.gw_ending.specs.declared.fault.Fault.{Fault}
-use Rattle.gw_shell.specs.Replay.{Plays, translating}
-use Rattle.gw_ending.specs.Ending.{first_fault, outcome_of}
+use Rattle.gw_shell.specs.Replay.{Plays, first_fault, outcome_of, translating}
 
 -- what always holds, beside a fact of known bytes
 both : (P Q : List ℕ → Type 0) (held : Option (List ℕ)) → ((bytes : List ℕ) → P bytes) → IsSomeAnd held Q
@@ -53,17 +51,6 @@ explained_plays c read held holds (Err run.Read) flaw replays is = replays
 explained_plays c read held holds (Err run.Write) flaw replays is = replays
 explained_plays c read held holds (Err run.Memory) flaw replays is = replays
 explained_plays c read held holds (Err run.CountEnd) flaw replays is = replays
-
--- what holds of known bytes holds where they are kept
-pub kept : (P : List ℕ → Type 0) (held now : Option (List ℕ)) → Keeps held now → IsSomeAnd held P → IsSomeAnd now P
-kept P None now keeps holds = absurd holds
-kept P (Some xs) None keeps holds = absurd keeps
-kept P (Some xs) (Some ys) keeps holds = subst P (sym keeps) holds
-
--- a fact of known bytes that follows from another
-pub weaker : (P Q : List ℕ → Type 0) (held : Option (List ℕ)) → ((bytes : List ℕ) → P bytes → Q bytes) → IsSomeAnd held P → IsSomeAnd held Q
-weaker P Q None follows holds = absurd holds
-weaker P Q (Some bytes) follows holds = follows bytes holds
 
 -- all the lines are the first lines
 all_are_first : (ports : ℕ) (lines : List (List ℕ)) (events : List Event) → AreLines ports lines events → AreLines ports (take (length events) lines) events

@@ -1,16 +1,5 @@
-pub mod Asking
-pub mod Checked
-pub mod Comparing
-pub mod Configured
 pub mod Deciding
-pub mod Files
-pub mod Json
-pub mod Kept
-pub mod Objects
+pub mod Ending
 pub mod Program
-pub mod Reloading
 pub mod Replay
-pub mod Reporting
 pub mod Serving
-pub mod Suggesting
-pub mod Translating

@@ -1,104 +1,50 @@
 -- The program as a whole: what the words chose, what is on standard output then, the line on standard error and
 -- the exit status.
-use Rattle.std.specs.Prelude.{◌≡◌, ◌≢◌, ◌⊎◌, ⊤, Bool, true, false, ℕ, List, [], ◌++◌, Option, Some, None, Result, Ok, Err, OnOk, option_map}
-use Rattle.std.specs.Prelude.{string_bytes}
+use Rattle.std.specs.Prelude.{◌≡◌, ⊤, Bool, true, ℕ, List, [], ◌++◌, Option, Result, Ok, Err, OnOk, option_map, string_bytes}
 use Rattle.std.specs.Io.KnownBytes.{Appends}
 use Rattle.gw_script.specs.Known.{OnKnown}
-use Rattle.std.specs.declared.alloc.AllocError.{AllocError}
-use Rattle.gw_compare.specs.declared.comparison.Compared.{Compared}
-use Rattle.gw_compare.specs.declared.comparison.Compared.TheVariants as compared
 use Rattle.gw_configuration.specs.Configuration.{Configuration}
-use Rattle.gw_policy_drafts.specs.migration.Migration.{Migrates}
-use Rattle.gw_report.specs.points.Points.{points_text}
-use Rattle.gw_policy_drafts.specs.declared.migration.fault.MigrationFault.TheVariants as migration
-use Rattle.gw_rules.specs.declared.format.Format.TheVariants as formats
 use Rattle.gw_command_line.specs.declared.command_line.Choice.{Choice}
 use Rattle.gw_command_line.specs.declared.command_line.Choice.TheVariants as choice
 use Rattle.gw_command_line.specs.CommandLine.{IsAnswer}
-use Rattle.gw_command_line.specs.declared.options.Shown.{Shown}
-use Rattle.gw_command_line.specs.declared.fault.WordsFault.{WordsFault}
-use Rattle.gw_shell.specs.declared.asking.Answering.{Answering}
-use Rattle.gw_shell.specs.declared.comparing.Limits.{Limits}
-use Rattle.gw_shell.specs.declared.comparing.Lines.{Lines}
+use Rattle.gw_options.specs.declared.fault.WordsFault.{WordsFault}
 use Rattle.gw_shell.specs.declared.deciding.Playing.{Playing}
 use Rattle.gw_ending.specs.declared.fault.Fault.{Fault}
 use Rattle.gw_ending.specs.declared.fault.Fault.TheVariants as fault
-use Rattle.gw_shell.specs.Asking.{Answers, Counts, ReportsUnread, asks_in}
-use Rattle.gw_shell.specs.Comparing.{AreProgress, IsCompared}
-use Rattle.gw_shell.specs.Configured.{FaultNote, IsConfigurationOf, IsConfigured}
+use Rattle.gw_ending.specs.Ending.{status_after}
+use Rattle.gw_reading.specs.Configured.{IsConfigurationOf, IsConfigured, summary}
+use Rattle.gw_reading.specs.Printing.{AppendsFront, LeavesFault}
 use Rattle.gw_shell.specs.Deciding.{ReportsAsks}
-use Rattle.gw_shell.specs.Reloading.{IsAnswerTo, outcome_of_answer}
-use Rattle.gw_ending.specs.Ending.{chosen, error_text_by, is_different, of_other, status_by, usage_of}
-use Rattle.gw_shell.specs.Checked.{IsChecked}
-use Rattle.gw_shell.specs.Json.{AreComparisonLines, FaultLine, IsMade, checked_line}
-use Rattle.gw_shell.specs.Kept.{IsSaidOfText}
-use Rattle.gw_shell.specs.Objects.{LeavesJudgedIn, Lists}
+use Rattle.gw_shell.specs.Ending.{chosen, error_text_by, usage_of}
 use Rattle.gw_shell.specs.Replay.{Plays}
-use Rattle.gw_shell.specs.Reporting.{IsReported}
-use Rattle.gw_rules.specs.declared.rule.Rule.{Rule}
 use Rattle.gw_service.specs.Serving.{IsFlushedFor}
 use Rattle.gw_service.specs.StampedRun.{TimedMachine}
 use Rattle.gw_shell.specs.Serving.{LeavesRun}
-use Rattle.gw_shell.specs.Suggesting.{Suggests}
-use Rattle.gw_policy_drafts.specs.declared.suggestion.suggestion.Manner.{Manner}
-use Rattle.gw_shell.specs.Translating.{Translates}
 
 -- what the words of a call choose, or why they choose nothing
 abbrev pub IsChoiceOf : List (List ℕ) → Result Choice Fault → Type 0
 IsChoiceOf words choice = (read : Result Choice WordsFault) × IsAnswer words read × (choice ≡ chosen read)
 
--- known octets grow by a front of a text
-pub record AppendsFront (held holds : Option (List ℕ)) (text : List ℕ) : Type 0 where
-  pub front : List ℕ
-  pub unwritten : List ℕ
-  pub parts : text ≡ front ++ unwritten
-  pub appends : Appends held holds front
-
--- What is left at a fault: where it is, of which a failed write may leave a front.
-abbrev pub LeavesFault : Result (List ℕ) Fault → Fault → Option (List ℕ) → Option (List ℕ) → Type 0
-LeavesFault text f held holds = (note : List ℕ) × FaultNote true text f note × AppendsFront held holds note
-
--- What `check` leaves of a configuration: what it says of it, of which a failed write may leave a front.
-abbrev pub LeavesConfigured : (explains lints : Bool) → Option (List ℕ) → Option (List ℕ) → Configuration
-    → Result (Unit {0}) Fault → Type 0
-LeavesConfigured explains lints held holds c (Ok done) =
-    (text : List ℕ) × IsChecked explains lints c text × Appends held holds text
-LeavesConfigured explains lints held holds c (Err fault.Write) =
-    (text : List ℕ) × IsChecked explains lints c text × AppendsFront held holds text
-LeavesConfigured explains lints held holds c (Err fault.Memory) = holds ≡ held
-LeavesConfigured explains lints held holds c (Err _) = ⊥
+-- What `check` leaves of a configuration: its summary, of which a failed write may leave a front.
+abbrev pub LeavesConfigured : Option (List ℕ) → Option (List ℕ) → Configuration → Result (Unit {0}) Fault → Type 0
+LeavesConfigured held holds c (Ok done) = Appends held holds (summary c)
+LeavesConfigured held holds c (Err fault.Write) = AppendsFront held holds (summary c)
+LeavesConfigured held holds c (Err fault.Memory) = holds ≡ held
+LeavesConfigured held holds c (Err _) = ⊥
 
 -- What it leaves of what was read of a text. Where there is no configuration the outcome is why, whatever became of
 -- the explanation.
-abbrev pub LeavesChecked : (explains lints : Bool) → Result (List ℕ) Fault → Option (List ℕ) → Option (List ℕ)
+abbrev pub LeavesChecked : Result (List ℕ) Fault → Option (List ℕ) → Option (List ℕ)
     → Result Configuration Fault → Result (Unit {0}) Fault → Type 0
-LeavesChecked explains lints text held holds (Ok c) outcome = LeavesConfigured explains lints held holds c outcome
-LeavesChecked explains lints text held holds (Err f) outcome =
+LeavesChecked text held holds (Ok c) outcome = LeavesConfigured held holds c outcome
+LeavesChecked text held holds (Err f) outcome =
     (outcome ≡ Err f) × LeavesFault text f held holds
 
 -- what `check` leaves of a text that was read, or of why none was
-abbrev pub LeavesOfText : (explains lints : Bool) → Result (List ℕ) Fault → Option (List ℕ) → Option (List ℕ)
+abbrev pub LeavesOfText : Result (List ℕ) Fault → Option (List ℕ) → Option (List ℕ)
     → Result (Unit {0}) Fault → Type 0
-LeavesOfText explains lints text held holds outcome =
-    (c : Result Configuration Fault) × IsConfigurationOf text c × LeavesChecked explains lints text held holds c outcome
-
--- What `check --migrate` leaves of a configuration: a text that says it in format 3, of which a failed write may leave
--- a front, and nothing at any other fault.
-abbrev pub LeavesInFormatThree : Option (List ℕ) → Option (List ℕ) → Configuration → Result (Unit {0}) Fault → Type 0
-LeavesInFormatThree held holds c (Ok done) = (text : List ℕ) × Migrates c text × Appends held holds text
-LeavesInFormatThree held holds c (Err fault.Write) = (text : List ℕ) × Migrates c text × AppendsFront held holds text
-LeavesInFormatThree held holds c (Err fault.Memory) = holds ≡ held
-LeavesInFormatThree held holds c (Err (fault.Migration f)) = holds ≡ held
-LeavesInFormatThree held holds c (Err _) = ⊥
-
--- What it leaves of the configuration that was read: one that is of format 3 is the fault that it is. Where there is
--- none the outcome is why.
-abbrev pub LeavesMigrated : Option (List ℕ) → Option (List ℕ) → Result Configuration Fault
-    → Result (Unit {0}) Fault → Type 0
-LeavesMigrated held holds (Ok c) outcome =
-    LeavesInFormatThree held holds c outcome
-    × (c.format ≡ formats.Three → outcome ≡ Err (fault.Migration migration.Already))
-LeavesMigrated held holds (Err f) outcome = (outcome ≡ Err f) × (holds ≡ held)
+LeavesOfText text held holds outcome =
+    (c : Result Configuration Fault) × IsConfigurationOf text c × LeavesChecked text held holds c outcome
 
 -- What `replay` leaves under the configuration that was read. Where there is none the script isn't played, and the
 -- outcome is why.
@@ -122,279 +68,34 @@ LeavesPlayedIn Reads file how input held holds said outcome =
     (c : Result Configuration Fault) × IsConfigured Reads file c × LeavesPlayed how.explains input held holds c outcome
     × ReportsAsks how.counts input c outcome said
 
--- What printing leaves of a comparison that was made, of which a failed write may leave a front: if the two aren't alike,
--- that is the outcome. Nothing if memory was refused for it.
-abbrev pub LeavesLines : Result Lines AllocError → Option (List ℕ) → Option (List ℕ) → Result (Unit {0}) Fault → Type 0
-LeavesLines (Ok lines) held holds (Ok done) = (lines.made ≡ compared.Alike) × Appends held holds lines.text.items
-LeavesLines (Ok lines) held holds (Err fault.Different) = (lines.made ≢ compared.Alike) × Appends held holds lines.text.items
-LeavesLines (Ok lines) held holds (Err fault.Write) = AppendsFront held holds lines.text.items
-LeavesLines (Ok lines) held holds (Err _) = ⊥
-LeavesLines (Err refused) held holds outcome = (outcome ≡ Err fault.Memory) × (holds ≡ held)
-
--- The same of a comparison of which only this is known.
-abbrev pub LeavesSome : (Compared → List ℕ → Type 0) → Option (List ℕ) → Option (List ℕ) → Result (Unit {0}) Fault → Type 0
-LeavesSome Is held holds (Ok done) = (text : List ℕ) × Is compared.Alike text × Appends held holds text
-LeavesSome Is held holds (Err fault.Different) =
-    (made : Compared) × (made ≢ compared.Alike) × (text : List ℕ) × Is made text × Appends held holds text
-LeavesSome Is held holds (Err fault.Write) = (made : Compared) × (text : List ℕ) × Is made text × AppendsFront held holds text
-LeavesSome Is held holds (Err fault.Memory) = holds ≡ held
-LeavesSome Is held holds (Err _) = ⊥
-
--- What `compare` leaves of two configurations: what it says of them within these limits.
-abbrev pub LeavesCompared : Limits → Option (List ℕ) → Option (List ℕ) → Configuration → Configuration
-    → Result (Unit {0}) Fault → Type 0
-LeavesCompared limits held holds old new outcome = LeavesSome (IsCompared limits old new) held holds outcome
-
--- What it leaves of the two that were read. If there is no first or no second one, the outcome is why.
-abbrev pub LeavesComparison : Limits → Option (List ℕ) → Option (List ℕ) → (old new : Result Configuration Fault)
-    → Result (Unit {0}) Fault → Type 0
-LeavesComparison limits held holds (Ok old) (Ok new) outcome = LeavesCompared limits held holds old new outcome
-LeavesComparison limits held holds (Ok old) (Err f) outcome = (outcome ≡ Err (of_other f)) × (holds ≡ held)
-LeavesComparison limits held holds (Err f) new outcome = (outcome ≡ Err f) × (holds ≡ held)
-
--- What printing leaves of a text that was made, of which a failed write may leave a front; or of why none was.
-abbrev pub LeavesPrinted : Result (List ℕ) Fault → Option (List ℕ) → Option (List ℕ) → Result (Unit {0}) Fault → Type 0
-LeavesPrinted (Ok text) held holds (Ok done) = Appends held holds text
-LeavesPrinted (Ok text) held holds (Err f) = (f ≡ fault.Write) × AppendsFront held holds text
-LeavesPrinted (Err f) held holds outcome = (outcome ≡ Err f) × (holds ≡ held)
-
--- What `check --json` leaves of what was read of a text: the line of the configuration, or of its fault.
-abbrev pub LeavesJson : Result (List ℕ) Fault → Option (List ℕ) → Option (List ℕ) → Result Configuration Fault
-    → Result (Unit {0}) Fault → Type 0
-LeavesJson text held holds (Ok c) outcome =
-    (made : Result (List ℕ) Fault) × IsMade (checked_line c) made × LeavesPrinted made held holds outcome
-LeavesJson text held holds (Err f) outcome =
-    (outcome ≡ Err f) × (line : List ℕ) × FaultLine text f line × AppendsFront held holds line
-
-abbrev pub LeavesCheckedJson : Result (List ℕ) Fault → Option (List ℕ) → Option (List ℕ) → Result (Unit {0}) Fault → Type 0
-LeavesCheckedJson text held holds outcome =
-    (c : Result Configuration Fault) × IsConfigurationOf text c × LeavesJson text held holds c outcome
-
--- What `compare --json` leaves of two configurations: lines for what they decide otherwise.
-abbrev pub LeavesComparedJson : ℕ → Option (List ℕ) → Option (List ℕ) → Configuration → Configuration
-    → Result (Unit {0}) Fault → Type 0
-LeavesComparedJson most held holds old new outcome = LeavesSome (AreComparisonLines old new most) held holds outcome
-
--- What it leaves of the two that were read. If there is no first or no second one, the outcome is why.
-abbrev pub LeavesComparisonJson : ℕ → Option (List ℕ) → Option (List ℕ) → (old new : Result Configuration Fault)
-    → Result (Unit {0}) Fault → Type 0
-LeavesComparisonJson most held holds (Ok old) (Ok new) outcome = LeavesComparedJson most held holds old new outcome
-LeavesComparisonJson most held holds (Ok old) (Err f) outcome = (outcome ≡ Err (of_other f)) × (holds ≡ held)
-LeavesComparisonJson most held holds (Err f) new outcome = (outcome ≡ Err f) × (holds ≡ held)
-
--- What `objects --csv` leaves of the configuration that was read: the list of its objects. If there is none, the outcome
--- is why.
-abbrev pub LeavesPoints : Option (List ℕ) → Option (List ℕ) → Result Configuration Fault → Result (Unit {0}) Fault → Type 0
-LeavesPoints held holds (Ok c) outcome =
-    (made : Result (List ℕ) Fault) × IsMade (points_text c) made × LeavesPrinted made held holds outcome
-LeavesPoints held holds (Err f) outcome = (outcome ≡ Err f) × (holds ≡ held)
-
--- What `state` leaves of a configuration and of the text of a state: what it says of them.
-abbrev pub LeavesSaid : Option (List ℕ) → Option (List ℕ) → Configuration → Result (List ℕ) Fault
-    → Result (Unit {0}) Fault → Type 0
-LeavesSaid held holds c text outcome =
-    (words : Result (List ℕ) Fault) × IsSaidOfText c text words × LeavesPrinted words held holds outcome
-
--- What `state` leaves of the configuration and of the text of a state that were read: what it says of them. If there is
--- no configuration, the outcome is why.
-abbrev pub LeavesState : Option (List ℕ) → Option (List ℕ) → Result Configuration Fault → Result (List ℕ) Fault
-    → Result (Unit {0}) Fault → Type 0
-LeavesState held holds (Ok c) text outcome = LeavesSaid held holds c text outcome
-LeavesState held holds (Err f) text outcome = (outcome ≡ Err f) × (holds ≡ held)
-
--- What it leaves of the files of these names.
-abbrev pub LeavesStateIn : (Reads ReadsState : List ℕ → Result (List ℕ) Fault → Type 0) → (config state : List ℕ)
-    → Option (List ℕ) → Option (List ℕ) → Result (Unit {0}) Fault → Type 0
-LeavesStateIn Reads ReadsState config state held holds outcome =
-    (c : Result Configuration Fault) × IsConfigured Reads (Some config) c
-    × (text : Result (List ℕ) Fault) × ReadsState state text × LeavesState held holds c text outcome
-
--- What `report` leaves of the configuration that was read, and of the log of this name if there is one: a page, or why
--- there is none.
-abbrev pub LeavesReport : (ReadsLog : List ℕ → Result (Option (List ℕ)) Fault → Type 0) → Option (List ℕ)
-    → Option (List ℕ) → Option (List ℕ) → Result Configuration Fault → Result (Unit {0}) Fault → Type 0
-LeavesReport ReadsLog log held holds c outcome =
-    (made : Result (List ℕ) Fault) × IsReported ReadsLog log c made × LeavesPrinted made held holds outcome
-
--- What it leaves of that of the file of this name.
-abbrev pub LeavesReportIn : (Reads : List ℕ → Result (List ℕ) Fault → Type 0)
-    → (ReadsLog : List ℕ → Result (Option (List ℕ)) Fault → Type 0) → List ℕ → Option (List ℕ)
-    → Option (List ℕ) → Option (List ℕ) → Result (Unit {0}) Fault → Type 0
-LeavesReportIn Reads ReadsLog file log held holds outcome =
-    (c : Result Configuration Fault) × IsConfigured Reads (Some file) c × LeavesReport ReadsLog log held holds c outcome
-
--- What `suggest` leaves under the configuration of a text that was read. If there is none, the outcome is why.
-abbrev pub LeavesSuggested : Manner → Option (List ℕ) → Option (List ℕ) → Option (List ℕ) → Result (List ℕ) Fault
-    → Result (Unit {0}) Fault → Type 0
-LeavesSuggested manner input held holds (Ok text) outcome =
-    OnKnown input held holds (λ log before. Suggests text manner log before outcome)
-LeavesSuggested manner input held holds (Err f) outcome = (outcome ≡ Err f) × (holds ≡ held)
-
--- What it leaves under that of the file of this name.
-abbrev pub LeavesSuggestedIn : (Reads : List ℕ → Result (List ℕ) Fault → Type 0) → List ℕ → Manner → Option (List ℕ)
-    → Option (List ℕ) → Option (List ℕ) → Result (Unit {0}) Fault → Type 0
-LeavesSuggestedIn Reads file manner input held holds outcome =
-    (text : Result (List ℕ) Fault) × Reads file text × LeavesSuggested manner input held holds text outcome
-
--- What an answer leaves: its text, and it says how the request ends; or a front of it, if a write failed.
-abbrev pub LeavesText : List ℕ → Option (List ℕ) → Option (List ℕ) → Result (Unit {0}) Fault → Type 0
-LeavesText answer held holds outcome =
-    ((outcome ≡ outcome_of_answer answer) × Appends held holds answer)
-    ⊎ ((outcome ≡ Err fault.Write) × AppendsFront held holds answer)
-
--- If there is no answer, the outcome is why.
-abbrev pub LeavesAnswer : Result (List ℕ) Fault → Option (List ℕ) → Option (List ℕ) → Result (Unit {0}) Fault → Type 0
-LeavesAnswer (Ok answer) held holds outcome = LeavesText answer held holds outcome
-LeavesAnswer (Err f) held holds outcome = (outcome ≡ Err f) × (holds ≡ held)
-
--- What a request of a name leaves: an answer to it, or nothing if there is none. `Answers` is what may be answered to one.
-abbrev pub LeavesAsked : (Answers : List ℕ → List ℕ → Type 0) → List ℕ → Option (List ℕ) → Option (List ℕ)
-    → Result (Unit {0}) Fault → Type 0
-LeavesAsked Answers request held holds outcome =
-    (answer : Result (List ℕ) Fault) × IsAnswerTo Answers request answer × LeavesAnswer answer held holds outcome
-
--- What `reload` leaves if the configuration is one.
-abbrev pub LeavesReload : (Answers : List ℕ → List ℕ → Type 0) → List ℕ → Option (List ℕ) → Option (List ℕ)
-    → Result Configuration Fault → Result (Unit {0}) Fault → Type 0
-LeavesReload Answers request held holds (Ok c) outcome = LeavesAsked Answers request held holds outcome
-LeavesReload Answers request held holds (Err f) outcome = (outcome ≡ Err f) × (holds ≡ held)
-
--- What it leaves after a comparison that ended with this fault, by whether that says that it found something: then it is none.
-abbrev pub LeavesAfterFault : (found : Bool) → (Answers : List ℕ → List ℕ → Type 0) → List ℕ → Fault
-    → Option (List ℕ) → Option (List ℕ) → Result (Unit {0}) Fault → Type 0
-LeavesAfterFault true Answers request f mid holds outcome = LeavesAsked Answers request mid holds outcome
-LeavesAfterFault false Answers request f mid holds outcome = (outcome ≡ Err f) × (holds ≡ mid)
-
--- What it leaves after a comparison with this outcome.
-abbrev pub LeavesAfter : (Answers : List ℕ → List ℕ → Type 0) → List ℕ → (compared : Result (Unit {0}) Fault)
-    → Option (List ℕ) → Option (List ℕ) → Result (Unit {0}) Fault → Type 0
-LeavesAfter Answers request (Ok done) mid holds outcome = LeavesAsked Answers request mid holds outcome
-LeavesAfter Answers request (Err f) mid holds outcome = LeavesAfterFault (is_different f) Answers request f mid holds outcome
-
--- What `reload --was` leaves of the configurations that were read: what the new one changes of the old one, and then that.
-abbrev pub LeavesReloadShown : (Answers : List ℕ → List ℕ → Type 0) → List ℕ → ℕ → Option (List ℕ) → Option (List ℕ)
-    → (old new : Result Configuration Fault) → Result (Unit {0}) Fault → Type 0
-LeavesReloadShown Answers request most held holds (Ok old) (Ok new) outcome =
-    (mid : Option (List ℕ)) × (shown : Result (Unit {0}) Fault)
-    × LeavesCompared (record { most = most; steps = false }) held mid old new shown
-    × LeavesAfter Answers request shown mid holds outcome
-LeavesReloadShown Answers request most held holds (Err f) (Ok new) outcome = (outcome ≡ Err (of_other f)) × (holds ≡ held)
-LeavesReloadShown Answers request most held holds old (Err f) outcome = (outcome ≡ Err f) × (holds ≡ held)
-
--- What it leaves if that is the file of this name, and the old configuration that of another, if one is named.
-abbrev pub LeavesReloadIn : (Reads : List ℕ → Result (List ℕ) Fault → Type 0) → (Answers : List ℕ → List ℕ → Type 0)
-    → (file request : List ℕ) → Option Shown → Option (List ℕ) → Option (List ℕ) → (said : List ℕ)
-    → Result (Unit {0}) Fault → Type 0
-LeavesReloadIn Reads Answers file request None held holds said outcome =
-    (c : Result Configuration Fault) × IsConfigured Reads (Some file) c × LeavesReload Answers request held holds c outcome
-    × (said ≡ [])
-LeavesReloadIn Reads Answers file request (Some shown) held holds said outcome =
-    (c : Result Configuration Fault) × IsConfigured Reads (Some file) c
-    × (old : Result Configuration Fault) × IsConfigured Reads (Some (string_bytes shown.old)) old
-    × LeavesReloadShown Answers request shown.most held holds old c outcome × AreProgress said
-
--- What `why --count` leaves of a text: how many of its asks each of these rules decides, or the first line that says none.
-abbrev pub LeavesCounts : List Rule → List ℕ → Option (List ℕ) → Option (List ℕ) → Result (Unit {0}) Fault → Type 0
-LeavesCounts rules text held holds outcome =
-    (lines : Result (List ℕ) Fault) × Counts rules text lines × LeavesPrinted lines held holds outcome
-
--- What `why` leaves by the rules of the configuration that was read. Where there is none nothing is answered, and the
--- outcome is why.
-abbrev pub LeavesAnswered : Bool → Option (List ℕ) → Option (List ℕ) → Option (List ℕ)
-    → Result Configuration Fault → Result (Unit {0}) Fault → Type 0
-LeavesAnswered false input held holds (Ok c) outcome =
-    OnKnown input held holds (λ text before. Answers c.rules c.notes text before outcome)
-LeavesAnswered true input held holds (Ok c) outcome =
-    (text : List ℕ) → input ≡ Some text → LeavesCounts c.rules text held holds outcome
-LeavesAnswered counts input held holds (Err f) outcome = (outcome ≡ Err f) × (holds ≡ held)
-
--- What it leaves by those of the file of this name, and reports of the lines that show no ask.
-abbrev pub LeavesAnsweredIn : (Reads : List ℕ → Result (List ℕ) Fault → Type 0) → List ℕ → Answering → Option (List ℕ)
-    → Option (List ℕ) → Option (List ℕ) → (said : List ℕ) → Result (Unit {0}) Fault → Type 0
-LeavesAnsweredIn Reads file how input held holds said outcome =
-    (c : Result Configuration Fault) × IsConfigured Reads (Some file) c
-    × LeavesAnswered how.counts (asks_in how.strict input) held holds c outcome × ReportsUnread how.strict outcome said
-
--- What a log leaves that was opened, by what `Leaves` says of a log; or of why it wasn't.
-abbrev pub LeavesOpened : (Leaves : List ℕ → List ℕ → Result (Unit {0}) Fault → List ℕ → Type 0)
-    → Result (Option (List ℕ)) Fault → Option (List ℕ) → Option (List ℕ) → Result (Unit {0}) Fault → Type 0
-LeavesOpened Leaves (Ok input) held holds outcome = OnKnown input held holds (λ log before. Leaves log before outcome)
-LeavesOpened Leaves (Err f) held holds outcome = (outcome ≡ Err f) × (holds ≡ held)
-
--- What the log in the file of this name leaves, or that on standard input.
-abbrev pub LeavesOfLog : (ReadsLog : List ℕ → Result (Option (List ℕ)) Fault → Type 0)
-    → (Leaves : List ℕ → List ℕ → Result (Unit {0}) Fault → List ℕ → Type 0) → Option (List ℕ) → Option (List ℕ)
-    → Option (List ℕ) → Option (List ℕ) → Result (Unit {0}) Fault → Type 0
-LeavesOfLog ReadsLog Leaves None input held holds outcome =
-    OnKnown input held holds (λ log before. Leaves log before outcome)
-LeavesOfLog ReadsLog Leaves (Some file) input held holds outcome =
-    (opened : Result (Option (List ℕ)) Fault) × ReadsLog file opened × LeavesOpened Leaves opened held holds outcome
-
--- What is on standard output, which held `held` before, if files give what `Reads`, `ReadsState` and `ReadsLog` say, `run`
--- opens what the machine says, and `reload` is answered what `Answers` says: at `check`, `replay` and `why` what they leave of some configuration that is the one they name,
--- at `compare` of the two, at `state` of the one and the state, at `run` also what was reported at the start, at `log` what that leaves of the log, and at help its text, of which a
--- failed write may leave a front. Words that choose nothing leave it as it was, and their fault is the outcome.
-abbrev pub LeavesOutput : {C Log Sockets S Q : Type 0} → (Reads ReadsState : List ℕ → Result (List ℕ) Fault → Type 0)
-    → (ReadsLog : List ℕ → Result (Option (List ℕ)) Fault → Type 0) → (Answers : List ℕ → List ℕ → Type 0) → TimedMachine C Log Sockets S Q → Option (List ℕ) → Option (List ℕ) → Option (List ℕ) → List ℕ
+-- What is on standard output, which held `held` before, if files give what `Reads` says, and `run` opens what the machine says: at
+-- `check` and `replay` what they leave of some configuration that is the one they name, at `run` also what was reported at the
+-- start, and at help its text, of which a failed write may leave a front. Words that choose nothing leave it as it was, and their
+-- fault is the outcome.
+abbrev pub LeavesOutput : {C Log Sockets S Q : Type 0} → (Reads : List ℕ → Result (List ℕ) Fault → Type 0)
+    → TimedMachine C Log Sockets S Q → Option (List ℕ) → Option (List ℕ) → Option (List ℕ) → List ℕ
     → Result Choice Fault → Result (Unit {0}) Fault → Type 0
-LeavesOutput Reads ReadsState ReadsLog Answers machine input held holds said (Ok (choice.Check file explains lints)) outcome =
+LeavesOutput Reads machine input held holds said (Ok (choice.Check file)) outcome =
     (text : Result (List ℕ) Fault) × Reads (string_bytes file) text
-    × LeavesOfText explains lints text held holds outcome
-LeavesOutput Reads ReadsState ReadsLog Answers machine input held holds said (Ok (choice.CheckJson file)) outcome =
-    (text : Result (List ℕ) Fault) × Reads (string_bytes file) text × LeavesCheckedJson text held holds outcome
-LeavesOutput Reads ReadsState ReadsLog Answers machine input held holds said (Ok (choice.Migrate file)) outcome =
-    (c : Result Configuration Fault) × IsConfigured Reads (Some (string_bytes file)) c
-    × LeavesMigrated held holds c outcome
-LeavesOutput Reads ReadsState ReadsLog Answers machine input held holds said (Ok (choice.Replay file explains counts)) outcome =
+    × LeavesOfText text held holds outcome
+LeavesOutput Reads machine input held holds said (Ok (choice.Replay file explains counts)) outcome =
     LeavesPlayedIn Reads (option_map string_bytes file) (record { explains = explains; counts = counts }) input held holds said outcome
-LeavesOutput Reads ReadsState ReadsLog Answers machine input held holds said (Ok (choice.Run options)) outcome =
+LeavesOutput Reads machine input held holds said (Ok (choice.Run options)) outcome =
     (text : Result (List ℕ) Fault) × Reads (string_bytes options.config) text
     × (c : Result Configuration Fault) × IsConfigurationOf text c
     × LeavesRun machine text held holds options c said outcome
-LeavesOutput Reads ReadsState ReadsLog Answers machine input held holds said (Ok (choice.Why file counts strict)) outcome =
-    LeavesAnsweredIn Reads (string_bytes file) (record { counts = counts; strict = strict }) input held holds said outcome
-LeavesOutput Reads ReadsState ReadsLog Answers machine input held holds said (Ok (choice.Reload config request was)) outcome =
-    LeavesReloadIn Reads Answers (string_bytes config) (string_bytes request) was held holds said outcome
-LeavesOutput Reads ReadsState ReadsLog Answers machine input held holds said (Ok (choice.Compare old new most steps)) outcome =
-    (a : Result Configuration Fault) × IsConfigured Reads (Some (string_bytes old)) a
-    × (b : Result Configuration Fault) × IsConfigured Reads (Some (string_bytes new)) b
-    × LeavesComparison (record { most = most; steps = steps }) held holds a b outcome × AreProgress said
-LeavesOutput Reads ReadsState ReadsLog Answers machine input held holds said (Ok (choice.CompareJson old new most)) outcome =
-    (a : Result Configuration Fault) × IsConfigured Reads (Some (string_bytes old)) a
-    × (b : Result Configuration Fault) × IsConfigured Reads (Some (string_bytes new)) b
-    × LeavesComparisonJson most held holds a b outcome
-LeavesOutput Reads ReadsState ReadsLog Answers machine input held holds said (Ok (choice.Points file)) outcome =
-    (c : Result Configuration Fault) × IsConfigured Reads (Some (string_bytes file)) c × LeavesPoints held holds c outcome
-LeavesOutput Reads ReadsState ReadsLog Answers machine input held holds said (Ok (choice.State config state)) outcome =
-    LeavesStateIn Reads ReadsState (string_bytes config) (string_bytes state) held holds outcome
-LeavesOutput Reads ReadsState ReadsLog Answers machine input held holds said (Ok (choice.Suggest file fills exact)) outcome =
-    LeavesSuggestedIn Reads (string_bytes file) (record { keeps_services = exact; fills = fills }) (asks_in false input) held holds outcome
-    × ReportsUnread false outcome said
-LeavesOutput Reads ReadsState ReadsLog Answers machine input held holds said (Ok (choice.Log file start)) outcome =
-    LeavesOfLog ReadsLog (Translates start) (option_map string_bytes file) input held holds outcome
-LeavesOutput Reads ReadsState ReadsLog Answers machine input held holds said (Ok (choice.Objects file)) outcome =
-    LeavesOfLog ReadsLog Lists (option_map string_bytes file) input held holds outcome
-LeavesOutput Reads ReadsState ReadsLog Answers machine input held holds said (Ok (choice.Judge file strict)) outcome =
-    LeavesJudgedIn Reads (string_bytes file) (asks_in strict input) held holds outcome × ReportsUnread strict outcome said
-LeavesOutput Reads ReadsState ReadsLog Answers machine input held holds said (Ok (choice.Report file log)) outcome =
-    LeavesReportIn Reads ReadsLog (string_bytes file) (option_map string_bytes log) held holds outcome
-LeavesOutput Reads ReadsState ReadsLog Answers machine input held holds said (Ok (choice.Help text)) (Ok done) =
+LeavesOutput Reads machine input held holds said (Ok (choice.Help text)) (Ok done) =
     Appends held holds (string_bytes text)
-LeavesOutput Reads ReadsState ReadsLog Answers machine input held holds said (Ok (choice.Help text)) (Err f) =
+LeavesOutput Reads machine input held holds said (Ok (choice.Help text)) (Err f) =
     (f ≡ fault.Write) × AppendsFront held holds (string_bytes text)
-LeavesOutput Reads ReadsState ReadsLog Answers machine input held holds said (Ok (choice.Usage text)) outcome =
+LeavesOutput Reads machine input held holds said (Ok (choice.Usage text)) outcome =
     (outcome ≡ Err fault.CommandLine) × (holds ≡ held)
-LeavesOutput Reads ReadsState ReadsLog Answers machine input held holds said (Err f) outcome = (outcome ≡ Err f) × (holds ≡ held)
+LeavesOutput Reads machine input held holds said (Err f) outcome = (outcome ≡ Err f) × (holds ≡ held)
 
--- Only `run`, `replay`, `why`, `suggest`, `compare` and `reload` report something before a fault's line.
+-- Only `run` and `replay` report something before a fault's line.
 abbrev pub IsQuiet : Result Choice Fault → List ℕ → Type 0
 IsQuiet (Ok (choice.Run options)) said = ⊤
 IsQuiet (Ok (choice.Replay file explains counts)) said = ⊤
-IsQuiet (Ok (choice.Why file counts strict)) said = ⊤
-IsQuiet (Ok (choice.Judge file strict)) said = ⊤
-IsQuiet (Ok (choice.Suggest file fills exact)) said = ⊤
-IsQuiet (Ok (choice.Compare old new most steps)) said = ⊤
-IsQuiet (Ok (choice.Reload config request was)) said = ⊤
 IsQuiet _ said = said ≡ []
 
 -- What of standard output isn't flushed after a choice that was done: nothing, but that `run` leaves what was so
@@ -427,4 +128,4 @@ pub record IsRun (Chooses : Result Choice Fault → Type 0)
   pub quiet : IsQuiet choice said
   pub flush : OnOk outcome (IsFlushed choice was is)
   pub errors : Adds (said ++ error_text_by choice outcome ++ usage_of choice)
-  pub status : exit ≡ status_by choice outcome
+  pub status : exit ≡ status_after outcome

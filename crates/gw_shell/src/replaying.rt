@@ -3,8 +3,7 @@
 ghost use Rattle.std.specs.Prelude.{◌≡◌, [], OnOk};
 ghost use Rattle.std.specs.Io.Buffered.{writer_buffer, writer_contents};
 ghost use Rattle.gw_script.specs.Known.{OnKnown};
-ghost use Rattle.gw_shell.specs.Replay.{Plays};
-ghost use Rattle.gw_ending.specs.Ending.{first_fault, outcome_of};
+ghost use Rattle.gw_shell.specs.Replay.{Plays, first_fault, outcome_of};
 
 use gw_configuration::Config;
 use gw_ending::Fault;

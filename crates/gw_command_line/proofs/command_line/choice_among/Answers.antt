@@ -5,8 +5,9 @@ use Rattle.clap.specs.Words.{first_of, first_value, found_of, rows_of, subcomman
 use Rattle.clap.specs.declared.parser.matches.ArgMatches.TheViews.{out-ArgMatches}
 use Rattle.clap.proofs.WalkLemmas.{first_value-rows}
 use Rattle.gw_command_line.specs.CommandLine.{IsChosen}
-use Rattle.gw_command_line.specs.Requests.{Request, Values, asked, asked_by}
-use Rattle.gw_command_line.proofs.WordsLemmas.{entered_call}
+use Rattle.gw_command_line.specs.Requests.{Request, asked, asked_by}
+use Rattle.gw_options.specs.Values.{Values}
+use Rattle.gw_options.proofs.ParseLemmas.{entered_call}
 use Rattle.gw_command_line.proofs.command_line.choice_among.Goals as goal
 
 pub returns-in-Some : goal.returns-in-Some

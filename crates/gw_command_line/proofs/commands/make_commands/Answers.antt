@@ -7,11 +7,8 @@ use Rattle.gw_command_line.proofs.commands.make_commands.Goals as goal
 pub returns : goal.returns
 unfolding commands
 returns c =
-    let zero = c.in_ok-make_first_commands.ensures in
-    let one = c.in_ok-subcommand.ensures.shape c.in_ok-log.ensures.local ∙ ap₂ with_subcommand zero (ap (λ (a : App). a.top) c.in_ok-log.ensures.app) in
-    let two = c.in_ok-subcommand-2.ensures.shape c.in_ok-compare.ensures.local ∙ ap₂ with_subcommand one (ap (λ (a : App). a.top) c.in_ok-compare.ensures.app) in
-    let three = c.in_ok-subcommand-3.ensures.shape c.in_ok-state.ensures.local ∙ ap₂ with_subcommand two (ap (λ (a : App). a.top) c.in_ok-state.ensures.app) in
-    let four = c.in_ok-subcommand-4.ensures.shape c.in_ok-suggest.ensures.local ∙ ap₂ with_subcommand three (ap (λ (a : App). a.top) c.in_ok-suggest.ensures.app) in
-    let five = c.in_ok-subcommand-5.ensures.shape c.in_ok-reload.ensures.local ∙ ap₂ with_subcommand four (ap (λ (a : App). a.top) c.in_ok-reload.ensures.app) in
-    IfOk-weaker c.subcommand-6.result _ _
-    (λ m h. h.shape c.in_ok-objects.ensures.local ∙ ap₂ with_subcommand five (ap (λ (a : App). a.top) c.in_ok-objects.ensures.app)) c.subcommand-6.ensures
+    let zero = c.make_program.ensures in
+    let one = c.in_ok-subcommand.ensures.shape c.in_ok-check.ensures.local ∙ ap₂ with_subcommand zero (ap (λ (a : App). a.top) c.in_ok-check.ensures.app) in
+    let two = c.in_ok-subcommand-2.ensures.shape c.in_ok-replay.ensures.local ∙ ap₂ with_subcommand one (ap (λ (a : App). a.top) c.in_ok-replay.ensures.app) in
+    IfOk-weaker c.subcommand-3.result _ _
+    (λ m h. h.shape c.in_ok-run.ensures.local ∙ ap₂ with_subcommand two (ap (λ (a : App). a.top) c.in_ok-run.ensures.app)) c.subcommand-3.ensures

@@ -9,6 +9,6 @@ returns-clause-ok g c =
     let held = g.E.OctetSink.held in
     let name : c.as_bytes.result.now ≡ name_of c.args.fault = search rules in
     three_writes c.write_whole-3.result (held c.args.errors.now) (held c.write_whole.new.sink) (held c.write_whole-2.new.sink) (held c.write_whole-3.new.sink)
-    (codes "bacgw: configuration: ") (name_of c.args.fault) (10 ∷ []) c.in_ok-write_whole.ensures.ok
+    (codes "configuration: ") (name_of c.args.fault) (10 ∷ []) c.in_ok-write_whole.ensures.ok
     (subst (λ (text : List ℕ). Appends (held c.write_whole.new.sink) (held c.write_whole-2.new.sink) text) name c.in_ok-write_whole-2.ensures.ok)
     c.write_whole-3.ensures.ok

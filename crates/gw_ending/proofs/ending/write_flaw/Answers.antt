@@ -8,9 +8,9 @@ pub returns-clause-ok : goal.returns-clause-ok
 returns-clause-ok g c =
     let held = g.E.OctetSink.held in
     let words : c.as_bytes.result.now ≡ words_of c.args.flaw = search rules in
-    let front = codes "bacgw: line " ++ (decimal c.args.number ++ codes ": ") in
+    let front = codes "line " ++ (decimal c.args.number ++ codes ": ") in
     subst (λ (text : List ℕ). OnOk c.write_whole-2.result (Appends (held c.args.errors.now) (held c.write_whole-2.new.sink) text))
-    (line_joined (codes "bacgw: line ") (decimal c.args.number) (codes ": ") (words_of c.args.flaw) (10 ∷ []))
+    (line_joined (codes "line ") (decimal c.args.number) (codes ": ") (words_of c.args.flaw) (10 ∷ []))
     (three_writes c.write_whole-2.result (held c.args.errors.now) (held c.write_number.new.errors) (held c.write_whole.new.sink) (held c.write_whole-2.new.sink)
     front (words_of c.args.flaw) (10 ∷ []) c.in_ok-write_number.ensures.ok
     (subst (λ (text : List ℕ). Appends (held c.write_number.new.errors) (held c.write_whole.new.sink) text) words c.in_ok-write_whole.ensures.ok)

@@ -10,7 +10,7 @@ returns-clause-ok g c =
     let words : c.as_bytes.result.now ≡ trial_words c.args.why = search rules in
     let reason : c.as_bytes-2.result.now ≡ trial_reason c.args.why = search rules in
     four_writes c.write_whole-4.result (held c.args.errors.now) (held c.write_whole.new.sink) (held c.write_whole-2.new.sink)
-    (held c.write_whole-3.new.sink) (held c.write_whole-4.new.sink) (codes "bacgw: trial: ") (trial_words c.args.why) (trial_reason c.args.why) (10 ∷ [])
+    (held c.write_whole-3.new.sink) (held c.write_whole-4.new.sink) (codes "trial: ") (trial_words c.args.why) (trial_reason c.args.why) (10 ∷ [])
     c.in_ok-write_whole.ensures.ok
     (subst (λ (t : List ℕ). Appends (held c.write_whole.new.sink) (held c.write_whole-2.new.sink) t) words c.in_ok-write_whole-2.ensures.ok)
     (subst (λ (t : List ℕ). Appends (held c.write_whole-2.new.sink) (held c.write_whole-3.new.sink) t) reason c.in_ok-write_whole-3.ensures.ok)

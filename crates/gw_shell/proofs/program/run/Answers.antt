@@ -1,6 +1,6 @@
 use Rattle.std.proofs.Common.{◌++◌, List, subst, ℕ}
 use Rattle.std.specs.Io.KnownBytes.{Appends}
-use Rattle.gw_ending.specs.Ending.{error_text_by, usage_of}
+use Rattle.gw_shell.specs.Ending.{error_text_by, usage_of}
 use Rattle.gw_notices.proofs.AppendLemmas.{appends_two}
 use Rattle.gw_shell.proofs.program.run.Goals as goal
 

@@ -1,7 +1,7 @@
 use Rattle.std.proofs.Common.{Bool, Result, None, Some, sym, subst}
 use Rattle.std.specs.Io.Buffered.{writer_contents}
 use Rattle.gw_script.specs.Known.{OnKnown}
-use Rattle.gw_ending.specs.Ending.{outcome_of}
+use Rattle.gw_shell.specs.Replay.{outcome_of}
 use Rattle.gw_shell.specs.Replay.{Plays}
 use Rattle.gw_ending.specs.declared.fault.Fault.{Fault}
 use Rattle.gw_shell.proofs.ReplayLemmas.{explained_plays, run_plays}

@@ -2,8 +2,9 @@ use Rattle.std.proofs.Common.{sym, subst, Result, IsSomeAnd}
 use Rattle.std.specs.Io.Buffered.{writer_contents}
 use Rattle.gw_ending.specs.declared.fault.Fault.{Fault}
 use Rattle.gw_shell.specs.Replay.{Plays}
-use Rattle.gw_ending.specs.Ending.{first_fault}
-use Rattle.gw_shell.proofs.ReplayLemmas.{flushed_plays, kept, weaker}
+use Rattle.gw_shell.specs.Replay.{first_fault}
+use Rattle.gw_reading.proofs.KnownLemmas.{kept, weaker}
+use Rattle.gw_shell.proofs.ReplayLemmas.{flushed_plays}
 use Rattle.gw_shell.proofs.replaying.replay.Goals as goal
 
 pub returns-clause-plays : goal.returns-clause-plays

@@ -1,0 +1,2 @@
+pub mod ParseLemmas
+mod ValueLemmas

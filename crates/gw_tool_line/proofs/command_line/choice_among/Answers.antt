@@ -1,0 +1,21 @@
+use Rattle.std.proofs.Common.{◌≡◌, ◌∙◌, ap, sym, subst, Option, Some}
+use mathlib.Core.Path.{fun_ext}
+use Rattle.std.specs.Option.{option_and_then}
+use Rattle.clap.specs.Words.{first_of, first_value, found_of, rows_of, subcommand_rows_of}
+use Rattle.clap.specs.declared.parser.matches.ArgMatches.TheViews.{out-ArgMatches}
+use Rattle.clap.proofs.WalkLemmas.{first_value-rows}
+use Rattle.gw_tool_line.specs.CommandLine.{IsChosen}
+use Rattle.gw_tool_line.specs.Requests.{Request, asked, asked_by}
+use Rattle.gw_options.specs.Values.{Values}
+use Rattle.gw_options.proofs.ParseLemmas.{entered_call}
+use Rattle.gw_tool_line.proofs.command_line.choice_among.Goals as goal
+
+pub returns-in-Some : goal.returns-in-Some
+returns-in-Some c =
+    let found = found_of c.in-Some.matches.now in
+    let entered : subcommand_rows_of c.args.matches.now ≡ Some (c.in-Some.name.now, rows_of found) =
+    entered_call (out-ArgMatches c.args.matches.now).subcommand c.in-Some.name.now (rows_of found) c.in-Some.ensures.name c.in-Some.ensures.rows in
+    let values : (λ id. first_of id (rows_of found)) ≡ first_value found = fun_ext (λ id. sym (first_value-rows found id)) in
+    let asks : option_and_then asked_by (subcommand_rows_of c.args.matches.now) ≡ asked c.in-Some.name.now (first_value found) =
+    ap (option_and_then asked_by) entered ∙ ap (λ (value : Values). asked c.in-Some.name.now value) values in
+    subst (λ (o : Option Request). IsChosen o c.choice_for.result) (sym asks) c.choice_for.ensures

@@ -1,0 +1,4 @@
+pub mod Calls
+pub mod CommandLine
+pub mod Commands
+pub mod Requests

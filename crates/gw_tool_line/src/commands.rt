@@ -1,0 +1,285 @@
+//! The commands of the program and their options, made for `clap`, with the texts of the help.
+
+ghost use Rattle.std.specs.Prelude.{◌≡◌, false, codes, IfOk};
+ghost use Rattle.clap.specs.Words.{app_of, rule_of};
+ghost use Rattle.clap.specs.declared.builder.command.Command.TheViews.{out-Command};
+ghost use Rattle.gw_tool_line.specs.Commands.{check, commands, compare, compare_of_most, explain, first_commands, lint, log, log_of_file};
+ghost use Rattle.gw_tool_line.specs.Commands.{middle_commands, migrate, objects, program, reload, reload_of_request, report, state};
+ghost use Rattle.gw_tool_line.specs.Commands.{suggest, why, why_of_form};
+
+use clap::Command;
+use gw_options::{
+    FILE, MAX_COUNT, NUMBER, VERSION, make_flag, make_needed, make_needed_flag, make_number,
+    make_of_file, make_option, make_positional,
+};
+use std::alloc::{AllocError, Global};
+
+/// What is below the help on some commands.
+const WHY_EXAMPLE: &str = "Example:
+  bacgwctl why --config new.toml < denials.log | sort | uniq -c";
+
+const COMPARE_EXAMPLE: &str = "Example:
+  bacgwctl compare --config site.toml --with new.toml";
+
+const STATE_EXAMPLE: &str = "Example:
+  bacgwctl state --config new.toml --state /var/lib/bacgw/state";
+
+const SUGGEST_EXAMPLE: &str = "Example:
+  bacgwctl suggest --config site.toml < denials.log > suggested.toml";
+
+const REPORT_EXAMPLE: &str = "Example:
+  bacgwctl report --config site.toml --log denials.log > site.html";
+
+const RELOAD_EXAMPLE: &str = "Example:
+  bacgwctl reload --config site.toml --reload /run/bacgw/reload";
+
+const LOG_EXAMPLE: &str = "Example:
+  bacgwctl log denials.log | sort | uniq -c";
+
+const OBJECTS_EXAMPLE: &str = "Example:
+  bacgwctl objects --config site.toml --csv > site.csv";
+
+/// What help says of `--most`.
+const MOST_HELP: &str =
+    "How many lines are printed at most, or of each group, from 1 to 9223372036854775807, the default";
+
+fn make_check<'a>(alloc: Global) -> Result<Command<'a>, AllocError>
+    ensures app { IfOk result (λ command. app_of command ≡ check) }
+    ensures local { IfOk result (λ command. (out-Command command).has_globals ≡ false) }
+{
+    let help = "Prints a JSON object instead";
+    let json = make_flag(alloc, "json", help);
+    let about = "Says what a configuration has, or its first fault";
+    make_of_file(alloc, "check", about)?.arg(json)
+}
+
+fn make_explain<'a>(alloc: Global) -> Result<Command<'a>, AllocError>
+    ensures app { IfOk result (λ command. app_of command ≡ explain) }
+    ensures local { IfOk result (λ command. (out-Command command).has_globals ≡ false) }
+{
+    let help = "Also prints which rules never decide";
+    let lint = make_flag(alloc, "lint", help);
+    let about =
+        "Says what a configuration has, who may do what, what is hidden from whom, and warnings";
+    make_of_file(alloc, "explain", about)?.arg(lint)
+}
+
+fn make_lint<'a>(alloc: Global) -> Result<Command<'a>, AllocError>
+    ensures app { IfOk result (λ command. app_of command ≡ lint) }
+    ensures local { IfOk result (λ command. (out-Command command).has_globals ≡ false) }
+{
+    make_of_file(
+        alloc,
+        "lint",
+        "Says what a configuration has, and which of its rules never decide",
+    )
+}
+
+fn make_migrate<'a>(alloc: Global) -> Result<Command<'a>, AllocError>
+    ensures app { IfOk result (λ command. app_of command ≡ migrate) }
+    ensures local { IfOk result (λ command. (out-Command command).has_globals ≡ false) }
+{
+    make_of_file(alloc, "migrate", "Prints a configuration in format 3")
+}
+
+fn make_why<'a>(alloc: Global) -> Result<Command<'a>, AllocError>
+    ensures app { IfOk result (λ command. app_of command ≡ why) }
+    ensures local { IfOk result (λ command. (out-Command command).has_globals ≡ false) }
+{
+    let help = "Ends at a line that isn't an ask alone; without it any text may be around an ask";
+    let strict = make_flag(alloc, "strict", help);
+    make_why_of_form(alloc)?.arg(strict)
+}
+
+fn make_why_of_form<'a>(alloc: Global) -> Result<Command<'a>, AllocError>
+    ensures app { IfOk result (λ command. app_of command ≡ why_of_form) }
+    ensures local { IfOk result (λ command. (out-Command command).has_globals ≡ false) }
+{
+    let about = "Says which rule decides each ask of standard input, in the words of the log";
+    let count = make_flag(
+        alloc,
+        "count",
+        "Prints how many asks each rule decides instead",
+    );
+    let json = make_flag(alloc, "json", "Answers by a JSON object a line instead");
+    make_of_file(alloc, "why", about)?
+        .after_help(WHY_EXAMPLE)
+        .arg(count)?
+        .arg(json)
+}
+
+fn make_compare<'a>(alloc: Global) -> Result<Command<'a>, AllocError>
+    ensures app { IfOk result (λ command. app_of command ≡ compare) }
+    ensures local { IfOk result (λ command. (out-Command command).has_globals ≡ false) }
+{
+    let help = "Also prints how many steps the comparison took";
+    let steps = make_flag(alloc, "steps", help);
+    let help = "Prints a JSON object instead; without --steps";
+    let json = make_flag(alloc, "json", help);
+    make_compare_of_most(alloc)?.arg(steps)?.arg(json)
+}
+
+fn make_compare_of_most<'a>(alloc: Global) -> Result<Command<'a>, AllocError>
+    ensures app { IfOk result (λ command. app_of command ≡ compare_of_most) }
+    ensures local { IfOk result (λ command. (out-Command command).has_globals ≡ false) }
+{
+    let with = make_needed(alloc, "with", "The other configuration, in TOML");
+    let most = make_number(alloc, "most", NUMBER, MAX_COUNT, MOST_HELP);
+    let about = "Says which asks the rules of two configurations decide otherwise";
+    make_of_file(alloc, "compare", about)?
+        .after_help(COMPARE_EXAMPLE)
+        .arg(with)?
+        .arg(most)
+}
+
+fn make_log<'a>(alloc: Global) -> Result<Command<'a>, AllocError>
+    ensures app { IfOk result (λ command. app_of command ≡ log) }
+    ensures local { IfOk result (λ command. (out-Command command).has_globals ≡ false) }
+{
+    let help = "Also shows when each denial was, if the log began then: 2026-11-25T08:00:00+01:00";
+    let start = make_option(alloc, "start", "TIME", help);
+    let help = "Makes each line a JSON object instead; without --start";
+    let json = make_flag(alloc, "json", help);
+    make_log_of_file(alloc)?.arg(start)?.arg(json)
+}
+
+fn make_log_of_file<'a>(alloc: Global) -> Result<Command<'a>, AllocError>
+    ensures app { IfOk result (λ command. app_of command ≡ log_of_file) }
+    ensures local { IfOk result (λ command. (out-Command command).has_globals ≡ false) }
+{
+    let file = make_positional(alloc, "file", "The log; without it standard input");
+    Command::new(alloc, "log")
+        .about("Says each line of a log in words")
+        .after_help(LOG_EXAMPLE)
+        .arg(file)
+}
+
+fn make_report<'a>(alloc: Global) -> Result<Command<'a>, AllocError>
+    ensures app { IfOk result (λ command. app_of command ≡ report) }
+    ensures local { IfOk result (λ command. (out-Command command).has_globals ≡ false) }
+{
+    let help = "The log whose denials it also shows";
+    let log = make_option(alloc, "log", FILE, help);
+    let about = "Writes a page of HTML: the site, who may do what, the rules, and what was denied";
+    make_of_file(alloc, "report", about)?
+        .after_help(REPORT_EXAMPLE)
+        .arg(log)
+}
+
+fn make_state<'a>(alloc: Global) -> Result<Command<'a>, AllocError>
+    ensures app { IfOk result (λ command. app_of command ≡ state) }
+    ensures local { IfOk result (λ command. (out-Command command).has_globals ≡ false) }
+{
+    let state = make_needed(alloc, "state", "The file in which run keeps the state");
+    let about = "Says what a kept state holds, and what of it a configuration takes over";
+    make_of_file(alloc, "state", about)?
+        .after_help(STATE_EXAMPLE)
+        .arg(state)
+}
+
+fn make_suggest<'a>(alloc: Global) -> Result<Command<'a>, AllocError>
+    ensures app { IfOk result (λ command. app_of command ≡ suggest) }
+    ensures local { IfOk result (λ command. (out-Command command).has_globals ≡ false) }
+{
+    let help = "Lets each station do what it did with each object that it asked for";
+    let fill = make_flag(alloc, "fill", help);
+    let exact = make_flag(
+        alloc,
+        "exact",
+        "Keeps the services of reads and lists apart",
+    );
+    let about = "Writes rules that allow the asks of standard input, to be put in front";
+    make_of_file(alloc, "suggest", about)?
+        .after_help(SUGGEST_EXAMPLE)
+        .arg(fill)?
+        .arg(exact)
+}
+
+fn make_reload<'a>(alloc: Global) -> Result<Command<'a>, AllocError>
+    ensures app { IfOk result (λ command. app_of command ≡ reload) }
+    ensures local { IfOk result (λ command. (out-Command command).has_globals ≡ false) }
+{
+    let help = "The configuration that the gateway has; prints first what the new one changes";
+    let was = make_option(alloc, "was", FILE, help);
+    let most = make_number(alloc, "most", NUMBER, MAX_COUNT, MOST_HELP);
+    make_reload_of_request(alloc)?.arg(was)?.arg(most)
+}
+
+fn make_reload_of_request<'a>(alloc: Global) -> Result<Command<'a>, AllocError>
+    ensures app { IfOk result (λ command. app_of command ≡ reload_of_request) }
+    ensures local { IfOk result (λ command. (out-Command command).has_globals ≡ false) }
+{
+    let help = "The file that run --reload looks for";
+    let request = make_needed(alloc, "reload", help);
+    let about = "Asks a running gateway to read its configuration again, and says what it did";
+    make_of_file(alloc, "reload", about)?
+        .after_help(RELOAD_EXAMPLE)
+        .arg(request)
+}
+
+fn make_objects<'a>(alloc: Global) -> Result<Command<'a>, AllocError>
+    ensures app { IfOk result (λ command. app_of command ≡ objects) }
+    ensures local { IfOk result (λ command. (out-Command command).has_globals ≡ false) }
+{
+    let help = "As comma-separated values, a line for each object; has to be given";
+    let csv = make_needed_flag(alloc, "csv", help);
+    let about = "Lists the objects of a configuration for engineering tools";
+    make_of_file(alloc, "objects", about)?
+        .after_help(OBJECTS_EXAMPLE)
+        .arg(csv)
+}
+
+/// The program, with no command yet.
+fn make_program<'a>(alloc: Global) -> Command<'a>
+    ensures { app_of result ≡ program }
+{
+    Command::new(alloc, "bacgwctl")
+        .about("The tools of bacgw, a gateway of BACnet/IP")
+        .version(VERSION)
+        .subcommand_required(true)
+}
+
+/// The program with its first four commands.
+fn make_first_commands<'a>(alloc: Global) -> Result<Command<'a>, AllocError>
+    ensures { IfOk result (λ command. app_of command ≡ first_commands) }
+{
+    let check = make_check(alloc)?;
+    let explain = make_explain(alloc)?;
+    let lint = make_lint(alloc)?;
+    let migrate = make_migrate(alloc)?;
+    make_program(alloc)
+        .subcommand(check)?
+        .subcommand(explain)?
+        .subcommand(lint)?
+        .subcommand(migrate)
+}
+
+/// The program with its first eight commands.
+fn make_middle_commands<'a>(alloc: Global) -> Result<Command<'a>, AllocError>
+    ensures { IfOk result (λ command. app_of command ≡ middle_commands) }
+{
+    let why = make_why(alloc)?;
+    let report = make_report(alloc)?;
+    let log = make_log(alloc)?;
+    let compare = make_compare(alloc)?;
+    make_first_commands(alloc)?
+        .subcommand(why)?
+        .subcommand(report)?
+        .subcommand(log)?
+        .subcommand(compare)
+}
+
+/// The commands of the program. An `Err` only if a growth of memory was refused.
+pub fn make_commands<'a>(alloc: Global) -> Result<Command<'a>, AllocError>
+    ensures { IfOk result (λ command. app_of command ≡ commands) }
+{
+    let state = make_state(alloc)?;
+    let suggest = make_suggest(alloc)?;
+    let reload = make_reload(alloc)?;
+    let objects = make_objects(alloc)?;
+    make_middle_commands(alloc)?
+        .subcommand(state)?
+        .subcommand(suggest)?
+        .subcommand(reload)?
+        .subcommand(objects)
+}

@@ -1,0 +1,136 @@
+//! One run of the program on a machine in memory, and what it leaves.
+
+ghost use Rattle.std.specs.Prelude.{⊤};
+
+use gw_log_words::{Calendar, Moment, moment_after};
+use gw_program_cases::{Left, MemFiles, Program, Section, put_left};
+use gw_system::ReadFailure;
+use gw_tools::{Machine, run};
+use gw_wire::StoreFault;
+use std::alloc::{AllocError, Global};
+use std::io;
+
+/// A clock that always shows the first second of 1970.
+#[derive(Drop)]
+pub struct MemCalendar;
+
+impl Calendar for MemCalendar {
+    ghost Shows = { λ _ _. ⊤ };
+
+    fn moment(&mut self) -> Option<Moment> {
+        moment_after(1)
+    }
+}
+
+/// A request that was made.
+#[derive(Drop)]
+pub struct MemAsked;
+
+/// A machine in memory, on which a gateway may run that answers a request with this text.
+#[derive(Drop)]
+struct MemMachine {
+    answer: Option<Vec<u8>>,
+}
+
+impl Machine for MemMachine {
+    type Asked = MemAsked;
+
+    type Calendar = MemCalendar;
+
+    ghost Asks = { λ _ _ _. ⊤ };
+
+    ghost Answers = { λ _ _. ⊤ };
+
+    fn request_reload(&self, _alloc: Global, _request: &str) -> Result<MemAsked, StoreFault> {
+        if self.answer.is_some() {
+            Ok(MemAsked)
+        } else {
+            Err(StoreFault::System)
+        }
+    }
+
+    fn await_answer(
+        &self,
+        alloc: Global,
+        _asked: &MemAsked,
+        _seconds: u8,
+    ) -> Result<Option<Vec<u8>>, ReadFailure> {
+        match &self.answer {
+            Some(text) => Ok(Some(Vec::from_slice(alloc, text)?)),
+            None => Ok(None),
+        }
+    }
+
+    fn calendar(&self) -> MemCalendar {
+        MemCalendar
+    }
+}
+
+/// A text, if there is one.
+fn text_if(alloc: Global, is_there: bool, text: &str) -> Result<Option<Vec<u8>>, AllocError> {
+    if is_there {
+        Ok(Some(Vec::from_slice(alloc, text.as_bytes())?))
+    } else {
+        Ok(None)
+    }
+}
+
+/// What another gateway answers to a section's request: that it was taken over, or refused, or nothing.
+fn answer_of(alloc: Global, section: &Section<'_>) -> Result<Option<Vec<u8>>, AllocError> {
+    if section.has("answered") {
+        return text_if(alloc, true, "reload: 3 rules\n");
+    }
+    text_if(
+        alloc,
+        section.has("refused"),
+        "reload refused: out of memory\n",
+    )
+}
+
+/// The program on a machine in memory.
+#[derive(Clone, Copy)]
+pub struct Bacgwctl;
+
+impl Program for Bacgwctl {
+    fn name(&self) -> &'static str {
+        "bacgwctl"
+    }
+
+    fn run(
+        &self,
+        alloc: Global,
+        config: &str,
+        section: &Section<'_>,
+        room: usize,
+    ) -> Result<Left, AllocError> {
+        let words = section.call(alloc, self.name())?;
+        let machine = MemMachine {
+            answer: answer_of(alloc, section)?,
+        };
+        let mut output = section.output(alloc, room)?;
+        let mut errors = section.errors(alloc)?;
+        let files = MemFiles { text: config };
+        let code = run(
+            alloc,
+            words,
+            &files,
+            &machine,
+            &mut section.reader(),
+            &mut output,
+            &mut errors,
+        );
+        let (output, _unwritten) = output.into_parts();
+        Ok(Left {
+            code,
+            output,
+            errors,
+        })
+    }
+}
+
+/// What the run of a section leaves: its exit status, and each line of its streams.
+pub fn machine(alloc: Global, config: &str, text: &str, out: &mut Vec<u8>) -> io::Result<()> {
+    let section = Section::of(text);
+    let left = Bacgwctl.run(alloc, config, &section, section.room())?;
+    Ok(put_left(&left, out)?)
+}

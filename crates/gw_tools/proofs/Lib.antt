@@ -1,0 +1,6 @@
+mod ChoiceLemmas
+mod ComparingLemmas
+mod CountLemmas
+mod KeptLemmas
+mod LinesLemmas
+mod SuggestLemmas

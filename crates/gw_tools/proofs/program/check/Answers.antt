@@ -1,0 +1,23 @@
+use Rattle.std.proofs.Common.{Ok, Err, refl}
+use Rattle.std.specs.Io.Buffered.{writer_contents}
+use Rattle.gw_reading.proofs.AppendLemmas.{front_written}
+use Rattle.gw_tools.proofs.program.check.Goals as goal
+
+pub returns-in-Ok-clause-output : goal.returns-in-Ok-clause-output
+returns-in-Ok-clause-output g c = (Ok c.in-Ok.config, c.in-Ok.ensures, c.print_checked.ensures.output)
+
+pub returns-in-Err-clause-output : goal.returns-in-Err-clause-output
+returns-in-Err-clause-output g c =
+    let holds = writer_contents g.W.Write.contents in (
+      Err c.in-Err.fault,
+      c.in-Err.ensures,
+      (
+        refl,
+        (
+          c.fault_note.result.items,
+          c.fault_note.ensures,
+          front_written c.print.result (holds c.args.output.now) (holds c.print.new.output) c.deref.result.now c.fault_note.result.items
+              c.deref.ensures.value c.print.ensures.ok c.print.ensures.front,
+        ),
+      ),
+    )

@@ -1,0 +1,11 @@
+use Rattle.std.proofs.Common.{ℕ}
+use Rattle.std.specs.Global.{Vec}
+use Rattle.gw_reading.specs.Files.{result_map}
+use Rattle.gw_tools.proofs.reporting.print_report.Goals as goal
+
+pub returns-clause-output : goal.returns-clause-output
+returns-clause-output g c = (
+  result_map (λ (octets : Vec ℕ). octets.items) c.page_of.result,
+  c.page_of.ensures,
+  c.print_made.ensures.output,
+)

@@ -1,0 +1,36 @@
+-- What `compare` prints of two configurations, and what it reports while it works, over the definitions of `gw_compare`.
+use Rattle.std.specs.Prelude.{◌≡◌, ℕ, Bool, true, false, List, [], ◌++◌, Result, Ok, Err, codes, decimal}
+use Rattle.std.specs.List.{flat_map}
+use Rattle.gw_compare.specs.Comparing.{steps_text}
+use Rattle.gw_compare.specs.Comparison.{IsComparisonText}
+use Rattle.gw_compare.specs.declared.comparison.Compared.{Compared}
+use Rattle.gw_compare.specs.declared.comparison.Compared.TheVariants as compared
+use Rattle.gw_configuration.specs.Configuration.{Configuration}
+use Rattle.gw_ending.specs.declared.fault.Fault.{Fault}
+use Rattle.gw_ending.specs.declared.fault.Fault.TheVariants as fault
+use Rattle.gw_tools.specs.declared.comparing.Limits.{Limits}
+
+-- how far a comparison is: `bacgwctl: compared 4096 of 65536 steps, 12 found`
+abbrev pub progress_line : ℕ × ℕ → List ℕ
+progress_line p =
+    (codes "bacgwctl: compared " ++ (decimal p.0 ++ codes " of 65536 steps, ")) ++ ([] ++ (decimal p.1 ++ codes " found\n"))
+
+-- some of these lines, one after the other
+abbrev pub AreProgress : List ℕ → Type 0
+AreProgress said = (lines : List (ℕ × ℕ)) × (said ≡ flat_map progress_line lines)
+
+-- a comparison, and after it how many steps it took if that is asked for
+abbrev pub IsWithSteps : (steps : Bool) → (lines text : List ℕ) → Type 0
+IsWithSteps false lines text = text ≡ lines
+IsWithSteps true lines text = (used : ℕ) × (text ≡ lines ++ steps_text used)
+
+-- what is printed of two configurations within these limits
+abbrev pub IsCompared : Limits → (old new : Configuration) → Compared → List ℕ → Type 0
+IsCompared limits old new made text =
+    (lines : List ℕ) × IsComparisonText old new limits.most made lines × IsWithSteps limits.steps lines text
+
+-- how a comparison ends
+abbrev pub outcome_of_comparison : Compared → Result (Unit {0}) Fault
+outcome_of_comparison compared.Alike = Ok tt
+outcome_of_comparison compared.Different = Err fault.Different
+outcome_of_comparison compared.Unfinished = Err fault.Different

@@ -1,0 +1,14 @@
+pub mod Asking
+pub mod Checked
+pub mod Comparing
+pub mod Ending
+pub mod Json
+pub mod Kept
+pub mod Lines
+pub mod Objects
+pub mod Program
+pub mod Reloading
+pub mod Reporting
+pub mod Suggesting
+pub mod Translating
+pub mod Unread

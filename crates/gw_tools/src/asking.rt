@@ -1,0 +1,155 @@
+//! Asks of a log, answered by the rules of a configuration.
+
+ghost use Rattle.std.specs.Prelude.{◌≡◌, ◌+◌, [], ℕ, List, Some, false, length, IfOk, OnOk};
+ghost use Rattle.std.specs.Io.Buffered.{writer_buffer, writer_contents};
+ghost use Rattle.std.specs.Io.KnownBytes.{Appends};
+ghost use Rattle.gw_script.specs.Known.{OnKnown};
+ghost use Rattle.gw_tools.specs.Asking.{Answers, Counts, ReportsUnread, asks_in};
+ghost use Rattle.gw_reading.specs.Files.{result_map};
+ghost use Rattle.gw_tools.specs.Program.{LeavesAnswered, LeavesAnsweredIn, LeavesCounts};
+ghost use Rattle.gw_decisions.specs.tally.Tally.{tally_text};
+
+use crate::lines::first_lines_fault;
+use crate::unread::report_unread;
+use gw_configuration::Config;
+use gw_decisions::tally::{Tally, count_asks, put_tally};
+use gw_ending::Fault;
+use gw_reading::{ConfigFiles, configuration_in, print_made};
+use gw_rules::RuleList;
+use gw_script::{OctetSink, OctetSource};
+use gw_verdicts::asks::{AskLines, Lent};
+use std::alloc::{AllocError, Global};
+use std::io::{BufWriter, Write};
+
+/// Answers each ask that `reader` has left by the rules of a configuration, with their notes. What was written is flushed
+/// at every outcome. Faults: those of the answers, and `Write` also where the flush alone fails.
+pub fn why<R: OctetSource, W: Write + Drop>(
+    alloc: Global,
+    config: &Config,
+    reader: &mut R,
+    writer: &mut BufWriter<W>,
+) -> Result<(), Fault>
+    ensures answers { OnKnown (R.left reader.old) (writer_contents W.contents writer.old)
+        (writer_contents W.contents writer.new)
+        (λ text before. Answers config.now.rules config.now.notes text before result) }
+    ensures flushed { OnOk result (writer_buffer writer.new ≡ []) }
+{
+    let answers = gw_verdicts::why(alloc, config, reader, writer);
+    let is_flushed = writer.flush().is_ok();
+    first_lines_fault(answers, is_flushed)
+}
+
+/// How many of the asks that `reader` has left each of these rules decides, in lines. Faults: `Line` with the first
+/// that says no ask, `Read`, and `Memory`.
+pub fn count<R: OctetSource>(
+    alloc: Global,
+    rules: &RuleList,
+    reader: &mut R,
+) -> Result<Vec<u8>, Fault>
+    ensures { (text : List ℕ) → R.left reader.old ≡ Some text →
+        Counts rules.now text (result_map (λ octets. octets.items) result) }
+{
+    match count_asks(alloc, rules, reader) {
+        Ok(tally) => Ok(tally_lines(alloc, rules, &tally)?),
+        Err(fault) => Err(Fault::from(fault)),
+    }
+}
+
+fn tally_lines(alloc: Global, rules: &RuleList, tally: &Tally) -> Result<Vec<u8>, AllocError>
+    requires { length tally.now ≡ length rules.now + 1 }
+    ensures { IfOk result (λ text. text.items ≡ tally_text rules.now tally.now) }
+{
+    let mut text = Vec::new(alloc);
+    put_tally(rules, tally, &mut text)?;
+    Ok(text)
+}
+
+/// Answers each ask of standard input by the rules of a configuration, or counts them.
+fn answer<R: OctetSource, W: Write + Drop>(
+    alloc: Global,
+    counts: bool,
+    config: Result<Config, Fault>,
+    input: &mut R,
+    output: &mut BufWriter<W>,
+) -> Result<(), Fault>
+    ensures output { LeavesAnswered counts (R.left input.old) (writer_contents W.contents output.old)
+        (writer_contents W.contents output.new) config result }
+    ensures flush { OnOk result (writer_buffer output.new ≡ []) }
+{
+    let config = config?;
+    if counts {
+        print_counts(alloc, config.rules(), input, output)
+    } else {
+        why(alloc, &config, input, output)
+    }
+}
+
+/// Prints how many asks of standard input each rule decides.
+fn print_counts<R: OctetSource, W: Write + Drop>(
+    alloc: Global,
+    rules: &RuleList,
+    input: &mut R,
+    output: &mut BufWriter<W>,
+) -> Result<(), Fault>
+    ensures output { (text : List ℕ) → R.left input.old ≡ Some text → LeavesCounts rules.now text
+        (writer_contents W.contents output.old) (writer_contents W.contents output.new) result }
+    ensures flush { OnOk result (writer_buffer output.new ≡ []) }
+{
+    print_made(count(alloc, rules, input), output)
+}
+
+/// Answers the asks that standard input shows, whatever is in front of them, and reports how many lines show none.
+fn answer_shown<R: OctetSource, W: Write + Drop, E: OctetSink>(
+    alloc: Global,
+    counts: bool,
+    config: Result<Config, Fault>,
+    input: &mut R,
+    output: &mut BufWriter<W>,
+    errors: &mut E,
+) -> Result<(), Fault>
+    ensures shown { (said : List ℕ) × LeavesAnswered counts (asks_in false (R.left input.old))
+        (writer_contents W.contents output.old) (writer_contents W.contents output.new) config result
+        × ReportsUnread false result said
+        × (E.NeverFails errors.old → Appends (E.held errors.old) (E.held errors.new) said) }
+    ensures lasting { E.NeverFails errors.old → E.NeverFails errors.new }
+    ensures flush { OnOk result (writer_buffer output.new ≡ []) }
+{
+    let mut asks = AskLines::new(Lent::new(input));
+    let outcome = answer(alloc, counts, config, &mut asks, output);
+    report_unread(outcome, asks.unread(), errors);
+    outcome
+}
+
+/// How asks are answered.
+#[derive(Clone, Copy)]
+pub struct Answering {
+    /// Whether they are counted by rule.
+    pub counts: bool,
+    /// Whether a line that is no ask alone is a fault.
+    pub strict: bool,
+}
+
+/// Answers the asks of standard input by the rules of the configuration in the file of this name.
+pub fn answer_in<F: ConfigFiles, R: OctetSource, W: Write + Drop, E: OctetSink>(
+    alloc: Global,
+    files: &F,
+    file: &str,
+    how: Answering,
+    input: &mut R,
+    output: &mut BufWriter<W>,
+    errors: &mut E,
+) -> Result<(), Fault>
+    ensures answered { (said : List ℕ) × LeavesAnsweredIn (F.Reads files.now) file.now how (R.left input.old)
+        (writer_contents W.contents output.old) (writer_contents W.contents output.new) said result
+        × (E.NeverFails errors.old → Appends (E.held errors.old) (E.held errors.new) said) }
+    ensures lasting { E.NeverFails errors.old → E.NeverFails errors.new }
+    ensures flush { OnOk result (writer_buffer output.new ≡ []) }
+{
+    let Answering { counts, strict } = how;
+    let config = configuration_in(alloc, files, file);
+    if strict {
+        answer(alloc, counts, config, input, output)
+    } else {
+        answer_shown(alloc, counts, config, input, output, errors)
+    }
+}

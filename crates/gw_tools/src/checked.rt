@@ -1,0 +1,42 @@
+//! What `check` says of a configuration. With `--explain` that is also who may do what under it, and
+//! what can't be meant; with `--lint` also which rules never decide.
+
+ghost use Rattle.std.specs.Prelude.{◌≡◌, IfOk};
+ghost use Rattle.gw_tools.specs.Checked.{IsChecked, explained_text};
+
+use gw_configuration::Config;
+use gw_policy_review::lint::put_lint;
+use gw_policy_review::permissions::put_permissions;
+use gw_policy_review::warnings::put_warnings;
+use gw_reading::summary;
+use std::alloc::{AllocError, Global};
+
+/// What `check` prints of a configuration: its summary, and after it what else is asked for.
+/// An `Err` only where a growth of memory was refused.
+pub fn checked_text(
+    alloc: Global,
+    explains: bool,
+    lints: bool,
+    config: &Config,
+) -> Result<Vec<u8>, AllocError>
+    ensures { IfOk result (λ text. IsChecked explains lints config.now text.items) }
+{
+    let mut text = explained_text(alloc, explains, config)?;
+    if lints {
+        put_lint(alloc, config, explains, &mut text)?;
+    }
+    Ok(text)
+}
+
+/// The summary of a configuration, and if that is asked for, who may do what under it and what can't be
+/// meant.
+fn explained_text(alloc: Global, explains: bool, config: &Config) -> Result<Vec<u8>, AllocError>
+    ensures { IfOk result (λ text. text.items ≡ explained_text explains config.now) }
+{
+    let mut text = summary(alloc, config)?.into_bytes();
+    if explains {
+        put_permissions(alloc, config, &mut text)?;
+        put_warnings(config, &mut text)?;
+    }
+    Ok(text)
+}

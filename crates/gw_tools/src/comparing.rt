@@ -1,0 +1,253 @@
+//! Two configurations, compared, and how far that is.
+
+ghost use Rattle.std.specs.Prelude.{◌≡◌, [], ℕ, List, IfOk, IsOk, OnOk};
+ghost use Rattle.std.specs.Io.Buffered.{writer_buffer, writer_contents};
+ghost use Rattle.std.specs.Io.KnownBytes.{Appends};
+ghost use Rattle.gw_compare.specs.Comparing.{IsUnderWay};
+ghost use Rattle.gw_tools.specs.Comparing.{AreProgress, IsCompared, outcome_of_comparison, progress_line};
+ghost use Rattle.gw_tools.specs.Program.{LeavesCompared, LeavesComparison, LeavesLines};
+
+use gw_compare::{Compared, Comparing, put_steps};
+use gw_configuration::Config;
+use gw_ending::{Fault, write_number};
+use gw_log_words::Moment;
+use gw_reading::print;
+use gw_script::{OctetSink, WriteFailed};
+use std::alloc::{AllocError, Global};
+use std::io::{BufWriter, Write};
+
+/// How many steps a comparison takes before the time is looked at.
+const PORTION: u32 = 256;
+
+/// How many portions a comparison has at most: 65,536 steps, and a last look.
+const PORTIONS: u32 = 257;
+
+/// What is printed of a comparison.
+#[derive(Clone, Copy)]
+pub struct Limits {
+    /// How many lines there are at most, or of each group.
+    pub most: u64,
+    /// Whether a last line says how many steps it took.
+    pub steps: bool,
+}
+
+/// The text of a comparison, and how the two compare.
+#[derive(Drop)]
+pub struct Lines {
+    pub text: Vec<u8>,
+    pub made: Compared,
+}
+
+/// Two configurations that were read, or why one wasn't.
+#[derive(Drop)]
+pub struct Both {
+    pub old: Result<Config, Fault>,
+    pub new: Result<Config, Fault>,
+}
+
+/// A calendar that is looked at again and again.
+#[derive(Drop)]
+pub struct Seconds<C> {
+    calendar: C,
+    shown: Option<Moment>,
+    has_begun: bool,
+}
+
+/// Whether two looks at a calendar showed the same second.
+fn is_same(one: Option<Moment>, two: Option<Moment>) -> bool {
+    match (one, two) {
+        (Some(one), Some(two)) => one.local == two.local,
+        (None, None) => true,
+        _ => false,
+    }
+}
+
+impl<C: Calendar> Seconds<C> {
+    /// The seconds from now on.
+    pub fn new(mut calendar: C) -> Seconds<C> {
+        let shown = calendar.moment();
+        Seconds {
+            calendar,
+            shown,
+            has_begun: false,
+        }
+    }
+
+    /// Whether the calendar shows another second than at the last look. The first one more is left out, since it may
+    /// come at once: so a whole second has passed at the next.
+    fn has_passed(&mut self) -> bool {
+        let now = self.calendar.moment();
+        if is_same(now, self.shown) {
+            return false;
+        }
+        let is_due = self.has_begun;
+        self.shown = now;
+        self.has_begun = true;
+        is_due
+    }
+}
+
+/// Writes how far a comparison is.
+fn write_progress<E: OctetSink>(steps: u32, found: usize, errors: &mut E) -> Result<(), WriteFailed>
+    ensures ok { OnOk result (Appends (E.held errors.old) (E.held errors.new) (progress_line (steps, found))) }
+    ensures sure { E.NeverFails errors.old → IsOk result }
+    ensures lasts { E.NeverFails errors.old → E.NeverFails errors.new }
+{
+    write_number(
+        "bacgwctl: compared ",
+        u64::from(steps),
+        " of 65536 steps, ",
+        errors,
+    )?;
+    write_number("", found as u64, " found\n", errors)
+}
+
+/// Reports how far a comparison is.
+fn report_progress<E: OctetSink>(steps: u32, found: usize, errors: &mut E)
+    ensures said { E.NeverFails errors.old →
+        Appends (E.held errors.old) (E.held errors.new) (progress_line (steps, found)) }
+    ensures lasts { E.NeverFails errors.old → E.NeverFails errors.new }
+{
+    let _ = write_progress(steps, found, errors);
+}
+
+/// Reports how far a comparison is if a second has passed.
+fn report_second<C: Calendar, E: OctetSink>(
+    comparing: &Comparing<'_>,
+    seconds: &mut Seconds<C>,
+    errors: &mut E,
+)
+    ensures said { (said : List ℕ) × AreProgress said
+        × (E.NeverFails errors.old → Appends (E.held errors.old) (E.held errors.new) said) }
+    ensures lasts { E.NeverFails errors.old → E.NeverFails errors.new }
+{
+    if seconds.has_passed() {
+        report_progress(comparing.steps(), comparing.found(), errors);
+    }
+}
+
+/// Goes on to the end of a comparison, and reports once a second how far it is.
+fn finish<C: Calendar, E: OctetSink>(
+    alloc: Global,
+    comparing: &mut Comparing<'_>,
+    seconds: &mut Seconds<C>,
+    errors: &mut E,
+) -> Result<(), AllocError>
+    ensures old { OnOk result (comparing.new.old_one ≡ comparing.old.old_one) }
+    ensures new { OnOk result (comparing.new.new_one ≡ comparing.old.new_one) }
+    ensures is_right { OnOk result (IsUnderWay comparing.old → IsUnderWay comparing.new) }
+    ensures said { (said : List ℕ) × AreProgress said
+        × (E.NeverFails errors.old → Appends (E.held errors.old) (E.held errors.new) said) }
+    ensures lasts { E.NeverFails errors.old → E.NeverFails errors.new }
+{
+    for _portion in 0..PORTIONS {
+        comparing.go_on(alloc, PORTION)?;
+        if comparing.is_finished() {
+            return Ok(());
+        }
+        report_second(comparing, seconds, errors);
+    }
+    Ok(())
+}
+
+/// What is printed of a comparison that is at its end.
+fn lines_of(alloc: Global, limits: Limits, comparing: Comparing<'_>) -> Result<Lines, AllocError>
+    ensures { IfOk result (λ lines. IsUnderWay comparing.entry →
+        IsCompared limits comparing.entry.old_one comparing.entry.new_one lines.made lines.text.items) }
+{
+    let used = comparing.steps();
+    let mut text = Vec::new(alloc);
+    let made = comparing.put(alloc, limits.most as usize, &mut text)?;
+    if limits.steps {
+        put_steps(used, &mut text)?;
+    }
+    Ok(Lines { text, made })
+}
+
+/// What the rules of two configurations decide otherwise, and once a second how far that is.
+fn compared<C: Calendar, E: OctetSink>(
+    alloc: Global,
+    limits: Limits,
+    old: &Config,
+    new: &Config,
+    seconds: &mut Seconds<C>,
+    errors: &mut E,
+) -> Result<Lines, AllocError>
+    ensures compared { IfOk result (λ lines. IsCompared limits old.now new.now lines.made lines.text.items) }
+    ensures said { (said : List ℕ) × AreProgress said
+        × (E.NeverFails errors.old → Appends (E.held errors.old) (E.held errors.new) said) }
+    ensures lasts { E.NeverFails errors.old → E.NeverFails errors.new }
+{
+    let mut comparing = Comparing::new(alloc, old, new)?;
+    finish(alloc, &mut comparing, seconds, errors)?;
+    lines_of(alloc, limits, comparing)
+}
+
+/// How a comparison ends: `Different` unless the two are alike.
+pub fn outcome_of(made: Compared) -> Result<(), Fault>
+    ensures { result ≡ outcome_of_comparison made }
+{
+    match made {
+        Compared::Alike => Ok(()),
+        Compared::Different | Compared::Unfinished => Err(Fault::Different),
+    }
+}
+
+/// Prints a comparison, if memory wasn't refused for it.
+pub fn print_lines<W: Write + Drop>(
+    lines: Result<Lines, AllocError>,
+    output: &mut BufWriter<W>,
+) -> Result<(), Fault>
+    ensures output { LeavesLines lines (writer_contents W.contents output.old)
+        (writer_contents W.contents output.new) result }
+    ensures flush { OnOk result (writer_buffer output.new ≡ []) }
+{
+    let lines = lines?;
+    print(&lines.text, output)?;
+    outcome_of(lines.made)
+}
+
+/// Prints what the rules of two configurations decide otherwise.
+pub fn print_compared<C: Calendar, W: Write + Drop, E: OctetSink>(
+    alloc: Global,
+    limits: Limits,
+    old: &Config,
+    new: &Config,
+    seconds: &mut Seconds<C>,
+    output: &mut BufWriter<W>,
+    errors: &mut E,
+) -> Result<(), Fault>
+    ensures output { let held = writer_contents W.contents output.old in
+        let holds = writer_contents W.contents output.new in
+        LeavesCompared limits held holds old.now new.now result }
+    ensures said { (said : List ℕ) × AreProgress said
+        × (E.NeverFails errors.old → Appends (E.held errors.old) (E.held errors.new) said) }
+    ensures lasts { E.NeverFails errors.old → E.NeverFails errors.new }
+    ensures flush { OnOk result (writer_buffer output.new ≡ []) }
+{
+    let lines = compared(alloc, limits, old, new, seconds, errors);
+    print_lines(lines, output)
+}
+
+/// Compares the two configurations that were read.
+pub fn compare<C: Calendar, W: Write + Drop, E: OctetSink>(
+    alloc: Global,
+    limits: Limits,
+    both: Both,
+    seconds: &mut Seconds<C>,
+    output: &mut BufWriter<W>,
+    errors: &mut E,
+) -> Result<(), Fault>
+    ensures output { LeavesComparison limits (writer_contents W.contents output.old)
+        (writer_contents W.contents output.new) both.old both.new result }
+    ensures said { (said : List ℕ) × AreProgress said
+        × (E.NeverFails errors.old → Appends (E.held errors.old) (E.held errors.new) said) }
+    ensures lasts { E.NeverFails errors.old → E.NeverFails errors.new }
+    ensures flush { OnOk result (writer_buffer output.new ≡ []) }
+{
+    let old = both.old?;
+    match both.new {
+        Ok(new) => print_compared(alloc, limits, &old, &new, seconds, output, errors),
+        Err(fault) => Err(fault.of_other()),
+    }
+}

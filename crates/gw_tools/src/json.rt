@@ -1,0 +1,198 @@
+//! What `check` and `compare` say as JSON objects, and the list of a configuration's objects.
+
+ghost use Rattle.std.specs.Prelude.{◌≡◌, ◌⊎◌, ◌++◌, ◌==◌, [], length, take, option_map, IfOk, MatchResult, OnOk};
+ghost use Rattle.std.specs.Io.Buffered.{writer_buffer, writer_contents};
+ghost use Rattle.std.specs.List.{flat_map};
+ghost use Rattle.gw_compare.specs.Comparison.{compared_by};
+ghost use Rattle.gw_json.specs.Check.{checked_value, fault_value};
+ghost use Rattle.gw_json.specs.Comparison.{found_value};
+ghost use Rattle.gw_json.specs.Document.{line_of};
+ghost use Rattle.gw_report.specs.points.Points.{points_text};
+ghost use Rattle.gw_reading.specs.Files.{result_map};
+ghost use Rattle.gw_tools.specs.Json.{AreComparisonLines, FaultLine, IsFaultLine, IsMade, checked_line};
+ghost use Rattle.gw_tools.specs.Program.{LeavesCheckedJson, LeavesComparedJson, LeavesComparisonJson, LeavesPoints};
+
+use crate::comparing::{Lines, print_lines};
+use gw_ask_sets::regions::{Found, MAX_STEPS, summarize};
+use gw_compare::{Compared, asks_of};
+use gw_config_faults::explain;
+use gw_configuration::{Config, ConfigFault};
+use gw_ending::Fault;
+use gw_json::{put_check, put_fault, put_found, put_summary};
+use gw_reading::{configuration_of, print, print_made};
+use gw_report::points::put_points;
+use gw_rules::Rule;
+use std::alloc::{AllocError, Global};
+use std::io::{BufWriter, Write};
+use std::str;
+
+/// The line of a configuration. `Memory` is its only fault.
+fn checked_line(alloc: Global, config: &Config) -> Result<Vec<u8>, Fault>
+    ensures { IsMade (checked_line config.now) (result_map (λ octets. octets.items) result) }
+{
+    let mut line = Vec::new(alloc);
+    put_check(alloc, &mut line, config)?;
+    Ok(line)
+}
+
+/// The line of a fault, with what explains it. Nothing if memory was refused.
+fn fault_line(alloc: Global, fault: ConfigFault, explanation: Option<&str>) -> Vec<u8>
+    ensures { (result.items ≡ [])
+        ⊎ (result.items ≡ line_of (fault_value fault (option_map (λ line. line.now) explanation.entry))) }
+{
+    let mut line = Vec::new(alloc);
+    match put_fault(alloc, &mut line, fault, explanation) {
+        Ok(()) => line,
+        Err(_) => Vec::new(alloc),
+    }
+}
+
+/// The line of a fault of a text, with what explains it if that can be said.
+fn explained_line(alloc: Global, text: &[u8], fault: ConfigFault) -> Vec<u8>
+    ensures { IsFaultLine text.now fault result.items }
+{
+    match explain(alloc, text, fault) {
+        Ok(Some(explanation)) => {
+            fault_line(alloc, fault, str::from_utf8(explanation.as_bytes()).ok())
+        }
+        Ok(None) | Err(_) => fault_line(alloc, fault, None),
+    }
+}
+
+/// What is printed of a fault: the line of one of the configuration.
+fn fault_object(alloc: Global, text: &Result<Vec<u8>, Fault>, fault: Fault) -> Vec<u8>
+    ensures { FaultLine (result_map (λ octets. octets.items) text.now) fault result.items }
+{
+    if let (Ok(text), Fault::Configuration(fault)) = (text, fault) {
+        return explained_line(alloc, text, fault);
+    }
+    Vec::new(alloc)
+}
+
+/// Prints what the configuration has that was read, or its fault, as a JSON object.
+pub fn check_in_json<W: Write + Drop>(
+    alloc: Global,
+    text: &Result<Vec<u8>, Fault>,
+    output: &mut BufWriter<W>,
+) -> Result<(), Fault>
+    ensures output { LeavesCheckedJson (result_map (λ octets. octets.items) text.now)
+        (writer_contents W.contents output.old) (writer_contents W.contents output.new) result }
+    ensures flush { OnOk result (writer_buffer output.new ≡ []) }
+{
+    match configuration_of(alloc, text) {
+        Ok(config) => print_made(checked_line(alloc, &config), output),
+        Err(fault) => {
+            // If this can't be printed the fault is reported all the same.
+            let _ = print(&fault_object(alloc, text, fault), output);
+            Err(fault)
+        }
+    }
+}
+
+/// Appends a line for each of the first regions.
+fn put_all(
+    alloc: Global,
+    old: &[Rule],
+    new: &[Rule],
+    found: &[Found],
+    out: &mut Vec<u8>,
+) -> Result<(), AllocError>
+    ensures { let lines = flat_map (λ f. line_of (found_value old.now new.now f)) found.now in
+        OnOk result (out.new.items ≡ out.old.items ++ lines) }
+{
+    for each in found {
+        put_found(alloc, out, old, new, each)?;
+    }
+    Ok(())
+}
+
+/// What the rules of two configurations decide otherwise, in at most so many lines and a last one.
+fn comparison_lines(
+    alloc: Global,
+    most: usize,
+    old: &Config,
+    new: &Config,
+) -> Result<Lines, AllocError>
+    ensures { IfOk result (λ lines. AreComparisonLines old.now new.now most lines.made lines.text.items) }
+{
+    let asks = asks_of(alloc, old, new)?;
+    let (before, after) = (old.rules().rules(), new.rules().rules());
+    let summary = summarize(alloc, before, after, &asks, MAX_STEPS)?;
+    let (kinds, left) = (summary.found.len(), summary.left.len());
+    let shown = &summary.found[..most.min(kinds)];
+    let mut text = Vec::new(alloc);
+    put_all(alloc, before, after, shown, &mut text)?;
+    put_summary(alloc, &mut text, kinds, left == 0, summary.steps)?;
+    let made = compared_by(kinds, left);
+    Ok(Lines { text, made })
+}
+
+fn compared_by(found: usize, left: usize) -> Compared
+    ensures { result ≡ compared_by found left }
+{
+    if left != 0 {
+        Compared::Unfinished
+    } else if found != 0 {
+        Compared::Different
+    } else {
+        Compared::Alike
+    }
+}
+
+/// Prints what the rules of two configurations decide otherwise, as JSON objects.
+fn print_compared<W: Write + Drop>(
+    alloc: Global,
+    most: u64,
+    old: &Config,
+    new: &Config,
+    output: &mut BufWriter<W>,
+) -> Result<(), Fault>
+    ensures output { let held = writer_contents W.contents output.old in
+        let holds = writer_contents W.contents output.new in
+        LeavesComparedJson most held holds old.now new.now result }
+    ensures flush { OnOk result (writer_buffer output.new ≡ []) }
+{
+    print_lines(comparison_lines(alloc, most as usize, old, new), output)
+}
+
+/// Compares the two configurations that were read, in JSON objects.
+pub fn compare_in_json<W: Write + Drop>(
+    alloc: Global,
+    most: u64,
+    old: Result<Config, Fault>,
+    new: Result<Config, Fault>,
+    output: &mut BufWriter<W>,
+) -> Result<(), Fault>
+    ensures output { LeavesComparisonJson most (writer_contents W.contents output.old)
+        (writer_contents W.contents output.new) old new result }
+    ensures flush { OnOk result (writer_buffer output.new ≡ []) }
+{
+    let old = old?;
+    match new {
+        Ok(new) => print_compared(alloc, most, &old, &new, output),
+        Err(fault) => Err(fault.of_other()),
+    }
+}
+
+/// The list of the objects of a configuration. `Memory` is its only fault.
+fn points_of(alloc: Global, config: &Config) -> Result<Vec<u8>, Fault>
+    ensures { IsMade (points_text config.now) (result_map (λ octets. octets.items) result) }
+{
+    let mut text = Vec::new(alloc);
+    put_points(alloc, config, &mut text)?;
+    Ok(text)
+}
+
+/// Prints the list of the objects of the configuration that was read.
+pub fn print_points<W: Write + Drop>(
+    alloc: Global,
+    config: Result<Config, Fault>,
+    output: &mut BufWriter<W>,
+) -> Result<(), Fault>
+    ensures output { LeavesPoints (writer_contents W.contents output.old)
+        (writer_contents W.contents output.new) config result }
+    ensures flush { OnOk result (writer_buffer output.new ≡ []) }
+{
+    let config = config?;
+    print_made(points_of(alloc, &config), output)
+}

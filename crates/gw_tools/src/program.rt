@@ -1,0 +1,336 @@
+//! The whole program, over any words, reader and writers.
+
+ghost use Rattle.std.specs.Prelude.{◌≡◌, ◌++◌, [], List, ℕ, map, string_bytes, MatchResult, OnOk};
+ghost use Rattle.std.specs.Io.Buffered.{writer_buffer, writer_contents};
+ghost use Rattle.std.specs.Io.KnownBytes.{Appends};
+ghost use Rattle.std.specs.Process.{exit_status};
+ghost use Rattle.gw_ending.specs.declared.fault.Fault.TheVariants as fault;
+ghost use Rattle.gw_ending.specs.declared.fault.MigrationFlaw.TheVariants as migration;
+ghost use Rattle.gw_rules.specs.declared.format.Format.TheVariants as formats;
+ghost use Rattle.gw_reading.specs.Files.{result_map};
+ghost use Rattle.gw_tools.specs.Program.{IsChoiceOf, IsFollowed, IsRun, LeavesConfigured, LeavesInFormatThree, LeavesMigrated};
+ghost use Rattle.gw_tools.specs.Program.{LeavesOfText, LeavesOutput, LeavesSaid, LeavesState, LeavesStateIn, fault_of_migration};
+ghost use Rattle.gw_tools.specs.Reloading.{answers_by};
+
+use crate::asking::{Answering, answer_in};
+use crate::checked::checked_text;
+use crate::comparing::{Both, Limits, Seconds, compare};
+use crate::ending::{end_by, usage_of};
+use crate::json::{check_in_json, compare_in_json, print_points};
+use crate::kept::words_of_text;
+use crate::machine::Machine;
+use crate::objects;
+use crate::reloading::{Asking, reload_in};
+use crate::reporting::print_report_in;
+use crate::suggesting::suggest_shown;
+use crate::translating::{Translating, translate_in};
+use gw_configuration::Config;
+use gw_ending::{Fault, MigrationFlaw};
+use gw_notices::write_note;
+use gw_policy_drafts::migration::{MigrationFault, migrate};
+use gw_policy_drafts::suggestion::Manner;
+use gw_reading::{ConfigFiles, configuration_in, configuration_of, fault_note, print, print_made};
+use gw_script::{OctetSink, OctetSource};
+use gw_tool_line::{Choice, choice_of};
+use std::alloc::Global;
+use std::io::{BufWriter, Write};
+use std::process::ExitCode;
+
+/// What the words ask for, or the fault for which there are none.
+fn choice_from(alloc: Global, words: Result<Vec<String>, Fault>) -> Result<Choice, Fault>
+    ensures { MatchResult words
+        (λ w. IsChoiceOf (map string_bytes w.items) result)
+        (λ f. result ≡ Err f) }
+{
+    choice_by(alloc, words?.as_slice())
+}
+
+fn choice_by(alloc: Global, words: &[String]) -> Result<Choice, Fault>
+    ensures { IsChoiceOf (map string_bytes words.now) result }
+{
+    match choice_of(alloc, words) {
+        Ok(choice) => Ok(choice),
+        Err(fault) => Err(Fault::from(fault)),
+    }
+}
+
+/// Prints what a configuration has, and what else is asked for of it.
+fn print_checked<W: Write + Drop>(
+    alloc: Global,
+    explains: bool,
+    lints: bool,
+    config: &Config,
+    output: &mut BufWriter<W>,
+) -> Result<(), Fault>
+    ensures output { let held = writer_contents W.contents output.old in
+        let holds = writer_contents W.contents output.new in
+        LeavesConfigured explains lints held holds config.now result }
+    ensures flush { OnOk result (writer_buffer output.new ≡ []) }
+{
+    let text = checked_text(alloc, explains, lints, config)?;
+    print(&text, output)
+}
+
+/// Prints what the configuration has that was read, or what is wrong with it.
+fn check<W: Write + Drop>(
+    alloc: Global,
+    explains: bool,
+    lints: bool,
+    text: &Result<Vec<u8>, Fault>,
+    output: &mut BufWriter<W>,
+) -> Result<(), Fault>
+    ensures output { let held = writer_contents W.contents output.old in
+        let holds = writer_contents W.contents output.new in
+        LeavesOfText explains lints (result_map (λ octets. octets.items) text.now) held holds result }
+    ensures flush { OnOk result (writer_buffer output.new ≡ []) }
+{
+    match configuration_of(alloc, text) {
+        Ok(config) => print_checked(alloc, explains, lints, &config, output),
+        Err(fault) => {
+            // Where this can't be printed the fault is reported all the same.
+            let _ = print(&fault_note(alloc, true, text, fault), output);
+            Err(fault)
+        }
+    }
+}
+
+/// The fault of the program by that of writing a configuration in format 3.
+fn fault_of_migration(fault: MigrationFault) -> Fault
+    ensures { result ≡ fault_of_migration fault }
+{
+    match fault {
+        MigrationFault::Already => Fault::Migration(MigrationFlaw::Already),
+        MigrationFault::Unlike => Fault::Migration(MigrationFlaw::Unlike),
+        MigrationFault::Memory => Fault::Memory,
+    }
+}
+
+/// Prints a configuration in format 3.
+fn print_migrated<W: Write + Drop>(
+    alloc: Global,
+    config: &Config,
+    output: &mut BufWriter<W>,
+) -> Result<(), Fault>
+    ensures output { let held = writer_contents W.contents output.old in
+        let holds = writer_contents W.contents output.new in
+        LeavesInFormatThree held holds config.now result }
+    ensures already { config.now.format ≡ formats.Three → result ≡ Err (fault.Migration migration.Already) }
+    ensures flush { OnOk result (writer_buffer output.new ≡ []) }
+{
+    match migrate(alloc, config) {
+        Ok(text) => print(&text, output),
+        Err(fault) => Err(fault_of_migration(fault)),
+    }
+}
+
+/// Prints the configuration that was read in format 3.
+fn print_in_format_three<W: Write + Drop>(
+    alloc: Global,
+    config: Result<Config, Fault>,
+    output: &mut BufWriter<W>,
+) -> Result<(), Fault>
+    ensures output { LeavesMigrated (writer_contents W.contents output.old)
+        (writer_contents W.contents output.new) config result }
+    ensures flush { OnOk result (writer_buffer output.new ≡ []) }
+{
+    let config = config?;
+    print_migrated(alloc, &config, output)
+}
+
+/// Says what the text of a state holds under the configuration that was read.
+fn print_state<W: Write + Drop>(
+    alloc: Global,
+    config: Result<Config, Fault>,
+    text: &Result<Vec<u8>, Fault>,
+    output: &mut BufWriter<W>,
+) -> Result<(), Fault>
+    ensures output { LeavesState (writer_contents W.contents output.old)
+        (writer_contents W.contents output.new) config (result_map (λ octets. octets.items) text.now) result }
+    ensures flush { OnOk result (writer_buffer output.new ≡ []) }
+{
+    let config = config?;
+    print_said(alloc, &config, text, output)
+}
+
+/// Says what the text of a state holds under a configuration.
+fn print_said<W: Write + Drop>(
+    alloc: Global,
+    config: &Config,
+    text: &Result<Vec<u8>, Fault>,
+    output: &mut BufWriter<W>,
+) -> Result<(), Fault>
+    ensures output { LeavesSaid (writer_contents W.contents output.old) (writer_contents W.contents output.new)
+        config.now (result_map (λ octets. octets.items) text.now) result }
+    ensures flush { OnOk result (writer_buffer output.new ≡ []) }
+{
+    print_made(words_of_text(alloc, config, text), output)
+}
+
+/// Says what the state of a file holds under the configuration of another.
+fn print_state_in<F: ConfigFiles, W: Write + Drop>(
+    alloc: Global,
+    files: &F,
+    config: &str,
+    state: &str,
+    output: &mut BufWriter<W>,
+) -> Result<(), Fault>
+    ensures output { LeavesStateIn (F.Reads files.now) (F.ReadsState files.now) config.now state.now
+        (writer_contents W.contents output.old) (writer_contents W.contents output.new) result }
+    ensures flush { OnOk result (writer_buffer output.new ≡ []) }
+{
+    let config = configuration_in(alloc, files, config);
+    let text = files.read_state(alloc, state);
+    print_state(alloc, config, &text, output)
+}
+
+/// Does what was chosen.
+fn follow<F: ConfigFiles, M: Machine, R: OctetSource, W: Write + Drop, E: OctetSink>(
+    alloc: Global,
+    choice: &Result<Choice, Fault>,
+    files: &F,
+    machine: &M,
+    input: &mut R,
+    output: &mut BufWriter<W>,
+    errors: &mut E,
+) -> Result<(), Fault>
+    ensures followed { IsFollowed
+        (LeavesOutput (F.Reads files.now) (F.ReadsState files.now) (F.ReadsLog files.now) (answers_by (M.Asks machine.now) M.Answers)
+        (R.left input.old)
+        (writer_contents W.contents output.old) (writer_contents W.contents output.new))
+        (λ said. E.NeverFails errors.old → Appends (E.held errors.old) (E.held errors.new) said)
+        choice.now result }
+    ensures lasting { E.NeverFails errors.old → E.NeverFails errors.new }
+    ensures flush { OnOk result (writer_buffer output.new ≡ []) }
+{
+    match choice {
+        Ok(
+            Choice::Check {
+                file,
+                explains,
+                lints,
+            },
+        ) => {
+            let text = files.read(alloc, file);
+            check(alloc, *explains, *lints, &text, output)
+        }
+        Ok(Choice::CheckJson(file)) => {
+            let text = files.read(alloc, file);
+            check_in_json(alloc, &text, output)
+        }
+        Ok(Choice::Migrate(file)) => {
+            let config = configuration_in(alloc, files, file);
+            print_in_format_three(alloc, config, output)
+        }
+        Ok(
+            Choice::Why {
+                file,
+                counts,
+                strict,
+            },
+        ) => {
+            let how = Answering {
+                counts: *counts,
+                strict: *strict,
+            };
+            answer_in(alloc, files, file, how, input, output, errors)
+        }
+        Ok(
+            Choice::Reload {
+                config,
+                request,
+                was,
+            },
+        ) => {
+            let asking = Asking {
+                config,
+                request,
+                was,
+            };
+            reload_in(alloc, files, &asking, machine, output, errors)
+        }
+        Ok(
+            Choice::Compare {
+                old,
+                new,
+                most,
+                steps,
+            },
+        ) => {
+            let both = Both {
+                old: configuration_in(alloc, files, old),
+                new: configuration_in(alloc, files, new),
+            };
+            let limits = Limits {
+                most: *most,
+                steps: *steps,
+            };
+            let mut seconds = Seconds::new(machine.calendar());
+            compare(alloc, limits, both, &mut seconds, output, errors)
+        }
+        Ok(Choice::CompareJson { old, new, most }) => {
+            let before = configuration_in(alloc, files, old);
+            let after = configuration_in(alloc, files, new);
+            compare_in_json(alloc, *most, before, after, output)
+        }
+        Ok(Choice::Points(file)) => {
+            let config = configuration_in(alloc, files, file);
+            print_points(alloc, config, output)
+        }
+        Ok(Choice::State { config, state }) => print_state_in(alloc, files, config, state, output),
+        Ok(Choice::Suggest { file, fills, exact }) => {
+            let manner = Manner {
+                keeps_services: *exact,
+                fills: *fills,
+            };
+            suggest_shown(alloc, files, file, manner, input, output, errors)
+        }
+        Ok(Choice::Log { file, start }) => {
+            let asked = Translating {
+                file,
+                start: *start,
+            };
+            translate_in(alloc, files, &asked, input, output)
+        }
+        Ok(Choice::Objects(file)) => objects::list_in(alloc, files, file, input, output),
+        Ok(Choice::Judge { file, strict }) => {
+            objects::judge_in(alloc, files, file, *strict, input, output, errors)
+        }
+        Ok(Choice::Report { file, log }) => print_report_in(alloc, files, file, log, output),
+        Ok(Choice::Help(text)) => print(text.as_bytes(), output),
+        Ok(Choice::Usage(_)) => Err(Fault::CommandLine),
+        Err(fault) => Err(*fault),
+    }
+}
+
+/// Runs the program on these words, or on the fault for which there are none: the configuration that
+/// they name is read from `files`, what is said of it is printed to `output`, or the asks of `input` are
+/// answered there, or its log or that of a file is put into words, or a running gateway is asked through `machine` to read
+/// its configuration again, or two configurations are compared, or help is printed; how far a comparison is and how many lines
+/// show no ask may be reported on `errors`, a fault is one line there, after words that are no command line it says how the program is
+/// called, and the exit status says of which kind the fault is. The words begin with the program's name.
+pub fn run<F: ConfigFiles, M: Machine, R: OctetSource, W: Write + Drop, E: OctetSink>(
+    alloc: Global,
+    words: Result<Vec<String>, Fault>,
+    files: &F,
+    machine: &M,
+    input: &mut R,
+    output: &mut BufWriter<W>,
+    errors: &mut E,
+) -> ExitCode
+    ensures run { IsRun
+        (λ choice. MatchResult words
+        (λ w. IsChoiceOf (map string_bytes w.items) choice)
+        (λ f. choice ≡ Err f))
+        (LeavesOutput (F.Reads files.now) (F.ReadsState files.now) (F.ReadsLog files.now) (answers_by (M.Asks machine.now) M.Answers)
+        (R.left input.old)
+        (writer_contents W.contents output.old) (writer_contents W.contents output.new))
+        (writer_buffer output.new)
+        (λ line. E.NeverFails errors.old → Appends (E.held errors.old) (E.held errors.new) line)
+        (exit_status result) }
+{
+    let choice = choice_from(alloc, words);
+    let outcome = follow(alloc, &choice, files, machine, input, output, errors);
+    let exit = end_by(&choice, outcome, errors);
+    write_note(usage_of(&choice), errors);
+    exit
+}
