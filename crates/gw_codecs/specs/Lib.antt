@@ -1,3 +1,4 @@
 pub mod tags
 pub mod apdu
 pub mod services
+pub mod names

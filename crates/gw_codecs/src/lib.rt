@@ -2,5 +2,6 @@
 #![tactic(auto)]
 
 pub mod apdu;
+pub mod names;
 pub mod services;
 pub mod tags;

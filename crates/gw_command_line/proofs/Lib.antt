@@ -1,2 +1,3 @@
 mod CallLemmas
 mod WordsLemmas
+pub mod options_lemmas

@@ -5,7 +5,7 @@ use Rattle.clap.specs.declared.error.kind.ErrorKind.TheVariants as parse
 use Rattle.gw_command_line.specs.CommandLine.{AskFor}
 use Rattle.gw_command_line.specs.Commands.{commands}
 use Rattle.gw_command_line.specs.Requests.{Checks, Replays, Request, Serves, asked_in}
-use Rattle.gw_options.specs.Options.{most_count}
+use Rattle.gw_command_line.specs.options.Options.{most_count}
 
 -- these words, after the program's name, ask for this
 abbrev pub Calls : List Text → Request → Type 0

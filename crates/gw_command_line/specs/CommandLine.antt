@@ -9,9 +9,9 @@ use Rattle.gw_command_line.specs.Requests.{Checks, Replays, Request, Serves, Ser
 use Rattle.gw_command_line.specs.declared.command_line.Choice.{Choice}
 use Rattle.gw_command_line.specs.declared.command_line.Choice.TheVariants as choice
 use Rattle.gw_configuration.specs.declared.run_options.RunOptions.{RunOptions}
-use Rattle.gw_options.specs.Parses.{IsShown, IsWrong}
-use Rattle.gw_options.specs.declared.fault.WordsFault.{WordsFault}
-use Rattle.gw_options.specs.declared.fault.WordsFault.TheVariants as fault
+use Rattle.gw_command_line.specs.options.Parses.{IsShown, IsWrong}
+use Rattle.gw_command_line.specs.declared.options.fault.WordsFault.{WordsFault}
+use Rattle.gw_command_line.specs.declared.options.fault.WordsFault.TheVariants as fault
 
 -- what `run` is asked for by its options
 abbrev pub service : RunOptions → Service

@@ -2,7 +2,7 @@
 use Rattle.std.specs.Prelude.{true, codes}
 use Rattle.clap.specs.Words.{App, new_app, with_rule, with_subcommand}
 use Rattle.clap.specs.Simple.{on_top}
-use Rattle.gw_options.specs.Options.{flag, most_count, most_seconds, number, of_file, option}
+use Rattle.gw_command_line.specs.options.Options.{flag, most_count, most_seconds, number, of_file, option}
 
 -- `check --config FILE`
 abbrev pub check : App

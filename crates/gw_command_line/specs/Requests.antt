@@ -4,7 +4,7 @@ use Rattle.std.specs.Cmp.Lexicographic.{pointwise}
 use Rattle.std.specs.Option.{option_and_then}
 use Rattle.clap.specs.Words.{Row, Text, first_of, subcommand_of}
 use Rattle.gw_command_line.specs.Commands.{commands}
-use Rattle.gw_options.specs.Values.{Values, count_in, is_true, period_in}
+use Rattle.gw_command_line.specs.options.Values.{Values, count_in, is_true, period_in}
 
 -- what `run` is asked for
 pub record Service : Type 0 where

@@ -9,10 +9,10 @@ ghost use Rattle.gw_command_line.specs.Requests.{run_asked};
 
 use crate::commands::make_commands;
 use crate::moved::moved_command;
+use crate::options::{WordsFault, count_of, file_of, is_given, period_of};
 use clap::error::ErrorKind;
 use clap::{ArgMatches, Error};
 use gw_configuration::RunOptions;
-use gw_options::{WordsFault, count_of, file_of, is_given, period_of};
 use std::alloc::{AllocError, Global};
 
 /// What the words ask for.

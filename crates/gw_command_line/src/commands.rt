@@ -7,11 +7,11 @@ ghost use Rattle.gw_command_line.specs.Commands.{check, commands, program};
 ghost use Rattle.gw_command_line.specs.Commands.{replay, replay_of_explanation, run, run_of_audit, run_of_reports, run_of_state};
 ghost use Rattle.gw_command_line.specs.Commands.{run_of_trial, run_of_turns};
 
-use clap::Command;
-use gw_options::{
+use crate::options::{
     FILE, MAX_COUNT, MAX_SECONDS, NUMBER, VERSION, make_flag, make_number, make_of_file,
     make_option,
 };
+use clap::Command;
 use std::alloc::{AllocError, Global};
 
 /// What is below the help on `run`.

@@ -8,5 +8,6 @@ mod command_line;
 mod commands;
 pub mod laws;
 mod moved;
+pub mod options;
 
 pub use command_line::{Choice, choice_of};

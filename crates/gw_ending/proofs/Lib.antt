@@ -1,1 +1,2 @@
 mod AppendLemmas
+pub mod reading_lemmas

@@ -1,8 +1,8 @@
 -- What a program reports of a fault: the line on standard error, and the exit status.
 use Rattle.std.specs.Prelude.{⊤, ℕ, Bool, true, false, List, [], ◌∷◌, ◌++◌, codes, decimal, Result, Ok, Err}
 use Rattle.gw_configuration.specs.Shown.{shown}
-use Rattle.gw_options.specs.declared.fault.WordsFault.{WordsFault}
-use Rattle.gw_options.specs.declared.fault.WordsFault.TheVariants as words
+use Rattle.gw_command_line.specs.declared.options.fault.WordsFault.{WordsFault}
+use Rattle.gw_command_line.specs.declared.options.fault.WordsFault.TheVariants as words
 use Rattle.gw_state_text.specs.declared.fault.FaultKind.{FaultKind}
 use Rattle.gw_state_text.specs.declared.fault.FaultKind.TheVariants as state_fault
 use Rattle.gw_state_text.specs.declared.fault.StateFault.{StateFault}

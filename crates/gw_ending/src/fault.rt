@@ -5,9 +5,9 @@ ghost use Rattle.gw_ending.specs.Ending.{IsUnanswered, cause_of, fault_of, fault
 ghost use Rattle.gw_ending.specs.Ending.{fault_of_lines};
 ghost use Rattle.gw_ending.specs.declared.fault.Fault.TheVariants.{CommandLine, Memory};
 
+use gw_command_line::options::WordsFault;
 use gw_configuration::ConfigFault;
 use gw_notices::name_of;
-use gw_options::WordsFault;
 use gw_replay::RunFault;
 use gw_script::{LineFlaw, LinesFault};
 use gw_state_text::{FaultKind, StateFault};

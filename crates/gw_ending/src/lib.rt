@@ -6,6 +6,7 @@
 
 mod ending;
 mod fault;
+pub mod reading;
 
 pub use ending::{end, report_fault, write_number};
 pub use fault::{Fault, MigrationFlaw, words_of};

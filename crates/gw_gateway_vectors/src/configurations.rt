@@ -1,8 +1,8 @@
 //! Configurations: what a text has or the line of its first fault, and texts that are made of another by an edit.
 
 use gw_cases::{edited, made, octets_of};
-use gw_config_faults::explain;
 use gw_configuration::{Config, ConfigFault};
+use gw_policy_text::faults::explain;
 use gw_policy_text::read_config;
 use std::alloc::Global;
 use std::io;

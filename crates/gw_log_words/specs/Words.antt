@@ -16,7 +16,7 @@ use Rattle.gw_audit.specs.declared.denial.Denial.{Denial}
 use Rattle.gw_audit.specs.declared.entry.ShownAsk.{ShownAsk}
 use Rattle.gw_audit.specs.Entry.{shown_ask}
 use Rattle.gw_audit.specs.Line.{field_text, key_text, operation_named}
-use Rattle.gw_names.specs.Names.{object_type_name, property_name, service_name}
+use Rattle.gw_codecs.specs.names.Names.{object_type_name, property_name, service_name}
 
 -- ---- who asks
 

@@ -10,7 +10,7 @@ ghost use Rattle.gw_log_words.specs.Words.{asker_text, by_other_text, by_text, c
 use crate::moment::Moment;
 use gw_addr::{BipAddr, Mac, Source, bip_from_slice, put_decimal, put_octet, put_slice};
 use gw_audit::{KEYS, Shown, ShownAsk, operation_named, put_key, read_line};
-use gw_names::{object_type_name, property_name, service_name};
+use gw_codecs::names::{object_type_name, property_name, service_name};
 use gw_rules::Operation;
 use std::alloc::{AllocError, Global};
 

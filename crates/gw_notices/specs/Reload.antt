@@ -1,6 +1,6 @@
 -- What is reported of a configuration that is read again, and how often one was.
 use Rattle.std.specs.Prelude.{◌≡◌, ℕ, ◌⊎◌, List, [], ◌++◌, ◌∷◌, length, Option, Some, Result, Ok, codes, decimal}
-use Rattle.gw_config_faults.specs.Explanation.{ExplainsText}
+use Rattle.gw_policy_text.specs.faults.Explanation.{ExplainsText}
 use Rattle.gw_configuration.specs.Configuration.{Configuration}
 use Rattle.gw_configuration.specs.declared.fault.ConfigFault.{ConfigFault}
 use Rattle.gw_configuration.specs.declared.fault.ConfigFault.TheVariants as config

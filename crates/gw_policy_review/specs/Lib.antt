@@ -1,3 +1,4 @@
 pub mod permissions
 pub mod warnings
 pub mod lint
+pub mod comparison

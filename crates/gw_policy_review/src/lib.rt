@@ -1,6 +1,7 @@
 //! What a reader of a policy wants to know: who may do what, which settings are surely mistakes, and which rules can never decide.
 #![tactic(auto)]
 
+pub mod comparison;
 pub mod lint;
 pub mod permissions;
 pub mod warnings;

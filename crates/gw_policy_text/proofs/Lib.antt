@@ -5,3 +5,4 @@ pub mod EachAt
 pub mod Limits
 pub mod TwoFormats
 pub mod keys_lemmas
+pub mod faults_lemmas

@@ -3,3 +3,4 @@ pub mod Parts
 pub mod Policy
 pub mod TwoFormats
 pub mod keys
+pub mod faults

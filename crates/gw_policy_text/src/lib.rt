@@ -2,6 +2,7 @@
 #![tactic(auto)]
 
 mod device;
+pub mod faults;
 mod format;
 pub mod keys;
 pub mod laws;

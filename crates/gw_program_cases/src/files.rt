@@ -4,7 +4,7 @@ ghost use Rattle.std.specs.Prelude.{⊤};
 
 use gw_cases::MemReader;
 use gw_ending::Fault;
-use gw_reading::ConfigFiles;
+use gw_ending::reading::ConfigFiles;
 use gw_system::Obstacle;
 use std::alloc::Global;
 

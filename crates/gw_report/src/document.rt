@@ -9,8 +9,8 @@ use crate::page::{Element, Page};
 use crate::plots::put_denials;
 use crate::rules::put_rules;
 use crate::site::put_site;
+use gw_codecs::names::object_type_name;
 use gw_configuration::{Config, Object, Text};
-use gw_names::object_type_name;
 use gw_script::OctetSource;
 use std::alloc::{AllocError, Global};
 

@@ -2,7 +2,7 @@
 
 use gw_addr::{BipAddr, Mac, bip_from_slice};
 use gw_audit::{Shown, ShownAsk};
-use gw_names::object_type_name;
+use gw_codecs::names::object_type_name;
 use gw_rules::Operation;
 use itoa::Buffer;
 use std::alloc::{AllocError, Global};

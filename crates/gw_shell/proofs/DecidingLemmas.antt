@@ -6,7 +6,7 @@ use Rattle.gw_configuration.specs.Configuration.{Configuration}
 use Rattle.gw_replay.specs.Replay.{RunsPart, RunsToMemory, EventText, text_after}
 use Rattle.gw_script.proofs.KnownTexts.{holds_known}
 use Rattle.gw_script.specs.Script.{AreLines, lines_of}
-use Rattle.gw_reading.specs.Configured.{IsConfigurationOf}
+use Rattle.gw_ending.specs.reading.Configured.{IsConfigurationOf}
 use Rattle.gw_shell.specs.Deciding.{IsDecidedAt, IsUnread, ReportsAsks}
 use Rattle.gw_shell.specs.Program.{LeavesCounted}
 use Rattle.gw_shell.specs.Replay.{Plays, translating}

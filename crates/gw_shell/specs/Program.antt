@@ -7,13 +7,13 @@ use Rattle.gw_configuration.specs.Configuration.{Configuration}
 use Rattle.gw_command_line.specs.declared.command_line.Choice.{Choice}
 use Rattle.gw_command_line.specs.declared.command_line.Choice.TheVariants as choice
 use Rattle.gw_command_line.specs.CommandLine.{IsAnswer}
-use Rattle.gw_options.specs.declared.fault.WordsFault.{WordsFault}
+use Rattle.gw_command_line.specs.declared.options.fault.WordsFault.{WordsFault}
 use Rattle.gw_shell.specs.declared.deciding.Playing.{Playing}
 use Rattle.gw_ending.specs.declared.fault.Fault.{Fault}
 use Rattle.gw_ending.specs.declared.fault.Fault.TheVariants as fault
 use Rattle.gw_ending.specs.Ending.{status_after}
-use Rattle.gw_reading.specs.Configured.{IsConfigurationOf, IsConfigured, summary}
-use Rattle.gw_reading.specs.Printing.{AppendsFront, LeavesFault}
+use Rattle.gw_ending.specs.reading.Configured.{IsConfigurationOf, IsConfigured, summary}
+use Rattle.gw_ending.specs.reading.Printing.{AppendsFront, LeavesFault}
 use Rattle.gw_shell.specs.Deciding.{ReportsAsks}
 use Rattle.gw_shell.specs.Ending.{chosen, error_text_by, usage_of}
 use Rattle.gw_shell.specs.Replay.{Plays}

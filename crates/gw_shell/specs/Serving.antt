@@ -5,7 +5,7 @@ use Rattle.gw_configuration.specs.Configuration.{Configuration}
 use Rattle.gw_service.specs.StampedRun.{LeavesTimed, TimedMachine}
 use Rattle.gw_service.specs.declared.fault.ServiceFault.{ServiceFault}
 use Rattle.gw_service.specs.declared.fault.ServiceFault.TheVariants as service
-use Rattle.gw_reading.specs.Configured.{FaultNote}
+use Rattle.gw_ending.specs.reading.Configured.{FaultNote}
 use Rattle.gw_ending.specs.Ending.{fault_of_metrics, fault_of_state, fault_of_store}
 use Rattle.gw_ending.specs.declared.fault.Fault.{Fault}
 use Rattle.gw_ending.specs.declared.fault.Fault.TheVariants as fault

@@ -10,11 +10,11 @@ mod program;
 mod replaying;
 mod serving;
 
+pub use gw_command_line::options::WordsFault;
 pub use gw_command_line::{Choice, choice_of};
 pub use gw_configuration::RunOptions;
+pub use gw_ending::reading::{ConfigFiles, SystemFiles};
 pub use gw_ending::{Fault, end, words_of};
-pub use gw_options::WordsFault;
-pub use gw_reading::{ConfigFiles, SystemFiles};
 pub use gw_system::{
     FailedStep, Host, LogFailure, Obstacle, OpenFailure, PollWaiter, Reason, SocketFailure, Step,
     SystemClock, SystemHost, UdpSock,

@@ -7,7 +7,7 @@ use Rattle.std.specs.Option.{option_map_or}
 use Rattle.gw_addr.specs.Address.{text_of}
 use Rattle.gw_addr.specs.Station.{two_digits}
 use Rattle.gw_configuration.specs.Configuration.{Configuration}
-use Rattle.gw_names.specs.Names.{object_type_name}
+use Rattle.gw_codecs.specs.names.Names.{object_type_name}
 use Rattle.gw_objects.specs.declared.value.PropertyValue.{PropertyValue}
 use Rattle.gw_objects.specs.declared.value.PropertyValue.TheVariants.{Binary, State, Text, Integer, PositiveInteger}
 use Rattle.gw_state.specs.Saved.{Saved}

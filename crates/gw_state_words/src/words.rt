@@ -6,7 +6,7 @@ ghost use Rattle.gw_state_words.specs.Words.{absence_words, active_words, counte
 
 use crate::takeover::{Absence, ObjectName, PortName, Sizes};
 use gw_addr::put_decimal;
-use gw_names::object_type_name;
+use gw_codecs::names::object_type_name;
 use gw_objects::PropertyValue;
 use std::alloc::AllocError;
 

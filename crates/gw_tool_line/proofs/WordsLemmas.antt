@@ -9,9 +9,9 @@ use Rattle.gw_tool_line.specs.Commands.{commands, first_commands, middle_command
 use Rattle.gw_tool_line.specs.Requests.{Request, asked_in}
 use Rattle.gw_tool_line.specs.declared.command_line.Choice.{Choice}
 use Rattle.gw_tool_line.specs.declared.command_line.Choice.TheVariants as choice
-use Rattle.gw_options.proofs.ParseLemmas.{memory_shows_nothing, mistake_among, no_kind}
-use Rattle.gw_options.specs.declared.fault.WordsFault.{WordsFault}
-use Rattle.gw_options.specs.declared.fault.WordsFault.TheVariants as fault
+use Rattle.gw_command_line.proofs.options_lemmas.ParseLemmas.{memory_shows_nothing, mistake_among, no_kind}
+use Rattle.gw_command_line.specs.declared.options.fault.WordsFault.{WordsFault}
+use Rattle.gw_command_line.specs.declared.options.fault.WordsFault.TheVariants as fault
 
 -- clap says exactly which kinds of fault the program's words have
 pub commands_are_simple : is_simple_and_free commands ≡ true

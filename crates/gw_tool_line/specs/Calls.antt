@@ -6,7 +6,7 @@ use Rattle.gw_tool_line.specs.CommandLine.{AskFor}
 use Rattle.gw_tool_line.specs.Commands.{commands}
 use Rattle.gw_tool_line.specs.Requests.{Checks, ChecksJson, Compares, ComparesJson, Explains, Judges, ListsLog, ListsPoints, Migrates}
 use Rattle.gw_tool_line.specs.Requests.{Reloads, Reports, Request, Shows, Suggests, TranslatesLog, asked_in}
-use Rattle.gw_options.specs.Options.{most_count}
+use Rattle.gw_command_line.specs.options.Options.{most_count}
 
 -- these words, after the program's name, ask for this
 abbrev pub Calls : List Text → Request → Type 0

@@ -12,9 +12,9 @@ use Rattle.gw_tool_line.specs.Requests.{Reloads, Reports, Request, Shows, Sugges
 use Rattle.gw_tool_line.specs.declared.command_line.Choice.{Choice}
 use Rattle.gw_tool_line.specs.declared.command_line.Choice.TheVariants as choice
 use Rattle.gw_tool_line.specs.declared.options.Shown.{Shown}
-use Rattle.gw_options.specs.Parses.{IsShown, IsWrong}
-use Rattle.gw_options.specs.declared.fault.WordsFault.{WordsFault}
-use Rattle.gw_options.specs.declared.fault.WordsFault.TheVariants as fault
+use Rattle.gw_command_line.specs.options.Parses.{IsShown, IsWrong}
+use Rattle.gw_command_line.specs.declared.options.fault.WordsFault.{WordsFault}
+use Rattle.gw_command_line.specs.declared.options.fault.WordsFault.TheVariants as fault
 
 -- the moment at which a log began: what the text says, and none if there is none
 abbrev pub IsStart : Option Text → Option Moment → Type 0

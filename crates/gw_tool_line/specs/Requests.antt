@@ -4,7 +4,7 @@ use Rattle.std.specs.Cmp.Lexicographic.{pointwise}
 use Rattle.std.specs.Option.{option_and_then, option_map}
 use Rattle.clap.specs.Words.{Row, Text, first_of, subcommand_of}
 use Rattle.gw_tool_line.specs.Commands.{commands}
-use Rattle.gw_options.specs.Values.{Values, count_in, is_true}
+use Rattle.gw_command_line.specs.options.Values.{Values, count_in, is_true}
 
 -- what a call asks for: the files that it names, and what is to be done with them
 pub data Request : Type 0 where

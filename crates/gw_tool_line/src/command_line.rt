@@ -13,8 +13,8 @@ use crate::moments::start_of;
 use crate::options::Shown;
 use clap::error::ErrorKind;
 use clap::{ArgMatches, Error};
+use gw_command_line::options::{WordsFault, count_of, file_of, is_given};
 use gw_log_words::Moment;
-use gw_options::{WordsFault, count_of, file_of, is_given};
 use std::alloc::Global;
 
 /// What the words ask for.

@@ -8,7 +8,7 @@ ghost use Rattle.gw_tool_line.specs.Commands.{middle_commands, migrate, objects,
 ghost use Rattle.gw_tool_line.specs.Commands.{suggest, why, why_of_form};
 
 use clap::Command;
-use gw_options::{
+use gw_command_line::options::{
     FILE, MAX_COUNT, NUMBER, VERSION, make_flag, make_needed, make_needed_flag, make_number,
     make_of_file, make_option, make_positional,
 };

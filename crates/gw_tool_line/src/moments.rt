@@ -3,8 +3,8 @@
 ghost use Rattle.std.specs.Prelude.{option_map, MatchResult};
 ghost use Rattle.gw_tool_line.specs.CommandLine.{IsNoStart, IsStart};
 
+use gw_command_line::options::WordsFault;
 use gw_log_words::Moment;
-use gw_options::WordsFault;
 
 /// The moment that this text says, or none if there is none. `CommandLine` for another text.
 pub fn start_of(text: Option<&str>) -> Result<Option<Moment>, WordsFault>

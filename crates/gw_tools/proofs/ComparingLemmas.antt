@@ -5,14 +5,14 @@ use Rattle.std.specs.Io.KnownBytes.{Appends}
 use Rattle.std.specs.List.{flat_map}
 use Rattle.std.proofs.lemmas.Grind.{flat_map-append}
 use Rattle.std.specs.declared.alloc.AllocError.{AllocError}
-use Rattle.gw_compare.specs.declared.comparison.Compared.{Compared}
+use Rattle.gw_policy_review.specs.declared.comparison.comparison.Compared.{Compared}
 use Rattle.gw_tools.specs.Comparing.{AreProgress, progress_line}
 use Rattle.gw_tools.specs.Program.{LeavesLines, LeavesSome}
 use Rattle.gw_tools.specs.declared.comparing.Lines.{Lines}
 use Rattle.gw_ending.specs.declared.fault.Fault.{Fault}
 use Rattle.gw_ending.specs.declared.fault.Fault.TheVariants as fault
 use Rattle.gw_notices.proofs.AppendLemmas.{appends_nothing, appends_two}
-use Rattle.gw_reading.proofs.AppendLemmas.{nothing_behind}
+use Rattle.gw_ending.proofs.reading_lemmas.AppendLemmas.{nothing_behind}
 
 module _ (Is : Compared → List ℕ → Type 0) (held holds : Option (List ℕ)) where
   printed : (lines : Lines) (f : Fault) → Is lines.made lines.text.items → LeavesLines (Ok lines) held holds (Err f)

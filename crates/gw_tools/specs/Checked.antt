@@ -5,7 +5,7 @@ use Rattle.gw_configuration.specs.Configuration.{Configuration}
 use Rattle.gw_policy_review.specs.lint.Lint.{AppendsLint}
 use Rattle.gw_policy_review.specs.permissions.Permissions.{permissions}
 use Rattle.gw_policy_review.specs.warnings.Warnings.{warnings_text}
-use Rattle.gw_reading.specs.Configured.{summary}
+use Rattle.gw_ending.specs.reading.Configured.{summary}
 
 -- the summary of a configuration, and who may do what and what can't be meant if that is asked for
 abbrev pub explained_text : Bool → Configuration → List ℕ

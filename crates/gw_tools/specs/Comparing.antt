@@ -1,10 +1,10 @@
--- What `compare` prints of two configurations, and what it reports while it works, over the definitions of `gw_compare`.
+-- What `compare` prints of two configurations, and what it reports while it works, over the definitions of `gw_policy_review::comparison`.
 use Rattle.std.specs.Prelude.{◌≡◌, ℕ, Bool, true, false, List, [], ◌++◌, Result, Ok, Err, codes, decimal}
 use Rattle.std.specs.List.{flat_map}
-use Rattle.gw_compare.specs.Comparing.{steps_text}
-use Rattle.gw_compare.specs.Comparison.{IsComparisonText}
-use Rattle.gw_compare.specs.declared.comparison.Compared.{Compared}
-use Rattle.gw_compare.specs.declared.comparison.Compared.TheVariants as compared
+use Rattle.gw_policy_review.specs.comparison.Comparing.{steps_text}
+use Rattle.gw_policy_review.specs.comparison.Comparison.{IsComparisonText}
+use Rattle.gw_policy_review.specs.declared.comparison.comparison.Compared.{Compared}
+use Rattle.gw_policy_review.specs.declared.comparison.comparison.Compared.TheVariants as compared
 use Rattle.gw_configuration.specs.Configuration.{Configuration}
 use Rattle.gw_ending.specs.declared.fault.Fault.{Fault}
 use Rattle.gw_ending.specs.declared.fault.Fault.TheVariants as fault

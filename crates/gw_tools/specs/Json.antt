@@ -1,12 +1,12 @@
 -- What `check --json`, `compare --json` and `objects --csv` print, over the definitions of `gw_json` and `gw_report::points`.
 use Rattle.std.specs.Prelude.{◌≡◌, ◌⊎◌, ⊤, ℕ, ◌==◌, List, [], ◌++◌, length, take, Option, Some, None, Result, Ok, Err}
 use Rattle.std.specs.List.{flat_map}
-use Rattle.gw_compare.specs.Asks.{asks_of}
-use Rattle.gw_compare.specs.Comparison.{compared_by}
-use Rattle.gw_compare.specs.declared.comparison.Compared.{Compared}
+use Rattle.gw_policy_review.specs.comparison.Asks.{asks_of}
+use Rattle.gw_policy_review.specs.comparison.Comparison.{compared_by}
+use Rattle.gw_policy_review.specs.declared.comparison.comparison.Compared.{Compared}
 use Rattle.gw_configuration.specs.Configuration.{Configuration}
 use Rattle.gw_configuration.specs.declared.fault.ConfigFault.{ConfigFault}
-use Rattle.gw_config_faults.specs.Explanation.{ExplainsText}
+use Rattle.gw_policy_text.specs.faults.Explanation.{ExplainsText}
 use Rattle.gw_json.specs.Check.{checked_value, fault_value}
 use Rattle.gw_json.specs.Comparison.{found_value, summary_value}
 use Rattle.gw_json.specs.Document.{line_of}

@@ -6,7 +6,7 @@ use Rattle.gw_json.specs.Log.{IsEntryIn}
 use Rattle.gw_json.specs.Why.{IsAnswerIn, SaysNoAsk}
 use Rattle.gw_rules.specs.declared.rule.Rule.{Rule}
 use Rattle.gw_script.specs.Known.{OnKnown}
-use Rattle.gw_reading.specs.Configured.{IsConfigured}
+use Rattle.gw_ending.specs.reading.Configured.{IsConfigured}
 use Rattle.gw_tools.specs.Lines.{Leaves}
 use Rattle.gw_ending.specs.declared.fault.Fault.{Fault}
 

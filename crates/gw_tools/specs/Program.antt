@@ -5,8 +5,8 @@ use Rattle.std.specs.Prelude.{string_bytes}
 use Rattle.std.specs.Io.KnownBytes.{Appends}
 use Rattle.gw_script.specs.Known.{OnKnown}
 use Rattle.std.specs.declared.alloc.AllocError.{AllocError}
-use Rattle.gw_compare.specs.declared.comparison.Compared.{Compared}
-use Rattle.gw_compare.specs.declared.comparison.Compared.TheVariants as compared
+use Rattle.gw_policy_review.specs.declared.comparison.comparison.Compared.{Compared}
+use Rattle.gw_policy_review.specs.declared.comparison.comparison.Compared.TheVariants as compared
 use Rattle.gw_configuration.specs.Configuration.{Configuration}
 use Rattle.gw_policy_drafts.specs.migration.Migration.{Migrates}
 use Rattle.gw_policy_drafts.specs.declared.migration.fault.MigrationFault.{MigrationFault}
@@ -18,7 +18,7 @@ use Rattle.gw_tool_line.specs.declared.command_line.Choice.{Choice}
 use Rattle.gw_tool_line.specs.declared.command_line.Choice.TheVariants as choice
 use Rattle.gw_tool_line.specs.CommandLine.{IsAnswer}
 use Rattle.gw_tool_line.specs.declared.options.Shown.{Shown}
-use Rattle.gw_options.specs.declared.fault.WordsFault.{WordsFault}
+use Rattle.gw_command_line.specs.declared.options.fault.WordsFault.{WordsFault}
 use Rattle.gw_tools.specs.declared.asking.Answering.{Answering}
 use Rattle.gw_tools.specs.declared.comparing.Limits.{Limits}
 use Rattle.gw_tools.specs.declared.comparing.Lines.{Lines}
@@ -26,8 +26,8 @@ use Rattle.gw_ending.specs.declared.fault.Fault.{Fault}
 use Rattle.gw_ending.specs.declared.fault.Fault.TheVariants as fault
 use Rattle.gw_tools.specs.Asking.{Answers, Counts, ReportsUnread, asks_in}
 use Rattle.gw_tools.specs.Comparing.{AreProgress, IsCompared}
-use Rattle.gw_reading.specs.Configured.{IsConfigurationOf, IsConfigured}
-use Rattle.gw_reading.specs.Printing.{AppendsFront, LeavesFault, LeavesPrinted}
+use Rattle.gw_ending.specs.reading.Configured.{IsConfigurationOf, IsConfigured}
+use Rattle.gw_ending.specs.reading.Printing.{AppendsFront, LeavesFault, LeavesPrinted}
 use Rattle.gw_tools.specs.Reloading.{IsAnswerTo, outcome_of_answer}
 use Rattle.gw_ending.specs.Ending.{is_different, of_other}
 use Rattle.gw_tools.specs.Ending.{chosen, error_text_by, status_by, usage_of}

@@ -5,7 +5,7 @@ ghost use Rattle.std.specs.Io.Buffered.{writer_buffer, writer_contents};
 ghost use Rattle.std.specs.Io.KnownBytes.{Appends};
 ghost use Rattle.gw_script.specs.Known.{OnKnown};
 ghost use Rattle.gw_tools.specs.Asking.{Answers, Counts, ReportsUnread, asks_in};
-ghost use Rattle.gw_reading.specs.Files.{result_map};
+ghost use Rattle.gw_ending.specs.reading.Files.{result_map};
 ghost use Rattle.gw_tools.specs.Program.{LeavesAnswered, LeavesAnsweredIn, LeavesCounts};
 ghost use Rattle.gw_decisions.specs.tally.Tally.{tally_text};
 
@@ -14,7 +14,7 @@ use crate::unread::report_unread;
 use gw_configuration::Config;
 use gw_decisions::tally::{Tally, count_asks, put_tally};
 use gw_ending::Fault;
-use gw_reading::{ConfigFiles, configuration_in, print_made};
+use gw_ending::reading::{ConfigFiles, configuration_in, print_made};
 use gw_rules::RuleList;
 use gw_script::{OctetSink, OctetSource};
 use gw_verdicts::asks::{AskLines, Lent};

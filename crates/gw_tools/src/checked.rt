@@ -5,10 +5,10 @@ ghost use Rattle.std.specs.Prelude.{◌≡◌, IfOk};
 ghost use Rattle.gw_tools.specs.Checked.{IsChecked, explained_text};
 
 use gw_configuration::Config;
+use gw_ending::reading::summary;
 use gw_policy_review::lint::put_lint;
 use gw_policy_review::permissions::put_permissions;
 use gw_policy_review::warnings::put_warnings;
-use gw_reading::summary;
 use std::alloc::{AllocError, Global};
 
 /// What `check` prints of a configuration: its summary, and after it what else is asked for.

@@ -3,15 +3,15 @@
 ghost use Rattle.std.specs.Prelude.{◌≡◌, [], ℕ, List, IfOk, IsOk, OnOk};
 ghost use Rattle.std.specs.Io.Buffered.{writer_buffer, writer_contents};
 ghost use Rattle.std.specs.Io.KnownBytes.{Appends};
-ghost use Rattle.gw_compare.specs.Comparing.{IsUnderWay};
+ghost use Rattle.gw_policy_review.specs.comparison.Comparing.{IsUnderWay};
 ghost use Rattle.gw_tools.specs.Comparing.{AreProgress, IsCompared, outcome_of_comparison, progress_line};
 ghost use Rattle.gw_tools.specs.Program.{LeavesCompared, LeavesComparison, LeavesLines};
 
-use gw_compare::{Compared, Comparing, put_steps};
 use gw_configuration::Config;
+use gw_ending::reading::print;
 use gw_ending::{Fault, write_number};
 use gw_log_words::Moment;
-use gw_reading::print;
+use gw_policy_review::comparison::{Compared, Comparing, put_steps};
 use gw_script::{OctetSink, WriteFailed};
 use std::alloc::{AllocError, Global};
 use std::io::{BufWriter, Write};

@@ -3,23 +3,23 @@
 ghost use Rattle.std.specs.Prelude.{◌≡◌, ◌⊎◌, ◌++◌, ◌==◌, [], length, take, option_map, IfOk, MatchResult, OnOk};
 ghost use Rattle.std.specs.Io.Buffered.{writer_buffer, writer_contents};
 ghost use Rattle.std.specs.List.{flat_map};
-ghost use Rattle.gw_compare.specs.Comparison.{compared_by};
+ghost use Rattle.gw_policy_review.specs.comparison.Comparison.{compared_by};
 ghost use Rattle.gw_json.specs.Check.{checked_value, fault_value};
 ghost use Rattle.gw_json.specs.Comparison.{found_value};
 ghost use Rattle.gw_json.specs.Document.{line_of};
 ghost use Rattle.gw_report.specs.points.Points.{points_text};
-ghost use Rattle.gw_reading.specs.Files.{result_map};
+ghost use Rattle.gw_ending.specs.reading.Files.{result_map};
 ghost use Rattle.gw_tools.specs.Json.{AreComparisonLines, FaultLine, IsFaultLine, IsMade, checked_line};
 ghost use Rattle.gw_tools.specs.Program.{LeavesCheckedJson, LeavesComparedJson, LeavesComparisonJson, LeavesPoints};
 
 use crate::comparing::{Lines, print_lines};
 use gw_ask_sets::regions::{Found, MAX_STEPS, summarize};
-use gw_compare::{Compared, asks_of};
-use gw_config_faults::explain;
 use gw_configuration::{Config, ConfigFault};
 use gw_ending::Fault;
+use gw_ending::reading::{configuration_of, print, print_made};
 use gw_json::{put_check, put_fault, put_found, put_summary};
-use gw_reading::{configuration_of, print, print_made};
+use gw_policy_review::comparison::{Compared, asks_of};
+use gw_policy_text::faults::explain;
 use gw_report::points::put_points;
 use gw_rules::Rule;
 use std::alloc::{AllocError, Global};

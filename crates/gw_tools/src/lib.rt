@@ -20,9 +20,9 @@ mod suggesting;
 mod translating;
 mod unread;
 
+pub use gw_command_line::options::WordsFault;
+pub use gw_ending::reading::{ConfigFiles, SystemFiles};
 pub use gw_ending::{Fault, end};
-pub use gw_options::WordsFault;
-pub use gw_reading::{ConfigFiles, SystemFiles};
 pub use gw_system::{Obstacle, SystemHost};
 pub use gw_tool_line::{Choice, Shown, choice_of};
 pub use machine::{HostMachine, Machine};

@@ -5,7 +5,7 @@ ghost use Rattle.std.specs.Io.Buffered.{writer_buffer, writer_contents};
 ghost use Rattle.std.specs.Io.KnownBytes.{Appends};
 ghost use Rattle.gw_script.specs.Known.{OnKnown};
 ghost use Rattle.gw_tools.specs.Asking.{ReportsUnread, asks_in};
-ghost use Rattle.gw_reading.specs.Files.{result_map};
+ghost use Rattle.gw_ending.specs.reading.Files.{result_map};
 ghost use Rattle.gw_tools.specs.Objects.{Judges, LeavesJudged, LeavesJudgedIn, Lists};
 ghost use Rattle.gw_tools.specs.Program.{LeavesOfLog, LeavesOpened};
 
@@ -13,8 +13,8 @@ use crate::lines::first_lines_fault;
 use crate::unread::report_unread;
 use gw_configuration::Config;
 use gw_ending::Fault;
+use gw_ending::reading::{ConfigFiles, configuration_in};
 use gw_json::{log_in_json, why_in_json};
-use gw_reading::{ConfigFiles, configuration_in};
 use gw_script::{OctetSink, OctetSource};
 use gw_verdicts::asks::{AskLines, Lent};
 use std::alloc::Global;

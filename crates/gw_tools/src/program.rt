@@ -7,7 +7,7 @@ ghost use Rattle.std.specs.Process.{exit_status};
 ghost use Rattle.gw_ending.specs.declared.fault.Fault.TheVariants as fault;
 ghost use Rattle.gw_ending.specs.declared.fault.MigrationFlaw.TheVariants as migration;
 ghost use Rattle.gw_rules.specs.declared.format.Format.TheVariants as formats;
-ghost use Rattle.gw_reading.specs.Files.{result_map};
+ghost use Rattle.gw_ending.specs.reading.Files.{result_map};
 ghost use Rattle.gw_tools.specs.Program.{IsChoiceOf, IsFollowed, IsRun, LeavesConfigured, LeavesInFormatThree, LeavesMigrated};
 ghost use Rattle.gw_tools.specs.Program.{LeavesOfText, LeavesOutput, LeavesSaid, LeavesState, LeavesStateIn, fault_of_migration};
 ghost use Rattle.gw_tools.specs.Reloading.{answers_by};
@@ -25,11 +25,13 @@ use crate::reporting::print_report_in;
 use crate::suggesting::suggest_shown;
 use crate::translating::{Translating, translate_in};
 use gw_configuration::Config;
+use gw_ending::reading::{
+    ConfigFiles, configuration_in, configuration_of, fault_note, print, print_made,
+};
 use gw_ending::{Fault, MigrationFlaw};
 use gw_notices::write_note;
 use gw_policy_drafts::migration::{MigrationFault, migrate};
 use gw_policy_drafts::suggestion::Manner;
-use gw_reading::{ConfigFiles, configuration_in, configuration_of, fault_note, print, print_made};
 use gw_script::{OctetSink, OctetSource};
 use gw_tool_line::{Choice, choice_of};
 use std::alloc::Global;

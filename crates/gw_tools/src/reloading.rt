@@ -6,14 +6,14 @@ ghost use Rattle.std.specs.Io.KnownBytes.{Appends};
 ghost use Rattle.gw_tools.specs.Comparing.{AreProgress};
 ghost use Rattle.gw_tools.specs.Reloading.{IsAnswerTo, answers_by, outcome_of_answer};
 ghost use Rattle.gw_ending.specs.Ending.{IsUnanswered};
-ghost use Rattle.gw_reading.specs.Files.{result_map};
+ghost use Rattle.gw_ending.specs.reading.Files.{result_map};
 ghost use Rattle.gw_tools.specs.Program.{LeavesAfter, LeavesAnswer, LeavesAsked, LeavesReload, LeavesReloadIn, LeavesReloadShown, LeavesText};
 
 use crate::comparing::{Both, Limits, Seconds, print_compared};
 use crate::machine::Machine;
 use gw_configuration::Config;
 use gw_ending::Fault;
-use gw_reading::{ConfigFiles, configuration_in, print};
+use gw_ending::reading::{ConfigFiles, configuration_in, print};
 use gw_script::OctetSink;
 use gw_system::ReadFailure;
 use gw_tool_line::Shown;

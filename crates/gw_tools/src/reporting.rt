@@ -2,13 +2,13 @@
 
 ghost use Rattle.std.specs.Prelude.{◌≡◌, [], option_map, string_bytes, OnOk};
 ghost use Rattle.std.specs.Io.Buffered.{writer_buffer, writer_contents};
-ghost use Rattle.gw_reading.specs.Files.{result_map};
+ghost use Rattle.gw_ending.specs.reading.Files.{result_map};
 ghost use Rattle.gw_tools.specs.Program.{LeavesReport, LeavesReportIn};
 ghost use Rattle.gw_tools.specs.Reporting.{IsPageAlone, IsPageOf, IsPageWith, IsReported};
 
 use gw_configuration::Config;
 use gw_ending::Fault;
-use gw_reading::{ConfigFiles, configuration_in, print_made};
+use gw_ending::reading::{ConfigFiles, configuration_in, print_made};
 use gw_report::{ReportFault, report, report_with_log};
 use gw_script::OctetSource;
 use std::alloc::{AllocError, Global};

@@ -5,14 +5,14 @@ ghost use Rattle.std.specs.Io.Buffered.{writer_buffer, writer_contents};
 ghost use Rattle.std.specs.Io.KnownBytes.{Appends};
 ghost use Rattle.gw_script.specs.Known.{OnKnown};
 ghost use Rattle.gw_tools.specs.Asking.{ReportsUnread, asks_in};
-ghost use Rattle.gw_reading.specs.Files.{result_map};
+ghost use Rattle.gw_ending.specs.reading.Files.{result_map};
 ghost use Rattle.gw_tools.specs.Program.{LeavesSuggested, LeavesSuggestedIn};
 ghost use Rattle.gw_tools.specs.Suggesting.{Suggests, fault_of_suggestion, first_suggestion_fault};
 
 use crate::unread::report_unread;
 use gw_ending::Fault;
+use gw_ending::reading::ConfigFiles;
 use gw_policy_drafts::suggestion::{Manner, SuggestFault};
-use gw_reading::ConfigFiles;
 use gw_script::{OctetSink, OctetSource};
 use gw_verdicts::asks::{AskLines, Lent};
 use std::alloc::Global;

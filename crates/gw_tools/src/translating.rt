@@ -3,14 +3,14 @@
 ghost use Rattle.std.specs.Prelude.{◌≡◌, [], option_map, string_bytes, OnOk};
 ghost use Rattle.std.specs.Io.Buffered.{writer_buffer, writer_contents};
 ghost use Rattle.gw_script.specs.Known.{OnKnown};
-ghost use Rattle.gw_reading.specs.Files.{result_map};
+ghost use Rattle.gw_ending.specs.reading.Files.{result_map};
 ghost use Rattle.gw_tools.specs.Program.{LeavesOfLog, LeavesOpened};
 ghost use Rattle.gw_tools.specs.Translating.{Translates};
 
 use crate::lines::first_lines_fault;
 use gw_ending::Fault;
+use gw_ending::reading::ConfigFiles;
 use gw_log_words::Moment;
-use gw_reading::ConfigFiles;
 use gw_script::OctetSource;
 use std::alloc::Global;
 use std::io::{BufWriter, Write};

@@ -2,8 +2,8 @@
 use Rattle.std.proofs.Common.{◌≡◌, inl, inr, true}
 use Rattle.std.specs.List.{AllByRecursion}
 use Rattle.gw_configuration.specs.Configuration.{Configuration}
-use Rattle.gw_compare.specs.Laws.{IsAskOf}
-use Rattle.gw_compare.proofs.TextLaw.{alike_is_alike, found_is_all, lines_are_true}
+use Rattle.gw_policy_review.specs.comparison.Laws.{IsAskOf}
+use Rattle.gw_policy_review.proofs.comparison_lemmas.TextLaw.{alike_is_alike, found_is_all, lines_are_true}
 use Rattle.gw_core.specs.Asks.{asks}
 use Rattle.gw_core.specs.History.{state_after}
 use Rattle.gw_ask_sets.specs.regions.Comparing.{IsDecided}

@@ -2,9 +2,9 @@
 use Rattle.std.specs.Prelude.{◌≡◌, ◌≢◌, ℕ, true, List}
 use Rattle.std.specs.List.{AllByRecursion}
 use Rattle.gw_configuration.specs.Configuration.{Configuration}
-use Rattle.gw_compare.specs.Comparison.{IsComparisonText}
-use Rattle.gw_compare.specs.declared.comparison.Compared.{Compared}
-use Rattle.gw_compare.specs.declared.comparison.Compared.TheVariants as compared
+use Rattle.gw_policy_review.specs.comparison.Comparison.{IsComparisonText}
+use Rattle.gw_policy_review.specs.declared.comparison.comparison.Compared.{Compared}
+use Rattle.gw_policy_review.specs.declared.comparison.comparison.Compared.TheVariants as compared
 use Rattle.gw_ask_sets.specs.regions.Comparing.{IsDecided, differs, is_found}
 use Rattle.gw_ask_sets.specs.regions.Regions.{lies}
 use Rattle.gw_rules.specs.Ask.{Ask}

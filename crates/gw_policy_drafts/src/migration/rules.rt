@@ -4,8 +4,8 @@ use crate::migration::advice::put_rule_note;
 use crate::migration::lines::{put_key, put_quoted, put_text};
 use crate::migration::subnets::{put_host, put_subnet, whole_prefix};
 use gw_addr::{BipAddr, put_decimal};
+use gw_codecs::names::{object_type_name, property_name, service_name};
 use gw_configuration::Config;
-use gw_names::{object_type_name, property_name, service_name};
 use gw_rules::{FieldName, Operation, Range, Rule};
 use std::alloc::AllocError;
 

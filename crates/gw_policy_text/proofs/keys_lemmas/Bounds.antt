@@ -10,8 +10,8 @@ use Rattle.gw_addr.specs.Address.{IsAddress, big_endian, octets_of}
 use Rattle.gw_addr.proofs.Addresses.{keys_below}
 use Rattle.gw_rules.specs.declared.field.FieldName.TheVariants as fields
 use Rattle.gw_rules.specs.declared.format.Format.TheVariants as formats
-use Rattle.gw_names.specs.Names.{number_in}
-use Rattle.gw_names.specs.Tables.{object_types, properties, services}
+use Rattle.gw_codecs.specs.names.Names.{number_in}
+use Rattle.gw_codecs.specs.names.Tables.{object_types, properties, services}
 use Rattle.gw_rules.specs.Bounds.{bounds, is_within}
 use Rattle.gw_configuration.specs.declared.shape.Names.{Names}
 use Rattle.gw_configuration.specs.declared.shape.Names.TheVariants.{Services, ObjectTypes, Properties}

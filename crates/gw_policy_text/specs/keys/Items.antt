@@ -8,7 +8,7 @@ use Rattle.std.specs.Result.{result_err}
 use Rattle.toml.specs.Data.{Data, as_array, as_integer, as_str, as_table, get_member}
 use Rattle.gw_addr.specs.declared.mask.Mask.{Mask}
 use Rattle.gw_addr.specs.Reading.{◌>>=◌}
-use Rattle.gw_names.specs.Names.{object_type_number, property_number, service_number}
+use Rattle.gw_codecs.specs.names.Names.{object_type_number, property_number, service_number}
 use Rattle.gw_rules.specs.declared.range.Range.{Range as RuleRange}
 use Rattle.gw_configuration.specs.declared.fault.ConfigFault.{ConfigFault}
 use Rattle.gw_configuration.specs.declared.fault.ConfigFault.TheVariants.{Kind, Range}

@@ -10,7 +10,7 @@ use Rattle.gw_configuration.specs.declared.object.ObjectValue.{ObjectValue}
 use Rattle.gw_configuration.specs.declared.object.ObjectValue.TheVariants.{BinaryValue, MultiStateValue}
 use Rattle.gw_configuration.specs.declared.object.ObjectValue.TheVariants.{CharacterStringValue, IntegerValue}
 use Rattle.gw_configuration.specs.declared.object.ObjectValue.TheVariants.{PositiveIntegerValue}
-use Rattle.gw_names.specs.Names.{object_type_name}
+use Rattle.gw_codecs.specs.names.Names.{object_type_name}
 use Rattle.gw_report.specs.points.Cells.{Row, guarded, row_text}
 
 -- the names of the sixteen columns

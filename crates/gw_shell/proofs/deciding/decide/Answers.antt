@@ -2,7 +2,7 @@ use Rattle.std.proofs.Common.{inl, inr, refl, subst, ℕ}
 use Rattle.std.specs.Global.{Vec}
 use Rattle.gw_configuration.specs.Configuration.{Configuration}
 use Rattle.gw_replay.specs.Decisions.{IsReport}
-use Rattle.gw_reading.specs.Files.{result_map}
+use Rattle.gw_ending.specs.reading.Files.{result_map}
 use Rattle.gw_shell.proofs.DecidingLemmas.{same_configuration}
 use Rattle.gw_shell.proofs.deciding.decide.Goals as goal
 

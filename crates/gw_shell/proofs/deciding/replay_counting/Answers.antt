@@ -2,7 +2,7 @@ use Rattle.std.proofs.Common.{ℕ, Result, subst, sym}
 use Rattle.std.specs.Global.{Vec}
 use Rattle.std.specs.Io.Buffered.{writer_contents}
 use Rattle.gw_shell.specs.Deciding.{decisions_text}
-use Rattle.gw_reading.specs.Files.{result_map}
+use Rattle.gw_ending.specs.reading.Files.{result_map}
 use Rattle.gw_shell.specs.Program.{LeavesCounted}
 use Rattle.gw_ending.specs.declared.fault.Fault.{Fault}
 use Rattle.gw_shell.proofs.DecidingLemmas.{unread_leaves}

@@ -1,6 +1,6 @@
 use Rattle.std.proofs.Common.{Ok, Err, refl}
 use Rattle.std.specs.Io.Buffered.{writer_contents}
-use Rattle.gw_reading.proofs.AppendLemmas.{front_written}
+use Rattle.gw_ending.proofs.reading_lemmas.AppendLemmas.{front_written}
 use Rattle.gw_shell.proofs.program.check.Goals as goal
 
 pub returns-in-Ok-clause-output : goal.returns-in-Ok-clause-output

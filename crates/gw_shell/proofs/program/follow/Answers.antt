@@ -1,6 +1,6 @@
 use Rattle.std.proofs.Common.{◌≡◌, Ok, refl, rules, subst, ℕ, List}
 use Rattle.std.specs.Global.{Vec}
-use Rattle.gw_reading.specs.Files.{result_map}
+use Rattle.gw_ending.specs.reading.Files.{result_map}
 use Rattle.gw_command_line.specs.declared.command_line.Choice.TheVariants as choice
 use Rattle.gw_shell.proofs.ChoiceLemmas.{followed, reported}
 use Rattle.gw_notices.proofs.AppendLemmas.{appends_nothing}

@@ -3,7 +3,7 @@ use Rattle.std.specs.Io.Buffered.{writer_contents}
 use Rattle.gw_ending.specs.declared.fault.Fault.{Fault}
 use Rattle.gw_shell.specs.Replay.{Plays}
 use Rattle.gw_shell.specs.Replay.{first_fault}
-use Rattle.gw_reading.proofs.KnownLemmas.{kept, weaker}
+use Rattle.gw_ending.proofs.reading_lemmas.KnownLemmas.{kept, weaker}
 use Rattle.gw_shell.proofs.ReplayLemmas.{flushed_plays}
 use Rattle.gw_shell.proofs.replaying.replay.Goals as goal
 

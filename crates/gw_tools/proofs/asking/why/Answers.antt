@@ -5,7 +5,7 @@ use Rattle.gw_verdicts.specs.Why.{IsAnswered, LeavesAnswers, ShowsNoAsk}
 use Rattle.gw_tools.specs.Asking.{Answers}
 use Rattle.gw_tools.specs.Lines.{first_lines_fault}
 use Rattle.gw_tools.proofs.LinesLemmas.{flushed_lines}
-use Rattle.gw_reading.proofs.KnownLemmas.{kept, weaker}
+use Rattle.gw_ending.proofs.reading_lemmas.KnownLemmas.{kept, weaker}
 use Rattle.gw_tools.proofs.asking.why.Goals as goal
 
 pub returns-clause-answers : goal.returns-clause-answers

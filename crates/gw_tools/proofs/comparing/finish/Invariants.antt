@@ -1,5 +1,5 @@
 use Rattle.std.proofs.Common.{◌≡◌}
-use Rattle.gw_compare.specs.Comparing.{IsUnderWay}
+use Rattle.gw_policy_review.specs.comparison.Comparing.{IsUnderWay}
 use Rattle.gw_tools.proofs.ComparingLemmas.{Translates}
 use Rattle.gw_tools.proofs.comparing.finish.Given as goal
 

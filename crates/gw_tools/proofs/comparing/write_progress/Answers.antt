@@ -1,6 +1,6 @@
 use Rattle.std.proofs.Common.{rules, ◌≡◌, ◌++◌, ℕ, codes, decimal, subst}
 use Rattle.std.specs.Io.KnownBytes.{Appends}
-use Rattle.gw_reading.proofs.AppendLemmas.{two_writes}
+use Rattle.gw_ending.proofs.reading_lemmas.AppendLemmas.{two_writes}
 use Rattle.gw_tools.proofs.comparing.write_progress.Goals as goal
 
 pub returns-clause-ok : goal.returns-clause-ok

@@ -1,7 +1,7 @@
 use Rattle.std.proofs.Common.{◌≡◌, ◌∙◌, ◌++◌, ◌==◌, [], ℕ, List, ap, arith, length, min, subst, take}
 use Rattle.std.proofs.lemmas.List.{take_min}
 use Rattle.std.specs.List.{flat_map}
-use Rattle.gw_compare.specs.Comparison.{compared_by}
+use Rattle.gw_policy_review.specs.comparison.Comparison.{compared_by}
 use Rattle.gw_json.specs.Comparison.{found_value, summary_value}
 use Rattle.gw_json.specs.Document.{line_of}
 use Rattle.gw_ask_sets.specs.regions.Comparing.{IsSummary}

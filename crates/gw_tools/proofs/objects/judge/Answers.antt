@@ -5,7 +5,7 @@ use Rattle.gw_json.specs.Why.{IsAnswerIn, LeavesVerdicts, SaysNoAsk}
 use Rattle.gw_tools.specs.Lines.{first_lines_fault}
 use Rattle.gw_tools.specs.Objects.{Judges}
 use Rattle.gw_tools.proofs.LinesLemmas.{flushed_lines}
-use Rattle.gw_reading.proofs.KnownLemmas.{kept, weaker}
+use Rattle.gw_ending.proofs.reading_lemmas.KnownLemmas.{kept, weaker}
 use Rattle.gw_tools.proofs.objects.judge.Goals as goal
 
 pub returns-clause-judges : goal.returns-clause-judges

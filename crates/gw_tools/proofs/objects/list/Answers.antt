@@ -6,7 +6,7 @@ use Rattle.gw_json.specs.Log.{IsEntryIn, LeavesEntries}
 use Rattle.gw_tools.specs.Lines.{first_lines_fault}
 use Rattle.gw_tools.specs.Objects.{Lists}
 use Rattle.gw_tools.proofs.LinesLemmas.{flushed_lines}
-use Rattle.gw_reading.proofs.KnownLemmas.{kept, weaker}
+use Rattle.gw_ending.proofs.reading_lemmas.KnownLemmas.{kept, weaker}
 use Rattle.gw_tools.proofs.objects.list.Goals as goal
 
 pub returns-clause-lists : goal.returns-clause-lists

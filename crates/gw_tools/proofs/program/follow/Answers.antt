@@ -3,9 +3,9 @@ use Rattle.std.specs.Global.{Vec}
 use Rattle.std.specs.Io.Buffered.{writer_contents}
 use Rattle.std.specs.Prelude.{option_map, string_bytes}
 use Rattle.gw_tools.specs.Asking.{asks_in}
-use Rattle.gw_reading.specs.Configured.{IsConfigured}
+use Rattle.gw_ending.specs.reading.Configured.{IsConfigured}
 use Rattle.gw_tools.specs.Reloading.{answers_by}
-use Rattle.gw_reading.specs.Files.{result_map}
+use Rattle.gw_ending.specs.reading.Files.{result_map}
 use Rattle.gw_tool_line.specs.declared.command_line.Choice.TheVariants as choice
 use Rattle.gw_tools.specs.Objects.{LeavesJudgedIn}
 use Rattle.gw_tools.specs.Program.{LeavesAnsweredIn, LeavesReloadIn, LeavesReportIn, LeavesStateIn, LeavesSuggestedIn}

@@ -1,6 +1,6 @@
 use Rattle.std.proofs.Common.{ℕ}
 use Rattle.std.specs.Global.{Vec}
-use Rattle.gw_reading.specs.Files.{result_map}
+use Rattle.gw_ending.specs.reading.Files.{result_map}
 use Rattle.gw_tools.proofs.program.print_state_in.Goals as goal
 
 pub returns-clause-output : goal.returns-clause-output

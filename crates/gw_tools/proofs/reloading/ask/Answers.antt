@@ -3,7 +3,7 @@ use Rattle.std.specs.Global.{Vec}
 use Rattle.std.specs.Prelude.{MatchResult}
 use Rattle.gw_tools.specs.Reloading.{IsAnswerTo, answers_by}
 use Rattle.gw_ending.specs.Ending.{IsUnanswered}
-use Rattle.gw_reading.specs.Files.{result_map}
+use Rattle.gw_ending.specs.reading.Files.{result_map}
 use Rattle.gw_ending.specs.declared.fault.Fault.{Fault}
 use Rattle.gw_tools.proofs.reloading.ask.Goals as goal
 

@@ -2,7 +2,7 @@ use Rattle.std.proofs.Common.{rules, ◌≡◌, [], ℕ, List, Option, Some, Non
 use Rattle.std.specs.Io.Buffered.{writer_contents}
 use Rattle.std.specs.Prelude.{string_bytes}
 use Rattle.gw_tool_line.specs.declared.options.Shown.{Shown}
-use Rattle.gw_reading.specs.Configured.{IsConfigured}
+use Rattle.gw_ending.specs.reading.Configured.{IsConfigured}
 use Rattle.gw_tools.specs.Reloading.{answers_by}
 use Rattle.gw_tools.specs.Program.{LeavesReloadIn}
 use Rattle.gw_notices.proofs.AppendLemmas.{appends_nothing}

@@ -3,7 +3,7 @@ use Rattle.std.specs.Io.Buffered.{writer_contents}
 use Rattle.gw_policy_drafts.specs.suggestion.Suggestion.{LeavesSuggestion}
 use Rattle.gw_tools.specs.Suggesting.{Suggests, first_suggestion_fault}
 use Rattle.gw_ending.specs.declared.fault.Fault.{Fault}
-use Rattle.gw_reading.proofs.KnownLemmas.{kept, weaker}
+use Rattle.gw_ending.proofs.reading_lemmas.KnownLemmas.{kept, weaker}
 use Rattle.gw_tools.proofs.SuggestLemmas.{flushed_suggestion}
 use Rattle.gw_tools.proofs.suggesting.suggest.Goals as goal
 

@@ -6,7 +6,7 @@ use Rattle.gw_log_words.specs.Translating.{IsTranslatedAfterFront, LeavesTransla
 use Rattle.gw_tools.specs.Lines.{first_lines_fault}
 use Rattle.gw_tools.specs.Translating.{Translates}
 use Rattle.gw_tools.proofs.LinesLemmas.{flushed_lines}
-use Rattle.gw_reading.proofs.KnownLemmas.{kept, weaker}
+use Rattle.gw_ending.proofs.reading_lemmas.KnownLemmas.{kept, weaker}
 use Rattle.gw_tools.proofs.translating.translate.Goals as goal
 
 pub returns-clause-translates : goal.returns-clause-translates

@@ -1,0 +1,2 @@
+pub mod ParseLemmas
+pub mod ValueLemmas

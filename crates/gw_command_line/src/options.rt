@@ -1,0 +1,13 @@
+//! Options of a command line, made for `clap`, the values that they are given, and why words choose nothing.
+//!
+//! Each program makes its commands of these: `gw_command_line` those of `bacgw`, `gw_tool_line` those of `bacgwctl`.
+mod builders;
+mod fault;
+mod values;
+
+pub use builders::{
+    FILE, NUMBER, VERSION, make_flag, make_needed, make_needed_flag, make_number, make_of_file,
+    make_option, make_positional,
+};
+pub use fault::WordsFault;
+pub use values::{MAX_COUNT, MAX_SECONDS, count_of, file_of, is_given, period_of};

@@ -1,6 +1,0 @@
-use Rattle.std.proofs.Common.{◌≡◌, ◌++◌, map, take}
-use Rattle.gw_ask_sets.specs.shapes.Regions.{region_of}
-use Rattle.gw_compare.proofs.asks.push_regions.Given as goal
-
-abbrev pub invariant-loop-shape : goal.invariant-loop-shape
-invariant-loop-shape l = l.out.items ≡ l.fn.out.items ++ map region_of (take l.shape-index l.shapes)

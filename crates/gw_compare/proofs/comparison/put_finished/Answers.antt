@@ -1,9 +1,0 @@
-use Rattle.std.specs.Prelude.{codes, ◌++◌, ◌∷◌, []}
-use Rattle.gw_compare.specs.Comparison.{kinds_text}
-use Rattle.gw_compare.proofs.Appending.{two}
-use Rattle.gw_compare.proofs.comparison.put_finished.Goals as goal
-
-pub returns : goal.returns
-returns c =
-    two c.put_slice.result c.args.out.now.items c.put_kinds.new.out.items c.put_slice.new.out.items (kinds_text c.args.count)
-    (codes ", and no other" ++ 10 ∷ []) c.in_ok-put_kinds.ensures c.put_slice.ensures.ok

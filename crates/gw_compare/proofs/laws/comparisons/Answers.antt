@@ -1,5 +1,0 @@
-use Rattle.gw_compare.proofs.TextLaw.{alike_is_alike, found_is_all, lines_are_true, lines_have_asks, none_has_ask}
-use Rattle.gw_compare.proofs.laws.comparisons.Goals as goal
-
-pub returns : goal.returns
-returns c = record { all = found_is_all; alike = alike_is_alike; lines = lines_are_true; asks = lines_have_asks; or_none = none_has_ask }

@@ -1,8 +1,0 @@
-use Rattle.std.proofs.Common.{◌≡◌, ◌++◌, take}
-use Rattle.std.specs.Prelude.{codes}
-use Rattle.std.specs.List.{flat_map}
-use Rattle.gw_compare.specs.Lines.{rule_name}
-use Rattle.gw_compare.proofs.lines.put_more_names.Given as goal
-
-abbrev pub invariant-loop-number : goal.invariant-loop-number
-invariant-loop-number l = l.out.items ≡ l.fn.out.items ++ flat_map (λ other. codes " or " ++ rule_name l.rules other) (take l.number-index l.numbers)

@@ -1,7 +1,0 @@
-use Rattle.std.proofs.Common.{◌≡◌, ◌++◌, take}
-use Rattle.std.specs.List.{flat_map}
-use Rattle.gw_compare.specs.Words.{item_text}
-use Rattle.gw_compare.proofs.words.put_items.Given as goal
-
-abbrev pub invariant-loop-field : goal.invariant-loop-field
-invariant-loop-field l = l.out.items ≡ l.fn.out.items ++ flat_map (item_text l.region) (take l.field-index l.fields)

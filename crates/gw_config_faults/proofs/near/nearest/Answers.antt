@@ -1,6 +1,0 @@
-use Rattle.std.proofs.Common.{◌≡◌, ◌∙◌, ap, arith}
-use Rattle.gw_config_faults.specs.Near.{nearest}
-use Rattle.gw_config_faults.proofs.near.nearest.Goals as goal
-
-pub returns : goal.returns
-returns c = c.loop-number.invariant ∙ ap (λ n. nearest c.args.names c.args.text.now n) (omega (arith, c.loop-number-test.false))

@@ -1,8 +1,0 @@
-use Rattle.std.proofs.Common.{codes}
-use Rattle.gw_config_faults.proofs.Appending.{two}
-use Rattle.gw_config_faults.proofs.reason.put_twice.Goals as goal
-
-pub returns : goal.returns
-returns c =
-    two c.put_type.result c.args.line.now.items c.extend_from_slice.new.self.items c.put_type.new.line.items (codes " is named twice") _
-    c.in_ok-extend_from_slice.ensures.items c.put_type.ensures

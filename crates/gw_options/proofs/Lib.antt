@@ -1,2 +1,0 @@
-pub mod ParseLemmas
-mod ValueLemmas

@@ -1,5 +1,0 @@
-use Rattle.gw_options.proofs.ValueLemmas.{number_is}
-use Rattle.gw_options.proofs.values.number_of.Goals as goal
-
-pub returns-clause-number : goal.returns-clause-number
-returns-clause-number c = number_is c.args.most c.args.text.now c.parse_number.result c.parse_number.ensures.number

@@ -1,0 +1,7 @@
+use Rattle.std.proofs.Common.{◌≡◌, ◌++◌, take}
+use Rattle.std.specs.List.{flat_map}
+use Rattle.gw_policy_review.specs.comparison.Words.{item_text}
+use Rattle.gw_policy_review.proofs.comparison.words.put_items.Given as goal
+
+abbrev pub invariant-loop-field : goal.invariant-loop-field
+invariant-loop-field l = l.out.items ≡ l.fn.out.items ++ flat_map (item_text l.region) (take l.field-index l.fields)

@@ -1,0 +1,27 @@
+-- A comparison of two configurations that goes on in portions.
+use Rattle.std.specs.Prelude.{ℕ, Bool, ◌||◌, ◌==◌, nat_le, List, ◌∷◌, [], ◌++◌, length, codes, decimal}
+use Rattle.gw_configuration.specs.Configuration.{Configuration}
+use Rattle.gw_ask_sets.specs.regions.Comparing.{IsComparison}
+use Rattle.gw_ask_sets.specs.regions.Regions.{Region}
+use Rattle.gw_ask_sets.specs.declared.regions.comparison.Found.{Found}
+use Rattle.gw_policy_review.specs.comparison.Asks.{asks_of}
+
+-- how far it is: what it found, what it hasn't looked at, and how many steps it used
+pub record Progress : Type 0 where
+  pub old_one : Configuration
+  pub new_one : Configuration
+  pub found : List Found
+  pub left : List Region
+  pub steps : ℕ
+
+-- what it found, and what is left, is right of the rules of the two, over all asks that a gateway of either may raise
+abbrev pub IsUnderWay : Progress → Type 0
+IsUnderWay p = IsComparison (asks_of p.old_one p.new_one) p.old_one.rules p.new_one.rules p.found p.left
+
+-- nothing is left, or all steps are used
+abbrev pub is_finished : Progress → Bool
+is_finished p = (length p.left == 0) || nat_le 65536 p.steps
+
+-- `44 of 65536 steps were used`
+abbrev pub steps_text : ℕ → List ℕ
+steps_text steps = decimal steps ++ (codes " of 65536 steps were used" ++ 10 ∷ [])

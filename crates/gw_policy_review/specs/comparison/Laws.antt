@@ -1,0 +1,60 @@
+-- What the text of a comparison says of the asks of two configurations.
+use Rattle.std.specs.Prelude.{◌≡◌, ◌≢◌, ◌⊎◌, ℕ, true, false, count_by, List, None}
+use Rattle.std.specs.List.{AllByRecursion}
+use Rattle.gw_configuration.specs.Configuration.{Configuration}
+use Rattle.gw_ask_sets.specs.regions.Comparing.{IsDecided, differs, is_found}
+use Rattle.gw_ask_sets.specs.regions.Regions.{lies}
+use Rattle.gw_ask_sets.specs.regions.Values.{has, is_any}
+use Rattle.gw_ask_sets.specs.declared.regions.comparison.Found.{Found}
+use Rattle.gw_rules.specs.Ask.{Ask}
+use Rattle.gw_rules.specs.Fields.{value_of}
+use Rattle.gw_rules.specs.RuleList.{allows}
+use Rattle.gw_rules.specs.declared.field.FieldName.{FieldName}
+use Rattle.gw_ask_sets.specs.shapes.Shape.{LiesInOne}
+use Rattle.gw_ask_sets.specs.shapes.Shapes.{shapes}
+use Rattle.gw_policy_review.specs.comparison.Comparison.{IsComparisonText}
+use Rattle.gw_policy_review.specs.comparison.Groups.{firsts, is_like}
+use Rattle.gw_policy_review.specs.declared.comparison.comparison.Compared.{Compared}
+use Rattle.gw_policy_review.specs.declared.comparison.comparison.Compared.TheVariants as compared
+
+-- an ask of a shape of one of the two configurations: a gateway of that one may raise it
+abbrev pub IsAskOf : Configuration → Configuration → Ask → Type 0
+IsAskOf old new ask = LiesInOne (shapes old) ask ⊎ LiesInOne (shapes new) ask
+
+-- Unless the comparison isn't finished, such an ask is decided otherwise exactly if it lies in a region that was found.
+abbrev pub FoundIsAll : Type 0
+FoundIsAll = (old new : Configuration) (most : ℕ) (made : Compared) (text : List ℕ)
+    (written : IsComparisonText old new most made text) → made ≢ compared.Unfinished
+    → (ask : Ask) → IsAskOf old new ask → differs old.rules new.rules ask ≡ is_found written.found ask
+
+-- If the text says that no ask is decided otherwise, the two decide each of them alike.
+abbrev pub AlikeIsAlike : Type 0
+AlikeIsAlike = (old new : Configuration) (most : ℕ) (text : List ℕ) → IsComparisonText old new most compared.Alike text
+    → (ask : Ask) → IsAskOf old new ask → allows old.rules ask ≡ allows new.rules ask
+
+-- Finished or not: such an ask that lies in a region that was found is decided as the line of the region says, and by
+-- rules that it names.
+abbrev pub LinesAreTrue : Type 0
+LinesAreTrue = (old new : Configuration) (most : ℕ) (made : Compared) (text : List ℕ)
+    (written : IsComparisonText old new most made text)
+    → AllByRecursion (λ f. (ask : Ask) → IsAskOf old new ask → lies f.region ask ≡ true → IsDecided old.rules new.rules f ask)
+    written.found
+
+-- Each region that was found has such an ask.
+abbrev pub LinesHaveAsks : Type 0
+LinesHaveAsks = (old new : Configuration) (most : ℕ) (made : Compared) (text : List ℕ)
+    (written : IsComparisonText old new most made text)
+    → AllByRecursion (λ f. (lies f.region f.ask ≡ true) × IsAskOf old new f.ask) written.found
+
+-- A field of a region that may be absent, but isn't just anything, is absent in such an ask that lies there: a line that
+-- says `or none` of a field, or `without` it, has an ask without it.
+abbrev pub NoneHasAsk : Type 0
+NoneHasAsk = (old new : Configuration) (most : ℕ) (made : Compared) (text : List ℕ)
+    (written : IsComparisonText old new most made text)
+    → AllByRecursion (λ f. (field : FieldName) → has (value_of field f.region) None ≡ true
+    → is_any (value_of field f.region) ≡ false
+    → (ask : Ask) × (lies f.region ask ≡ true) × IsAskOf old new ask × (value_of field ask ≡ None)) written.found
+
+-- Each region is in the group of exactly one of the first regions: the groups have each region once.
+abbrev pub EachHasOneGroup : Type 0
+EachHasOneGroup = (found : List Found) → AllByRecursion (λ f. count_by (λ g. is_like g f) (firsts found) ≡ 1) found

@@ -1,0 +1,153 @@
+//! A comparison that goes on in portions.
+ghost use Rattle.std.specs.Prelude.{◌≡◌, ◌≤◌, ◌<◌, ◌+◌, [], length, true, IfOk, OnErr, OnOk};
+ghost use Rattle.gw_addr.specs.Appending.{IsAppended, IsAppendedWhole};
+ghost use Rattle.gw_policy_review.specs.comparison.Comparing.{IsUnderWay, is_finished, steps_text};
+ghost use Rattle.gw_policy_review.specs.comparison.Comparison.{AppendsComparison};
+
+use crate::comparison::asks::asks_of;
+use crate::comparison::comparison::{Compared, comparison_of, put_whole, summary_of};
+use gw_addr::{keep_whole, put_decimal, put_slice};
+use gw_ask_sets::regions::{Comparison, MAX_STEPS, Policies, Region};
+use gw_configuration::Config;
+use std::alloc::{AllocError, Global};
+use std::marker::Model;
+
+/// A comparison of the rules of two configurations, over all asks that a gateway of either may raise. It goes on in
+/// portions, so that a caller can report between them how far it is.
+///
+/// Contracts see the two, what is found and left, and how many steps were used.
+pub struct Comparing<'a> {
+    before: &'a Config,
+    after: &'a Config,
+    asks: Vec<Region>,
+    comparison: Comparison,
+}
+
+// By hand: a derived one is proved part by part wherever one is dropped (docs/GATE.md).
+impl<'a> Drop for Comparing<'a> {
+    fn drop(self) {
+        let Comparing {
+            before: _,
+            after: _,
+            asks: _,
+            comparison: _,
+        } = self;
+    }
+}
+
+impl<'a> Model for Comparing<'a> {
+    ghost use Rattle.std.specs.Prelude.{◌≡◌};
+    ghost use Rattle.gw_policy_review.specs.comparison.Asks.{asks_of};
+    ghost use Rattle.gw_policy_review.specs.comparison.Comparing.{Progress};
+
+    ghost Value = { Progress };
+
+    ghost view = { λ c. record {
+      old_one = c.before.now;
+      new_one = c.after.now;
+      found = c.comparison.found.items;
+      left = c.comparison.left.items;
+      steps = c.comparison.steps;
+    } };
+
+    ghost invariant = { λ c. c.asks.items ≡ asks_of c.before.now c.after.now };
+}
+
+impl<'a> Comparing<'a> {
+    /// The beginning of a comparison: no step is used, and nothing is found. An `Err` if there is no memory.
+    pub fn new(alloc: Global, old: &'a Config, new: &'a Config) -> Result<Self, AllocError>
+        ensures old { IfOk result (λ c. c.old_one ≡ old.now) }
+        ensures new { IfOk result (λ c. c.new_one ≡ new.now) }
+        ensures is_right { IfOk result (λ c. IsUnderWay c) }
+        ensures found { IfOk result (λ c. c.found ≡ []) }
+        ensures steps { IfOk result (λ c. c.steps ≡ 0) }
+    {
+        let asks = asks_of(alloc, old, new)?;
+        let comparison = Comparison::begin(alloc, &asks)?;
+        Ok(Comparing {
+            before: old,
+            after: new,
+            asks,
+            comparison,
+        })
+    }
+
+    /// Goes on by at most so many steps: by fewer only if it is finished then. It uses at most 65,536 steps in all.
+    /// An `Err` if there is no memory: what was found may be lost then.
+    pub fn go_on(&mut self, alloc: Global, steps: u32) -> Result<(), AllocError>
+        ensures old { self.new.old_one ≡ self.old.old_one }
+        ensures new { self.new.new_one ≡ self.old.new_one }
+        ensures is_right { OnOk result (IsUnderWay self.old → IsUnderWay self.new) }
+        ensures least { OnOk result (self.old.steps ≤ self.new.steps) }
+        ensures most { OnOk result (self.new.steps ≤ self.old.steps + steps) }
+        ensures limit { OnOk result (self.old.steps ≤ 65536 → self.new.steps ≤ 65536) }
+        ensures finished { OnOk result (self.new.steps < self.old.steps + steps → is_finished self.new ≡ true) }
+    {
+        let rest = MAX_STEPS.saturating_sub(self.comparison.steps);
+        let portion = if steps < rest { steps } else { rest };
+        let policies = Policies {
+            old: self.before.rules().rules(),
+            new: self.after.rules().rules(),
+            shapes: &self.asks,
+        };
+        self.comparison.go_on(alloc, &policies, portion)
+    }
+
+    /// Whether nothing is left, or all 65,536 steps are used.
+    pub fn is_finished(&self) -> bool
+        ensures { result ≡ is_finished self.now }
+    {
+        self.comparison.left.is_empty() || MAX_STEPS <= self.comparison.steps
+    }
+
+    /// How many steps were used.
+    pub fn steps(&self) -> u32
+        ensures { result ≡ self.now.steps }
+    {
+        self.comparison.steps
+    }
+
+    /// How many regions are found so far. The text has fewer lines: there they are few and wide.
+    pub fn found(&self) -> usize
+        ensures { result ≡ length self.now.found }
+    {
+        self.comparison.found.len()
+    }
+
+    /// Appends what is found so far as [`put_comparison`](crate::comparison::put_comparison) does, with at most `most` lines of
+    /// each group; the last line says whether the comparison is finished. An `Err` if there is no memory: the buffer
+    /// then holds what it held.
+    pub fn put(self, alloc: Global, most: usize, out: &mut Vec<u8>) -> Result<Compared, AllocError>
+        ensures ok { IfOk result (λ made. IsUnderWay self.entry →
+            AppendsComparison self.entry.old_one self.entry.new_one most made out.old.items out.new.items) }
+        ensures err { OnErr result (out.new.items ≡ out.old.items) }
+    {
+        let Comparing {
+            before,
+            after,
+            asks,
+            comparison,
+        } = self;
+        let summary = summary_of(alloc, &asks, comparison)?;
+        let written = comparison_of(alloc, before, after, &summary, most)?;
+        put_whole(out, &written.text)?;
+        Ok(written.made)
+    }
+}
+
+/// Appends how many steps a comparison used: `44 of 65536 steps were used`, and the end of the line. An `Err` if
+/// there is no memory: the buffer then holds what it held.
+pub fn put_steps(steps: u32, out: &mut Vec<u8>) -> Result<(), AllocError>
+    ensures { IsAppendedWhole (steps_text steps) out.old out.new result }
+{
+    let len = out.len();
+    let put = put_used(steps, out);
+    keep_whole(out, len, put)
+}
+
+fn put_used(steps: u32, out: &mut Vec<u8>) -> Result<(), AllocError>
+    ensures { IsAppended (steps_text steps) out.old out.new result }
+{
+    put_decimal(out, steps)?;
+    put_slice(out, b" of 65536 steps were used\n")
+}

@@ -1,0 +1,202 @@
+//! What `bacgw compare` says of two configurations.
+ghost use Rattle.std.specs.Prelude.{◌≡◌, ◌++◌, ◌∷◌, ◌==◌, [], codes, decimal, if◌then◌else◌, length, IfOk, List, OnErr, OnOk};
+ghost use Rattle.std.specs.List.Sorted.{IsNonDecreasingBy, IsPermutation};
+ghost use Rattle.gw_policy_review.specs.comparison.Asks.{asks_of};
+ghost use Rattle.gw_policy_review.specs.comparison.Comparison.{AppendsComparison, IsComparisonText, compared_by, ending_text, kinds_text, rank};
+ghost use Rattle.gw_ask_sets.specs.regions.Comparing.{IsComparison, IsSummary};
+ghost use Rattle.gw_ask_sets.specs.regions.Presence.{OrNoneIsMeant};
+ghost use Rattle.gw_rules.specs.declared.rule.Rule.{Rule as SpecRule};
+
+use crate::comparison::Comparing;
+use crate::comparison::groups::{Listing, put_regions};
+use crate::comparison::notes::notes;
+use gw_addr::{keep_whole, put_decimal, put_slice};
+use gw_ask_sets::regions::{Comparison, Found, MAX_STEPS, Region, Summary};
+use gw_configuration::Config;
+use std::alloc::{AllocError, Global};
+
+/// How the policies of two configurations compare.
+#[derive(Clone, Copy)]
+pub enum Compared {
+    /// They decide each ask that a gateway of either may raise alike.
+    Alike,
+    /// They decide some otherwise, which are all found.
+    Different,
+    /// The steps were used up: they decide those that were found otherwise, and perhaps others.
+    Unfinished,
+}
+
+/// A text, and how the policies compare that it is about.
+pub(crate) struct ComparisonText {
+    pub text: Vec<u8>,
+    pub made: Compared,
+}
+
+impl Drop for ComparisonText {
+    fn drop(self) {
+        let ComparisonText { text: _, made: _ } = self;
+    }
+}
+
+/// Appends what two configurations decide otherwise, over all asks that a gateway of either may raise:
+/// a line for each kind of them, what is newly allowed first, at most `most` lines; and a last line that says
+/// whether these are all. In front is a note for each part beside the rules that isn't the same.
+///
+/// ```text
+/// note: the ports differ; only the rules are compared
+/// now allowed: write, type 5 binary-value, instance 1, property 85 present-value, priority 1..7, from network 2, by panel (was denied by no-writes)
+/// now denied: list, from network 1, by quiet (was allowed by find)
+/// 2 kinds of asks are decided otherwise, and no other
+/// ```
+///
+/// An `Err` if there is no memory: the buffer then holds what it held.
+pub fn put_comparison(
+    alloc: Global,
+    old: &Config,
+    new: &Config,
+    most: usize,
+    out: &mut Vec<u8>,
+) -> Result<Compared, AllocError>
+    ensures ok { IfOk result (λ made.
+        AppendsComparison old.now new.now most made out.old.items out.new.items) }
+    ensures err { OnErr result (out.new.items ≡ out.old.items) }
+{
+    let mut comparing = Comparing::new(alloc, old, new)?;
+    comparing.go_on(alloc, MAX_STEPS)?;
+    comparing.put(alloc, most, out)
+}
+
+/// Appends a text, or nothing.
+pub(crate) fn put_whole(out: &mut Vec<u8>, text: &[u8]) -> Result<(), AllocError>
+    ensures ok { OnOk result (out.new.items ≡ out.old.items ++ text.now) }
+    ensures err { OnErr result (out.new.items ≡ out.old.items) }
+{
+    let len = out.len();
+    let put = put_slice(out, text);
+    keep_whole(out, len, put)
+}
+
+/// What there is to say of what two configurations decide otherwise.
+pub(crate) fn comparison_of(
+    alloc: Global,
+    old: &Config,
+    new: &Config,
+    summary: &Summary,
+    most: usize,
+) -> Result<ComparisonText, AllocError>
+    ensures { IfOk result (λ written.
+        IsSummary (asks_of old.now new.now) old.now.rules new.now.rules summary.now.found.items summary.now.left.items →
+        OrNoneIsMeant (asks_of old.now new.now) summary.now.found.items →
+        IsNonDecreasingBy rank summary.now.found.items →
+        IsComparisonText old.now new.now most written.made written.text.items) }
+{
+    let mut text = notes(alloc, old, new)?;
+    let made = compared_by(summary.found.len(), summary.left.len());
+    let listing = Listing {
+        found: &summary.found,
+        old: old.rules().rules(),
+        new: new.rules().rules(),
+        most,
+    };
+    put_regions(alloc, &mut text, &listing)?;
+    put_ending(&mut text, made, summary.found.len())?;
+    Ok(ComparisonText { text, made })
+}
+
+/// What a comparison over these asks has found so far, what is newly allowed first.
+pub(crate) fn summary_of(
+    alloc: Global,
+    asks: &[Region],
+    comparison: Comparison,
+) -> Result<Summary, AllocError>
+    ensures summary { IfOk result (λ s. (old new : List SpecRule) →
+        IsComparison asks.now old new comparison.found.items comparison.left.items →
+        IsSummary asks.now old new s.found.items s.left.items) }
+    ensures or_none { IfOk result (λ s. OrNoneIsMeant asks.now s.found.items) }
+    ensures in_order { IfOk result (λ s. IsNonDecreasingBy rank s.found.items) }
+{
+    let mut summary = gw_ask_sets::regions::summary_of(alloc, asks, comparison)?;
+    sort_found(&mut summary.found)?;
+    Ok(summary)
+}
+
+/// The place of a region among others: the lower comes first.
+fn rank(found: &Found) -> u8
+    ensures { result ≡ rank found.now }
+{
+    if found.allows { 0 } else { 1 }
+}
+
+/// Sorts them: what is newly allowed comes first.
+fn sort_found(found: &mut Vec<Found>) -> Result<(), AllocError>
+    ensures permutation { IsPermutation found.old.items found.new.items }
+    ensures in_order { OnOk result (IsNonDecreasingBy rank found.new.items) }
+{
+    found.sort_by_key(|each| rank(each))?;
+    Ok(())
+}
+
+fn compared_by(found: usize, left: usize) -> Compared
+    ensures { result ≡ compared_by found left }
+{
+    if left != 0 {
+        Compared::Unfinished
+    } else if found != 0 {
+        Compared::Different
+    } else {
+        Compared::Alike
+    }
+}
+
+/// Appends the last line.
+fn put_ending(out: &mut Vec<u8>, made: Compared, count: usize) -> Result<(), AllocError>
+    ensures { OnOk result (out.new.items ≡ out.old.items ++ ending_text made count) }
+{
+    match made {
+        Compared::Alike => out.extend_from_slice(b"no ask is decided otherwise\n"),
+        Compared::Different => put_finished(out, count),
+        Compared::Unfinished => {
+            out.extend_from_slice(unfinished_words(count).as_bytes())?;
+            put_kinds(out, count)?;
+            out.push(b'\n')?;
+            Ok(())
+        }
+    }
+}
+
+fn put_finished(out: &mut Vec<u8>, count: usize) -> Result<(), AllocError>
+    ensures { OnOk result (out.new.items ≡
+        out.old.items ++ (kinds_text count ++ (codes ", and no other" ++ 10 ∷ []))) }
+{
+    put_kinds(out, count)?;
+    put_slice(out, b", and no other\n")
+}
+
+fn unfinished_words(count: usize) -> &'static str
+    ensures { result.now ≡ (if count == 1 then codes "not finished: at least this "
+        else codes "not finished: at least these ") }
+{
+    if count == 1 {
+        "not finished: at least this "
+    } else {
+        "not finished: at least these "
+    }
+}
+
+fn put_kinds(out: &mut Vec<u8>, count: usize) -> Result<(), AllocError>
+    ensures { OnOk result (out.new.items ≡ out.old.items ++ kinds_text count) }
+{
+    put_decimal(out, count)?;
+    out.extend_from_slice(kind_words(count).as_bytes())
+}
+
+fn kind_words(count: usize) -> &'static str
+    ensures { result.now ≡ (if count == 1 then codes " kind of asks is decided otherwise"
+        else codes " kinds of asks are decided otherwise") }
+{
+    if count == 1 {
+        " kind of asks is decided otherwise"
+    } else {
+        " kinds of asks are decided otherwise"
+    }
+}

@@ -1,0 +1,27 @@
+//! What the text of a comparison says of the asks of two configurations. The functions do nothing: their
+//! contracts are the laws.
+ghost use Rattle.std.specs.Prelude.{◌≡◌};
+ghost use Rattle.gw_policy_review.specs.comparison.Laws.{AlikeIsAlike, EachHasOneGroup, FoundIsAll, LinesAreTrue, LinesHaveAsks, NoneHasAsk};
+
+use crate::comparison::MOST_UNGROUPED;
+
+/// Over all asks that a gateway of one of the two configurations may raise: if the comparison is finished, an
+/// ask is decided otherwise exactly if it lies in a region that was found; a line is true of each ask of its
+/// region; each region has an ask; and a region that says of a field that it may be absent has an ask without it.
+pub fn comparisons()
+    ensures all { FoundIsAll }
+    ensures alike { AlikeIsAlike }
+    ensures lines { LinesAreTrue }
+    ensures asks { LinesHaveAsks }
+    ensures or_none { NoneHasAsk }
+{}
+
+/// If the regions that were found are grouped by the rules that decide, each is in one group.
+pub fn groups()
+    ensures { EachHasOneGroup }
+{}
+
+/// Up to 40 regions are printed without groups.
+pub fn limits()
+    ensures { MOST_UNGROUPED ≡ 40 }
+{}

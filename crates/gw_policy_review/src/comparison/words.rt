@@ -1,0 +1,333 @@
+//! The words for the asks of a region.
+ghost use Rattle.std.specs.Prelude.{◌≡◌, ◌++◌, ◌∷◌, [], codes, option_map, if◌then◌else◌, IfOk, OnOk, Some};
+ghost use Rattle.std.specs.List.{flat_map};
+ghost use Rattle.std.specs.Option.{option_to_list};
+ghost use Rattle.gw_log_words.specs.Words.{name_text};
+ghost use Rattle.gw_ask_sets.specs.regions.Ranges.{both};
+ghost use Rattle.gw_ask_sets.specs.regions.Values.{has_operation};
+ghost use Rattle.gw_rules.specs.Operation.{operation_name};
+ghost use Rattle.gw_rules.specs.declared.operation.TheConstants.Operation.{ALL};
+ghost use Rattle.gw_policy_review.specs.comparison.Words.{any_of, end_text, item_text, items, named_text, noun_of};
+ghost use Rattle.gw_policy_review.specs.comparison.Words.{numbers_text, operations_of, operations_text, possible, range_text};
+ghost use Rattle.gw_policy_review.specs.comparison.Words.{region_text, station_text, values_text, word_of};
+
+use gw_addr::{BipAddr, Sequence, put_decimal};
+use gw_ask_sets::regions::{Region, Values, both};
+use gw_codecs::names::{object_type_name, property_name, service_name};
+use gw_rules::{FieldName, Format, Operation, Range};
+use std::alloc::{AllocError, Global};
+
+/// The least number that is no key of a station's address: those have 48 bits.
+const KEYS: u64 = 1 << 48;
+
+/// The fields but the operation, in the order in which they are named.
+const ITEMS: [FieldName; 11] = [
+    FieldName::ObjectType,
+    FieldName::Instance,
+    FieldName::Property,
+    FieldName::Priority,
+    FieldName::Service,
+    FieldName::Station,
+    FieldName::DestinationNetwork,
+    FieldName::SourceKey,
+    FieldName::SourceNetwork,
+    FieldName::Sender,
+    FieldName::Port,
+];
+
+/// Appends the words for the asks of a region. An `Err` if there is no memory.
+pub(crate) fn put_region(
+    alloc: Global,
+    out: &mut Vec<u8>,
+    region: &Region,
+) -> Result<(), AllocError>
+    ensures { OnOk result (out.new.items ≡ out.old.items ++ region_text region.now) }
+{
+    put_operations(alloc, out, &region.operation)?;
+    put_items(alloc, out, region, &ITEMS)
+}
+
+fn push_operation(
+    operations: &mut Vec<Operation>,
+    values: &Values,
+    operation: Operation,
+) -> Result<(), AllocError>
+    ensures { OnOk result (operations.new.items ≡ operations.old.items
+        ++ (if has_operation values.now operation then operation ∷ [] else [])) }
+{
+    if values.has_operation(operation) {
+        operations.push(operation)?;
+    }
+    Ok(())
+}
+
+/// The operations of a set of values.
+fn operations_of(alloc: Global, values: &Values) -> Result<Vec<Operation>, AllocError>
+    ensures { IfOk result (λ operations. operations.items ≡ operations_of values.now) }
+{
+    let mut operations = Vec::new(alloc);
+    for operation in Operation::ALL.iter() {
+        push_operation(&mut operations, values, *operation)?;
+    }
+    Ok(operations)
+}
+
+fn put_operations(alloc: Global, out: &mut Vec<u8>, values: &Values) -> Result<(), AllocError>
+    ensures { OnOk result (out.new.items ≡ out.old.items ++ operations_text values.now) }
+{
+    if values.has_each_operation() {
+        return out.extend_from_slice(b"any operation");
+    }
+    let operations = operations_of(alloc, values)?;
+    put_names(out, &operations)
+}
+
+/// Appends the names of operations.
+fn put_names(out: &mut Vec<u8>, operations: &[Operation]) -> Result<(), AllocError>
+    ensures { OnOk result (out.new.items ≡ out.old.items ++ any_of operation_name operations.now) }
+{
+    let Some((first, rest)) = operations.split_first() else {
+        return Ok(());
+    };
+    out.extend_from_slice(first.name().as_bytes())?;
+    put_more_names(out, rest)
+}
+
+fn put_more_names(out: &mut Vec<u8>, operations: &[Operation]) -> Result<(), AllocError>
+    ensures { OnOk result (out.new.items ≡
+        out.old.items ++ flat_map (λ other. codes " or " ++ operation_name other) operations.now) }
+{
+    for operation in operations {
+        put_name(out, *operation)?;
+    }
+    Ok(())
+}
+
+fn put_name(out: &mut Vec<u8>, operation: Operation) -> Result<(), AllocError>
+    ensures { OnOk result (out.new.items ≡ out.old.items ++ (codes " or " ++ operation_name operation)) }
+{
+    out.extend_from_slice(b" or ")?;
+    out.extend_from_slice(operation.name().as_bytes())
+}
+
+/// Appends the values of these fields.
+fn put_items(
+    alloc: Global,
+    out: &mut Vec<u8>,
+    region: &Region,
+    fields: &[FieldName],
+) -> Result<(), AllocError>
+    ensures { OnOk result (out.new.items ≡
+        out.old.items ++ flat_map (item_text region.now) fields.now) }
+{
+    for field in fields {
+        put_item(alloc, out, region, *field)?;
+    }
+    Ok(())
+}
+
+/// Appends the values of a field, unless it may have any.
+fn put_item(
+    alloc: Global,
+    out: &mut Vec<u8>,
+    region: &Region,
+    field: FieldName,
+) -> Result<(), AllocError>
+    ensures { OnOk result (out.new.items ≡ out.old.items ++ item_text region.now field) }
+{
+    let values = region.get(field);
+    if values.is_any() {
+        return Ok(());
+    }
+    out.extend_from_slice(b", ")?;
+    let values = possible(alloc, field, values)?;
+    put_values(out, field, &values)
+}
+
+/// Appends the numbers of both ranges, if there are some.
+fn push_both(out: &mut Sequence<Range>, a: &Range, b: &Range) -> Result<(), AllocError>
+    ensures { OnOk result (out.new ≡ out.old ++ option_to_list (both a.now b.now)) }
+{
+    if let Some(range) = both(a, b) {
+        out.push(range)?;
+    }
+    Ok(())
+}
+
+/// The numbers of the ranges that a range has too.
+fn ranges_within(
+    alloc: Global,
+    ranges: &[Range],
+    outer: &Range,
+) -> Result<Sequence<Range>, AllocError>
+    ensures { IfOk result (λ list. list ≡ flat_map (λ range. option_to_list (both range outer.now)) ranges.now) }
+{
+    let mut out = Sequence::new(alloc);
+    for range in ranges {
+        push_both(&mut out, range, outer)?;
+    }
+    Ok(out)
+}
+
+/// The values without numbers that the field can't have.
+fn possible(alloc: Global, field: FieldName, values: &Values) -> Result<Values, AllocError>
+    ensures { IfOk result (λ made. made ≡ possible field values.now) }
+{
+    let bounds = field.bounds(Format::Three);
+    Ok(Values {
+        absent: values.absent,
+        ranges: ranges_within(alloc, values.ranges.as_slice(), &bounds)?,
+    })
+}
+
+fn put_values(out: &mut Vec<u8>, field: FieldName, values: &Values) -> Result<(), AllocError>
+    ensures { OnOk result (out.new.items ≡ out.old.items ++ values_text field values.now) }
+{
+    if values.ranges.is_empty() {
+        out.extend_from_slice(b"without ")?;
+        return out.extend_from_slice(noun_of(field).as_bytes());
+    }
+    put_numbers(out, field, values)
+}
+
+fn put_numbers(out: &mut Vec<u8>, field: FieldName, values: &Values) -> Result<(), AllocError>
+    ensures { OnOk result (out.new.items ≡ out.old.items ++ numbers_text field values.now) }
+{
+    put_word(out, field)?;
+    put_ranges(out, field, values.ranges.as_slice())?;
+    put_none(out, values.absent)
+}
+
+fn put_none(out: &mut Vec<u8>, absent: bool) -> Result<(), AllocError>
+    ensures { OnOk result (out.new.items ≡
+        out.old.items ++ (if absent then codes " or none" else [])) }
+{
+    if absent {
+        return out.extend_from_slice(b" or none");
+    }
+    Ok(())
+}
+
+fn put_ranges(out: &mut Vec<u8>, field: FieldName, ranges: &[Range]) -> Result<(), AllocError>
+    ensures { OnOk result (out.new.items ≡ out.old.items ++ any_of (range_text field) ranges.now) }
+{
+    let Some((first, rest)) = ranges.split_first() else {
+        return Ok(());
+    };
+    put_range(out, field, first)?;
+    put_more_ranges(out, field, rest)
+}
+
+fn put_more_ranges(out: &mut Vec<u8>, field: FieldName, ranges: &[Range]) -> Result<(), AllocError>
+    ensures { OnOk result (out.new.items ≡
+        out.old.items ++ flat_map (λ other. codes " or " ++ range_text field other) ranges.now) }
+{
+    for range in ranges {
+        put_other_range(out, field, range)?;
+    }
+    Ok(())
+}
+
+fn put_other_range(out: &mut Vec<u8>, field: FieldName, range: &Range) -> Result<(), AllocError>
+    ensures { OnOk result (out.new.items ≡
+        out.old.items ++ (codes " or " ++ range_text field range.now)) }
+{
+    out.extend_from_slice(b" or ")?;
+    put_range(out, field, range)
+}
+
+/// Appends a range, and the name of a single number.
+fn put_range(out: &mut Vec<u8>, field: FieldName, range: &Range) -> Result<(), AllocError>
+    ensures { OnOk result (out.new.items ≡ out.old.items ++ range_text field range.now) }
+{
+    put_end(out, field, range.low)?;
+    if range.low == range.high {
+        return put_named(out, field, range.low);
+    }
+    if range.high < field.bounds(Format::Three).high {
+        out.extend_from_slice(b"..")?;
+        return put_end(out, field, range.high);
+    }
+    out.extend_from_slice(b" or more")
+}
+
+/// Appends an end of a range.
+fn put_end(out: &mut Vec<u8>, field: FieldName, number: u64) -> Result<(), AllocError>
+    ensures { OnOk result (out.new.items ≡ out.old.items ++ end_text field number) }
+{
+    match field {
+        FieldName::SourceKey | FieldName::Sender | FieldName::Station => put_station(out, number),
+        _ => put_decimal(out, number),
+    }
+}
+
+/// Appends a station by its key: as an address, if the key has the 48 bits of one.
+fn put_station(out: &mut Vec<u8>, key: u64) -> Result<(), AllocError>
+    ensures { OnOk result (out.new.items ≡ out.old.items ++ station_text key) }
+{
+    if KEYS <= key {
+        return put_decimal(out, key);
+    }
+    let [_, _, a, b, c, d, high, low] = key.to_be_bytes();
+    BipAddr::from_octets(&[a, b, c, d, high, low]).put_text(out)
+}
+
+/// The standard's name of a number of a field, if it has one.
+fn name_of(field: FieldName, number: u64) -> Option<&'static str>
+    ensures { name_text (option_map (λ name. name.now) result) ≡ named_text field number }
+{
+    match field {
+        FieldName::Service => service_name(number),
+        FieldName::ObjectType => object_type_name(number),
+        FieldName::Property => property_name(number),
+        _ => None,
+    }
+}
+
+fn put_named(out: &mut Vec<u8>, field: FieldName, number: u64) -> Result<(), AllocError>
+    ensures { OnOk result (out.new.items ≡ out.old.items ++ named_text field number) }
+{
+    match name_of(field, number) {
+        Some(name) => put_spaced(out, name),
+        None => Ok(()),
+    }
+}
+
+fn put_spaced(out: &mut Vec<u8>, name: &str) -> Result<(), AllocError>
+    ensures { OnOk result (out.new.items ≡ out.old.items ++ name_text (Some name.now)) }
+{
+    out.push(b' ')?;
+    out.extend_from_slice(name.as_bytes())
+}
+
+/// Appends the words before the values of a field.
+fn put_word(out: &mut Vec<u8>, field: FieldName) -> Result<(), AllocError>
+    ensures { OnOk result (out.new.items ≡ out.old.items ++ word_of field) }
+{
+    match field {
+        FieldName::SourceNetwork => out.extend_from_slice(b"from network "),
+        FieldName::SourceKey => out.extend_from_slice(b"from "),
+        FieldName::DestinationNetwork => out.extend_from_slice(b"to network "),
+        FieldName::Station => out.extend_from_slice(b"to "),
+        _ => put_noun(out, field),
+    }
+}
+
+fn put_noun(out: &mut Vec<u8>, field: FieldName) -> Result<(), AllocError>
+    ensures { OnOk result (out.new.items ≡ out.old.items ++ (noun_of field ++ codes " ")) }
+{
+    out.extend_from_slice(noun_of(field).as_bytes())?;
+    out.push(b' ')?;
+    Ok(())
+}
+
+/// What is missing if the field is absent: its key, if that is a word.
+fn noun_of(field: FieldName) -> &'static str
+    ensures { result.now ≡ noun_of field }
+{
+    match field {
+        FieldName::SourceNetwork => "source network",
+        FieldName::ObjectType => "type",
+        _ => field.key(),
+    }
+}
