@@ -12,11 +12,9 @@ WIDTH, WHOLE, LINE, GAP = 1100, 796, 15, 8
 
 # What the crates are about whose names don't say it.
 NOTES = {
-    "gw_names": "the standard's names",
     "gw_script": "texts, line by line",
-    "gw_codecs": "tags, APDUs, services",
+    "gw_codecs": "tags, APDUs, services, names",
     "gw_log_words": "words and times of a log",
-    "gw_config_faults": "where a text's fault is",
     "gw_tables": "peers, routes, slots",
     "gw_core": "one event in, effects out",
     "gw_core_laws": "what holds of every gateway",
@@ -28,11 +26,11 @@ NOTES = {
     "gw_watching": "a trial, an audit, counts",
     "gw_metrics": "counts for a collector",
     "gw_notices": "what an operator reads",
-    "gw_command_line": "what the words ask for",
-    "gw_ending": "how the program ends",
+    "gw_command_line": "what bacgw's words ask for",
+    "gw_ending": "how a program ends",
     "gw_ask_sets": "which asks there are",
-    "gw_policy_review": "permissions, warnings, lint",
-    "gw_compare": "two policies compared",
+    "gw_policy_text": "read from TOML, its faults",
+    "gw_policy_review": "what a policy comes to",
     "gw_policy_drafts": "rules and texts to begin with",
     "gw_json": "lines for programs",
     "gw_report": "a site on a page",
@@ -40,7 +38,10 @@ NOTES = {
     "gw_cases": "how tests are written",
     "gw_frame_vectors": "the tests of frames and rules",
     "gw_gateway_vectors": "the tests of a gateway",
-    "gw_program_vectors": "the tests of the program",
+    "gw_tool_line": "what bacgwctl's words ask for",
+    "gw_program_cases": "what two of them share",
+    "gw_program_vectors": "the tests of bacgw",
+    "gw_tool_vectors": "the tests of bacgwctl",
 }
 
 

@@ -247,7 +247,7 @@ refused_alone $'\xff'
 
 "$program" --version < /dev/null > "$work/out" 2> "$work/err"
 status=$?
-sed -n 's/^pub const VERSION: &str = "\(.*\)";/bacgw \1/p' "$here/../crates/gw_options/src/builders.rt" > "$work/line"
+sed -n 's/^pub const VERSION: &str = "\(.*\)";/bacgw \1/p' "$here/../crates/gw_command_line/src/options/builders.rt" > "$work/line"
 agrees 'the version' 0 "$work/line" /dev/null
 
 helped() {

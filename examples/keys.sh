@@ -53,7 +53,7 @@ def number(text):
 
 # What a text that may be missing is then.
 DEFAULTS = {key: default for default, key in re.findall(r'optional_text (?:\[\]|\(codes "(\w+)"\)) \(codes "(\w+)"\)', READING)}
-TYPES = re.findall(r"(\d+) ([A-Z][\w -]+?)(?:,|\")", re.search(r"const TYPES: &str =(.*?);", open("crates/gw_config_faults/src/reason.rt").read(), re.S)[1])
+TYPES = re.findall(r"(\d+) ([A-Z][\w -]+?)(?:,|\")", re.search(r"const TYPES: &str =(.*?);", open("crates/gw_policy_text/src/faults/reason.rt").read(), re.S)[1])
 # The types in the order of their tables.
 OBJECTS = dict(zip(("binary", "multi_state", "character_string", "integer", "positive_integer"), TYPES, strict=True))
 

@@ -42,7 +42,7 @@ def table(title, head, rows):
     return "\n".join([f"### {title}\n", *(f"| {' | '.join(row)} |" for row in [head, ["---"] * len(head), *rows])]) + "\n"
 
 def names(of):
-    rows = re.search(rf"const {of}: .*?\n\];", source("gw_names", "tables"), re.S)[0]
+    rows = re.search(rf"const {of}: .*?\n\];", source("gw_codecs", "names/tables"), re.S)[0]
     return {int(number): name for number, name in re.findall(r'\((\d+), "(.*?)"\)', rows)}
 
 def services():
