@@ -9,35 +9,24 @@ _bacgw() {
         equals=yes before=${COMP_WORDS[COMP_CWORD - 2]}
     elif [[ $word == --*=* ]]; then
         case $word in
-            --config=* | --with=* | --log=* | --state=* | --reload=* | --was=* | --trial=* | --trial-log=* | --audit=* | --metrics=*) mapfile -t COMPREPLY < <(compgen -f -P "${word%%=*}=" -- "${word#*=}") ;;
+            --config=* | --log=* | --state=* | --reload=* | --trial=* | --trial-log=* | --audit=* | --metrics=*) mapfile -t COMPREPLY < <(compgen -f -P "${word%%=*}=" -- "${word#*=}") ;;
         esac
         return
     fi
     if [ "$COMP_CWORD" = 1 ]; then
-        options='check replay run why compare log state reload suggest report objects help --help --version'
+        options='check replay run help --help --version'
     else
         case $before in
-            --config | --with | --log | --state | --reload | --was | --trial | --trial-log | --audit | --metrics) compopt -o default; return ;;
-            --turns | --start | --most) return ;;
+            --config | --log | --state | --reload | --trial | --trial-log | --audit | --metrics) compopt -o default; return ;;
+            --turns) return ;;
             --stats) if [ "${COMP_WORDS[1]}" = run ]; then return; fi ;;
         esac
         if [ "$equals" ]; then return; fi
         case ${COMP_WORDS[1]} in
-            check) options='--config --explain --lint --migrate --json --help' ;;
+            check) options='--config --help' ;;
             replay) options='--config --explain --stats --help' ;;
             run) options='--config --log --turns --stats --verbose --state --reload --trial --trial-log --audit --stamp --metrics --help' ;;
-            why) options='--config --count --json --strict --help' ;;
-            state) options='--config --state --help' ;;
-            reload) options='--config --reload --was --most --help' ;;
-            suggest) options='--config --fill --exact --help' ;;
-            compare) options='--config --with --most --steps --json --help' ;;
-            report) options='--config --log --help' ;;
-            log)
-                if [[ $word != -* ]]; then compopt -o default; return; fi
-                options='--start --json --help'
-                ;;
-            objects) options='--config --csv --help' ;;
-            help) options='check replay run why compare log state reload suggest report objects' ;;
+            help) options='check replay run' ;;
             *) return ;;
         esac
     fi
