@@ -296,8 +296,8 @@ pub fn report_fault<E: OctetSink>(program: &str, file: &str, fault: Fault, error
     let _ = write_line_naming(program, file, fault, errors);
 }
 
-/// Writes the line of a fault of the program of this name, and nothing where there is none. It answers the exit status: 0 where there is no fault, and else the
-/// fault's.
+/// Writes the line of a fault of the program of this name, and nothing where there is none. It answers the exit status:
+/// 0 where there is no fault, and else the fault's.
 pub fn end<E: OctetSink>(program: &str, outcome: Result<(), Fault>, errors: &mut E) -> ExitCode
     ensures line { E.NeverFails errors.old → Appends (E.held errors.old) (E.held errors.new) (error_text program.now outcome) }
     ensures lasts { E.NeverFails errors.old → E.NeverFails errors.new }

@@ -1,7 +1,7 @@
 //! One run of a program, and what it leaves.
 //!
-//! A section has the words on its first line, with a bar between two of them; then lines that say what the machine is like; and after
-//! a line `input` standard input.
+//! A section has the words on its first line, with a bar between two of them; then lines that say what the machine is like;
+//! and after a line `input` standard input.
 
 use crate::words::{call, put, status_text};
 use gw_cases::{MemReader, MemWriter, number_behind};

@@ -68,10 +68,10 @@ LeavesPlayedIn Reads file how input held holds said outcome =
     (c : Result Configuration Fault) × IsConfigured Reads file c × LeavesPlayed how.explains input held holds c outcome
     × ReportsAsks how.counts input c outcome said
 
--- What is on standard output, which held `held` before, if files give what `Reads` says, and `run` opens what the machine says: at
--- `check` and `replay` what they leave of some configuration that is the one they name, at `run` also what was reported at the
--- start, and at help its text, of which a failed write may leave a front. Words that choose nothing leave it as it was, and their
--- fault is the outcome.
+-- What is on standard output, which held `held` before, if files give what `Reads` says, and `run` opens what the
+-- machine says: at `check` and `replay` what they leave of some configuration that is the one they name, at `run` also
+-- what was reported at the start, and at help its text, of which a failed write may leave a front. Words that choose
+-- nothing leave it as it was, and their fault is the outcome.
 abbrev pub LeavesOutput : {C Log Sockets S Q : Type 0} → (Reads : List ℕ → Result (List ℕ) Fault → Type 0)
     → TimedMachine C Log Sockets S Q → Option (List ℕ) → Option (List ℕ) → Option (List ℕ) → List ℕ
     → Result Choice Fault → Result (Unit {0}) Fault → Type 0

@@ -1,7 +1,8 @@
 //! The program `bacgw` over any words, files, streams and machine.
 //!
-//! [`run`] is the whole program: the words choose a command, the file that they name has the configuration, and `check`, `replay`
-//! or `run` is done under it; help needs none. A fault is one line on standard error, and the exit status says of which kind it is.
+//! [`run`] is the whole program: the words choose a command, the file that they name has the configuration, and `check`,
+//! `replay` or `run` is done under it; help needs none. A fault is one line on standard error, and the exit status says of
+//! which kind it is.
 #![tactic(auto)]
 
 mod deciding;

@@ -180,12 +180,11 @@ fn follow<F: ConfigFiles, H: Host, R: OctetSource, W: Write + Drop, E: OctetSink
     }
 }
 
-/// Runs the program on these words, or on the fault for which there are none: the configuration that
-/// they name is read from `files`, what it has is printed to `output`, or the script of `input` is
-/// replayed there, or what `host` opens is served, or help is printed; what
-/// is served, or where a fault is, may be reported on `errors`, a fault is one line there, after words
-/// that are no command line it says how the program is called, and the exit status says of which kind
-/// the fault is. The words begin with the program's name.
+/// Runs the program on these words, or on the fault for which there are none: the configuration that they name is read from
+/// `files`, what it has is printed to `output`, or the script of `input` is replayed there, or what `host` opens is served,
+/// or help is printed; what is served, or where a fault is, may be reported on `errors`, a fault is one line there, after
+/// words that are no command line it says how the program is called, and the exit status says of which kind the fault is. The
+/// words begin with the program's name.
 pub fn run<F: ConfigFiles, H: Host, R: OctetSource, W: Write + Drop, E: OctetSink>(
     alloc: Global,
     words: Result<Vec<String>, Fault>,

@@ -295,10 +295,11 @@ LeavesOfLog ReadsLog Leaves None input held holds outcome =
 LeavesOfLog ReadsLog Leaves (Some file) input held holds outcome =
     (opened : Result (Option (List ℕ)) Fault) × ReadsLog file opened × LeavesOpened Leaves opened held holds outcome
 
--- What is on standard output, which held `held` before, if files give what `Reads`, `ReadsState` and `ReadsLog` say, and `reload`
--- is answered what `Answers` says: what each command leaves of some configuration that is the one it names, at `compare` of the
--- two, at `state` of the one and the state, at `log` what that leaves of the log, and at help its text, of which a failed write may
--- leave a front. Words that choose nothing leave it as it was, and their fault is the outcome.
+-- What is on standard output, which held `held` before, if files give what `Reads`, `ReadsState` and `ReadsLog` say,
+-- and `reload` is answered what `Answers` says: what each command leaves of some configuration that is the one it
+-- names, at `compare` of the two, at `state` of the one and the state, at `log` what that leaves of the log, and at
+-- help its text, of which a failed write may leave a front. Words that choose nothing leave it as it was, and their
+-- fault is the outcome.
 abbrev pub LeavesOutput : (Reads ReadsState : List ℕ → Result (List ℕ) Fault → Type 0)
     → (ReadsLog : List ℕ → Result (Option (List ℕ)) Fault → Type 0) → (Answers : List ℕ → List ℕ → Type 0)
     → Option (List ℕ) → Option (List ℕ) → Option (List ℕ) → List ℕ

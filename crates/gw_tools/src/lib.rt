@@ -1,7 +1,8 @@
-//! The program `bacgwctl` over any words, files, streams and machine: what an operator asks of configurations, logs and a running gateway.
+//! The program `bacgwctl` over any words, files, streams and machine: what an operator asks of configurations, logs and a
+//! running gateway.
 //!
-//! [`run`] is the whole program: the words choose a command, and the files that they name have the configuration, the log or the state. A
-//! fault is one line on standard error, and the exit status says of which kind it is.
+//! [`run`] is the whole program: the words choose a command, and the files that they name have the configuration, the log or
+//! the state. A fault is one line on standard error, and the exit status says of which kind it is.
 #![tactic(auto)]
 
 mod asking;

@@ -304,12 +304,12 @@ fn follow<F: ConfigFiles, M: Machine, R: OctetSource, W: Write + Drop, E: OctetS
     }
 }
 
-/// Runs the program on these words, or on the fault for which there are none: the configuration that
-/// they name is read from `files`, what is said of it is printed to `output`, or the asks of `input` are
-/// answered there, or its log or that of a file is put into words, or a running gateway is asked through `machine` to read
-/// its configuration again, or two configurations are compared, or help is printed; how far a comparison is and how many lines
-/// show no ask may be reported on `errors`, a fault is one line there, after words that are no command line it says how the program is
-/// called, and the exit status says of which kind the fault is. The words begin with the program's name.
+/// Runs the program on these words, or on the fault for which there are none: the configuration that they name is read from
+/// `files`, what is said of it is printed to `output`, or the asks of `input` are answered there, or its log or that of a
+/// file is put into words, or a running gateway is asked through `machine` to read its configuration again, or two
+/// configurations are compared, or help is printed; how far a comparison is and how many lines show no ask may be reported on
+/// `errors`, a fault is one line there, after words that are no command line it says how the program is called, and the exit
+/// status says of which kind the fault is. The words begin with the program's name.
 pub fn run<F: ConfigFiles, M: Machine, R: OctetSource, W: Write + Drop, E: OctetSink>(
     alloc: Global,
     words: Result<Vec<String>, Fault>,
