@@ -1,6 +1,7 @@
 //! What a program reads and prints: files, the configuration of one, and where its fault is.
 //!
-//! [`ConfigFiles`] are what texts are read from, [`configuration_in`] is the configuration of one, and [`print`] writes to standard output.
+//! [`ConfigFiles`] are what texts are read from, [`configuration_in`] is the configuration of one, and [`print`] writes to
+//! standard output.
 mod configured;
 mod files;
 mod printing;
