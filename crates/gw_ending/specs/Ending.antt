@@ -11,8 +11,8 @@ use Rattle.gw_wire.specs.declared.store.StoreFault.{StoreFault}
 use Rattle.gw_wire.specs.declared.store.StoreFault.TheVariants as store
 use Rattle.gw_system.specs.Obstacle.{obstacle_words}
 use Rattle.gw_system.specs.declared.obstacle.Obstacle.{Obstacle}
-use Rattle.gw_watching.specs.declared.files.fault.TrialFault.{TrialFault}
-use Rattle.gw_watching.specs.declared.files.fault.TrialFault.TheVariants as trial
+use Rattle.gw_watchers.specs.declared.files.fault.TrialFault.{TrialFault}
+use Rattle.gw_watchers.specs.declared.files.fault.TrialFault.TheVariants as trial
 use Rattle.gw_ending.specs.declared.fault.Fault.{Fault}
 use Rattle.gw_ending.specs.declared.fault.Fault.TheVariants as fault
 use Rattle.gw_ending.specs.declared.fault.MigrationFlaw.{MigrationFlaw}

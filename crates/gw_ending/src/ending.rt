@@ -18,7 +18,7 @@ use gw_notices::name_of;
 use gw_script::{LineFlaw, OctetSink, WriteFailed, write_whole};
 use gw_state_text::StateFault;
 use gw_system::{Obstacle, obstacle_words};
-use gw_watching::files::TrialFault;
+use gw_watchers::files::TrialFault;
 use gw_wire::StoreFault;
 use itoa::Buffer;
 use std::process::ExitCode;

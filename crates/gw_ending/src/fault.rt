@@ -12,7 +12,7 @@ use gw_replay::RunFault;
 use gw_script::{LineFlaw, LinesFault};
 use gw_state_text::{FaultKind, StateFault};
 use gw_system::{Obstacle, obstacle_words};
-use gw_watching::files::TrialFault;
+use gw_watchers::files::TrialFault;
 use gw_wire::StoreFault;
 use std::alloc::AllocError;
 use std::io::ErrorKind;

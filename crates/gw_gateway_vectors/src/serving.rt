@@ -5,7 +5,7 @@ use crate::replays::make_gateway;
 use crate::wire::MemWire;
 use gw_cases::{MemWriter, number, number_or_none, put_word, unfolded};
 use gw_core::{Counts, Gateway};
-use gw_serving::{ServeStop, Served, serve, serve_with_reports};
+use gw_turns::{ServeStop, Served, serve, serve_with_reports};
 use gw_wire::Wire;
 use std::alloc::Global;
 use std::io;

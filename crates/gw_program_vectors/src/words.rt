@@ -5,7 +5,7 @@ use gw_program_cases::{call, put, put_faults, put_file, put_flag};
 use gw_script::LineFlaw;
 use gw_shell::{Choice, Fault, Obstacle, WordsFault, choice_of};
 use gw_state_text::{FaultKind, StateFault};
-use gw_watching::files::TrialFault;
+use gw_watchers::files::TrialFault;
 use gw_wire::StoreFault;
 use itoa::Buffer;
 use std::alloc::{AllocError, Global};

@@ -12,14 +12,14 @@ use Rattle.gw_state.specs.Saved.{Origin, origin_of}
 use Rattle.gw_script.specs.Event.{Event}
 use Rattle.gw_script.specs.Event as event
 use Rattle.gw_script.specs.declared.sink.WriteFailed.{WriteFailed}
-use Rattle.gw_serving.specs.Stretch.{EndsAtTick, EndsAtTurns, EndsStretch, EndsWithheld, GoOn, Moment, moment}
-use Rattle.gw_serving.specs.declared.stretch.Pause.{Pause}
-use Rattle.gw_serving.specs.declared.serving.ServeFault.{ServeFault}
+use Rattle.gw_turns.specs.Stretch.{EndsAtTick, EndsAtTurns, EndsStretch, EndsWithheld, GoOn, Moment, moment}
+use Rattle.gw_turns.specs.declared.stretch.Pause.{Pause}
+use Rattle.gw_turns.specs.declared.serving.ServeFault.{ServeFault}
 use Rattle.gw_core.specs.State.{State}
-use Rattle.gw_serving.specs.Serve.{Turn, count_turn, counts_after, empty_turn, failed_turn, lost_event, scene, taken_event}
+use Rattle.gw_turns.specs.Serve.{Turn, count_turn, counts_after, empty_turn, failed_turn, lost_event, scene, taken_event}
 use Rattle.gw_wire.specs.Wire.{Call}
-use Rattle.gw_serving.specs.declared.serving.Served.{Served}
-use Rattle.gw_serving.specs.declared.tally.Tally.{Tally}
+use Rattle.gw_turns.specs.declared.serving.Served.{Served}
+use Rattle.gw_turns.specs.declared.tally.Tally.{Tally}
 use Rattle.gw_system.proofs.RequestLemmas.{goes_two}
 use Rattle.gw_system.specs.Requests.{Asking, GoesOn, answered, asked}
 use Rattle.gw_system.specs.declared.reading.ReadFailure.{ReadFailure}

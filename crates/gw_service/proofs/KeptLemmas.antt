@@ -5,13 +5,13 @@ use Rattle.gw_configuration.specs.Configuration.{Configuration}
 use Rattle.gw_core.specs.State.{State}
 use Rattle.gw_core.specs.declared.event.Counts.{Counts}
 use Rattle.gw_state.specs.Saved.{Origin, origin_of}
-use Rattle.gw_serving.specs.Serve.{Scene, scene, zero_counts}
-use Rattle.gw_serving.specs.Stretch.{moment}
-use Rattle.gw_serving.specs.Tally.{no_tally}
+use Rattle.gw_turns.specs.Serve.{Scene, scene, zero_counts}
+use Rattle.gw_turns.specs.Stretch.{moment}
+use Rattle.gw_turns.specs.Tally.{no_tally}
 use Rattle.gw_wire.specs.Wire.{Call}
-use Rattle.gw_serving.specs.declared.serving.ServeFault.{ServeFault}
-use Rattle.gw_serving.specs.declared.serving.Served.{Served}
-use Rattle.gw_serving.specs.declared.tally.Tally.{Tally}
+use Rattle.gw_turns.specs.declared.serving.ServeFault.{ServeFault}
+use Rattle.gw_turns.specs.declared.serving.Served.{Served}
+use Rattle.gw_turns.specs.declared.tally.Tally.{Tally}
 use Rattle.gw_system.specs.Requests.{Asking, recorded_by}
 use Rattle.gw_service.specs.Chain.{Link, Manner, Runs, Stage, chain_text, stage}
 use Rattle.gw_service.specs.Keeping.{troubles_in, unkept_in}
@@ -27,7 +27,7 @@ use Rattle.gw_service.specs.declared.fault.ServiceFault.{ServiceFault}
 use Rattle.gw_service.specs.declared.fault.ServiceFault.TheVariants as fault
 use Rattle.std.specs.Prelude.{Bool, is_some, ◌||◌}
 use Rattle.gw_core.specs.declared.guard.Both.{Both}
-use Rattle.gw_watching.specs.Watching.{Watching}
+use Rattle.gw_watchers.specs.Watching.{Watching}
 use Rattle.gw_service.specs.declared.keeping.Kept.{Kept}
 use Rattle.gw_notices.specs.declared.reload.ReloadCounts.{ReloadCounts}
 use Rattle.gw_notices.proofs.AppendLemmas.{appends_nothing, appends_two}

@@ -21,8 +21,8 @@ use Rattle.gw_core.specs.History.{next, state_from}
 use Rattle.gw_core.specs.State.{State}
 use Rattle.gw_rules.specs.declared.rule.Rule.{Rule}
 use Rattle.gw_script.specs.Event.{Event}
-use Rattle.gw_serving.specs.Serve.{Turn, events_of}
-use Rattle.gw_serving.specs.Stretch.{GoOn, Moment}
+use Rattle.gw_turns.specs.Serve.{Turn, events_of}
+use Rattle.gw_turns.specs.Stretch.{GoOn, Moment}
 use Rattle.gw_service.specs.Chain.{AreLinks, IsLink, IsLooked, Link, Look, Manner, Stage, Standing}
 use Rattle.gw_service.specs.Chain.{refused, served, taken_over, ticked, unrequested, withheld}
 use Rattle.gw_service.specs.Laws.{HasItsRules, NumbersGoOn, RulesAreInForce, RulesStay, Shows}

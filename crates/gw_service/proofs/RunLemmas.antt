@@ -11,18 +11,18 @@ use Rattle.gw_core.specs.State.{State}
 use Rattle.gw_core.specs.declared.asked.Asked.{Asked}
 use Rattle.gw_rules.specs.declared.rule.Rule.{Rule}
 use Rattle.gw_script.specs.Event.{Event}
-use Rattle.gw_serving.specs.Serve.{Turn, empty_turn, events_of, failed_turn, lost_event, taken_event, turn_events}
-use Rattle.gw_serving.specs.Stretch.{AreGuarded, GoOn, GuardsTurn, Moment}
-use Rattle.gw_watching.specs.Beside.{IsEnded, IsRecorded, IsWritten, IsLost, ended}
+use Rattle.gw_turns.specs.Serve.{Turn, empty_turn, events_of, failed_turn, lost_event, taken_event, turn_events}
+use Rattle.gw_turns.specs.Stretch.{AreGuarded, GoOn, GuardsTurn, Moment}
+use Rattle.gw_watchers.specs.Beside.{IsEnded, IsRecorded, IsWritten, IsLost, ended}
 use Rattle.gw_service.specs.WatchedRuns.{AuditIsWhole, CountsAreWhole, TrialIsWhole}
-use Rattle.gw_watching.specs.Laws.{run_records}
-use Rattle.gw_watching.specs.Records.{audited_by, denied_by, last_number, lines_behind, records}
+use Rattle.gw_watchers.specs.Laws.{run_records}
+use Rattle.gw_watchers.specs.Records.{audited_by, denied_by, last_number, lines_behind, records}
 use Rattle.gw_decisions.specs.Counted.{AreCounted, counted_on}
-use Rattle.gw_watching.specs.Watching.{HasWatched, IsAudited, IsCounted, IsTried, Missed, Watches, Watching, is_watching}
-use Rattle.gw_watching.specs.declared.beside.Beside.{Beside}
+use Rattle.gw_watchers.specs.Watching.{HasWatched, IsAudited, IsCounted, IsTried, Missed, Watches, Watching, is_watching}
+use Rattle.gw_watchers.specs.declared.beside.Beside.{Beside}
 use Rattle.gw_core.specs.Effects.{NeedsNoMemory}
 use Rattle.gw_decisions.proofs.CountedLemmas.{counted_along}
-use Rattle.gw_watching.proofs.RecordLemmas.{lines_along}
+use Rattle.gw_watchers.proofs.RecordLemmas.{lines_along}
 
 -- ---- one log, event by event
 

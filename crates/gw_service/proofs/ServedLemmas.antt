@@ -11,15 +11,15 @@ use Rattle.gw_core.specs.State.{State}
 use Rattle.gw_core.specs.declared.event.Counts.{Counts}
 use Rattle.gw_state.specs.Saved.{Saved}
 use Rattle.gw_script.specs.Event.{Event}
-use Rattle.gw_serving.proofs.ServeLemmas.{lead_along, lead_nowhere}
-use Rattle.gw_serving.specs.Serve.{EndsBy, LeadTo, Scene, Turn, count_fault, count_turn, counts_after, counts_of, empty_turn, failed_turn}
-use Rattle.gw_serving.specs.Serve.{lost_event, scene, taken_event, turn_events}
-use Rattle.gw_serving.specs.Stretch.{AreGuarded, GuardsTurn}
+use Rattle.gw_turns.proofs.ServeLemmas.{lead_along, lead_nowhere}
+use Rattle.gw_turns.specs.Serve.{EndsBy, LeadTo, Scene, Turn, count_fault, count_turn, counts_after, counts_of, empty_turn, failed_turn}
+use Rattle.gw_turns.specs.Serve.{lost_event, scene, taken_event, turn_events}
+use Rattle.gw_turns.specs.Stretch.{AreGuarded, GuardsTurn}
 use Rattle.gw_wire.specs.Wire.{Call}
-use Rattle.gw_serving.specs.declared.serving.ServeFault.{ServeFault}
-use Rattle.gw_serving.specs.declared.serving.Served.{Served}
+use Rattle.gw_turns.specs.declared.serving.ServeFault.{ServeFault}
+use Rattle.gw_turns.specs.declared.serving.Served.{Served}
 use Rattle.gw_system.specs.Requests.{Asking, GoesOn, answered, asked, nobody, recorded_by, unasked}
-use Rattle.gw_watching.specs.Watching.{Watching}
+use Rattle.gw_watchers.specs.Watching.{Watching}
 use Rattle.gw_service.specs.Chain.{AreLinks, IsLink, IsLooked, IsUnrequested, Link, Look, Manner, Runs, Stage, Standing}
 use Rattle.gw_service.specs.Chain.{refused, served, taken_over, ticked, unrequested, withheld}
 use Rattle.gw_service.specs.Fault.{fault_of_serving}

@@ -2,15 +2,15 @@
 use Rattle.std.proofs.Common.{◌≡◌, ◌∙◌, sym, ap, ℕ, List, [], Option, Some, None, Result, Ok, Err, IsOk, IfOk, IfErr, OnOk, inl, inr, refl, rules, subst}
 use Rattle.std.specs.Io.KnownBytes.{Appends, append_known}
 use Rattle.gw_core.specs.History.{state_after, no_counts}
-use Rattle.gw_serving.specs.Reports.{IsRunWith, reported_of}
-use Rattle.gw_serving.specs.Serve.{Scene, ServesAll, Stops, counts_of_answer, scene}
+use Rattle.gw_turns.specs.Reports.{IsRunWith, reported_of}
+use Rattle.gw_turns.specs.Serve.{Scene, ServesAll, Stops, counts_of_answer, scene}
 use Rattle.gw_core.specs.State.{State}
 use Rattle.gw_wire.specs.Wire.{Call}
 use Rattle.gw_notices.proofs.AppendLemmas.{appends_nothing}
-use Rattle.gw_serving.specs.declared.serving.Served.{Served}
-use Rattle.gw_serving.specs.declared.serving.ServeFault.{ServeFault}
-use Rattle.gw_serving.specs.declared.serving.ServeFault.TheVariants as serving
-use Rattle.gw_serving.specs.declared.serving.ServeStop.{ServeStop}
+use Rattle.gw_turns.specs.declared.serving.Served.{Served}
+use Rattle.gw_turns.specs.declared.serving.ServeFault.{ServeFault}
+use Rattle.gw_turns.specs.declared.serving.ServeFault.TheVariants as serving
+use Rattle.gw_turns.specs.declared.serving.ServeStop.{ServeStop}
 use Rattle.gw_configuration.specs.Configuration.{Configuration}
 use Rattle.gw_service.specs.Fault.{fault_of_serving}
 use Rattle.gw_service.specs.declared.fault.ServiceFault.{ServiceFault}

@@ -5,14 +5,14 @@ use Rattle.gw_configuration.specs.Configuration.{Configuration}
 use Rattle.gw_core.specs.State.{State}
 use Rattle.gw_core.specs.History.{state_from}
 use Rattle.gw_script.specs.Event.{Event}
-use Rattle.gw_serving.specs.Both.{first_moment}
+use Rattle.gw_turns.specs.Both.{first_moment}
 use Rattle.gw_core.specs.Guard.{LetsAllGo, PassesBoth}
-use Rattle.gw_serving.specs.Serve.{Turn, empty_turn, failed_turn, lost_event, taken_event, turn_events}
-use Rattle.gw_serving.specs.Stretch.{AreGuarded, GoOn, GuardsTurn, Moment}
+use Rattle.gw_turns.specs.Serve.{Turn, empty_turn, failed_turn, lost_event, taken_event, turn_events}
+use Rattle.gw_turns.specs.Stretch.{AreGuarded, GoOn, GuardsTurn, Moment}
 use Rattle.gw_core.specs.declared.guard.Both.{Both}
-use Rattle.gw_serving.specs.declared.serving.ServeFault.{ServeFault}
-use Rattle.gw_serving.proofs.BothLemmas.{under_first}
-use Rattle.gw_watching.specs.Watching.{HasWatched, Watching}
+use Rattle.gw_turns.specs.declared.serving.ServeFault.{ServeFault}
+use Rattle.gw_turns.proofs.BothLemmas.{under_first}
+use Rattle.gw_watchers.specs.Watching.{HasWatched, Watching}
 use Rattle.gw_service.specs.Chain.{AreLinks, IsLink, IsLooked, Link, Look, Runs, Stage, Standing, chain_text, look_text, stage, standing}
 use Rattle.gw_service.specs.Chain.{refused, served, taken_over, ticked, unrequested, withheld}
 use Rattle.gw_service.specs.Keeping.{IsKeptFor, IsPassed, troubles_in, unkept_in}

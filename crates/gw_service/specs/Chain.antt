@@ -11,11 +11,11 @@ use Rattle.gw_state.specs.Saved.{Origin, origin_of}
 use Rattle.gw_script.specs.Event.{Event}
 use Rattle.gw_script.specs.Event as event
 use Rattle.gw_script.specs.declared.sink.WriteFailed.{WriteFailed}
-use Rattle.gw_serving.specs.Serve.{Try, Turn, taken_event}
-use Rattle.gw_serving.specs.Stretch.{EndsFaulty, GoOn, IsWithheld, Moment}
-use Rattle.gw_serving.specs.declared.serving.ServeFault.{ServeFault}
-use Rattle.gw_serving.specs.declared.serving.Served.{Served}
-use Rattle.gw_serving.specs.declared.tally.Tally.{Tally}
+use Rattle.gw_turns.specs.Serve.{Try, Turn, taken_event}
+use Rattle.gw_turns.specs.Stretch.{EndsFaulty, GoOn, IsWithheld, Moment}
+use Rattle.gw_turns.specs.declared.serving.ServeFault.{ServeFault}
+use Rattle.gw_turns.specs.declared.serving.Served.{Served}
+use Rattle.gw_turns.specs.declared.tally.Tally.{Tally}
 use Rattle.gw_system.specs.Requests.{Asking, GoesOn, answered, asked, unasked}
 use Rattle.gw_system.specs.declared.reading.ReadFailure.{ReadFailure}
 use Rattle.gw_notices.specs.Reload.{IsRefusalLine, reload_line, with_refused, with_taken_over}

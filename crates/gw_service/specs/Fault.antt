@@ -1,6 +1,6 @@
 -- Why serving doesn't begin, or ends, by the faults of what it needs.
-use Rattle.gw_serving.specs.declared.serving.ServeFault.{ServeFault}
-use Rattle.gw_serving.specs.declared.serving.ServeFault.TheVariants as serving
+use Rattle.gw_turns.specs.declared.serving.ServeFault.{ServeFault}
+use Rattle.gw_turns.specs.declared.serving.ServeFault.TheVariants as serving
 use Rattle.gw_system.specs.declared.opening.LogFailure.{LogFailure}
 use Rattle.gw_system.specs.declared.opening.LogFailure.TheVariants as log_failure
 use Rattle.gw_system.specs.declared.opening.OpenFailure.{OpenFailure}

@@ -5,17 +5,17 @@ use Rattle.gw_configuration.specs.Configuration.{Configuration}
 use Rattle.gw_core.specs.State.{State}
 use Rattle.gw_state.specs.Saved.{Saved, origin_of}
 use Rattle.gw_core.specs.Guard.{PassesBoth}
-use Rattle.gw_serving.specs.Keeping.{IsTried, nothing_kept}
-use Rattle.gw_serving.specs.Serve.{scene, zero_counts}
-use Rattle.gw_serving.specs.Stretch.{moment}
-use Rattle.gw_serving.specs.Tally.{no_tally}
-use Rattle.gw_serving.specs.declared.serving.ServeFault.{ServeFault}
+use Rattle.gw_turns.specs.Keeping.{IsTried, nothing_kept}
+use Rattle.gw_turns.specs.Serve.{scene, zero_counts}
+use Rattle.gw_turns.specs.Stretch.{moment}
+use Rattle.gw_turns.specs.Tally.{no_tally}
+use Rattle.gw_turns.specs.declared.serving.ServeFault.{ServeFault}
 use Rattle.gw_core.specs.declared.guard.Both.{Both}
-use Rattle.gw_serving.specs.declared.serving.Served.{Served}
+use Rattle.gw_turns.specs.declared.serving.Served.{Served}
 use Rattle.gw_wire.specs.declared.store.StoreFault.{StoreFault}
-use Rattle.gw_serving.specs.declared.tally.Tally.{Tally}
+use Rattle.gw_turns.specs.declared.tally.Tally.{Tally}
 use Rattle.gw_system.specs.Host.{LogOpening}
-use Rattle.gw_watching.specs.Watching.{HasWatched, Watching}
+use Rattle.gw_watchers.specs.Watching.{HasWatched, Watching}
 use Rattle.gw_system.specs.Opening.{IsNote}
 use Rattle.gw_system.specs.Requests.{Asking, recorded_by}
 use Rattle.gw_system.specs.declared.opening.OpenFailure.{OpenFailure}

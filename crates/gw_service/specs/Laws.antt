@@ -7,12 +7,12 @@ use Rattle.gw_core.specs.History.{state_from}
 use Rattle.gw_core.specs.State.{State}
 use Rattle.gw_core.specs.declared.event.Counts.{Counts}
 use Rattle.gw_script.specs.Event.{Event}
-use Rattle.gw_serving.specs.declared.serving.ServeFault.{ServeFault}
+use Rattle.gw_turns.specs.declared.serving.ServeFault.{ServeFault}
 use Rattle.gw_system.specs.Requests.{nobody}
 use Rattle.gw_service.specs.Chain.{AreLinks, Link, Manner, Runs, Stage}
 use Rattle.gw_service.specs.Chain.{served, ticked, unrequested, withheld}
 use Rattle.gw_configuration.specs.Configuration.{Configuration}
-use Rattle.gw_watching.specs.Watching.{Watching}
+use Rattle.gw_watchers.specs.Watching.{Watching}
 use Rattle.gw_service.specs.Counts.{GoesOnFrom, own_fields}
 use Rattle.gw_service.specs.Kept.{Given, LeavesKept, RunsKept, RunsWatched}
 use Rattle.gw_service.specs.Serving.{Ends, Serves, Service, service}

@@ -3,14 +3,14 @@
 use Rattle.std.specs.Prelude.{◌≡◌, ◌⊎◌, ⊤, ℕ, Bool, List, [], ◌++◌, Option, Some, None, Result, Ok, Err}
 use Rattle.std.specs.Io.KnownBytes.{Keeps}
 use Rattle.gw_core.specs.History.{state_after, no_counts}
-use Rattle.gw_serving.specs.Reports.{IsRunWith, reported_of}
-use Rattle.gw_serving.specs.Serve.{Scene, ServesAll, Stops, Turn, counts_of_answer, scene}
+use Rattle.gw_turns.specs.Reports.{IsRunWith, reported_of}
+use Rattle.gw_turns.specs.Serve.{Scene, ServesAll, Stops, Turn, counts_of_answer, scene}
 use Rattle.gw_core.specs.State.{State}
 use Rattle.gw_wire.specs.Wire.{Call}
-use Rattle.gw_serving.specs.declared.serving.Served.{Served}
-use Rattle.gw_serving.specs.declared.serving.ServeFault.{ServeFault}
-use Rattle.gw_serving.specs.declared.serving.ServeFault.TheVariants as serving
-use Rattle.gw_serving.specs.declared.serving.ServeStop.{ServeStop}
+use Rattle.gw_turns.specs.declared.serving.Served.{Served}
+use Rattle.gw_turns.specs.declared.serving.ServeFault.{ServeFault}
+use Rattle.gw_turns.specs.declared.serving.ServeFault.TheVariants as serving
+use Rattle.gw_turns.specs.declared.serving.ServeStop.{ServeStop}
 use Rattle.gw_configuration.specs.Configuration.{Configuration}
 use Rattle.gw_configuration.specs.declared.port.Port.{Port}
 use Rattle.gw_notices.specs.Announcement.{IsWarning}

@@ -2,9 +2,9 @@
 use Rattle.std.specs.Prelude.{ℕ, ◌+◌, ◌-◌, ◌%◌, ◌==◌, ◌&&◌, Bool, nat_le, if◌then◌else◌, List, [], ◌++◌, Option, Some, None}
 use Rattle.gw_core.specs.State.{State}
 use Rattle.gw_core.specs.declared.event.Counts.{Counts}
-use Rattle.gw_serving.specs.Reports.{report_line, report_of}
-use Rattle.gw_serving.specs.declared.serving.Served.{Served}
-use Rattle.gw_serving.specs.declared.tally.Tally.{Tally}
+use Rattle.gw_turns.specs.Reports.{report_line, report_of}
+use Rattle.gw_turns.specs.declared.serving.Served.{Served}
+use Rattle.gw_turns.specs.declared.tally.Tally.{Tally}
 use Rattle.gw_notices.specs.Stats.{reloads_text, unkept_text}
 use Rattle.gw_notices.specs.declared.reload.ReloadCounts.{ReloadCounts}
 

@@ -10,11 +10,11 @@ use Rattle.gw_core.specs.declared.guard.Both.{Both}
 use Rattle.gw_system.specs.Host.{LogOpening}
 use Rattle.gw_system.specs.declared.reading.ReadFailure.{ReadFailure}
 use Rattle.gw_decisions.specs.tally.Tally.{IsTally}
-use Rattle.gw_watching.specs.files.Trial.{IsAuditBy, IsTrialBy}
-use Rattle.gw_watching.specs.declared.files.fault.WatchFault.{WatchFault}
-use Rattle.gw_watching.specs.declared.files.fault.WatchFault.TheVariants as watch
-use Rattle.gw_watching.specs.Watching.{Watching, with_marks}
-use Rattle.gw_watching.specs.declared.beside.Beside.{Beside}
+use Rattle.gw_watchers.specs.files.Trial.{IsAuditBy, IsTrialBy}
+use Rattle.gw_watchers.specs.declared.files.fault.WatchFault.{WatchFault}
+use Rattle.gw_watchers.specs.declared.files.fault.WatchFault.TheVariants as watch
+use Rattle.gw_watchers.specs.Watching.{Watching, with_marks}
+use Rattle.gw_watchers.specs.declared.beside.Beside.{Beside}
 use Rattle.gw_service.specs.Keeping.{IsKeptAtTick, IsKeptFor, failing_in}
 use Rattle.gw_service.specs.declared.fault.ServiceFault.{ServiceFault}
 use Rattle.gw_service.specs.declared.fault.ServiceFault.TheVariants as fault

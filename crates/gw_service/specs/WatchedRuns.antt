@@ -2,14 +2,14 @@
 use Rattle.std.specs.Prelude.{◌≡◌, ℕ, ◌<◌, Bool, false, List, [], length, Option, Some, codes, slice_index}
 use Rattle.std.specs.Io.KnownBytes.{Appends}
 use Rattle.gw_rules.specs.declared.rule.Rule.{Rule}
-use Rattle.gw_serving.specs.Serve.{Turn, events_of}
-use Rattle.gw_serving.specs.Stretch.{GoOn, Moment}
+use Rattle.gw_turns.specs.Serve.{Turn, events_of}
+use Rattle.gw_turns.specs.Stretch.{GoOn, Moment}
 use Rattle.gw_core.specs.Asked.{run_asked}
 use Rattle.gw_decisions.specs.Counted.{counted_on}
-use Rattle.gw_watching.specs.Laws.{run_records}
-use Rattle.gw_watching.specs.Records.{audited_by, denied_by, lines_behind}
-use Rattle.gw_watching.specs.Watching.{HasWatched, Watching}
-use Rattle.gw_watching.specs.declared.beside.Beside.{Beside}
+use Rattle.gw_watchers.specs.Laws.{run_records}
+use Rattle.gw_watchers.specs.Records.{audited_by, denied_by, lines_behind}
+use Rattle.gw_watchers.specs.Watching.{HasWatched, Watching}
+use Rattle.gw_watchers.specs.declared.beside.Beside.{Beside}
 
 -- If nothing was lost and all events were seen, a trial's log has exactly the lines of the asks of the run that its rules deny.
 abbrev pub TrialIsWhole : {T A : Type 0} → (T → Option (List ℕ)) → (A → Option (List ℕ)) → Type 0

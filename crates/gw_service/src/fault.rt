@@ -1,9 +1,9 @@
 //! Why serving doesn't begin, or ends.
 
-use gw_serving::ServeFault;
 use gw_state_text::StateFault;
 use gw_system::{LogFailure, Obstacle, OpenFailure, SocketFailure};
-use gw_watching::files::{TrialFault, WatchFault};
+use gw_turns::ServeFault;
+use gw_watchers::files::{TrialFault, WatchFault};
 use gw_wire::StoreFault;
 use std::alloc::AllocError;
 

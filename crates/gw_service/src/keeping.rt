@@ -16,8 +16,8 @@ use gw_decisions::tally::Tally;
 use gw_metrics::StateTries;
 use gw_notices::{Losses, Troubles};
 use gw_script::OctetSink;
-use gw_serving::Keeper;
 use gw_state::Origin;
+use gw_turns::Keeper;
 use gw_wire::{Store, StoreFault};
 use std::alloc::Global;
 

@@ -2,8 +2,8 @@
 
 ghost use Rattle.std.specs.Prelude.{List, ℕ};
 ghost use Rattle.gw_core.specs.State.{State};
-ghost use Rattle.gw_serving.specs.declared.serving.Served.{Served};
-ghost use Rattle.gw_serving.specs.declared.tally.Tally.{Tally};
+ghost use Rattle.gw_turns.specs.declared.serving.Served.{Served};
+ghost use Rattle.gw_turns.specs.declared.tally.Tally.{Tally};
 ghost use Rattle.gw_service.specs.Chain.{manner};
 ghost use Rattle.gw_notices.specs.declared.reload.ReloadCounts.{ReloadCounts};
 ghost use Rattle.gw_service.specs.Kept.{Given};
@@ -41,7 +41,7 @@ pub fn nobody_asks<K: StateKeeper>()
         NobodyAsks (manner K.Passes K.Ticks K.Adopts K.troubles report) }
 {}
 
-/// A run that neither keeps a state nor looks for requests, but reports or is watched, is one of [`serve`](gw_serving::serve) but for
+/// A run that neither keeps a state nor looks for requests, but reports or is watched, is one of [`serve`](gw_turns::serve) but for
 /// what it reports: the log, the calls of the wire and the outcome are those of serving from the gateway's first state.
 pub fn as_served<S: Store + Drop, Q: Requests + Drop, L: OctetSink + Drop>()
     ensures { (given : Given S Q L) → IsAsServed given }

@@ -15,7 +15,7 @@ use gw_metrics::{Counts, Drops, Reloads, StateTries};
 use gw_notices::{Losses, ReloadCounts};
 use gw_relay::PortState;
 use gw_rules::RuleList;
-use gw_serving::Report;
+use gw_turns::Report;
 use gw_wire::Store;
 use std::alloc::Global;
 

@@ -6,8 +6,8 @@ ghost use Rattle.std.specs.Option.{option_map_or};
 ghost use Rattle.std.specs.Io.KnownBytes.{Appends, Keeps};
 ghost use Rattle.gw_configuration.specs.Configuration.{Configuration};
 ghost use Rattle.gw_state.specs.Saved.{origin_of};
-ghost use Rattle.gw_serving.specs.Serve.{scene};
-ghost use Rattle.gw_serving.specs.Stretch.{CanCount, moment};
+ghost use Rattle.gw_turns.specs.Serve.{scene};
+ghost use Rattle.gw_turns.specs.Stretch.{CanCount, moment};
 ghost use Rattle.gw_system.specs.Requests.{Asking, GoesOn, IsAsking, asked, text_found};
 ghost use Rattle.gw_service.specs.Chain.{Advances, AtTick, IsLooked, IsNotedBy, Link, Looks, Runs, chain_text, manner, stage, standing};
 ghost use Rattle.gw_notices.specs.Notices.{no_troubles, notice_of};
@@ -29,9 +29,9 @@ use gw_notices::{
 };
 use gw_policy_text::MAX_OCTETS;
 use gw_script::OctetSink;
-use gw_serving::{Pause, ServeFault, ServeState};
 use gw_state::Origin;
 use gw_system::{ReadFailure, Requests};
+use gw_turns::{Pause, ServeFault, ServeState};
 use gw_wire::{Store, Wire};
 use std::alloc::Global;
 
@@ -242,7 +242,7 @@ impl<K: StateKeeper, Q: Requests, M: Store + Drop> Running<K, Q, M> {
     ///
     /// # Errors
     ///
-    /// Those of [`serve`](gw_serving::serve).
+    /// Those of [`serve`](gw_turns::serve).
     pub fn serve<W: Wire, L: Notes, E: OctetSink>(
         &mut self,
         alloc: Global,
@@ -281,7 +281,7 @@ impl<K: StateKeeper, Q: Requests, M: Store + Drop> Running<K, Q, M> {
     ///
     /// # Errors
     ///
-    /// Those of [`serve`](gw_serving::serve).
+    /// Those of [`serve`](gw_turns::serve).
     pub(crate) fn run<W: Wire, L: Notes, E: OctetSink>(
         &mut self,
         alloc: Global,

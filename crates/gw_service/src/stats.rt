@@ -3,7 +3,7 @@
 ghost use Rattle.std.proofs.Props.{props};
 ghost use Rattle.std.specs.Prelude.{◌≡◌, ◌-◌, ◌%◌, ◌==◌, ◌<◌, ◌≤◌, IfSome, IsTrue, if◌then◌else◌, [], List, ℕ, true};
 ghost use Rattle.std.specs.Io.KnownBytes.{Appends};
-ghost use Rattle.gw_serving.specs.ReportTurn.{HasGoneOn};
+ghost use Rattle.gw_turns.specs.ReportTurn.{HasGoneOn};
 ghost use Rattle.gw_service.specs.Metrics.{measures_of};
 ghost use Rattle.gw_service.specs.Stats.{due_stats, end_stats, has_gone_on, is_due, reporting, stats_text, tries_text};
 
@@ -12,7 +12,7 @@ use crate::metrics::Measures;
 use gw_core::{Counts, Gateway};
 use gw_notices::{ReloadCounts, report_reloads, report_unkept};
 use gw_script::OctetSink;
-use gw_serving::{ServeState, Served, report_of, try_report};
+use gw_turns::{ServeState, Served, report_of, try_report};
 
 /// When a report is due: the counts of the gateway at first, and the seconds from one to the next, if reports are asked for;
 /// and whether it says how often the state couldn't be kept, and how often the configuration was read again.

@@ -6,7 +6,7 @@ ghost use Rattle.gw_service.specs.Keeping.{IsSuccessor};
 use gw_configuration::Config;
 use gw_decisions::tally::Tally;
 use gw_state::Origin;
-use gw_watching::Marks;
+use gw_watchers::Marks;
 use std::alloc::{AllocError, Global};
 
 /// What is made of a configuration for what keeps the state of a gateway and what watches it.

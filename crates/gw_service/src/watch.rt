@@ -9,8 +9,8 @@ use gw_configuration::{Config, RunOptions};
 use gw_decisions::tally::Tally;
 use gw_rule_index::Policy;
 use gw_system::Host;
-use gw_watching::files::{open_audit, open_trial};
-use gw_watching::{Beside, Marks, Watcher};
+use gw_watchers::files::{open_audit, open_trial};
+use gw_watchers::{Beside, Marks, Watcher};
 use std::alloc::{AllocError, Global};
 
 /// Whether the options ask for counts of the rules, which reports and metrics have.

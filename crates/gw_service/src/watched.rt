@@ -11,7 +11,7 @@ use gw_decisions::tally::Tally;
 use gw_metrics::StateTries;
 use gw_notices::{LogCount, Losses, Troubles, WatchCounts, report_watched};
 use gw_script::OctetSink;
-use gw_watching::{Beside, Watcher};
+use gw_watchers::{Beside, Watcher};
 use gw_wire::Store;
 use std::alloc::Global;
 

@@ -16,16 +16,16 @@ use Rattle.gw_core.specs.Resumed.{saved_of, saved_ports}
 use Rattle.gw_core.specs.State.{State}
 use Rattle.gw_state_laws.specs.continuity.Laws.{entries_of}
 use Rattle.gw_state_laws.proofs.continuity_lemmas.LastingChanges.{only_lasting_changes}
-use Rattle.gw_serving.specs.Keeping.{HasPassed, IsHeld, IsUnkept, IsUpToDate, KeepsChanged, Keeping, KeptBy, PassesBy, TicksBy, Tries, is_due, is_kept, lasting_of, lasting_port}
+use Rattle.gw_turns.specs.Keeping.{HasPassed, IsHeld, IsUnkept, IsUpToDate, KeepsChanged, Keeping, KeptBy, PassesBy, TicksBy, Tries, is_due, is_kept, lasting_of, lasting_port}
 use Rattle.gw_wire.specs.Store.{Holds}
-use Rattle.gw_serving.specs.Serve.{Turn, empty_turn, events_of, failed_turn, lost_event, taken_event, turn_events}
-use Rattle.gw_serving.specs.Stretch.{AreGuarded, GoOn, GuardsTurn, Moment}
-use Rattle.gw_serving.specs.declared.stretch.Pause.TheVariants.{Turns, Tick, Withheld}
+use Rattle.gw_turns.specs.Serve.{Turn, empty_turn, events_of, failed_turn, lost_event, taken_event, turn_events}
+use Rattle.gw_turns.specs.Stretch.{AreGuarded, GoOn, GuardsTurn, Moment}
+use Rattle.gw_turns.specs.declared.stretch.Pause.TheVariants.{Turns, Tick, Withheld}
 use Rattle.gw_script.specs.Event as event
-use Rattle.gw_serving.specs.declared.alike.Part.TheVariants.{AllButTicks, Lasting}
+use Rattle.gw_turns.specs.declared.alike.Part.TheVariants.{AllButTicks, Lasting}
 use Rattle.gw_wire.specs.declared.store.StoreFault.{StoreFault}
-use Rattle.gw_serving.proofs.AlikeLemmas.{alike_is_equal}
-use Rattle.gw_serving.proofs.ServeLemmas.{state_along}
+use Rattle.gw_turns.proofs.AlikeLemmas.{alike_is_equal}
+use Rattle.gw_turns.proofs.ServeLemmas.{state_along}
 use Rattle.gw_state_laws.specs.keeping.Laws.{AnsweredIsKept, CurrentIsUpToDate, FaultsKeep, HeldStays, IsCurrent, LastsAs, PausesKeep, TicksKeepCurrent, TriedIsCurrent, WithheldIsOldOrNew}
 
 -- ---- what doesn't last leaves what lasts

@@ -9,14 +9,14 @@ use Rattle.gw_core.specs.History.{next, state_from}
 use Rattle.gw_core.specs.Lasting.{lasts}
 use Rattle.gw_core.specs.Resumed.{saved_of}
 use Rattle.gw_core.specs.State.{State}
-use Rattle.gw_serving.specs.Keeping.{IsRecent, IsTried, IsUpToDate, KeepsChanged, Keeping, KeptBy, TicksBy, Tries, is_due, is_kept, nothing_kept}
-use Rattle.gw_serving.specs.Serve.{Turn, empty_turn, events_of, failed_turn, lost_event, taken_event, turn_events}
-use Rattle.gw_serving.specs.Stretch.{AreGuarded, GoOn, GuardsTurn, Moment}
-use Rattle.gw_serving.specs.declared.alike.Part.TheVariants.{AllButTicks}
-use Rattle.gw_serving.specs.declared.serving.ServeFault.{ServeFault}
+use Rattle.gw_turns.specs.Keeping.{IsRecent, IsTried, IsUpToDate, KeepsChanged, Keeping, KeptBy, TicksBy, Tries, is_due, is_kept, nothing_kept}
+use Rattle.gw_turns.specs.Serve.{Turn, empty_turn, events_of, failed_turn, lost_event, taken_event, turn_events}
+use Rattle.gw_turns.specs.Stretch.{AreGuarded, GoOn, GuardsTurn, Moment}
+use Rattle.gw_turns.specs.declared.alike.Part.TheVariants.{AllButTicks}
+use Rattle.gw_turns.specs.declared.serving.ServeFault.{ServeFault}
 use Rattle.gw_wire.specs.declared.store.StoreFault.{StoreFault}
-use Rattle.gw_serving.proofs.KeepingLemmas.{ticks_keep_recent}
-use Rattle.gw_serving.proofs.ServeLemmas.{state_along}
+use Rattle.gw_turns.proofs.KeepingLemmas.{ticks_keep_recent}
+use Rattle.gw_turns.proofs.ServeLemmas.{state_along}
 use Rattle.gw_service.specs.Chain.{AreLinks, IsLink, IsLooked, IsTicked, Link, Look, Manner, Runs, Stage, Standing}
 use Rattle.gw_service.specs.Chain.{refused, served, taken_over, ticked, unrequested, withheld}
 use Rattle.gw_service.specs.Keeping.{IsKeptAtTick, IsKeptFor, IsPassed, failing_in}

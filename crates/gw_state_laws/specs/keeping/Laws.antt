@@ -7,14 +7,14 @@ use Rattle.gw_core.specs.History.{next}
 use Rattle.gw_core.specs.Lasting.{lasts}
 use Rattle.gw_core.specs.Resumed.{saved_of}
 use Rattle.gw_core.specs.State.{State}
-use Rattle.gw_serving.specs.Keeping.{HasPassed, IsHeld, IsRecent, IsTried, IsUnkept, IsUpToDate, KeepsAtTick, Keeping, lasting_of}
-use Rattle.gw_serving.specs.Serve.{Turn}
-use Rattle.gw_serving.specs.Stretch.{EndsFaulty, EndsStretch, Moment}
+use Rattle.gw_turns.specs.Keeping.{HasPassed, IsHeld, IsRecent, IsTried, IsUnkept, IsUpToDate, KeepsAtTick, Keeping, lasting_of}
+use Rattle.gw_turns.specs.Serve.{Turn}
+use Rattle.gw_turns.specs.Stretch.{EndsFaulty, EndsStretch, Moment}
 use Rattle.gw_core.specs.declared.guard.Both.{Both}
-use Rattle.gw_serving.specs.declared.serving.ServeFault.{ServeFault}
+use Rattle.gw_turns.specs.declared.serving.ServeFault.{ServeFault}
 use Rattle.gw_wire.specs.declared.store.StoreFault.{StoreFault}
-use Rattle.gw_serving.specs.declared.stretch.Pause.{Pause}
-use Rattle.gw_watching.specs.Watching.{Watching}
+use Rattle.gw_turns.specs.declared.stretch.Pause.{Pause}
+use Rattle.gw_watchers.specs.Watching.{Watching}
 use Rattle.gw_service.specs.Chain.{AreLinks, IsTicked, Link, Look, Manner, Runs, Stage}
 use Rattle.gw_service.specs.Keeping.{failing_in}
 use Rattle.gw_service.specs.Kept.{Given, KeepsFirst, RunsKept, RunsWatched, manner_of, reporting_of, watched_manner_of}

@@ -1,7 +1,7 @@
 use Rattle.std.proofs.Common.{subst, sym, OnOk}
 use Rattle.std.specs.Io.KnownBytes.{Appends}
 use Rattle.gw_ending.specs.Ending.{trial_rest}
-use Rattle.gw_watching.specs.declared.files.fault.TrialFault.{TrialFault}
+use Rattle.gw_watchers.specs.declared.files.fault.TrialFault.{TrialFault}
 use Rattle.gw_ending.proofs.ending.write_trial_fault_naming.Goals as goal
 
 pub returns-in-Unreadable-clause-ok : goal.returns-in-Unreadable-clause-ok

@@ -1,5 +1,5 @@
 use Rattle.std.proofs.Common.{◌≡◌, ◌-◌, ◌≤◌}
-use Rattle.gw_serving.specs.Stretch.{CanCount}
+use Rattle.gw_turns.specs.Stretch.{CanCount}
 use Rattle.gw_gateway_vectors.proofs.watching.serve_under.Given as goal
 
 abbrev pub invariant-loop : goal.invariant-loop

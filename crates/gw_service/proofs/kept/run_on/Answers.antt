@@ -1,6 +1,6 @@
 use Rattle.std.proofs.Common.{ℕ, List, Result, ◌∙◌, ap, subst, sym}
 use Rattle.gw_core.specs.State.{State}
-use Rattle.gw_serving.specs.declared.serving.ServeState.{ServeState}
+use Rattle.gw_turns.specs.declared.serving.ServeState.{ServeState}
 use Rattle.gw_notices.specs.Reload.{counts_since}
 use Rattle.gw_service.specs.Start.{BeginsAs, counts_of}
 use Rattle.gw_service.specs.declared.keeping.Kept.{Kept}

@@ -1,4 +1,4 @@
-use Rattle.gw_serving.specs.Serve.{scene}
+use Rattle.gw_turns.specs.Serve.{scene}
 use Rattle.gw_service.proofs.ServingLemmas.{by_reports, by_silence}
 use Rattle.gw_service.proofs.serving.serve_by.Goals as goal
 

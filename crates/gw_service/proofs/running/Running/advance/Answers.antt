@@ -1,11 +1,11 @@
 use Rattle.std.proofs.Common.{◌<◌, ◌++◌, ◌∷◌, [], ap, refl, subst, sym}
 use Rattle.std.specs.Io.KnownBytes.{Appends}
 use Rattle.gw_script.specs.Event as event
-use Rattle.gw_serving.specs.Serve.{scene, taken_event}
-use Rattle.gw_serving.specs.Stretch.{moment}
-use Rattle.gw_serving.specs.declared.serving.ServeState.{ServeState}
+use Rattle.gw_turns.specs.Serve.{scene, taken_event}
+use Rattle.gw_turns.specs.Stretch.{moment}
+use Rattle.gw_turns.specs.declared.serving.ServeState.{ServeState}
 use Rattle.gw_notices.specs.declared.troubles.Troubles.{Troubles}
-use Rattle.gw_serving.specs.declared.stretch.Pause.TheVariants as pause
+use Rattle.gw_turns.specs.declared.stretch.Pause.TheVariants as pause
 use Rattle.gw_service.specs.Chain.{look_text, served, standing, ticked, withheld}
 use Rattle.gw_notices.specs.Notices.{notice_of}
 use Rattle.gw_service.specs.Scheduled.{reporting_by}

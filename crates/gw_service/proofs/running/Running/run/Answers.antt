@@ -1,6 +1,6 @@
 use Rattle.std.proofs.Common.{refl}
-use Rattle.gw_serving.specs.Serve.{scene}
-use Rattle.gw_serving.specs.Stretch.{moment}
+use Rattle.gw_turns.specs.Serve.{scene}
+use Rattle.gw_turns.specs.Stretch.{moment}
 use Rattle.gw_configuration.specs.Configuration.{Configuration}
 use Rattle.gw_service.specs.Chain.{manner, stage}
 use Rattle.gw_service.specs.Serving.{ends}

@@ -1,9 +1,9 @@
 use Rattle.std.proofs.Common.{◌≡◌, ◌+◌, ◌-◌, ◌<◌, Result, arith, refl}
 use Rattle.gw_configuration.specs.Configuration.{Configuration}
 use Rattle.gw_script.proofs.Passing.{passes_on}
-use Rattle.gw_serving.specs.Serve.{scene}
-use Rattle.gw_serving.specs.Stretch.{moment}
-use Rattle.gw_serving.specs.declared.serving.ServeFault.{ServeFault}
+use Rattle.gw_turns.specs.Serve.{scene}
+use Rattle.gw_turns.specs.Stretch.{moment}
+use Rattle.gw_turns.specs.declared.serving.ServeFault.{ServeFault}
 use Rattle.gw_service.specs.Chain.{Stage, manner, stage}
 use Rattle.gw_service.specs.Scheduled.{reporting_by}
 use Rattle.gw_service.specs.Stats.{due_stats}

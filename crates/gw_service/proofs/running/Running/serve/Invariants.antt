@@ -1,7 +1,7 @@
 use Rattle.std.proofs.Common.{◌≡◌, ◌+◌, ◌≤◌}
 use Rattle.gw_configuration.specs.Configuration.{Configuration}
-use Rattle.gw_serving.specs.Serve.{scene}
-use Rattle.gw_serving.specs.Stretch.{CanCount, moment}
+use Rattle.gw_turns.specs.Serve.{scene}
+use Rattle.gw_turns.specs.Stretch.{CanCount, moment}
 use Rattle.gw_service.specs.Chain.{manner, stage}
 use Rattle.gw_service.specs.Scheduled.{reporting_by}
 use Rattle.gw_service.specs.Stats.{due_stats}

@@ -1,0 +1,79 @@
+-- How many datagrams aren't passed on: they are dropped before any policy is asked, or the policy denies that their sender
+-- enters or speaks for another network.
+use Rattle.std.specs.Prelude.{ℕ, ◌+◌, ◌≤◌, ◌==◌, Bool, true, false, if◌then◌else◌, List, [], ◌∷◌, Option, Some, None}
+use Rattle.std.specs.List.{list_any}
+use Rattle.std.specs.Option.{option_map_or}
+use Rattle.gw_audit.specs.declared.denial.Denial.{Denial}
+use Rattle.gw_rules.specs.Operation.{operation_number}
+use Rattle.gw_rules.specs.declared.operation.Operation.{Operation}
+use Rattle.gw_rules.specs.declared.operation.Operation.TheVariants as operations
+use Rattle.gw_script.specs.Event.{Event}
+use Rattle.gw_core.specs.Drops.{drop_at}
+use Rattle.gw_core.specs.declared.drops.DropReason.{DropReason}
+use Rattle.gw_core.specs.declared.drops.DropReason.TheVariants.{Malformed, OwnNetwork, NoPeer}
+use Rattle.gw_core.specs.Effects.{effects_at}
+use Rattle.gw_core.specs.History.{next}
+use Rattle.gw_core.specs.State.{State}
+use Rattle.gw_turns.specs.declared.tally.Tally.{Tally}
+
+abbrev pub is_for : ℕ → Denial → Bool
+is_for operation d = option_map_or (λ number. number == operation) d.ask.operation false
+
+-- an ask for this operation is among those that are denied
+abbrev pub denies : Operation → List Denial → Bool
+denies operation denials = list_any (is_for (operation_number operation)) denials
+
+abbrev pub is_malformed : Option DropReason → Bool
+is_malformed (Some Malformed) = true
+is_malformed _ = false
+
+abbrev pub is_own_network : Option DropReason → Bool
+is_own_network (Some OwnNetwork) = true
+is_own_network _ = false
+
+abbrev pub is_no_peer : Option DropReason → Bool
+is_no_peer (Some NoPeer) = true
+is_no_peer _ = false
+
+abbrev pub number_if : Bool → ℕ
+number_if is = if is then 1 else 0
+
+-- the tally of one datagram, by why it is dropped and what is denied of it
+abbrev pub tally_of : Option DropReason → List Denial → Tally
+tally_of drop denials = record {
+  enter = number_if (denies operations.Enter denials);
+  claim = number_if (denies operations.Claim denials);
+  malformed = number_if (is_malformed drop);
+  own_network = number_if (is_own_network drop);
+  no_peer = number_if (is_no_peer drop);
+}
+
+abbrev pub no_tally : Tally
+no_tally = record { enter = 0; claim = 0; malformed = 0; own_network = 0; no_peer = 0 }
+
+-- a tally with another one
+abbrev pub with_tally : Tally → Tally → Tally
+with_tally a b = record {
+  enter = a.enter + b.enter;
+  claim = a.claim + b.claim;
+  malformed = a.malformed + b.malformed;
+  own_network = a.own_network + b.own_network;
+  no_peer = a.no_peer + b.no_peer;
+}
+
+-- the tally of an event in this state
+unfoldable pub tally_at : State → Event → Tally
+tally_at w e = tally_of (drop_at w e) (effects_at w e).denials
+
+-- the tally after these events, which are taken from this state on
+unfoldable pub tally_from : State → Tally → List Event → Tally
+tally_from w tally [] = tally
+tally_from w tally (e ∷ events) = tally_from (next w e) (with_tally tally (tally_at w e)) events
+
+-- each count is at most so much
+pub record IsBelow (most : ℕ) (tally : Tally) : Type 0 where
+  pub enter : tally.enter ≤ most
+  pub claim : tally.claim ≤ most
+  pub malformed : tally.malformed ≤ most
+  pub own_network : tally.own_network ≤ most
+  pub no_peer : tally.no_peer ≤ most

@@ -1,0 +1,224 @@
+//! What keeps the state of a gateway in a store.
+
+ghost use Rattle.std.specs.Prelude.{◌≡◌, ◌⊎◌, OnOk, OnErr, Err, false};
+ghost use Rattle.gw_core.specs.Resumed.{saved_of};
+ghost use Rattle.gw_state_text.specs.Text.{state_text};
+ghost use Rattle.gw_turns.specs.Keeping.{HasPassed, IsHeld, IsTried, KeepsAtTick, KeepsChanged, Tries, failing_of, is_due, is_kept, nothing_kept, one_more};
+ghost use Rattle.gw_wire.specs.Store.{Holds};
+
+use crate::alike::{Part, is_same};
+use gw_core::{AllAsked, Gateway, Guard, Taken};
+use gw_state::{Origin, Saved};
+use gw_state_text::put_state;
+use gw_wire::{Store, StoreFault};
+use std::alloc::Global;
+use std::marker::Model;
+
+/// After how many ticks a state is kept again.
+const KEPT_TICKS: u64 = 10;
+
+/// Keeps the state of a gateway in a store. As a guard it keeps the state after each event that lasts before
+/// anything of it is sent, unless what lasts is kept already; and doesn't let it be answered if that
+/// fails. Contracts see the store, what was configured, what the store holds the text of, or why the last
+/// try failed, and how many tries failed.
+pub struct Keeper<S: Store + Drop> {
+    store: S,
+    origin: Origin,
+    text: Vec<u8>,
+    kept: Result<Saved, StoreFault>,
+    unkept: u64,
+}
+
+// By hand: a derived one is proved part by part wherever one is dropped (docs/GATE.md).
+impl<S: Store + Drop> Drop for Keeper<S> {
+    fn drop(self) {
+        let Keeper {
+            store: _,
+            origin: _,
+            text: _,
+            kept: _,
+            unkept: _,
+        } = self;
+    }
+}
+
+impl<S: Store + Drop> Model for Keeper<S> {
+    ghost use Rattle.gw_turns.specs.Keeping.{IsHeld, Keeping};
+
+    ghost Value = { Keeping S };
+
+    ghost view = { λ k. record { store = k.store; origin = k.origin; kept = k.kept; unkept = k.unkept } };
+
+    ghost invariant = { λ k. IsHeld (S.held k.store) k.kept };
+}
+
+/// Puts the text of a state into a store. `Memory` if a growth was refused; the store then wasn't asked.
+fn put<S: Store>(store: &mut S, text: &mut Vec<u8>, saved: &Saved) -> Result<(), StoreFault>
+    ensures ok { OnOk result (Holds (S.held store.new) (state_text saved.now)) }
+    ensures err { OnErr result ((S.held store.new ≡ S.held store.old) ⊎ Holds (S.held store.new) (state_text saved.now)) }
+{
+    text.clear();
+    match put_state(saved, text) {
+        Ok(()) => store.replace(text),
+        Err(_) => Err(StoreFault::Memory),
+    }
+}
+
+/// A count and one more, unless it would pass its end.
+fn one_more(count: u64) -> u64
+    ensures { result ≡ one_more count }
+{
+    if count < u64::MAX { count + 1 } else { count }
+}
+
+impl<S: Store + Drop> Keeper<S> {
+    /// Keeps the state of a gateway in this store, and does so at once. The origin is that of the gateway's
+    /// configuration ([`Origin::of`]). If that fails, it is [failing](Keeper::failing) then.
+    pub fn begin(alloc: Global, store: S, origin: Origin, gateway: &Gateway) -> Self
+        ensures { IsTried S.held (nothing_kept store origin) gateway.now result }
+    {
+        let mut keeper = Keeper {
+            store,
+            origin,
+            text: Vec::new(alloc),
+            kept: Err(StoreFault::Memory),
+            unkept: 0,
+        };
+        keeper.keep_now(alloc, gateway);
+        keeper
+    }
+
+    /// Keeps the state at a tick, if the last try failed, or the text is that of a state ten ticks ago or
+    /// more; unless it differs only in its ticks.
+    pub fn keep_at_tick(&mut self, alloc: Global, gateway: &Gateway)
+        ensures { KeepsAtTick S.held self.old gateway.now self.new }
+    {
+        if self.is_due(gateway) {
+            self.keep_changed(alloc, gateway, Part::AllButTicks);
+        }
+    }
+
+    /// Goes on with another gateway, of another configuration, and keeps its state at once.
+    pub fn adopt(&mut self, alloc: Global, origin: Origin, gateway: &Gateway)
+        ensures { IsTried S.held (record self.old { origin = origin }) gateway.now self.new }
+    {
+        self.origin = origin;
+        self.keep_now(alloc, gateway);
+    }
+
+    /// Why the last try failed, if it did.
+    pub fn failing(&self) -> Option<StoreFault>
+        ensures { result ≡ failing_of self.now.kept }
+    {
+        match &self.kept {
+            Ok(_) => None,
+            Err(fault) => Some(*fault),
+        }
+    }
+
+    /// How many tries failed so far. It stays at 2^64 - 1.
+    pub fn unkept(&self) -> u64
+        ensures { result ≡ self.now.unkept }
+    {
+        self.unkept
+    }
+
+    /// The store, which holds the text of what is kept.
+    pub fn store(&self) -> &S
+        ensures store { result.now ≡ self.now.store }
+        ensures held { IsHeld (S.held self.now.store) self.now.kept }
+    {
+        &self.store
+    }
+
+    /// Whether a text is due at a tick.
+    fn is_due(&self, gateway: &Gateway) -> bool
+        ensures { result ≡ is_due self.now.kept gateway.now.ticks }
+    {
+        match &self.kept {
+            Ok(kept) => kept.counts().ticks + KEPT_TICKS <= gateway.counts().ticks,
+            Err(_) => true,
+        }
+    }
+
+    /// Whether this of a state is kept.
+    fn is_kept(&self, part: Part, saved: &Saved) -> bool
+        ensures { result ≡ is_kept part self.now.kept saved.now }
+    {
+        match &self.kept {
+            Ok(kept) => is_same(part, kept, saved),
+            Err(_) => false,
+        }
+    }
+
+    /// Counts a try for which memory was refused.
+    fn fail(&mut self)
+        ensures { self.new ≡ record self.old { kept = Err StoreFault.Memory; unkept = one_more self.old.unkept } }
+    {
+        self.kept = Err(StoreFault::Memory);
+        self.unkept = one_more(self.unkept);
+    }
+
+    /// Tries to keep a state, and says whether it is kept.
+    fn keep(&mut self, saved: Saved) -> bool
+        ensures { Tries S.held self.old saved self.new result }
+    {
+        match put(&mut self.store, &mut self.text, &saved) {
+            Ok(()) => {
+                self.kept = Ok(saved);
+                true
+            }
+            Err(fault) => {
+                self.kept = Err(fault);
+                self.unkept = one_more(self.unkept);
+                false
+            }
+        }
+    }
+
+    /// Tries to keep the state of a gateway, and says whether it is kept.
+    fn keep_now(&mut self, alloc: Global, gateway: &Gateway) -> bool
+        ensures { Tries S.held self.old (saved_of self.old.origin gateway.now) self.new result }
+    {
+        match gateway.save(alloc, &self.origin) {
+            Ok(saved) => self.keep(saved),
+            Err(_) => {
+                self.fail();
+                false
+            }
+        }
+    }
+
+    /// Tries to keep the state of a gateway unless this of it is kept, and says whether it is kept.
+    fn keep_changed(&mut self, alloc: Global, gateway: &Gateway, part: Part) -> bool
+        ensures { KeepsChanged part S.held self.old (saved_of self.old.origin gateway.now) self.new result }
+    {
+        match gateway.save(alloc, &self.origin) {
+            Ok(saved) => self.is_kept(part, &saved) || self.keep(saved),
+            Err(_) => {
+                self.fail();
+                false
+            }
+        }
+    }
+}
+
+impl<S: Store + Drop> Guard for Keeper<S> {
+    ghost Passes = { HasPassed S.held };
+
+    ghost watching = { λ _. false };
+
+    fn watches(&self) -> bool {
+        false
+    }
+
+    fn pass(
+        &mut self,
+        alloc: Global,
+        gateway: &Gateway,
+        taken: &Taken,
+        _asked: Option<&AllAsked>,
+    ) -> bool {
+        !taken.lasts || self.keep_changed(alloc, gateway, Part::Lasting)
+    }
+}

@@ -1,0 +1,201 @@
+//! A report of serving: what was done so far and what the tables hold, and its line.
+
+ghost use Rattle.std.specs.Prelude.{◌≡◌, ◌+◌, ◌≤◌, ◌++◌, decimal, length, IsOk, OnOk};
+ghost use Rattle.std.specs.Io.KnownBytes.{Appends};
+ghost use Rattle.gw_addr.specs.declared.TheConstants.{MAX_PORTS};
+ghost use Rattle.gw_tables.specs.bdt_fdt.Peers.{peers};
+ghost use Rattle.gw_tables.specs.declared.bdt_fdt.bdt.TheConstants.{MAX_ENTRIES};
+ghost use Rattle.gw_turns.specs.ReportTurn.{HasGoneOn};
+ghost use Rattle.gw_turns.specs.Reports.{calls_text, drops_text, events_text, field, peer_count, refusals_text, registrations, report_line, report_of, tables_text, tally_text};
+
+use crate::serving::Served;
+use crate::tally::Tally;
+use gw_core::{Counts, Gateway};
+use gw_relay::PortState;
+use gw_script::{OctetSink, WriteFailed, write_whole};
+use itoa::Buffer;
+
+/// What is reported of serving at a moment. What was done is counted from its beginning on.
+#[derive(Clone, Copy)]
+pub struct Report {
+    /// How many seconds, which are the ticks that were taken.
+    pub seconds: u64,
+    /// How many datagrams the gateway took.
+    pub datagrams: u64,
+    /// How many events weren't taken, since a growth was refused.
+    pub memory_drops: u64,
+    /// How many asks were denied.
+    pub denials: u64,
+    /// How many sends succeeded.
+    pub sends: u128,
+    /// How many sends failed.
+    pub send_failures: u128,
+    /// How many receives failed.
+    pub receive_failures: u64,
+    /// How many foreign devices are registered, at all ports.
+    pub registrations: u64,
+    /// How many peers all ports have.
+    pub peers: u64,
+    /// How many networks have a learned route.
+    pub learned_routes: u64,
+    /// How many datagrams weren't passed on.
+    pub tally: Tally,
+}
+
+/// How many foreign devices are registered at the ports.
+fn registrations(ports: &[PortState]) -> u64
+    requires few { length ports.now ≤ MAX_PORTS }
+    ensures { result ≡ registrations ports.now }
+{
+    let mut count = 0;
+    for state in ports {
+        count += state.fdt.count() as u64;
+    }
+    count
+}
+
+/// How many peers a port has.
+fn peers_of(state: &PortState) -> usize
+    ensures count { result ≡ length (peers state.now.port.address state.now.bdt) }
+    ensures few { result ≤ MAX_ENTRIES }
+{
+    let own = state.port.address;
+    let entries = state.bdt.entries();
+    entries.iter().filter(|entry| own != entry.address).count()
+}
+
+/// How many peers the ports have.
+fn peer_count(ports: &[PortState]) -> u64
+    requires few { length ports.now ≤ MAX_PORTS }
+    ensures { result ≡ peer_count ports.now }
+{
+    let mut count = 0;
+    for state in ports {
+        count += peers_of(state) as u64;
+    }
+    count
+}
+
+/// What is reported of a gateway that began with these counts, when so much was done.
+pub fn report_of(start: Counts, gateway: &Gateway, served: &Served, tally: Tally) -> Report
+    requires since { HasGoneOn start gateway.now served.now }
+    ensures { result ≡ report_of start gateway.now served.now tally }
+{
+    let counts = gateway.counts();
+    let relay = gateway.relay();
+    let seconds = counts.ticks - start.ticks;
+    Report {
+        seconds,
+        datagrams: served.taken - seconds,
+        memory_drops: served.memory_drops,
+        denials: counts.denials - start.denials,
+        sends: served.sends,
+        send_failures: served.send_failures,
+        receive_failures: served.recv_failures,
+        registrations: registrations(relay.ports()),
+        peers: peer_count(relay.ports()),
+        learned_routes: relay.routes().learned_count() as u64,
+        tally,
+    }
+}
+
+/// Writes a field: its name, as written before the number, and the number.
+fn write_field<S: OctetSink>(name: &str, number: u128, sink: &mut S) -> Result<(), WriteFailed>
+    ensures ok { OnOk result (Appends (S.held sink.old) (S.held sink.new) (field name.now number)) }
+    ensures sure { S.NeverFails sink.old → IsOk result }
+    ensures lasts { S.NeverFails sink.old → S.NeverFails sink.new }
+{
+    write_whole(sink, name.as_bytes())?;
+    write_whole(sink, Buffer::new().format(number).as_bytes())
+}
+
+/// Writes in how many seconds how many datagrams were taken, events dropped and asks denied.
+fn write_events<S: OctetSink>(report: &Report, sink: &mut S) -> Result<(), WriteFailed>
+    ensures ok { OnOk result
+        (Appends (S.held sink.old) (S.held sink.new) (events_text report.now)) }
+    ensures sure { S.NeverFails sink.old → IsOk result }
+    ensures lasts { S.NeverFails sink.old → S.NeverFails sink.new }
+{
+    write_field("stats seconds=", report.seconds as u128, sink)?;
+    write_field(" datagrams=", report.datagrams as u128, sink)?;
+    write_field(" memory_drops=", report.memory_drops as u128, sink)?;
+    write_field(" denials=", report.denials as u128, sink)
+}
+
+/// Writes how many sends succeeded and failed, and how many receives failed.
+fn write_calls<S: OctetSink>(report: &Report, sink: &mut S) -> Result<(), WriteFailed>
+    ensures ok { OnOk result (Appends (S.held sink.old) (S.held sink.new) (calls_text report.now)) }
+    ensures sure { S.NeverFails sink.old → IsOk result }
+    ensures lasts { S.NeverFails sink.old → S.NeverFails sink.new }
+{
+    write_field(" sends=", report.sends, sink)?;
+    write_field(" send_failures=", report.send_failures, sink)?;
+    write_field(" receive_failures=", report.receive_failures as u128, sink)
+}
+
+/// Writes what the tables hold.
+fn write_tables<S: OctetSink>(report: &Report, sink: &mut S) -> Result<(), WriteFailed>
+    ensures ok { OnOk result
+        (Appends (S.held sink.old) (S.held sink.new) (tables_text report.now)) }
+    ensures sure { S.NeverFails sink.old → IsOk result }
+    ensures lasts { S.NeverFails sink.old → S.NeverFails sink.new }
+{
+    write_field(" registrations=", report.registrations as u128, sink)?;
+    write_field(" peers=", report.peers as u128, sink)?;
+    write_field(" learned_routes=", report.learned_routes as u128, sink)
+}
+
+/// Writes how many datagrams the policy kept out.
+fn write_refusals<S: OctetSink>(tally: &Tally, sink: &mut S) -> Result<(), WriteFailed>
+    ensures ok { OnOk result
+        (Appends (S.held sink.old) (S.held sink.new) (refusals_text tally.now)) }
+    ensures sure { S.NeverFails sink.old → IsOk result }
+    ensures lasts { S.NeverFails sink.old → S.NeverFails sink.new }
+{
+    write_field(" enter_refusals=", tally.enter as u128, sink)?;
+    write_field(" claim_refusals=", tally.claim as u128, sink)
+}
+
+/// Writes how many datagrams were dropped before the policy was asked.
+fn write_drops<S: OctetSink>(tally: &Tally, sink: &mut S) -> Result<(), WriteFailed>
+    ensures ok { OnOk result (Appends (S.held sink.old) (S.held sink.new) (drops_text tally.now)) }
+    ensures sure { S.NeverFails sink.old → IsOk result }
+    ensures lasts { S.NeverFails sink.old → S.NeverFails sink.new }
+{
+    write_field(" malformed=", tally.malformed as u128, sink)?;
+    write_field(" own_network=", tally.own_network as u128, sink)?;
+    write_field(" no_peer=", tally.no_peer as u128, sink)
+}
+
+/// Writes how many datagrams weren't passed on, and ends the line.
+fn write_tally<S: OctetSink>(tally: &Tally, sink: &mut S) -> Result<(), WriteFailed>
+    ensures ok { OnOk result (Appends (S.held sink.old) (S.held sink.new) (tally_text tally.now)) }
+    ensures sure { S.NeverFails sink.old → IsOk result }
+    ensures lasts { S.NeverFails sink.old → S.NeverFails sink.new }
+{
+    write_refusals(tally, sink)?;
+    write_drops(tally, sink)?;
+    write_whole(sink, b"\n")
+}
+
+/// Writes the line of a report.
+fn write_report<S: OctetSink>(report: &Report, sink: &mut S) -> Result<(), WriteFailed>
+    ensures ok { OnOk result
+        (Appends (S.held sink.old) (S.held sink.new) (report_line report.now)) }
+    ensures sure { S.NeverFails sink.old → IsOk result }
+    ensures lasts { S.NeverFails sink.old → S.NeverFails sink.new }
+{
+    write_events(report, sink)?;
+    write_calls(report, sink)?;
+    write_tables(report, sink)?;
+    write_tally(&report.tally, sink)
+}
+
+/// Writes a report. If it can't be written it is left out, and serving goes on all the same.
+pub fn try_report<S: OctetSink>(report: &Report, sink: &mut S)
+    ensures recorded { S.NeverFails sink.old →
+        Appends (S.held sink.old) (S.held sink.new) (report_line report.now) }
+    ensures lasts { S.NeverFails sink.old → S.NeverFails sink.new }
+{
+    let _ = write_report(report, sink);
+}

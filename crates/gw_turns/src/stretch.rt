@@ -1,0 +1,80 @@
+//! Serving by stretches, each until a tick was taken.
+
+ghost use Rattle.std.specs.Prelude.{◌≡◌, ℕ, ◌+◌, ◌≤◌, IsErrOf};
+ghost use Rattle.gw_turns.specs.Serve.{scene};
+ghost use Rattle.gw_turns.specs.Stretch.{CanCount, EndsStretch, moment};
+
+use crate::serving::{ServeFault, ServeState};
+use gw_core::{Gateway, Guard};
+use gw_script::OctetSink;
+use gw_wire::Wire;
+use std::alloc::Global;
+
+/// Why a stretch of serving ended.
+#[derive(Clone, Copy)]
+pub enum Pause {
+    /// All its turns were done, and no tick was taken.
+    Turns,
+    /// A tick was taken, in its last turn.
+    Tick,
+    /// The guard didn't let the datagrams of an event go, which was taken in its last turn. Nothing of it
+    /// was sent.
+    Withheld,
+}
+
+impl ServeState {
+    /// Serves a wire as [`serve`](crate::serve) does, until a tick was taken or so many turns are done; and
+    /// asks a guard about each event that was taken and logged, before anything of it is sent. If the guard
+    /// doesn't let its datagrams go, the stretch ends. The counts go on from what they were:
+    /// `served.turns` says how many turns were done.
+    ///
+    /// # Errors
+    ///
+    /// Those of [`serve`](crate::serve). The guard wasn't asked about the last event.
+    pub fn serve_to_tick<W: Wire, L: OctetSink, G: Guard>(
+        &mut self,
+        alloc: Global,
+        gateway: &mut Gateway,
+        wire: &mut W,
+        log: &mut L,
+        guard: &mut G,
+        turns: u64,
+    ) -> Result<Pause, ServeFault>
+        requires { CanCount self.old.served self.old.tally (W.failure_count wire.old) turns }
+        // What there is then, as some list of turns leads to.
+        ensures end { let before = moment
+            (scene gateway.old (L.held log.old) (W.calls wire.old)) guard.old self.old.served self.old.tally in
+            let after = moment
+            (scene gateway.new (L.held log.new) (W.calls wire.new)) guard.new self.new.served self.new.tally in
+            EndsStretch G.Passes turns before result after }
+        // As many turns as weren't done can still be counted.
+        ensures rest { (rest : ℕ) → self.new.served.turns + rest ≤ self.old.served.turns + turns →
+            CanCount self.new.served self.new.tally (W.failure_count wire.new) rest }
+        ensures least { self.old.served.turns ≤ self.new.served.turns }
+        ensures most { self.new.served.turns ≤ self.old.served.turns + turns }
+        // The wire's own count of failures rose by those that are counted.
+        ensures failures { let was = self.old.served in
+            let is = self.new.served in
+            W.failure_count wire.new + was.recv_failures + was.send_failures
+            ≡ W.failure_count wire.old + is.recv_failures + is.send_failures }
+        ensures ports { W.port_count wire.new ≡ W.port_count wire.old }
+        // A log that never fails doesn't end it.
+        ensures sure_log { L.NeverFails log.old → ¬ (IsErrOf result ServeFault.Log) }
+        ensures lasting_log { L.NeverFails log.old → L.NeverFails log.new }
+    {
+        for _ in 0..turns {
+            let ticks = gateway.counts().ticks;
+            let is_passed = match self.take_guarded_turn(alloc, gateway, wire, log, guard) {
+                Ok(is_passed) => is_passed,
+                Err(fault) => return Err(fault),
+            };
+            if !is_passed {
+                return Ok(Pause::Withheld);
+            }
+            if ticks < gateway.counts().ticks {
+                return Ok(Pause::Tick);
+            }
+        }
+        Ok(Pause::Turns)
+    }
+}

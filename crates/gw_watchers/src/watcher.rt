@@ -1,0 +1,152 @@
+//! What watches the asks of a gateway, and withholds nothing.
+
+ghost use Rattle.std.specs.Prelude.{◌≡◌, ◌+◌, ◌-◌, option_map, true};
+ghost use Rattle.gw_core.specs.declared.asked.Asked.{Asked};
+ghost use Rattle.gw_watchers.specs.Watching.{HasWatched, Missed, Watches, Watching, is_watching, with_marks};
+
+use crate::audit::Marks;
+use crate::beside::Beside;
+use gw_core::{AllAsked, Asked, Gateway, Guard, Taken};
+use gw_decisions::count_asked;
+use gw_decisions::tally::Tally;
+use gw_rule_index::Policy;
+use gw_script::OctetSink;
+use std::alloc::Global;
+use std::marker::Model;
+
+/// Watches what a gateway is asked: a policy on trial, an audit, and how often each rule decides, each if it is wanted.
+/// As a guard it withholds nothing.
+pub struct Watcher<T, A> {
+    trial: Option<Beside<Policy, T>>,
+    audit: Option<Beside<Marks, A>>,
+    counts: Option<Tally>,
+    unseen: u64,
+    text: Vec<u8>,
+}
+
+// By hand: a derived one is proved part by part wherever one is dropped (docs/GATE.md).
+impl<T: Drop, A: Drop> Drop for Watcher<T, A> {
+    fn drop(self) {
+        let Watcher {
+            trial: _,
+            audit: _,
+            counts: _,
+            unseen: _,
+            text: _,
+        } = self;
+    }
+}
+
+impl<T, A> Model for Watcher<T, A> {
+    ghost use Rattle.gw_watchers.specs.Watching.{Watching};
+
+    ghost Value = { Watching T A };
+
+    ghost view = { λ w. record { trial = w.trial; audit = w.audit; counts = w.counts; unseen = w.unseen } };
+}
+
+impl<T: OctetSink + Drop, A: OctetSink + Drop> Watcher<T, A> {
+    /// Watches for these: each only if there is one. It takes no memory.
+    pub fn new(
+        alloc: Global,
+        trial: Option<Beside<Policy, T>>,
+        audit: Option<Beside<Marks, A>>,
+        counts: Option<Tally>,
+    ) -> Self
+        ensures { result ≡ record { trial = trial; audit = audit; counts = counts; unseen = 0 } }
+    {
+        Watcher {
+            trial,
+            audit,
+            counts,
+            unseen: 0,
+            text: Vec::new(alloc),
+        }
+    }
+
+    /// The policy on trial, with its log.
+    pub fn trial(&self) -> &Option<Beside<Policy, T>>
+        ensures { result.now ≡ self.now.trial }
+    {
+        &self.trial
+    }
+
+    /// The audit.
+    pub fn audit(&self) -> &Option<Beside<Marks, A>>
+        ensures { result.now ≡ self.now.audit }
+    {
+        &self.audit
+    }
+
+    /// How often each rule decided.
+    pub fn counts(&self) -> &Option<Tally>
+        ensures { result.now ≡ self.now.counts }
+    {
+        &self.counts
+    }
+
+    /// How many events weren't watched, since there was no memory for what they asked. It stays at 2^64 - 1.
+    pub fn unseen(&self) -> u64
+        ensures { result ≡ self.now.unseen }
+    {
+        self.unseen
+    }
+
+    /// Goes on by other rules: these of them are marked, and these are their counts so far.
+    pub fn go_on(&mut self, marks: Marks, counts: Option<Tally>)
+        ensures { self.new ≡ record self.old { audit = option_map (with_marks marks) self.old.audit; counts = counts } }
+    {
+        if let Some(audit) = &mut self.audit {
+            audit.choice = marks;
+        }
+        self.counts = counts;
+    }
+
+    /// Watches what an event asked.
+    fn watch(&mut self, gateway: &Gateway, asked: &[Asked])
+        ensures { Watches T.held A.held self.old gateway.now asked.now self.new }
+    {
+        if let Some(trial) = &mut self.trial {
+            trial.record_asks(gateway, asked, &mut self.text);
+        }
+        if let Some(audit) = &mut self.audit {
+            audit.record_asks(gateway, asked, &mut self.text);
+        }
+        if let Some(counts) = &mut self.counts {
+            count_asked(counts, asked);
+        }
+    }
+
+    /// Counts an event that isn't seen, if something is watched.
+    fn miss(&mut self)
+        ensures { Missed self.old self.new }
+    {
+        if self.watches() {
+            self.unseen = self.unseen.saturating_add(1);
+        }
+    }
+}
+
+impl<T: OctetSink + Drop, A: OctetSink + Drop> Guard for Watcher<T, A> {
+    ghost Passes = { HasWatched T.held A.held };
+
+    ghost watching = { is_watching };
+
+    fn watches(&self) -> bool {
+        self.trial.is_some() || self.audit.is_some() || self.counts.is_some()
+    }
+
+    fn pass(
+        &mut self,
+        _alloc: Global,
+        gateway: &Gateway,
+        _taken: &Taken,
+        asked: Option<&AllAsked>,
+    ) -> bool {
+        match asked {
+            Some(asked) => self.watch(gateway, asked.as_slice()),
+            None => self.miss(),
+        }
+        true
+    }
+}

@@ -1,0 +1,102 @@
+//! The lines of recorded asks, one after the other.
+
+ghost use Rattle.std.specs.Prelude.{◌≡◌, ◌++◌, ◌∷◌, ◌<◌, ◌-◌, ◌^◌, [], OnOk};
+ghost use Rattle.gw_audit.specs.Line.{line_text};
+ghost use Rattle.gw_watchers.specs.Records.{record_of, records};
+ghost use Rattle.gw_watchers.specs.Beside.{IsPut, start};
+
+use crate::choice::Choice;
+use gw_audit::line;
+use gw_core::{Asked, Denial};
+use gw_rules::RuleList;
+use std::alloc::AllocError;
+
+/// How asks are recorded: which, under whose names, and at which tick.
+#[derive(Drop)]
+pub(crate) struct Writing<'a, C> {
+    /// Which asks are recorded.
+    pub choice: &'a C,
+    /// The rules in force.
+    pub rules: &'a RuleList,
+    /// How many ticks there were.
+    pub tick: u64,
+}
+
+/// What came of recording some asks.
+#[derive(Clone, Copy)]
+pub(crate) struct Put {
+    /// The number of the last record.
+    pub last: u64,
+    /// How many records there were.
+    pub count: u64,
+    /// Whether all their lines were made. If not, a growth was refused.
+    pub is_whole: bool,
+}
+
+impl<C: Choice> Writing<'_, C> {
+    /// Appends the line of a record. An `Err` only if a growth was refused; a part of it may then be there.
+    fn put(
+        &self,
+        number: u64,
+        asked: &Asked,
+        by: Option<u16>,
+        text: &mut Vec<u8>,
+    ) -> Result<(), AllocError>
+        ensures { let rules = C.naming self.now.choice.now self.now.rules.now in
+            OnOk result (text.new.items ≡ text.old.items
+            ++ (C.front ++ line_text (record_of rules number self.now.tick asked.now by))) }
+    {
+        self.choice.put_front(text)?;
+        let denial = Denial {
+            number,
+            tick: self.tick,
+            port: asked.port,
+            source: asked.source,
+            ask: asked.verdict.ask,
+            rule: self.choice.name(self.rules, by),
+        };
+        line(&denial, text)
+    }
+
+    /// Appends the line of an ask, if it is chosen.
+    fn put_next(&self, so_far: Put, asked: &Asked, text: &mut Vec<u8>) -> Put
+        requires { so_far.count < 2 ^ 64 - 1 }
+        ensures { let rules = C.naming self.now.choice.now self.now.rules.now in
+            let due = records (C.chosen self.now.choice.now) rules so_far.last self.now.tick (asked.now ∷ []) in
+            IsPut C.front due so_far text.old.items text.new.items result }
+    {
+        let Some(by) = self.choice.chosen(asked) else {
+            return so_far;
+        };
+        let mut next = Put {
+            last: so_far.last.saturating_add(1),
+            count: so_far.count + 1,
+            is_whole: false,
+        };
+        if so_far.is_whole {
+            match self.put(next.last, asked, by, text) {
+                Ok(()) => next.is_whole = true,
+                Err(_) => {}
+            }
+        }
+        next
+    }
+
+    /// Appends the lines of the asks that are chosen, numbered on from the number of the last record. If a growth is
+    /// refused, a part of them may be there.
+    pub(crate) fn put_all(&self, last: u64, asked: &[Asked], text: &mut Vec<u8>) -> Put
+        ensures { let rules = C.naming self.now.choice.now self.now.rules.now in
+            let due = records (C.chosen self.now.choice.now) rules last self.now.tick asked.now in
+            IsPut C.front due (start last) text.old.items text.new.items result }
+    {
+        let mut put = Put {
+            last,
+            count: 0,
+            is_whole: true,
+        };
+        for one in asked {
+            put = self.put_next(put, one, text);
+        }
+        put
+    }
+}
