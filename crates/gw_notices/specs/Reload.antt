@@ -54,7 +54,7 @@ refusal_line f = codes "reload refused: " ++ refusal_words f ++ 10 ∷ []
 abbrev pub located_line : ConfigFault → (place : List ℕ) → List ℕ
 located_line f place = codes "reload refused: configuration: " ++ name_of f ++ codes ": " ++ place ++ 10 ∷ []
 
--- The line of what was read and isn't taken over: of a fault of the text with its place, as `check --explain` says it, unless
+-- The line of what was read and isn't taken over: of a fault of the text with its place, as `bacgwctl explain` says it, unless
 -- memory runs out for that.
 abbrev pub IsRefusalLine : Result (Option (List ℕ)) ReadFailure → ReloadFault → List ℕ → Type 0
 IsRefusalLine (Ok (Some text)) (fault.Configuration f) line =

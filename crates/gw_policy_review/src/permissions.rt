@@ -1,4 +1,4 @@
-//! Who may do what under a configuration: the lines that `check --explain` has of it.
+//! Who may do what under a configuration: the lines that `bacgwctl explain` has of it.
 mod grants;
 pub mod laws;
 mod networks;

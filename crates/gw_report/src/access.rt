@@ -1,4 +1,4 @@
-//! Who may do what: a table by network and operation, and the lines that `check --explain` has.
+//! Who may do what: a table by network and operation, and the lines that `bacgwctl explain` has.
 
 use crate::page::{Element, Page};
 use crate::passing::{Extent, extent_of};

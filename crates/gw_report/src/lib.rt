@@ -1,4 +1,4 @@
-//! A page that shows a configuration and what its policy denied: `bacgw report`.
+//! A page that shows a configuration and what its policy denied: `bacgwctl report`.
 #![tactic(auto)]
 
 mod access;

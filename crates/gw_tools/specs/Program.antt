@@ -75,7 +75,7 @@ fault_of_migration unmigrated.Already = fault.Migration migration.Already
 fault_of_migration unmigrated.Unlike = fault.Migration migration.Unlike
 fault_of_migration unmigrated.Memory = fault.Memory
 
--- What `check --migrate` leaves of a configuration: a text that says it in format 3, of which a failed write may leave
+-- What `bacgwctl migrate` leaves of a configuration: a text that says it in format 3, of which a failed write may leave
 -- a front, and nothing at any other fault.
 abbrev pub LeavesInFormatThree : Option (List ℕ) → Option (List ℕ) → Configuration → Result (Unit {0}) Fault → Type 0
 LeavesInFormatThree held holds c (Ok done) = (text : List ℕ) × Migrates c text × Appends held holds text

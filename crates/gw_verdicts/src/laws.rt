@@ -33,7 +33,7 @@ pub fn lines()
     ensures { WhyNamesTheRule }
 {}
 
-/// What `bacgw compare` says is true of every event of a gateway of the old or of the new configuration,
+/// What `bacgwctl compare` says is true of every event of a gateway of the old or of the new configuration,
 /// whatever came before: an ask that it raises is decided otherwise exactly if it lies in a region that was
 /// found, if the comparison is finished; and as the line of that region says.
 pub fn comparisons()

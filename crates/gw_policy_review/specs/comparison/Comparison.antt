@@ -1,4 +1,4 @@
--- What `bacgw compare` says of two configurations.
+-- What `bacgwctl compare` says of two configurations.
 use Rattle.std.specs.Prelude.{◌≡◌, ℕ, ◌==◌, if◌then◌else◌, List, [], ◌∷◌, ◌++◌, length, codes, decimal}
 use Rattle.std.specs.List.Sorted.{IsNonDecreasingBy}
 use Rattle.gw_configuration.specs.Configuration.{Configuration}

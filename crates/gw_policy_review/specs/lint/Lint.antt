@@ -1,4 +1,4 @@
--- What `check --lint` says of a configuration.
+-- What `bacgwctl lint` says of a configuration.
 use Rattle.std.specs.Prelude.{◌≡◌, ℕ, Bool, List, ◌++◌}
 use Rattle.gw_configuration.specs.Configuration.{Configuration}
 use Rattle.gw_policy_review.specs.lint.Finding.{AreTrue}

@@ -1,4 +1,4 @@
--- The line that `check --lint` has for a rule.
+-- The line that `bacgwctl lint` has for a rule.
 use Rattle.std.specs.Prelude.{ℕ, ◌-◌, Bool, true, not, nat_lt, if◌then◌else◌, List, [], ◌∷◌, ◌++◌, drop, slice_get}
 use Rattle.std.specs.Prelude.{Option, codes, decimal}
 use Rattle.std.specs.Int.{w64, to_be_bytes}

@@ -1,4 +1,4 @@
--- Who may do what under a configuration: the lines that `check --explain` has of it. In format 3 they are about its ports, its
+-- Who may do what under a configuration: the lines that `bacgwctl explain` has of it. In format 3 they are about its ports, its
 -- networks, what rules let others do, its objects and its rules' notes; in formats 1 and 2 about its objects alone.
 use Rattle.std.specs.Prelude.{ℕ, ◌-◌, ◌==◌, Bool, if◌then◌else◌, List, [], ◌++◌, length, map, take, slice_get}
 use Rattle.std.specs.Prelude.{codes, decimal}

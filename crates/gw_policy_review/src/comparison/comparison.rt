@@ -1,4 +1,4 @@
-//! What `bacgw compare` says of two configurations.
+//! What `bacgwctl compare` says of two configurations.
 ghost use Rattle.std.specs.Prelude.{◌≡◌, ◌++◌, ◌∷◌, ◌==◌, [], codes, decimal, if◌then◌else◌, length, IfOk, List, OnErr, OnOk};
 ghost use Rattle.std.specs.List.Sorted.{IsNonDecreasingBy, IsPermutation};
 ghost use Rattle.gw_policy_review.specs.comparison.Asks.{asks_of};

@@ -1,4 +1,4 @@
-//! What `check --lint` says of a configuration.
+//! What `bacgwctl lint` says of a configuration.
 ghost use Rattle.std.specs.Prelude.{◌≡◌, IfOk, OnErr, OnOk};
 ghost use Rattle.gw_policy_review.specs.lint.Lint.{AppendsLint, IsLint};
 
