@@ -1,4 +1,4 @@
-"""page.py FILE: what a reader of HTML finds in a page of `bacgw report`: whether it is well formed, its elements and attributes,
+"""page.py FILE: what a reader of HTML finds in a page of `bacgwctl report`: whether it is well formed, its elements and attributes,
 and its texts, a line each."""
 
 import html.parser
