@@ -324,11 +324,14 @@ checked() {
     status=$?
 }
 
-# accepts FILE LINE: `check` says this of a file
+# accepts FILE LINE: `check` of both programs says this of a file
 accepts() {
     checked "$here/$1"
     printf '%s\n' "$2" > "$work/line"
     agrees "$1" 0 "$work/line" /dev/null
+    "$tool" check --config "$here/$1" < /dev/null > "$work/out" 2> "$work/err"
+    status=$?
+    agrees "bacgwctl check: $1" 0 "$work/line" /dev/null
 }
 accepts two_subnets.toml 'ok 2 ports 1 objects 4 rules'
 accepts workstation.toml 'ok 1 ports 1 objects 7 rules'
