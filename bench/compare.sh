@@ -1,5 +1,5 @@
 #!/usr/bin/env bash
-# What `bacgw compare` says, against a judge by brute force: random pairs of policies in each format. The judge knows the shapes of asks and
+# What `bacgwctl compare` says, against a judge by brute force: random pairs of policies in each format. The judge knows the shapes of asks and
 # the first match alone. It reads the printed lines back, and asks of each ask of the shapes (one for each way in which the ranges of the two
 # policies can hold its numbers):
 #
@@ -9,18 +9,18 @@
 #     - the last line and the exit status are right;
 #     - more than 40 lines are in groups by the rules that decide, and the line of each group counts them.
 #
-# And each example, written in format 3 by `check --migrate`, is compared with itself: no ask is decided otherwise.
+# And each example, written in format 3 by `migrate`, is compared with itself: no ask is decided otherwise.
 #
 #     bench/compare.sh           # 200 pairs
 #     bench/compare.sh 5 9       # 5 pairs, from the seed 9
 #     bench/compare.sh lists     # lists as a site has them, of 3 to 512 rules, after an edit: how many lines, and in what time
 #     bench/compare.sh lists 3   # the same, with 3 lists of each length and edit in the place of 10
 #
-# It wants python3 and the program built, as `./bacgw prove` leaves it; BACGW names another program, with its words.
+# It wants python3 and the program built, as `./bacgw prove` leaves it; BACGWCTL names another program, with its words.
 set -euo pipefail
 
 top=$(cd "$(dirname "$0")/.." && pwd)
-exec python3 - "$top" "${BACGW:-$top/crates/bacgw/out/bacgw}" "${1:-200}" "${@:2}" <<'PYTHON'
+exec python3 - "$top" "${BACGWCTL:-$top/crates/bacgwctl/out/bacgwctl}" "${1:-200}" "${@:2}" <<'PYTHON'
 import itertools
 import random
 import re
@@ -381,7 +381,7 @@ def judge_pairs(room, pairs, seed):
     print(f"{pairs} pairs of policies: {asks} asks, {lines} lines, all as the judge says")
     examples = 0
     for path in sorted((top / "examples").glob("*.toml")):
-        made = subprocess.run([*program, "check", "--config", str(path), "--migrate"], stdin=subprocess.DEVNULL, capture_output=True, text=True)
+        made = subprocess.run([*program, "migrate", "--config", str(path)], stdin=subprocess.DEVNULL, capture_output=True, text=True)
         if made.returncode:
             continue
         third = room / "third.toml"

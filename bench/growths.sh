@@ -6,7 +6,7 @@
 #
 # A library that is loaded before the program, bench/fail_alloc.c, makes the runs of a case, each a child from before `main`.
 #
-# It goes over the cases of the three programs, crates/gw_*_vectors, each in a run of its own, and over `bacgw replay` on each script of the folder; with --only
+# It goes over the cases of the four programs, crates/gw_*_vectors, each in a run of its own, and over `bacgw replay` on each script of the folder; with --only
 # over the cases of one kind alone, as `again` or `edits`. A script is played twice: by `replay`, and as a case of `again`, where each
 # datagram that found no memory is given once more. A case then comes to what it does with ample memory; or it tells that
 # there was none, in its line or after whole blocks of a script; or the program ends with status 1. Of a case of `serve` the events
@@ -60,8 +60,14 @@ WHOLE = {"script", "brief", "explained", "again", "list", "check", "texts", "run
 PASSED_BY = {"fronts", "behind", "brief", "trial"}
 
 
-# The line of the program that tells it.
-OUT_OF_MEMORY = b"bacgw: out of memory"
+# The line of each program that tells it; and the program whose runs a crate's cases are, where it isn't `bacgw`.
+OUT_OF_MEMORY = {name: name.encode() + b": out of memory" for name in ("bacgw", "bacgwctl")}
+RUN_BY = {"gw_tool_vectors": "bacgwctl"}
+# How the line of a fault begins in a case, and what is written where words are no command line.
+FAULTS = tuple(b"err %s: " % name.encode() for name in OUT_OF_MEMORY)
+BAD_WORDS = {fault + b"bad command line" for fault in FAULTS}
+# The commands that explain a fault of a configuration.
+EXPLAINING = {"check", "explain", "lint"}
 
 # What fail_alloc.c writes before the output and the errors of a run: whether a growth was refused, the status, and their lengths.
 FRAME = struct.Struct("=IiII")
@@ -98,7 +104,7 @@ def tells_it(line, right):
     return line == right or b"memory" in line.lower() or dropped is not None or is_cut(line, right)
 
 
-def is_well_answered(answer, right, told=b"err " + OUT_OF_MEMORY, at_end=(b"status 1",)):
+def is_well_answered(answer, right, told=b"err " + OUT_OF_MEMORY["bacgw"], at_end=(b"status 1",)):
     """Whether a case came to what is right, or says that there was no memory. Of a `run` that is the line `told`, and one of the statuses `at_end`."""
     status, output, errors = answer
     if answer == right:
@@ -118,7 +124,7 @@ def is_well_answered(answer, right, told=b"err " + OUT_OF_MEMORY, at_end=(b"stat
 
 def is_note(line):
     """Whether a line of a run is no fault's own: a front of it explains the fault, or how the program is called."""
-    return line.startswith((b"out ", b"err ")) and not line.startswith(b"err bacgw: ")
+    return line.startswith((b"out ", b"err ")) and not line.startswith(FAULTS)
 
 
 def is_uncounted(words, lines, wanted):
@@ -253,7 +259,7 @@ def judge_of_keeper(given):
     return judge
 
 
-def judge_of(section):
+def judge_of(section, program="bacgw"):
     """The judge of a case. A run may leave out the note on its fault, and drop the datagram that it serves; and where standard
     error takes so many octets alone, the line that tells of the memory is as long."""
     head, *others = section.split("== ")[-1].split("\ninput\n")[0].split("\n")
@@ -264,7 +270,7 @@ def judge_of(section):
     words = others[0].split("|")
     narrow = re.search(r"(?m)^errors (\d+)$", "\n".join(others))
     most = int(narrow[1]) if narrow else None
-    told = b"err " + OUT_OF_MEMORY[:most]
+    told = b"err " + OUT_OF_MEMORY[program][:most]
     counted = re.search(r"(?:^|\|)--turns\|(\d+)(?:\||$)", others[0])
     turns = int(counted[1]) if counted else None
     # `compare` ends with 2 at a fault, but before the command is read a want of memory is one of any call.
@@ -277,7 +283,7 @@ def judge_of(section):
         if answer[0] != 0 or not lines or not has_metrics(lines, wanted):
             return False
         if turns is None:
-            explains = words[0] == "check" or b"err bacgw: bad command line" in wanted
+            explains = words[0] in EXPLAINING or not BAD_WORDS.isdisjoint(wanted)
             explained = [re.sub(rb'"explanation":".*"\}', b'"explanation":null}', line) for line in wanted]
             return explains and (is_told_without_note(lines, wanted) or lines == explained) or is_uncounted(words, lines, wanted)
         return (is_served_without(turns, most, lines, wanted) or has_no_room(most, lines) or is_unreported(turns, lines, wanted)
@@ -293,7 +299,7 @@ def is_well_played(answer, right):
     if answer == right:
         return True
     is_whole = output == b"" or output.endswith(b"\nend\n") or output == b"end\n"
-    return status == 1 and errors == OUT_OF_MEMORY + b"\n" and is_whole and right[1].startswith(output)
+    return status == 1 and errors == OUT_OF_MEMORY["bacgw"] + b"\n" and is_whole and right[1].startswith(output)
 
 
 def told_of(status, errors):
@@ -358,7 +364,7 @@ cases, left_out = [], []
 for crate in vectors:
     for name, given in cases_of((crate / "stdin").read_text()):
         if only in ("", name.split(" ")[0]):
-            cases.append((name, [built(crate)], given.encode(), judge_of(given)))
+            cases.append((name, [built(crate)], given.encode(), judge_of(given, RUN_BY.get(crate.name, "bacgw"))))
 count_of_cases = len(cases)
 for script in sorted(folder.glob("*.script") if not only else []):
     config = script.with_suffix(".toml")

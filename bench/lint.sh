@@ -1,5 +1,5 @@
 #!/usr/bin/env bash
-# How long `bacgw check --lint` takes over policies of 512 rules, each with four ranges in each of the ten fields of format 2, at eight
+# How long `bacgwctl lint` takes over policies of 512 rules, each with four ranges in each of the ten fields of format 2, at eight
 # ports and under that format: the row of docs/PERFORMANCE.md. The texts come from a fixed seed:
 #
 #     narrow    random narrow ranges
@@ -14,7 +14,7 @@
 set -euo pipefail
 
 top=$(cd "$(dirname "$0")/.." && pwd)
-exec python3 - "$top" "${LINT:-$top/crates/bacgw/out/bacgw check --lint --config}" "$@" <<'PYTHON'
+exec python3 - "$top" "${LINT:-$top/crates/bacgwctl/out/bacgwctl lint --config}" "$@" <<'PYTHON'
 import collections
 import random
 import re

@@ -148,7 +148,7 @@ try:
     expect("the policy that stays", reload().startswith("reload: "))
     put(CLOSED.replace("allow = false", "allow = 7"))
     said = reload()
-    place = subprocess.run([program, "check", "--config", str(config), "--explain"], capture_output=True, text=True).stdout
+    place = subprocess.run([program, "check", "--config", str(config)], capture_output=True, text=True).stdout
     expect("a faulty file", said == "reload refused: configuration: Kind: " + place, said)
     config.unlink()
     said = reload()

@@ -38,8 +38,9 @@ files > "$work/before"
 cp "$package" "$root/root/bacgw.deb"
 inside dpkg --install /root/bacgw.deb > "$work/told" 2>&1 || { cat "$work/told" >&2; exit 1; }
 [ "$(inside dpkg-query -W -f '${db:Status-Status}' bacgw)" = installed ]
-echo "installed: $(inside bacgw --version)"
+echo "installed: $(inside bacgw --version); $(inside bacgwctl --version)"
 inside bacgw check --config /etc/bacgw/site.toml
+inside bacgwctl explain --config /etc/bacgw/site.toml > /dev/null
 
 ip netns add "$space"
 ip -n "$space" link add one type veth peer name other
@@ -80,7 +81,7 @@ inside dpkg --install /root/bacgw.deb > "$work/told" 2>&1
 [ "$(tail -1 "$root/etc/bacgw/site.toml")" = '# mine' ]
 echo "installed again: the configuration stays as it is"
 inside dpkg --remove bacgw > "$work/told" 2>&1
-[ ! -e "$root/usr/bin/bacgw" ] && [ -e "$root/etc/bacgw/site.toml" ]
+[ ! -e "$root/usr/bin/bacgw" ] && [ ! -e "$root/usr/bin/bacgwctl" ] && [ -e "$root/etc/bacgw/site.toml" ]
 echo "removed: the configuration stays"
 inside dpkg --purge bacgw > "$work/told" 2>&1
 files > "$work/after"

@@ -1,14 +1,14 @@
 #!/usr/bin/env bash
-# Installs the gateway: the program, its manual page, the completions for shells, the unit for systemd with its drop-in, the size of its
+# Installs the gateway: both programs, their manual pages and completions for shells, the unit for systemd with its drop-in, the size of its
 # journal, the settings of the kernel, the firewall, the file for logrotate and a configuration to begin with.
 #
 #     dist/install.sh [--prefix DIR] [--root DIR]      # DIR is /usr/local, and the root / by default
 #
 # What the operator writes (the configuration, the drop-in, the firewall) stays as it is if it is there. Any other file outside of the
-# program's own that was edited stays too, and the new one is put beside it, as FILE.new: share/bacgw/installed below the prefix has the
+# programs' own that was edited stays too, and the new one is put beside it, as FILE.new: share/bacgw/installed below the prefix has the
 # checksums of what was installed. Nothing is loaded or started.
 #
-# It takes the program beside it, as in a release, or else the one that `./bacgw prove` built. --root installs below a
+# It takes the programs beside it, as in a release, or else those that `./bacgw prove` built. --root installs below a
 # folder, as for a package.
 set -euo pipefail
 
@@ -35,15 +35,21 @@ found() {
     exit 1
 }
 
-# The wrapper at the top of the repository has the program's name too, but is a script.
-program=$(found "$here/bin/bacgw" "$here/../crates/bacgw/out/bacgw")
-page=$(found "$here/bacgw.1" "$here/../man/bacgw.1")
-
-install -D -m 755 "$program" "$root$prefix/bin/bacgw"
-install -D -m 644 "$page" "$root$prefix/share/man/man1/bacgw.1"
-install -D -m 644 "$here/completions/bacgw.bash" "$root$prefix/share/bash-completion/completions/bacgw"
-install -D -m 644 "$here/completions/_bacgw" "$root$prefix/share/zsh/site-functions/_bacgw"
-install -D -m 644 "$here/completions/bacgw.fish" "$root$prefix/share/fish/vendor_completions.d/bacgw.fish"
+# Neither is installed without the other. (The wrapper at the top of the repository has the programs' names too, but is a script.)
+programs=()
+pages=()
+for name in bacgw bacgwctl; do
+    programs+=("$(found "$here/bin/$name" "$here/../crates/$name/out/$name")")
+    pages+=("$(found "$here/$name.1" "$here/../man/$name.1")")
+done
+install -d "$root$prefix/bin" "$root$prefix/share/man/man1"
+install -m 755 -t "$root$prefix/bin" "${programs[@]}"
+install -m 644 -t "$root$prefix/share/man/man1" "${pages[@]}"
+for name in bacgw bacgwctl; do
+    install -D -m 644 "$here/completions/$name.bash" "$root$prefix/share/bash-completion/completions/$name"
+    install -D -m 644 "$here/completions/_$name" "$root$prefix/share/zsh/site-functions/_$name"
+    install -D -m 644 "$here/completions/$name.fish" "$root$prefix/share/fish/vendor_completions.d/$name.fish"
+done
 
 record=$root$prefix/share/bacgw/installed
 mkdir -p "$(dirname "$record")"
@@ -78,7 +84,7 @@ units=/etc/systemd/system
 [ "$prefix" != /usr ] || units=/usr/lib/systemd/system
 unit=$(mktemp)
 trap 'rm -f "$unit"' EXIT
-sed "s|/usr/local/bin/bacgw|$prefix/bin/bacgw|" "$here/bacgw.service" > "$unit"
+sed "s|/usr/local/bin/bacgw|$prefix/bin/bacgw|g" "$here/bacgw.service" > "$unit"
 place "$unit" "$units/bacgw.service"
 place "$here/bacgw.journald" "$prefix/lib/systemd/journald@bacgw.conf.d/size.conf"
 place "$here/bacgw.sysctl" "$prefix/lib/sysctl.d/60-bacgw.conf"
@@ -87,9 +93,9 @@ leave "$here/bacgw.site.conf" /etc/systemd/system/bacgw.service.d/site.conf
 leave "$here/bacgw.nft" /etc/bacgw/bacgw.nft
 leave "$here/site.toml" /etc/bacgw/site.toml
 cat <<TEXT
-installed: $root$prefix/bin/bacgw
+installed: $root$prefix/bin/bacgw and $root$prefix/bin/bacgwctl
 next: write $root/etc/bacgw/site.toml, and the same subnets in $root/etc/systemd/system/bacgw.service.d/site.conf; and then
-  bacgw check --config /etc/bacgw/site.toml --explain
+  bacgwctl explain --config /etc/bacgw/site.toml
   sysctl --system && nft -f /etc/bacgw/bacgw.nft
   systemctl daemon-reload && systemctl enable --now bacgw
 TEXT

@@ -1,18 +1,18 @@
 #!/usr/bin/env bash
-# Packs the built program for machines without the kit: bacgw-VERSION-x86_64.tar.gz, with its sha256 beside it, and a Debian package.
+# Packs the built programs for machines without the kit: bacgw-VERSION-x86_64.tar.gz, with its sha256 beside it, and a Debian package.
 #
 #     dist/release.sh [--gate FILE] [FOLDER]      # into the folder dist/out by default
 #
-# It wants the program built, as `./bacgw prove` leaves it, with the stamp that it is the proved program of these sources, and of a
-# commit, with nothing changed since. FILE is what `rt ci` printed for that commit: its last line goes into the release, and a gate that
-# failed makes none. Without it the release says that no gate is named. One commit and one program make the same packs, octet for octet.
+# It wants both programs built, as `./bacgw prove` leaves them, with the stamps that they are the proved programs of these sources, and of
+# a commit, with nothing changed since. FILE is what `rt ci` printed for that commit: its last line goes into the release, and a gate that
+# failed makes none. Without it the release says that no gate is named. One commit and its programs make the same packs, octet for octet.
 # For the Debian package it wants dpkg-deb, and leaves it out where that isn't there; its maintainer is DEBFULLNAME and DEBEMAIL, or else
 # the author of the commit.
 set -euo pipefail
 
 here=$(cd "$(dirname "$0")" && pwd)
 top=$(dirname "$here")
-program=$top/crates/bacgw/out/bacgw
+programs=(bacgw bacgwctl)
 gate='not named'
 to=$here/out
 while [ $# -gt 0 ]; do
@@ -26,12 +26,19 @@ while [ $# -gt 0 ]; do
     esac
 done
 
-[ -x "$program" ] || { echo "build bacgw first: ./bacgw prove" >&2; exit 1; }
-"$top/dist/stamp.sh" check || { echo "this is not the proved program of these sources: ./bacgw prove" >&2; exit 1; }
+# built NAME: where the program of this name is
+built() { echo "$top/crates/$1/out/$1"; }
+
+for program in "${programs[@]}"; do
+    [ -x "$(built "$program")" ] || { echo "build $program first: ./bacgw prove" >&2; exit 1; }
+    "$top/dist/stamp.sh" check "$program" || { echo "this is not the proved $program of these sources: ./bacgw prove" >&2; exit 1; }
+done
 [ -z "$(git -C "$top" status --porcelain)" ] || { echo "what is not committed can't be released" >&2; exit 1; }
-told=$("$program" --version)
+told=$("$(built bacgw)" --version)
 version=$(sed -n 's/^bacgw \([0-9.]*\),.*/\1/p' <<< "$told")
 [ -n "$version" ] || { echo "no version: $told" >&2; exit 1; }
+also=$("$(built bacgwctl)" --version)
+[ "$also" = "bacgwctl ${told#bacgw }" ] || { echo "two versions: $told; $also" >&2; exit 1; }
 name=bacgw-$version-x86_64
 
 # The time of each file is that of the commit, and who may read it doesn't depend on the caller.
@@ -43,15 +50,16 @@ work=$(mktemp -d)
 trap 'rm -rf "$work"' EXIT
 pack=$work/$name
 mkdir -p "$pack/bin" "$to"
-install -m 755 "$program" "$pack/bin/bacgw"
+for program in "${programs[@]}"; do install -m 755 "$(built "$program")" "$pack/bin"; done
 install -m 755 "$here/install.sh" "$pack"
-install -m 644 "$top/man/bacgw.1" "$here"/bacgw.* "$here/site.toml" "$pack"
+install -m 644 "$top"/man/*.1 "$here"/bacgw.* "$here/site.toml" "$pack"
 install -D -m 644 -t "$pack/completions" "$here"/completions/*
 {
     echo "program: $told"
+    echo "program: $also"
     echo "commit: $(git -C "$top" rev-parse HEAD)"
     echo "gate: $gate"
-    echo "sha256 of bin/bacgw: $(sha256sum < "$program" | cut -d' ' -f1)"
+    for program in "${programs[@]}"; do echo "sha256 of bin/$program: $(sha256sum < "$(built "$program")" | cut -d' ' -f1)"; done
 } > "$pack/RELEASE"
 tar -C "$work" --format=gnu --sort=name --mtime="@$SOURCE_DATE_EPOCH" --owner=0 --group=0 --numeric-owner -cf - "$name" |
     gzip -9n > "$to/$name.tar.gz"
@@ -67,7 +75,7 @@ maintainer=$(git -C "$top" log -1 --format='%an <%ae>')
 rm -r "$room/usr/share/bacgw"
 papers=$room/usr/share/doc/bacgw
 install -D -m 644 "$pack/RELEASE" "$papers/RELEASE"
-gzip -9n "$room/usr/share/man/man1/bacgw.1"
+gzip -9n "$room"/usr/share/man/man1/*.1
 gzip -9n < "$top/CHANGELOG.md" > "$papers/NEWS.md.gz"
 cat <<TEXT | gzip -9n > "$papers/changelog.gz"
 bacgw ($version) unstable; urgency=medium
@@ -87,9 +95,9 @@ Copyright: $(date -d "@$SOURCE_DATE_EPOCH" +%Y), the owner of Tozsibel
 License: none
  The owner has given no licence yet: whoever got this package may use it as the owner allowed.
 TEXT
-# The program is packed as it was proved and built, and so not stripped.
+# The programs are packed as they were proved and built, and so not stripped.
 mkdir -p "$room/usr/share/lintian/overrides"
-echo 'bacgw: unstripped-binary-or-object [usr/bin/bacgw]' > "$room/usr/share/lintian/overrides/bacgw"
+printf 'bacgw: unstripped-binary-or-object [usr/bin/%s]\n' "${programs[@]}" > "$room/usr/share/lintian/overrides/bacgw"
 
 control=$room/DEBIAN
 mkdir -p "$control"

@@ -1,6 +1,6 @@
 #!/usr/bin/env bash
-# Tries a release: unpacks it, installs it to a scratch folder twice, and lets the installed program answer a read; then the same with the
-# Debian package, where there is one.
+# Tries a release: unpacks it, installs it to a scratch folder twice, and lets the installed programs answer a read and explain a
+# configuration; then the same with the Debian package, where there is one.
 #
 #     dist/try.sh [FOLDER]      # what dist/release.sh left in dist/out by default
 set -euo pipefail
@@ -12,11 +12,15 @@ trap 'rm -rf "$work"' EXIT
 event='1 192.168.1.5:47808 810A0016012400640101FF0005070C0C014000011955'
 printf '%s\nend\n' 'send 1 192.168.1.5:47808 810A001801080064010130070C0C0140000119553E91003F' > "$work/wanted"
 
-# answers PROGRAM SITE: the program says its version, accepts its configuration and answers a read
+# answers FOLDER SITE: the programs there say their versions and accept their configuration; one answers a read, the other one explains
 answers() {
-    "$1" --version
-    "$1" check --config "$2"
-    echo "$event" | "$1" replay | cmp - "$work/wanted"
+    "$1/bacgw" --version
+    "$1/bacgwctl" --version
+    "$1/bacgw" check --config "$2"
+    "$1/bacgwctl" explain --config "$2" > "$work/explained"
+    [ "$(head -1 "$work/explained")" = "$("$1/bacgw" check --config "$2")" ]
+    echo "the configuration is explained"
+    echo "$event" | "$1/bacgw" replay | cmp - "$work/wanted"
     echo "a read is answered"
 }
 
@@ -27,7 +31,7 @@ pack=$(echo "$work"/unpacked/*)
 cat "$pack/RELEASE"
 root=$work/root
 "$pack/install.sh" --root "$root" > /dev/null
-answers "$root/usr/local/bin/bacgw" "$root/etc/bacgw/site.toml"
+answers "$root/usr/local/bin" "$root/etc/bacgw/site.toml"
 echo '# mine' >> "$root/etc/bacgw/site.toml"
 "$pack/install.sh" --root "$root" > /dev/null
 [ "$(tail -1 "$root/etc/bacgw/site.toml")" = '# mine' ]
@@ -39,12 +43,17 @@ echo '# newer' >> "$pack/bacgw.journald"
 for file in "${edited[@]}"; do [ "$(tail -1 "$file")" = '# mine' ] && [ -f "$file.new" ]; done
 [ "$(tail -1 "$root/usr/local/lib/systemd/journald@bacgw.conf.d/size.conf")" = '# newer' ]
 grep -q '^ExecStart=/usr/local/bin/bacgw ' "$root/etc/systemd/system/bacgw.service"
-[ -f "$root/usr/local/share/man/man1/bacgw.1" ] && [ -f "$root/etc/logrotate.d/bacgw" ]
+grep -q '^ExecReload=/usr/local/bin/bacgwctl ' "$root/etc/systemd/system/bacgw.service"
+for name in bacgw bacgwctl; do
+    [ -f "$root/usr/local/share/man/man1/$name.1" ] && [ -f "$root/usr/local/share/bash-completion/completions/$name" ]
+done
+[ -f "$root/etc/logrotate.d/bacgw" ]
 echo "installed again: the configuration, and what was edited, stays as it is"
 
 for package in "$from"/*.deb; do
     [ -e "$package" ] || continue
     dpkg-deb --extract "$package" "$work/debian"
-    answers "$work/debian/usr/bin/bacgw" "$work/debian/etc/bacgw/site.toml"
+    answers "$work/debian/usr/bin" "$work/debian/etc/bacgw/site.toml"
     grep -q '^ExecStart=/usr/bin/bacgw ' "$work/debian/usr/lib/systemd/system/bacgw.service"
+    grep -q '^ExecReload=/usr/bin/bacgwctl ' "$work/debian/usr/lib/systemd/system/bacgw.service"
 done

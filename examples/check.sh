@@ -1,17 +1,20 @@
 #!/usr/bin/env bash
-# Runs the built `bacgw` on each script beside this one and on faulty calls, and compares what it prints, what it tells on standard
-# error, and its exit status. It wants the program built, as `./bacgw prove` leaves it, and python3 for a client. The last line says
-# how many agreed.
+# Runs the built `bacgw` on each script beside this one, `bacgwctl` on what they give, and both on faulty calls, and compares what they
+# print, what they tell on standard error, and their exit status. It wants both programs built, as `./bacgw prove` leaves them, and python3
+# for a client. The last line says how many agreed.
 set -uo pipefail
 
 here=$(cd "$(dirname "$0")" && pwd)
 program=$here/../crates/bacgw/out/bacgw
+tool=$here/../crates/bacgwctl/out/bacgwctl
 work=$(mktemp -d)
 trap 'rm -rf "$work"' EXIT
 passed=0
 failed=0
 
-[ -x "$program" ] || { echo "build bacgw first: ./bacgw prove" >&2; exit 1; }
+for file in "$program" "$tool"; do
+    [ -x "$file" ] || { echo "build ${file##*/} first: ./bacgw prove" >&2; exit 1; }
+done
 
 # agrees WHAT STATUS OUT ERR: the last run ended so
 agrees() {
@@ -87,42 +90,46 @@ refusals() {
     status=$?
     agrees "a replay that explains: $1" 0 "$1.explained.out" /dev/null
     sed -n 's/^deny //p' "$1.out" > "$work/denials"
-    "$program" why --config "$1.toml" < "$work/denials" > "$work/out" 2> "$work/err"
+    "$tool" why --config "$1.toml" < "$work/denials" > "$work/out" 2> "$work/err"
     status=$?
     agrees "the rules of a log: $1" 0 "$1.why.out" /dev/null
-    cut -d' ' -f3-10,12- "$work/denials" | "$program" why --config "$1.toml" > "$work/out" 2> "$work/err"
+    cut -d' ' -f3-10,12- "$work/denials" | "$tool" why --config "$1.toml" > "$work/out" 2> "$work/err"
     status=$?
     agrees "the rules of the middle words of a log: $1" 0 "$1.why.out" /dev/null
-    { head -2 "$work/denials"; echo 'no line of a log'; } | "$program" why --strict --config "$1.toml" > "$work/out" 2> "$work/err"
+    { head -2 "$work/denials"; echo 'no line of a log'; } | "$tool" why --strict --config "$1.toml" > "$work/out" 2> "$work/err"
     status=$?
     head -2 "$1.why.out" > "$work/line"
-    echo 'bacgw: line 3' > "$work/told"
+    echo 'bacgwctl: line 3' > "$work/told"
     agrees "a line that is no ask: $1" 2 "$work/line" "$work/told"
 
     # The same log in words, with a line that is none among its lines.
     sed '2a no line of a log' "$work/denials" > "$work/lines"
-    "$program" log < "$work/lines" > "$work/out" 2> "$work/err"
+    "$tool" log < "$work/lines" > "$work/out" 2> "$work/err"
     status=$?
     agrees "a log in words: $1" 0 "$1.log.out" /dev/null
-    "$program" log "$work/lines" < /dev/null > "$work/out" 2> "$work/err"
+    "$tool" log "$work/lines" < /dev/null > "$work/out" 2> "$work/err"
     status=$?
     agrees "a log of a file in words: $1" 0 "$1.log.out" /dev/null
 
     # The same with something in front of each line, which stays there.
-    sed 's/^/Nov 27 08:00:00 gate bacgw[12]: /' "$work/lines" | "$program" log > "$work/stamped" 2> "$work/err"
+    sed 's/^/Nov 27 08:00:00 gate bacgw[12]: /' "$work/lines" | "$tool" log > "$work/stamped" 2> "$work/err"
     status=$?
     sed 's/^Nov 27 08:00:00 gate bacgw\[12\]: //' "$work/stamped" > "$work/out"
     agrees "a log in words after a prefix: $1" 0 "$1.log.out" /dev/null
 
     # And with the moments, for a run that began at eight.
-    "$program" log "$work/lines" --start 2026-11-25T08:00:00+01:00 < /dev/null > "$work/out" 2> "$work/err"
+    "$tool" log "$work/lines" --start 2026-11-25T08:00:00+01:00 < /dev/null > "$work/out" 2> "$work/err"
     status=$?
     agrees "a log in words with its moments: $1" 0 "$1.since.out" /dev/null
 }
 refusals "$here/refusals"
 refusals "$here/format2/refusals"
 
-echo 'bacgw: bad command line' > "$work/refusal"
+# by PROGRAM: the words below are given to this program, and its refusal is a line
+by() {
+    called=$1
+    echo "${called##*/}: bad command line" > "$work/refusal"
+}
 
 # flawed LINE WORDS: a replay that explains says what is wrong with the third line
 flawed() {
@@ -141,33 +148,33 @@ flawed 'tack' 'it is neither tick nor a port, an address and octets'
 
 # refused WORDS...: the words are refused, and the line says what is wrong with them
 refused() {
-    "$program" "$@" < /dev/null > "$work/out" 2> "$work/told"
+    "$called" "$@" < /dev/null > "$work/out" 2> "$work/told"
     status=$?
     [ "$(tail -1 "$work/told")" = "For more information, try '--help'." ] || status="$status, no more than the line"
     head -1 "$work/told" > "$work/err"
-    agrees "words: $*" 2 /dev/null "$work/refusal"
+    agrees "words: ${called##*/} $*" 2 /dev/null "$work/refusal"
 }
 
 # A log as JSON objects, which jq reads back: nothing in it ends a string or a line.
 command -v jq > /dev/null || { echo 'this wants jq: apt-get install jq' >&2; exit 1; }
 printf '1 0 1 1:C0A80105BAC0 read dst=100 svc=12 obj=5,2 prop=85 prio=- rule=hide\n"} \\ \0 \033[31m\n\377\n' > "$work/hostile"
-"$program" log --json < "$work/hostile" > "$work/piped"
-"$program" log --json "$work/hostile" > "$work/out" 2> "$work/err"
+"$tool" log --json < "$work/hostile" > "$work/piped"
+"$tool" log --json "$work/hostile" > "$work/out" 2> "$work/err"
 status=$?
 same 'a log of a file as objects' "$(cat "$work/out")" "$(cat "$work/piped")"
 same 'a hostile log as objects' "$status $(jq -c '[.rule, .line, .octets]' "$work/out" | tr '\n' ' ')" \
     '0 ["hide",null,null] [null,"\"} \\ \u0000 \u001b[31m",null] [null,null,"FF"] '
 # What is in front of a line's own fields stays, and a note is a line as it is.
 printf '2026-11-27T08:00:00Z # bacgw began\n2026-11-27T08:00:17Z %s\n\377 %s\n' "$(head -1 "$work/hostile")" "$(head -1 "$work/hostile")" > "$work/stamped"
-"$program" log --json < "$work/stamped" > "$work/out" 2> "$work/err"
+"$tool" log --json < "$work/stamped" > "$work/out" 2> "$work/err"
 status=$?
 same 'a stamped log as objects' "$status $(jq -c '[.rule, .front, .front_octets, .line]' "$work/out" | tr '\n' ' ')" \
     '0 [null,null,null,"2026-11-27T08:00:00Z # bacgw began"] ["hide","2026-11-27T08:00:17Z ",null,null] ["hide",null,"FF20",null] '
 head -c 10000000 /dev/zero > "$work/long"
-"$program" log --json < "$work/long" > "$work/out" 2> "$work/err"
+"$tool" log --json < "$work/long" > "$work/out" 2> "$work/err"
 status=$?
-tells 'a line of 10 MB' 2 'bacgw: line 1'
-head -1 "$work/hostile" | "$program" why --config "$here/routed.toml" --json > "$work/out" 2> "$work/err"
+tells 'a line of 10 MB' 2 'bacgwctl: line 1'
+head -1 "$work/hostile" | "$tool" why --config "$here/routed.toml" --json > "$work/out" 2> "$work/err"
 status=$?
 same 'an answer as an object' "$status $(jq -c '[.allow, .rule, .source]' "$work/out")" '0 [false,"no-doors","192.168.1.5:47808"]'
 
@@ -182,20 +189,32 @@ sed 's/^name = "door"$/name = "<b>door\\u202E<\/b>"/; s/^name = "hide-door"$/&\n
     cat "$work/hostile"
 } > "$work/marked.log"
 cat "$work/marked.log" "$work/long" > "$work/marked.and.long.log"
-"$program" report --config "$work/marked.toml" --log "$work/marked.and.long.log" > "$work/out" 2> "$work/err"
+"$tool" report --config "$work/marked.toml" --log "$work/marked.and.long.log" > "$work/out" 2> "$work/err"
 status=$?
 same 'a page of hostile texts' "$status $(python3 "$here/page.py" "$work/out")" "$(cat "$here/page.out")"
-"$program" report --config "$work/marked.toml" --log "$work/nowhere" > "$work/out" 2> "$work/err"
+"$tool" report --config "$work/marked.toml" --log "$work/nowhere" > "$work/out" 2> "$work/err"
 status=$?
-echo "bacgw: cannot read log $work/nowhere: no such file" > "$work/line"
+echo "bacgwctl: cannot read log $work/nowhere: no such file" > "$work/line"
 agrees 'a page of a log that is not there' 1 /dev/null "$work/line"
 
 # refused_alone WORDS...: the words are refused by the line alone
 refused_alone() {
-    "$program" "$@" < /dev/null > "$work/out" 2> "$work/err"
+    "$called" "$@" < /dev/null > "$work/out" 2> "$work/err"
     status=$?
-    agrees "words: $*" 2 /dev/null "$work/refusal"
+    agrees "words: ${called##*/} $*" 2 /dev/null "$work/refusal"
 }
+# none WORDS..: the last of the words is out of range, and the line says so
+none() {
+    refused "$@"
+    same "a number out of range: $*" "$(sed -n 2p "$work/told")" \
+        "error: invalid value '${*: -1}' for '${*: -2:1} <$value>': ${*: -1} is not in 1..=$most"
+}
+# elsewhere COMMAND WORDS...: bacgw refuses the words, and says that this is a command of bacgwctl
+elsewhere() {
+    refused "${@:2}"
+    same "where the command is: $1" "$(sed -n 2p "$work/told")" "$1 is a command of bacgwctl now"
+}
+by "$program"
 refused
 same 'the usage behind no words' "$(grep Usage "$work/told")" 'Usage: bacgw <COMMAND>'
 refused run
@@ -207,24 +226,9 @@ refused check site.toml
 refused check --config
 refused check --config a --config a
 refused check --lint
-refused why
-refused why --config a --explain
-refused log site.log other.log
-refused log --start
-refused_alone log --start 2026-11-25T08:00:00
-refused_alone log --start 2026-11-25T08:00:60Z
-refused_alone log --start now
-# none WORDS..: the last of the words is out of range, and the line says so
-none() {
-    refused "$@"
-    same "a number out of range: $*" "$(sed -n 2p "$work/told")" \
-        "error: invalid value '${*: -1}' for '${*: -2:1} <$value>': ${*: -1} is not in 1..=$most"
-}
 value=N most=9223372036854775807
 none run --config a --turns 0
 none run --config a --turns 9223372036854775808
-none compare --config a --with b --most 0
-none reload --config a --reload b --was c --most 0
 value=SECONDS most=4294967295
 none run --config a --stats 0
 none run --config a --stats 4294967296
@@ -232,7 +236,6 @@ refused_alone run --config a --trial b
 refused_alone run --config a --trial-log c
 refused_alone run --config a --stamp
 refused run --config a --audit
-refused report --log a
 refused run --config a --explain
 refused replay --config
 refused replay --config a --config a
@@ -245,39 +248,90 @@ refused check --version
 refused -- replay
 refused_alone $'\xff'
 
-"$program" --version < /dev/null > "$work/out" 2> "$work/err"
-status=$?
-sed -n 's/^pub const VERSION: &str = "\(.*\)";/bacgw \1/p' "$here/../crates/gw_command_line/src/options/builders.rt" > "$work/line"
-agrees 'the version' 0 "$work/line" /dev/null
+# What bacgw had and bacgwctl has now.
+elsewhere compare compare --config site.toml --with new.toml
+same 'the usage behind a command of bacgwctl' "$(grep Usage "$work/told")" 'Usage: bacgw <COMMAND>'
+for command in why report log state suggest reload objects; do
+    elsewhere "$command" "$command"
+done
+elsewhere explain check --config site.toml --explain
+elsewhere lint check --config site.toml --lint
+elsewhere migrate check --migrate --config site.toml
+elsewhere 'check --json' check --config site.toml --json
+# And what it never had, which bacgwctl has.
+refused explain --config site.toml
 
+by "$tool"
+refused
+same 'the usage of bacgwctl behind no words' "$(grep Usage "$work/told")" 'Usage: bacgwctl <COMMAND>'
+refused check
+refused check --config a --explain
+refused explain
+refused lint --config a --json
+refused migrate --config a --lint
+refused run --config a
+refused replay
+refused why
+refused why --config a --explain
+refused log site.log other.log
+refused log --start
+refused_alone log --start 2026-11-25T08:00:00
+refused_alone log --start 2026-11-25T08:00:60Z
+refused_alone log --start now
+value=N most=9223372036854775807
+none compare --config a --with b --most 0
+none reload --config a --reload b --was c --most 0
+refused report --log a
+refused help --help
+refused why --version
+refused_alone $'\xff'
+
+# helped WORDS...: the words are answered by a help
 helped() {
-    "$program" "$@" < /dev/null > "$work/out" 2> "$work/err"
+    "$called" "$@" < /dev/null > "$work/out" 2> "$work/err"
     status=$?
-    grep -q '^Usage: bacgw' "$work/out" || status=none
-    agrees "words: $*" 0 "$work/out" /dev/null
+    grep -q "^Usage: ${called##*/} " "$work/out" || status=none
+    agrees "words: ${called##*/} $*" 0 "$work/out" /dev/null
 }
-helped --help
-helped -h
-helped help
+for called in "$program" "$tool"; do
+    "$called" --version < /dev/null > "$work/out" 2> "$work/err"
+    status=$?
+    sed -n "s/^pub const VERSION: &str = \"\(.*\)\";/${called##*/} \1/p" "$here/../crates/gw_command_line/src/options/builders.rt" > "$work/line"
+    agrees "the version of ${called##*/}" 0 "$work/line" /dev/null
+    helped --help
+    helped -h
+    helped help
+    helped help check
+done
+by "$program"
 helped replay --help
-helped help check
 helped run --help
+by "$tool"
+helped explain --help
+helped lint --help
+helped migrate --help
 helped why --help
 helped log --help
 helped compare --help
+helped state --help
+helped suggest --help
 helped reload --help
 helped report --help
+helped objects --help
 
 checked() {
     "$program" check --config "$1" < /dev/null > "$work/out" 2> "$work/err"
     status=$?
 }
 
-# accepts FILE LINE: `check` says this of a file
+# accepts FILE LINE: `check` of both programs says this of a file
 accepts() {
     checked "$here/$1"
     printf '%s\n' "$2" > "$work/line"
     agrees "$1" 0 "$work/line" /dev/null
+    "$tool" check --config "$here/$1" < /dev/null > "$work/out" 2> "$work/err"
+    status=$?
+    agrees "bacgwctl check: $1" 0 "$work/line" /dev/null
 }
 accepts two_subnets.toml 'ok 2 ports 1 objects 4 rules'
 accepts workstation.toml 'ok 1 ports 1 objects 7 rules'
@@ -391,7 +445,7 @@ same 'the mode of a new log' "$(stat -c %a "$work/log")" 600
 
 # A log with stamps has a note of a reload, and a new file of it begins with one. Its denials are those of the run all the same.
 times='s/^[0-9]{4}(-[0-9]{2}){2}T[0-9]{2}(:[0-9]{2}){2}Z /TIME /; s/^TIME ([12]) [0-9]* /TIME \1 . /; s/(# reload: )[0-9]+ rules \(0 new.*kept$/\1SAME/'
-python3 "$here/loopback.py" noted "$program" "$work/served.toml" "$work/noted.log" "$work/noted.request" > "$work/out" 2>&1
+python3 "$here/loopback.py" noted "$program" "$tool" "$work/served.toml" "$work/noted.log" "$work/noted.request" > "$work/out" 2>&1
 same 'a log with stamps has a note of a reload' "$(sed -E "$times" "$work/noted.log.1")" \
     "TIME # $("$program" --version | cut -d, -f1) began
 TIME 1 . 1 1:7F030005BAC0 read dst=100 svc=12 obj=5,2 prop=85 prio=- rule=hide
@@ -441,7 +495,7 @@ same 'acknowledged writes outlive a kill' "$(cat "$work/out")" \
 810A000D010800640101201C0F'
 same 'the denials are numbered on' "$(cut -d' ' -f1 "$work/log" | xargs)" '1 2 3'
 same 'the mode of a state' "$(stat -c %a "$work/state")" 600
-"$program" state --config "$work/served.toml" --state "$work/state" > "$work/out" 2> "$work/err"
+"$tool" state --config "$work/served.toml" --state "$work/state" > "$work/out" 2> "$work/err"
 status=$?
 same 'a state in words' "$status $(sed -E 's/after [0-9]+ ticks?/after some ticks/' "$work/out")" \
     '0 state: after some ticks and 3 denials
@@ -462,9 +516,9 @@ ran 1 "bacgw: cannot read state $work/folder: is a directory" --config "$work/se
 ran 1 "bacgw: cannot read state /dev/null: it can't be read" --config "$work/served.toml" --state /dev/null --turns 1
 # unkept NAME REASON: `state` can't read the file of this name, and the line names it
 unkept() {
-    "$program" state --config "$work/served.toml" --state "$work/$1" > "$work/out" 2> "$work/err"
+    "$tool" state --config "$work/served.toml" --state "$work/$1" > "$work/out" 2> "$work/err"
     status=$?
-    tells "a state that can't be read: $1" 1 "bacgw: cannot read state $work/$1: $2"
+    tells "a state that can't be read: $1" 1 "bacgwctl: cannot read state $work/$1: $2"
 }
 unkept folder 'is a directory'
 unkept unmade 'no such file'
@@ -489,16 +543,16 @@ fi
 cp "$work/served.toml" "$work/changed.toml"
 sed '/^name = "hide"$/,$d' "$work/served.toml" | sed '$d' > "$work/new.toml"
 printf '[[rule]]\nname = "all"\nallow = true\n' >> "$work/new.toml"
-python3 "$here/loopback.py" reload "$program" "$work/changed.toml" "$work/new.toml" "$work/request" > "$work/out" 2>&1
+python3 "$here/loopback.py" reload "$program" "$tool" "$work/changed.toml" "$work/new.toml" "$work/request" > "$work/out" 2>&1
 same 'a rule is changed while a gateway runs' "$(cat "$work/out")" \
     '1 0 1 1:7F030005BAC0 read dst=100 svc=12 obj=5,2 prop=85 prio=- rule=hide
 127.3.0.10 810A0011010800640101501E0C9102911B
 reload: 1 rules (0 new, 1 gone, 0 moved), 2 objects; 0 foreign devices, 0 routes kept
 status 0
 127.3.0.10 810A0018010800640101301F0C0C0140000219553E91003F
-bacgw: configuration: NotToml
+bacgwctl: configuration: NotToml
 status 2
-reload refused: configuration: NotToml: '"$("$program" check --config "$work/changed.toml" --explain 2> /dev/null)"'
+reload refused: configuration: NotToml: '"$("$program" check --config "$work/changed.toml" 2> /dev/null)"'
 127.3.0.10 810A001801080064010130200C0C0140000219553E91003F'
 
 # A policy on trial and an audit have logs of their own, which go on from run to run; the log is what it is without them.
@@ -594,7 +648,7 @@ tells 'a folder in the place of a configuration' 1 "bacgw: cannot read configura
 
 # What the policy hides follows the first line, if that is asked for.
 hiding '' > "$work/hiding.toml"
-"$program" check --config "$work/hiding.toml" --explain < /dev/null > "$work/out" 2> "$work/err"
+"$tool" explain --config "$work/hiding.toml" < /dev/null > "$work/out" 2> "$work/err"
 status=$?
 printf 'ok 2 ports 2 objects 2 rules\nobject 2 (5,2) "door" is hidden from network %s\n' 1 > "$work/line"
 echo 'object 2 (5,2) "door" is hidden from network 2' >> "$work/line"
@@ -604,10 +658,10 @@ echo 'ok 2 ports 2 objects 2 rules' > "$work/line"
 agrees 'a check that explains nothing' 0 "$work/line" /dev/null
 
 # What is odd about the rules is shown by a lint, and what can't be meant of the rest by the explanation.
-"$program" check --config "$here/lint.toml" --lint < /dev/null > "$work/out" 2> "$work/err"
+"$tool" lint --config "$here/lint.toml" < /dev/null > "$work/out" 2> "$work/err"
 status=$?
 agrees 'a lint' 0 "$here/lint.out" /dev/null
-"$program" check --config "$here/warnings.toml" --explain < /dev/null > "$work/out" 2> "$work/err"
+"$tool" explain --config "$here/warnings.toml" < /dev/null > "$work/out" 2> "$work/err"
 status=$?
 agrees 'what cannot be meant' 0 "$here/warnings.out" /dev/null
 
@@ -616,30 +670,37 @@ agrees 'what cannot be meant' 0 "$here/warnings.out" /dev/null
 unsuspected() {
     { "$program" check --config "$1" && printf '%s' "${2:+$2
 }"; } < /dev/null > "$work/plain" 2> /dev/null
-    "$program" check --config "$1" --lint < /dev/null 2> "$work/err" > "$work/noted"
+    "$tool" lint --config "$1" < /dev/null 2> "$work/err" > "$work/noted"
     status=$?
     sed '/: look at source_network: without source, /d; /^note: look at cast: /d' "$work/noted" > "$work/out"
     agrees "the lint of $1" 0 "$work/plain" /dev/null
-    same "the warnings of $1" "$("$program" check --config "$1" --explain | grep '^warning: ')" ''
+    same "the warnings of $1" "$("$tool" explain --config "$1" | grep '^warning: ')" ''
 }
 for file in "$here"/*.toml "$here"/format2/*.toml "$here/site/site.toml" "$here/../dist/site.toml"; do
     case ${file##*/} in
         base.toml | recipes.toml) # they have no rules
-            same "the warnings of $file" "$("$program" check --config "$file" --explain | grep '^warning: ')" \
+            same "the warnings of $file" "$("$tool" explain --config "$file" | grep '^warning: ')" \
                 'warning: there is no rule, so every ask is denied' ;;
         lint.toml | warnings.toml | wrong_texts.toml) ;;
         *) unsuspected "$file" ;;
     esac
 done
 
-# explained TEXT NAME LINE: `check --explain` tells the fault as before, and says where it is
+# judges PROGRAM COMMAND NAME: the command tells this fault of a text, and says where it is
+judges() {
+    "$1" "$2" --config "$work/faulty.toml" < /dev/null > "$work/out" 2> "$work/err"
+    status=$?
+    printf '%s: configuration: %s\n' "${1##*/}" "$3" > "$work/told"
+    agrees "${1##*/} $2 of a fault: $(cat "$work/line")" 2 "$work/line" "$work/told"
+}
+
+# explained TEXT NAME LINE: `check` of both programs and `explain` tell the fault, and say where it is
 explained() {
     printf '%b' "$1" > "$work/faulty.toml"
-    "$program" check --config "$work/faulty.toml" --explain < /dev/null > "$work/out" 2> "$work/err"
-    status=$?
     printf '%s\n' "$3" > "$work/line"
-    printf 'bacgw: configuration: %s\n' "$2" > "$work/told"
-    agrees "an explanation: $3" 2 "$work/line" "$work/told"
+    judges "$program" check "$2"
+    judges "$tool" check "$2"
+    judges "$tool" explain "$2"
 }
 explained '' Missing 'format: is missing; it must be 1 to 3'
 explained 'format = 1\nformat = ' NotToml 'the text: is no TOML document, line 2, column 10: invalid value, expected a string, number, boolean, date-time, array or inline table'
@@ -691,14 +752,14 @@ unread "$work/none.toml" 'no such file'
 unread "$work/line/none.toml" "it can't be read"
 unread '' 'no such file'
 unread $'none\n\e[31mbacgw: out of memory\x7f' 'no such file' 'none??[31mbacgw: out of memory?'
-"$program" compare --config "$here/two_subnets.toml" --with "$work/none.toml" > "$work/out" 2> "$work/err"
+"$tool" compare --config "$here/two_subnets.toml" --with "$work/none.toml" > "$work/out" 2> "$work/err"
 status=$?
-tells "a second file that can't be read" 2 "bacgw: cannot read configuration $work/none.toml: no such file"
+tells "a second file that can't be read" 2 "bacgwctl: cannot read configuration $work/none.toml: no such file"
 for options in '' --json; do
     # shellcheck disable=SC2086 # No option is no word.
-    "$program" log $options "$work/none.log" > "$work/out" 2> "$work/err"
+    "$tool" log $options "$work/none.log" > "$work/out" 2> "$work/err"
     status=$?
-    tells "a log that can't be read $options" 1 "bacgw: cannot read log $work/none.log: no such file"
+    tells "a log that can't be read $options" 1 "bacgwctl: cannot read log $work/none.log: no such file"
 done
 
 "$program" replay < "$here" > /dev/null 2> "$work/err"
@@ -710,6 +771,9 @@ tells "a full device to write to" 1 'bacgw: write failed'
 "$program" check --config "$here/workstation.toml" > /dev/full 2> "$work/err"
 status=$?
 tells "check on a full device" 1 'bacgw: write failed'
+"$tool" explain --config "$here/workstation.toml" > /dev/full 2> "$work/err"
+status=$?
+tells "an explanation on a full device" 1 'bacgwctl: write failed'
 "$program" --help > /dev/full 2> "$work/err"
 status=$?
 tells "help on a full device" 1 'bacgw: write failed'

@@ -1,16 +1,19 @@
 #!/usr/bin/env bash
-# Runs the built `bacgw check --explain` on each wrong text of docs/spec/configuration.md and of wrong_texts.tsv, and compares the fault
-# and the line that explains it. A row has what is in the text (base.toml, then wrong_texts.toml), what is written in its
-# place, the fault and the line; `\n` is a line feed. It wants the program built, as `./bacgw prove` leaves it, and python3. The last
-# line says how many agreed.
+# Runs the built `bacgw check` and `bacgwctl explain` on each wrong text of docs/spec/configuration.md and of wrong_texts.tsv, and compares
+# the fault and the line that explains it. A row has what is in the text (base.toml, then wrong_texts.toml), what is written in its
+# place, the fault and the line; `\n` is a line feed. It wants both programs built, as `./bacgw prove` leaves them, and python3; BACGW
+# and BACGWCTL name others. The last line says how many agreed.
 set -euo pipefail
-exec python3 - "$(cd "$(dirname "$0")/.." && pwd)" "${BACGW:-}" <<'END'
+exec python3 - "$(cd "$(dirname "$0")/.." && pwd)" "${BACGW:-}" "${BACGWCTL:-}" <<'END'
 import os, re, subprocess, sys, tempfile
 
-top, program = sys.argv[1], sys.argv[2]
-program = program or os.path.join(top, "crates/bacgw/out/bacgw")
-if not os.access(program, os.X_OK):
-    sys.exit("build bacgw first: ./bacgw prove")
+top = sys.argv[1]
+CALLS = []
+for caller, command, given in (("bacgw", "check", sys.argv[2]), ("bacgwctl", "explain", sys.argv[3])):
+    program = given or os.path.join(top, "crates", caller, "out", caller)
+    if not os.access(program, os.X_OK):
+        sys.exit(f"build {caller} first: ./bacgw prove")
+    CALLS.append((caller, program, command))
 page = open(os.path.join(top, "docs/spec/configuration.md")).read()
 section = page.split("## Wrong texts and their lines")[1].split("\n## ")[0]
 rows = re.findall(r"^\| `(.*?)` \| `(.*?)` \| `(\w+)` \| `(.*)` \|$", section, re.M)
@@ -24,13 +27,14 @@ with tempfile.TemporaryDirectory() as work:
         assert old in text, old
         with open(name, "w") as file:
             file.write(text.replace(old, new, 1))
-        run = subprocess.run([program, "check", "--config", name, "--explain"], capture_output=True, text=True)
-        told = (run.returncode, run.stdout, run.stderr)
-        if told == (2, line + "\n", f"bacgw: configuration: {fault}\n"):
-            passed += 1
-        else:
-            failed += 1
-            print(f"not as expected: {old!r} as {new!r}: {told}")
+        for caller, program, command in CALLS:
+            run = subprocess.run([program, command, "--config", name], capture_output=True, text=True)
+            told = (run.returncode, run.stdout, run.stderr)
+            if told == (2, line + "\n", f"{caller}: configuration: {fault}\n"):
+                passed += 1
+            else:
+                failed += 1
+                print(f"not as expected: {caller}: {old!r} as {new!r}: {told}")
 print(f"{passed} passed, {failed} failed")
-sys.exit(1 if failed or passed < 40 else 0)
+sys.exit(1 if failed or passed < 80 else 0)
 END

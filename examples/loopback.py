@@ -11,9 +11,10 @@
     loopback.py first PROGRAM FILE OCTETS    gives a run of eight turns these octets, and prints its answer
     loopback.py kept PROGRAM FILE LOG STATE  writes a point, and kills the gateway by SIGKILL once that is acknowledged, twice; and
                                              reads it after each start
-    loopback.py reload PROGRAM FILE NEW REQUEST
-                                             has a gateway take over another configuration, and then a faulty one, which it refuses
-    loopback.py noted PROGRAM FILE LOG REQUEST
+    loopback.py reload PROGRAM TOOL FILE NEW REQUEST
+                                             has a gateway take over another configuration, and then a faulty one, which it refuses;
+                                             TOOL is `bacgwctl`
+    loopback.py noted PROGRAM TOOL FILE LOG REQUEST
                                              lets a read be denied by a gateway whose log has stamps and notes, has it read its
                                              configuration again, renames the log to LOG.1, and lets a read be denied again
     loopback.py watched PROGRAM FILE TRIAL LOG
@@ -129,11 +130,11 @@ def watched(program, file, trial, log):
             print("status", gateway.wait(timeout=10))
 
 
-def reload(program, file, new, request):
+def reload(program, tool, file, new, request):
     """Reads the door of a gateway before and after it takes over a configuration under which it may be read, and after a faulty one."""
     line = open_line(CLIENT)
     gateway = start(program, "--config", file, "--reload", request)
-    again = [program, "reload", "--config", file, "--reload", request]
+    again = [tool, "reload", "--config", file, "--reload", request]
     try:
         read(line, 30, 2, PORT_1)
         shutil.copyfile(new, file)
@@ -154,13 +155,13 @@ def reload(program, file, new, request):
         gateway.wait(timeout=10)
 
 
-def noted(program, file, log, request):
+def noted(program, tool, file, log, request):
     """Reads the door of a gateway whose log has stamps and notes, has it reload, renames the log, and reads the door again."""
     line = open_line(CLIENT)
     gateway = start(program, "--config", file, "--log", log, "--stamp", "--reload", request)
     try:
         read(line, 50, 2, PORT_1)
-        again = [program, "reload", "--config", file, "--reload", request]
+        again = [tool, "reload", "--config", file, "--reload", request]
         print("status", subprocess.run(again, stdout=subprocess.DEVNULL, timeout=20).returncode, flush=True)
         os.rename(log, log + ".1")
         time.sleep(1.1)

@@ -5,18 +5,21 @@
 #
 #     sudo examples/site/reload.sh
 #
-# It wants root, for the namespaces, and ip, python3 and the program built, as `./bacgw prove` leaves it. Everything that it made is
-# gone when it ends.
+# It wants root, for the namespaces, and ip, python3 and both programs built, as `./bacgw prove` leaves them; BACGW and BACGWCTL name
+# others. Everything that it made is gone when it ends.
 set -euo pipefail
 
 here=$(cd "$(dirname "$0")" && pwd)
 program=$(realpath -m "${BACGW:-$here/../../crates/bacgw/out/bacgw}")
+tool=$(realpath -m "${BACGWCTL:-$here/../../crates/bacgwctl/out/bacgwctl}")
 work=$(mktemp -d)
 gateway=
 wrong=0
 
 [ "$(id -u)" = 0 ] || { echo "this wants root: it makes network namespaces" >&2; exit 1; }
-[ -x "$program" ] || { echo "build bacgw first: ./bacgw prove" >&2; exit 1; }
+for file in "$program" "$tool"; do
+    [ -x "$file" ] || { echo "build ${file##*/} first: ./bacgw prove" >&2; exit 1; }
+done
 
 clean_up() {
     touch "$work/stop"
@@ -76,7 +79,7 @@ awk '/^\[\[rule\]\]$/ && !done { print "[[rule]]\nname = \"no-fan\"\nallow = fal
     done = 1 } { print }' site.toml > next.toml
 mv next.toml site.toml
 asked=$(now)
-"$program" reload --config site.toml --reload request
+"$tool" reload --config site.toml --reload request
 answered=$(now)
 sleep 2
 touch stop

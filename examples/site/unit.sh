@@ -3,17 +3,20 @@
 # reads and writes a point, reloads good and faulty rules by `systemctl reload`, kills it, and restarts it. Each line says what is so; the
 # status is 1 if anything isn't.
 #
-#     sudo examples/site/unit.sh [PROGRAM]
+#     sudo examples/site/unit.sh [BACGW BACGWCTL]
 #
-# It wants root, systemd-nspawn, nsenter, ip, python3 and the program built, as `./bacgw prove` leaves it, if none is given.
+# It wants root, systemd-nspawn, nsenter, ip, python3 and both programs built, as `./bacgw prove` leaves them, if none are given.
 set -euo pipefail
 
 here=$(cd "$(dirname "$0")" && pwd)
 program=$(realpath -m "${1:-${BACGW:-$here/../../crates/bacgw/out/bacgw}}")
+tool=$(realpath -m "${2:-${BACGWCTL:-$here/../../crates/bacgwctl/out/bacgwctl}}")
 [ "$(id -u)" = 0 ] || { echo "this wants root: it makes a container" >&2; exit 1; }
-[ -x "$program" ] || { echo "build bacgw first: ./bacgw prove" >&2; exit 1; }
-for tool in systemd-nspawn nsenter ip python3; do
-    command -v "$tool" > /dev/null || { echo "this wants $tool" >&2; exit 1; }
+for file in "$program" "$tool"; do
+    [ -x "$file" ] || { echo "build ${file##*/} first: ./bacgw prove" >&2; exit 1; }
+done
+for wanted in systemd-nspawn nsenter ip python3; do
+    command -v "$wanted" > /dev/null || { echo "this wants $wanted" >&2; exit 1; }
 done
 
 work=$(mktemp -d)
@@ -39,7 +42,8 @@ mkdir -p "$work/release"
 cp -r "$here/../../dist/." "$work/release/"
 mkdir -p "$work/release/bin"
 cp "$program" "$work/release/bin/bacgw"
-cp "$here/../../man/bacgw.1" "$work/release/"
+cp "$tool" "$work/release/bin/bacgwctl"
+cp "$here"/../../man/*.1 "$work/release/"
 "$work/release/install.sh" --root "$root" > /dev/null
 cp "$here/site.toml" "$root/etc/bacgw/site.toml"
 cat >> "$root/etc/bacgw/site.toml" <<'TEXT'
