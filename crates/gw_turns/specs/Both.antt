@@ -4,6 +4,7 @@ use Rattle.gw_script.specs.Event.{Event}
 use Rattle.gw_core.specs.State.{State}
 use Rattle.gw_turns.specs.Serve.{Turn}
 use Rattle.gw_turns.specs.Stretch.{EndsStretch, GoOn, Moment, moment}
+use Rattle.gw_core.specs.Guard.{LetsAllGo, PassesBoth}
 use Rattle.gw_core.specs.declared.guard.Both.{Both}
 use Rattle.gw_turns.specs.declared.serving.ServeFault.{ServeFault}
 use Rattle.gw_turns.specs.declared.stretch.Pause.{Pause}
