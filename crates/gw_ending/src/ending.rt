@@ -235,7 +235,8 @@ fn write_fault_naming<E: OctetSink>(
     ensures lasts { E.NeverFails errors.old → E.NeverFails errors.new }
 {
     match fault {
-        Fault::Unreadable(why) | Fault::OtherUnreadable(why) => {
+        Fault::Unreadable(why) => write_unread("cannot read configuration ", file, why, errors),
+        Fault::OtherUnreadable(why) => {
             write_unread("cannot read configuration ", file, why, errors)
         }
         Fault::LogUnreadable(why) => write_unread("cannot read log ", file, why, errors),
