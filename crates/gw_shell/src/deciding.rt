@@ -17,6 +17,7 @@ use gw_ending::Fault;
 use gw_ending::reading::{ConfigFiles, configuration, configuration_of};
 use gw_notices::write_note;
 use gw_policy_text::SETTING;
+use gw_replay::count_script;
 use gw_script::{OctetSink, OctetSource};
 use std::alloc::Global;
 use std::io::{BufWriter, Write};

@@ -10,7 +10,7 @@ ghost use Rattle.gw_tools.specs.Program.{LeavesCompared, LeavesComparison, Leave
 use gw_configuration::Config;
 use gw_ending::reading::print;
 use gw_ending::{Fault, write_number};
-use gw_log_words::Moment;
+use gw_log_words::{Calendar, Moment};
 use gw_policy_review::comparison::{Compared, Comparing, put_steps};
 use gw_script::{OctetSink, WriteFailed};
 use std::alloc::{AllocError, Global};

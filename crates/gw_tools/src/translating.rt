@@ -10,7 +10,7 @@ ghost use Rattle.gw_tools.specs.Translating.{Translates};
 use crate::lines::first_lines_fault;
 use gw_ending::Fault;
 use gw_ending::reading::ConfigFiles;
-use gw_log_words::Moment;
+use gw_log_words::{Moment, translate_log};
 use gw_script::OctetSource;
 use std::alloc::Global;
 use std::io::{BufWriter, Write};
