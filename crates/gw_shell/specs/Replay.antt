@@ -1,4 +1,4 @@
--- What a replay leaves written, at each outcome: over the definitions of `gw_core`.
+-- What a replay leaves written, at each outcome: over the definitions of `gw_replay`.
 use Rattle.std.specs.Prelude.{◌≡◌, ℕ, Bool, true, false, List, length, Option, Some, Result, Ok, Err}
 use Rattle.gw_replay.specs.Explained.{explained_text}
 use Rattle.gw_replay.specs.Replay.{RunsFront, RunsPart, RunsToEnd, RunsToLine, RunsToMemory, RunsWhole, EventText}
