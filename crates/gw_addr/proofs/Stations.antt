@@ -1,5 +1,5 @@
 -- The addresses of stations, as they are kept with zeros after them.
-use Rattle.std.proofs.Common.{◌≡◌, ℕ, ◌-◌, Bool, true, ◌&&◌, List, ◌++◌, length, take, replicate, nat_eq, refl, sym, ap, ap₂, ◌∙◌}
+use Rattle.std.proofs.Common.{◌≡◌, ℕ, ◌-◌, ◌<◌, ◌≤◌, Bool, true, ◌&&◌, List, [], ◌∷◌, ◌++◌, length, get_or, take, replicate, nat_eq, refl, sym, ap, ap₂, ◌∙◌, arith}
 use Rattle.std.proofs.lemmas.Bool.{eqb-true, eq-eqb}
 use Rattle.std.proofs.lemmas.Cmp.{nat_list_eq_equiv}
 use Rattle.std.proofs.lemmas.List.{take_at}
@@ -38,3 +38,15 @@ same_source_to a b e =
 pub same_source_from : (a b : Source) → a ≡ b → (nat_eq a.net b.net && same a.mac b.mac) ≡ true
 same_source_from a b e =
     joined (eq-eqb a.net b.net (ap (λ (s : Source). s.net) e)) (same_from a.mac b.mac (ap (λ (s : Source). s.mac) e))
+
+-- the six octets of a list that has six
+pub six : (xs : List ℕ) → 6 ≤ length xs → length xs < 7
+    → get_or xs 0 0 ∷ get_or xs 1 0 ∷ get_or xs 2 0 ∷ get_or xs 3 0 ∷ get_or xs 4 0 ∷ get_or xs 5 0 ∷ [] ≡ xs
+six [] least most = absurd (omega arith)
+six (a ∷ []) least most = absurd (omega arith)
+six (a ∷ b ∷ []) least most = absurd (omega arith)
+six (a ∷ b ∷ c ∷ []) least most = absurd (omega arith)
+six (a ∷ b ∷ c ∷ d ∷ []) least most = absurd (omega arith)
+six (a ∷ b ∷ c ∷ d ∷ e ∷ []) least most = absurd (omega arith)
+six (a ∷ b ∷ c ∷ d ∷ e ∷ f ∷ []) least most = refl
+six (a ∷ b ∷ c ∷ d ∷ e ∷ f ∷ g ∷ others) least most = absurd (omega arith)

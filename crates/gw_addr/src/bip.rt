@@ -129,6 +129,7 @@ impl fmt::Display for BipAddr {
 }
 
 /// The address that the text writes.
+#[inline(always)]
 fn address_written(text: &[u8]) -> Option<BipAddr>
     ensures found { IfSome result (λ a. text.now ≡ text_of a) }
     ensures only { (a : BipAddr) → IsAddress a → text.now ≡ text_of a → result ≡ Some a }

@@ -1,6 +1,6 @@
 //! The addresses of stations (clauses 6.2.2 and 6.3): a network, and 1 to 255 octets on it.
 
-ghost use Rattle.std.specs.Prelude.{◌≡◌, ◌↔◌, ◌<◌, ◌≤◌, ◌-◌, ◌++◌, length, replicate};
+ghost use Rattle.std.specs.Prelude.{◌≡◌, ◌↔◌, ◌<◌, ◌≤◌, ◌-◌, ◌++◌, ◌/◌, ◌%◌, length, replicate};
 ghost use Rattle.std.specs.Prelude.{Some, IsTrue};
 ghost use Rattle.std.specs.List.{flat_map};
 ghost use Rattle.gw_addr.specs.Appending.{IsAppended};
@@ -89,8 +89,11 @@ impl Mac {
     pub fn put_text(&self, out: &mut Vec<u8>) -> Result<(), AllocError>
         ensures { IsAppended (flat_map two_digits self.now) out.old out.new result }
     {
+        if let [a, b, c, d, high, low] = self.as_slice() {
+            return put_slice(out, &twelve_digits([*a, *b, *c, *d, *high, *low]));
+        }
         for octet in self.as_slice() {
-            put_digits(out, *octet)?;
+            put_slice(out, &[high_digit(*octet), low_digit(*octet)])?;
         }
         Ok(())
     }
@@ -110,6 +113,7 @@ impl fmt::Display for Mac {
 }
 
 /// The digit of a number below 16, in upper case.
+#[inline(always)]
 fn upper_digit(number: u8) -> char
     requires { number < 16 }
     ensures value { result ≡ digit_of number }
@@ -122,6 +126,44 @@ fn upper_digit(number: u8) -> char
     }
 }
 
+/// The first hexadecimal digit of an octet.
+#[inline(always)]
+fn high_digit(octet: u8) -> u8
+    ensures { result ≡ digit_of (octet / 16) }
+{
+    upper_digit(octet >> 4) as u8
+}
+
+/// The second hexadecimal digit of an octet.
+#[inline(always)]
+fn low_digit(octet: u8) -> u8
+    ensures { result ≡ digit_of (octet % 16) }
+{
+    upper_digit(octet & 15) as u8
+}
+
+/// The digits of six octets, two for each.
+#[inline(always)]
+fn twelve_digits(octets: [u8; 6]) -> [u8; 12]
+    ensures { result ≡ flat_map two_digits octets }
+{
+    let [a, b, c, d, high, low] = octets;
+    [
+        high_digit(a),
+        low_digit(a),
+        high_digit(b),
+        low_digit(b),
+        high_digit(c),
+        low_digit(c),
+        high_digit(d),
+        low_digit(d),
+        high_digit(high),
+        low_digit(high),
+        high_digit(low),
+        low_digit(low),
+    ]
+}
+
 /// The station of these octets, so many.
 fn kept(octets: &[u8], len: u8) -> Mac
     requires len { length octets.now ≡ len }
@@ -130,15 +172,6 @@ fn kept(octets: &[u8], len: u8) -> Mac
 {
     let octets = with_zeros(octets);
     Mac { octets, len }
-}
-
-/// Appends an octet as two upper-case hexadecimal digits.
-fn put_digits(out: &mut Vec<u8>, octet: u8) -> Result<(), AllocError>
-    ensures { IsAppended (two_digits octet) out.old out.new result }
-{
-    let high = upper_digit(octet >> 4);
-    let low = upper_digit(octet & 15);
-    put_slice(out, &[high as u8, low as u8])
 }
 
 /// The octets, and zeros after them.

@@ -1,4 +1,4 @@
-use Rattle.std.proofs.Common.{sym, ap, ◌∙◌, arith}
+use Rattle.std.proofs.Common.{sym, ap, ◌∙◌}
 use Rattle.std.specs.Fmt.{decimal}
 use Rattle.gw_addr.proofs.Written.{bacnet_digits, five_digits}
 use Rattle.gw_addr.proofs.digits.five_digits.Goals as goal
