@@ -61,23 +61,23 @@ fn bit_string(flags: Flags) -> BitString<'static>
 }
 
 /// Appends a value. After an `Err` the buffer holds what it held.
-fn write_item(out: &mut Vec<u8>, item: Item<'_>) -> Result<(), AllocError>
+fn write_item(out: &mut Vec<u8>, item: &Item<'_>) -> Result<(), AllocError>
     ensures ok { OnOk result
-        (out.new.items ≡ out.old.items ++ value_encoding (item_view item.entry)) }
+        (out.new.items ≡ out.old.items ++ value_encoding (item_view item.now)) }
     ensures err { OnErr result (out.new.items ≡ out.old.items) }
-    ensures room { vec_len out.old + length (value_encoding (item_view item.entry))
+    ensures room { vec_len out.old + length (value_encoding (item_view item.now))
         ≤ vec_capacity out.old → IsOk result }
     ensures capacity { vec_capacity out.old ≤ vec_capacity out.new }
 {
     match item {
         Item::Null => write_value(out, AppValue::Null),
-        Item::Boolean(said) => write_value(out, AppValue::Boolean(said)),
-        Item::Unsigned(number) => write_value(out, AppValue::Unsigned(number)),
-        Item::Signed(number) => write_value(out, AppValue::Signed(number)),
-        Item::Enumerated(number) => write_value(out, AppValue::Enumerated(number)),
+        Item::Boolean(said) => write_value(out, AppValue::Boolean(*said)),
+        Item::Unsigned(number) => write_value(out, AppValue::Unsigned(*number)),
+        Item::Signed(number) => write_value(out, AppValue::Signed(*number)),
+        Item::Enumerated(number) => write_value(out, AppValue::Enumerated(*number)),
         Item::Text(text) => write_text(out, text),
-        Item::Bits(flags) => write_value(out, AppValue::Bits(bit_string(flags))),
-        Item::Object(id) => write_value(out, AppValue::Object(id)),
+        Item::Bits(flags) => write_value(out, AppValue::Bits(bit_string(*flags))),
+        Item::Object(id) => write_value(out, AppValue::Object(*id)),
     }
 }
 
@@ -150,7 +150,7 @@ fn write_array(out: &mut Vec<u8>, array: &Array<'_>) -> Result<(), AllocError>
     ensures capacity { vec_capacity out.old ≤ vec_capacity out.new }
 {
     for place in 0..array.len() {
-        write_item(out, element(array, place))?;
+        write_item(out, &element(array, place))?;
     }
     Ok(())
 }
@@ -174,7 +174,7 @@ pub(crate) fn write_contents(
     ensures capacity { vec_capacity out.old ≤ vec_capacity out.new }
 {
     match (contents, index) {
-        (Contents::One(item), None) => or_memory(write_item(out, *item)),
+        (Contents::One(item), None) => or_memory(write_item(out, item)),
         (Contents::One(_), Some(_)) => Err(ReadFault::NotArray),
         (Contents::Array(array), None) => or_memory(write_array(out, array)),
         (Contents::Array(array), Some(index)) => write_element(out, array, index),
@@ -206,7 +206,7 @@ fn write_element(out: &mut Vec<u8>, array: &Array<'_>, index: u32) -> Result<(),
     ensures capacity { vec_capacity out.old ≤ vec_capacity out.new }
 {
     match indexed(array, index) {
-        Some(item) => or_memory(write_item(out, item)),
+        Some(item) => or_memory(write_item(out, &item)),
         None => Err(ReadFault::BadIndex),
     }
 }

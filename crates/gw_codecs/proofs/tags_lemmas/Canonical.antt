@@ -1,9 +1,9 @@
 -- What is written for a tag is an encoding, and is read again.
-use Rattle.std.proofs.Common.{◌≡◌, ℕ, ◌+◌, ◌^◌, ◌<◌, ◌≤◌, List, ◌++◌, length, Ok, refl, sym, ap, subst, ◌∙◌, arith, inl, inr}
+use Rattle.std.proofs.Common.{◌≡◌, ℕ, ◌+◌, ◌*◌, ◌^◌, ◌<◌, ◌≤◌, Bool, List, [], ◌∷◌, ◌++◌, length, Ok, refl, sym, ap, subst, ◌∙◌, arith, inl, inr}
 use Rattle.std.proofs.lemmas.Bool.{cases_lt, lt-ltb, le-ltb}
 use Rattle.std.proofs.lemmas.List.{append_cancel_right, length-append}
 use Rattle.gw_addr.proofs.Reading.{ok_is}
-use Rattle.gw_codecs.specs.tags.Tag.{Tag, IsTag, LengthFits, EncodesTag, EncodesInLowBits, NumberPlace, high_bits, own_octet, LengthPlace, low_bits, one_octet, two_octets, four_octets, number_octets, length_octets, NumberHasRoom, LengthHasRoom, shortest_number, shortest_length, tag_encoding, canonical}
+use Rattle.gw_codecs.specs.tags.Tag.{Tag, IsTag, LengthFits, EncodesTag, EncodesInLowBits, NumberPlace, high_bits, own_octet, LengthPlace, low_bits, one_octet, two_octets, four_octets, number_octets, length_octets, NumberHasRoom, LengthHasRoom, shortest_number, shortest_length, tag_encoding, canonical, class_of, length_tag}
 use Rattle.gw_codecs.specs.declared.tags.tag.Kind.{Kind}
 use Rattle.gw_codecs.specs.declared.tags.tag.Kind.TheVariants.{Length, Opening, Closing}
 use Rattle.gw_codecs.specs.tags.Reading.{header_at, tag_at}
@@ -117,3 +117,8 @@ tags_are_prefix_free a b x y s t p q e =
     let same = ok_is (s, x) (t, y) (sym (header_again a s x p) ∙ ap header_at e ∙ header_again b t y q) in
     let behind : x ≡ y = ap (λ (r : Tag × List ℕ). r.1) same in
     (append_cancel_right a b x (e ∙ ap (λ (o : List ℕ). b ++ o) (sym behind)), ap (λ (r : Tag × List ℕ). r.0) same)
+
+-- the tag of a short content is one octet
+pub in_one_octet : (number count : ℕ) (context : Bool) → number < 15 → count < 5
+    → canonical (length_tag number context count) ≡ (16 * number + class_of context + count) ∷ []
+in_one_octet number count context few short = rw (lt-ltb number 15 few, lt-ltb count 5 short) refl

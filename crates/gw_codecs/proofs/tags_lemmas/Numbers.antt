@@ -238,3 +238,9 @@ pub signed_again : (z : ℤ) → IsSigned z → signed_of (signed_encoding z) �
 signed_again z is =
     let s = signed_encodes z is in
     rw (le-leb 1 (length (signed_encoding z)) s.least, le-leb (length (signed_encoding z)) 4 s.most) (ap (λ (y : ℤ). Some y) (sym s.number))
+
+-- a number below 256 is its own octet
+pub in_one_octet : (n : ℕ) → n < 256 → unsigned_encoding n ≡ n ∷ []
+in_one_octet n lt =
+    let same : n % 256 ≡ n = omega arith in
+    rw (lt-ltb n 256 lt) (ap (λ (octet : ℕ). octet ∷ []) same)

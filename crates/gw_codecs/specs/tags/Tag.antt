@@ -22,6 +22,10 @@ tag_view tag = record { number = tag.number; context = tag.context; kind = tag.k
 abbrev pub is_tag : Tag → Bool
 is_tag tag = nat_lt tag.number 255 && (is_length tag.kind || tag.context)
 
+-- the tag of a content of so many octets
+abbrev pub length_tag : ℕ → Bool → ℕ → Tag
+length_tag number context count = record { number = number; context = context; kind = Length count }
+
 -- a length has at most 32 bits
 abbrev pub LengthFits : Kind → Type 0
 LengthFits (Length n) = n < 2 ^ 32

@@ -14,7 +14,7 @@ use crate::tags::fault::ContextFault;
 use crate::tags::number::leading_zeros;
 use crate::tags::reading::read_tag;
 use crate::tags::tag::{Kind, Tag};
-use crate::tags::writing::{put_tag, write_tag};
+use crate::tags::writing::{put_four, put_one, put_tag, write_tag};
 use gw_addr::{front, keep_whole, put_slice};
 use std::alloc::AllocError;
 
@@ -124,6 +124,10 @@ pub fn write_context(out: &mut Vec<u8>, number: u8, content: &[u8]) -> Result<()
     requires fits { length content.now < 2 ^ 32 }
     ensures { IsAppendedWhole (in_context number content.now) out.old out.new result }
 {
+    match content {
+        [a, b, c, d] if number < 15 => return put_four(out, number, true, [*a, *b, *c, *d]),
+        _ => {}
+    }
     let len = out.len();
     let written = put_context(out, number, content);
     keep_whole(out, len, written)
@@ -135,10 +139,14 @@ pub fn write_context(out: &mut Vec<u8>, number: u8, content: &[u8]) -> Result<()
 /// # Errors
 ///
 /// 1 Memory, only if the buffer had no room.
+#[tactic(auto, using(crate::proofs::tags_lemmas::Numbers::in_one_octet))]
 pub fn write_context_unsigned(out: &mut Vec<u8>, number: u8, value: u32) -> Result<(), AllocError>
     requires { number < 255 }
     ensures { IsAppendedWhole (in_context number (unsigned_encoding value)) out.old out.new result }
 {
+    if value < 256 && number < 15 {
+        return put_one(out, number, true, value as u8);
+    }
     let octets = value.to_be_bytes();
     write_context(out, number, &octets[leading_zeros(value)..])
 }

@@ -9,7 +9,7 @@ ghost use Rattle.gw_codecs.specs.tags.Value.{value_view, value_encoding, applica
 use crate::tags::number::{leading_signs, leading_zeros};
 use crate::tags::tag::{Kind, Tag};
 use crate::tags::value::AppValue;
-use crate::tags::writing::put_tag;
+use crate::tags::writing::{put_four, put_one, put_tag};
 use gw_addr::{keep_whole, put_octet, put_slice};
 use std::alloc::AllocError;
 
@@ -47,10 +47,14 @@ fn put_prefixed(out: &mut Vec<u8>, number: u8, first: u8, others: &[u8]) -> Resu
     put_slice(out, others)
 }
 
+#[tactic(auto, using(crate::proofs::tags_lemmas::Numbers::in_one_octet))]
 fn put_unsigned(out: &mut Vec<u8>, kind: u8, number: u32) -> Result<(), AllocError>
     requires { kind < 255 }
     ensures { IsAppended (tagged kind (unsigned_encoding number)) out.old out.new result }
 {
+    if number < 256 && kind < 15 {
+        return put_one(out, kind, false, number as u8);
+    }
     let octets = number.to_be_bytes();
     put_content(out, kind, &octets[leading_zeros(number)..])
 }
@@ -64,25 +68,35 @@ fn put_signed(out: &mut Vec<u8>, kind: u8, number: i32) -> Result<(), AllocError
 }
 
 /// Appends the value. After an `Err` the buffer may hold a front of it.
-fn put_value(out: &mut Vec<u8>, value: AppValue<'_>) -> Result<(), AllocError>
-    requires { LengthFits (value_view value) }
-    ensures { IsAppended (value_encoding (value_view value.entry)) out.old out.new result }
+fn put_value(out: &mut Vec<u8>, value: &AppValue<'_>) -> Result<(), AllocError>
+    requires { LengthFits (value_view value.now) }
+    ensures { IsAppended (value_encoding (value_view value.now)) out.old out.new result }
 {
     match value {
         AppValue::Null => put_header(out, 0, 0),
-        AppValue::Boolean(said) => put_header(out, 1, u32::from(said)),
-        AppValue::Unsigned(number) => put_unsigned(out, 2, number),
-        AppValue::Signed(number) => put_signed(out, 3, number),
-        AppValue::Real(octets) => put_content(out, 4, &octets),
-        AppValue::Double(octets) => put_content(out, 5, &octets),
+        AppValue::Boolean(said) => put_header(out, 1, u32::from(*said)),
+        AppValue::Unsigned(number) => put_unsigned(out, 2, *number),
+        AppValue::Signed(number) => put_signed(out, 3, *number),
+        AppValue::Real(octets) => put_content(out, 4, octets),
+        AppValue::Double(octets) => put_content(out, 5, octets),
         AppValue::Octets(octets) => put_content(out, 6, octets),
         AppValue::Text(text) => put_prefixed(out, 7, text.charset, text.octets),
         AppValue::Bits(bits) => put_prefixed(out, 8, bits.unused, bits.octets),
-        AppValue::Enumerated(number) => put_unsigned(out, 9, number),
-        AppValue::Date(octets) => put_content(out, 10, &octets),
-        AppValue::Time(octets) => put_content(out, 11, &octets),
-        AppValue::Object(object) => put_content(out, 12, &object.to_octets()),
+        AppValue::Enumerated(number) => put_unsigned(out, 9, *number),
+        AppValue::Date(octets) => put_content(out, 10, octets),
+        AppValue::Time(octets) => put_content(out, 11, octets),
+        AppValue::Object(object) => put_four(out, 12, false, object.to_octets()),
     }
+}
+
+/// Appends the value, which is lent. After an `Err` the buffer holds what it held.
+fn write_lent(out: &mut Vec<u8>, value: &AppValue<'_>) -> Result<(), AllocError>
+    requires { LengthFits (value_view value.now) }
+    ensures { IsAppendedWhole (value_encoding (value_view value.now)) out.old out.new result }
+{
+    let len = out.len();
+    let written = put_value(out, value);
+    keep_whole(out, len, written)
 }
 
 /// Appends the one encoding of the value that has the fewest octets.
@@ -90,12 +104,11 @@ fn put_value(out: &mut Vec<u8>, value: AppValue<'_>) -> Result<(), AllocError>
 /// # Errors
 ///
 /// 1 Memory, only if the buffer had no room for the value. The buffer then holds what it held.
+#[inline(always)]
 pub fn write_value(out: &mut Vec<u8>, value: AppValue<'_>) -> Result<(), AllocError>
     // A content has fewer than 2 to the power of 32 octets.
     requires { LengthFits (value_view value) }
     ensures { IsAppendedWhole (value_encoding (value_view value.entry)) out.old out.new result }
 {
-    let len = out.len();
-    let written = put_value(out, value);
-    keep_whole(out, len, written)
+    write_lent(out, &value)
 }

@@ -1,8 +1,8 @@
 //! Writing a tag after what a buffer has (clause 20.2.1).
 
-ghost use Rattle.std.specs.Prelude.{◌≡◌, ◌↔◌, ◌<◌, ◌+◌, ◌*◌, [], IsTrue};
+ghost use Rattle.std.specs.Prelude.{◌≡◌, ◌↔◌, ◌<◌, ◌+◌, ◌*◌, ◌++◌, ◌∷◌, [], IsTrue};
 ghost use Rattle.gw_addr.specs.Appending.{IsAppended, IsAppendedWhole};
-ghost use Rattle.gw_codecs.specs.tags.Tag.{tag_view, class_of, low_of, length_octets, shortest_length, canonical};
+ghost use Rattle.gw_codecs.specs.tags.Tag.{tag_view, class_of, low_of, length_octets, length_tag, shortest_length, canonical};
 
 use crate::tags::tag::{Kind, Tag};
 use gw_addr::{keep_whole, put_long_number, put_number, put_octet};
@@ -94,6 +94,41 @@ fn put_long_tag(out: &mut Vec<u8>, tag: Tag) -> Result<(), AllocError>
         put_octet(out, tag.number)?;
     }
     put_length(out, tag.kind)
+}
+
+/// Appends a content of one octet after its tag, which is one octet too, both at once. After an `Err`
+/// the buffer holds what it held.
+#[inline(always)]
+#[tactic(auto, using(crate::proofs::tags_lemmas::Canonical::in_one_octet))]
+pub fn put_one(
+    out: &mut Vec<u8>,
+    number: u8,
+    context: bool,
+    content: u8,
+) -> Result<(), AllocError>
+    requires { number < 15 }
+    ensures appended { IsAppended (canonical (length_tag number context 1) ++ content ∷ []) out.old out.new result }
+    ensures whole { IsAppendedWhole (canonical (length_tag number context 1) ++ content ∷ []) out.old out.new result }
+{
+    out.extend_from_slice(&[first_octet(number, context, 1), content])
+}
+
+/// Appends a content of four octets after its tag, which is one octet, all five at once. After an `Err`
+/// the buffer holds what it held.
+#[inline(always)]
+#[tactic(auto, using(crate::proofs::tags_lemmas::Canonical::in_one_octet))]
+pub fn put_four(
+    out: &mut Vec<u8>,
+    number: u8,
+    context: bool,
+    content: [u8; 4],
+) -> Result<(), AllocError>
+    requires { number < 15 }
+    ensures appended { IsAppended (canonical (length_tag number context 4) ++ content) out.old out.new result }
+    ensures whole { IsAppendedWhole (canonical (length_tag number context 4) ++ content) out.old out.new result }
+{
+    let [a, b, c, d] = content;
+    out.extend_from_slice(&[first_octet(number, context, 4), a, b, c, d])
 }
 
 /// Appends the one encoding of the tag that has the fewest octets. The buffer keeps what it had,
