@@ -14,5 +14,5 @@ pub use entry::{Entry, put_entries};
 pub use fault::{BvllFault, EncodeFault};
 pub use function::Function;
 pub use message::{BVLC_TYPE, Bvll, ResultCode};
-pub use reading::decode;
+pub use reading::{decode, decode_to};
 pub use writing::{HEADER_LEN, MAX_LEN, encode, set_length};

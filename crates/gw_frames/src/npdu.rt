@@ -18,5 +18,5 @@ pub use kind::MessageKind;
 pub use message::NetMessage;
 pub use npdu::{Npdu, Payload, Priority};
 pub use onward::{Onward, relay_header};
-pub use reading::decode;
+pub use reading::{decode, decode_to};
 pub use writing::{MAX_LEN, encode};

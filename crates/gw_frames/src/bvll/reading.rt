@@ -81,22 +81,53 @@ fn message_of(function: Function, body: &[u8]) -> Result<Bvll<'_>, BvllFault>
     }
 }
 
-/// The message that the octets are, with the faults in their order.
-fn message_at(octets: &[u8]) -> Result<Bvll<'_>, BvllFault>
-    ensures { Gives view result (bvll_at octets.now) }
+/// Writes the message that the octets are, with the faults in their order, into its place. The two functions that most
+/// datagrams have are looked for first.
+#[inline(never)]
+fn message_to<'a>(octets: &'a [u8], frame: &mut Result<Bvll<'a>, BvllFault>)
+    ensures { Gives view frame.new (bvll_at octets.now) }
 {
     if octets.len() < 4 {
-        return Err(BvllFault::Length);
+        *frame = Err(BvllFault::Length);
+        return;
     }
     let (header, body) = octets.split_at(4);
     if header[0] != BVLC_TYPE {
-        return Err(BvllFault::Marker);
+        *frame = Err(BvllFault::Marker);
+        return;
     }
     if u16::from_be_bytes([header[2], header[3]]) as usize != octets.len() {
-        return Err(BvllFault::Length);
+        *frame = Err(BvllFault::Length);
+        return;
     }
-    let function = Function::from_octet(header[1])?;
-    message_of(function, body)
+    match Function::from_octet(header[1]) {
+        Ok(Function::OriginalUnicast) => *frame = Ok(Bvll::OriginalUnicast(body)),
+        Ok(Function::OriginalBroadcast) => *frame = Ok(Bvll::OriginalBroadcast(body)),
+        Ok(function) => *frame = message_of(function, body),
+        Err(fault) => *frame = Err(fault),
+    }
+}
+
+/// Reads a message from the octets of a datagram, as [`decode`] does, and writes what that answers into its place,
+/// where it stays.
+#[inline(always)]
+pub fn decode_to<'a>(octets: &'a [u8], frame: &mut Result<Bvll<'a>, BvllFault>)
+    // What is read has these octets, each of them.
+    ensures found { IfOk frame.new (λ message. IsBvll octets.now (view message)) }
+    // A message with these octets is read.
+    ensures only { (m : Message) → IsBvll octets.now m
+        → IsOkAnd frame.new (λ message. view message ≡ m) }
+
+    // Which fault it is, said of the octets.
+    ensures marker { (frame.new ≡ Err BvllFault.Marker) ↔ IsBadMarker octets.now }
+    ensures size { (frame.new ≡ Err BvllFault.Length) ↔ IsBadLength octets.now }
+    ensures function { (frame.new ≡ Err BvllFault.Function) ↔ IsBadFunction octets.now }
+    ensures body { (frame.new ≡ Err BvllFault.Body) ↔ IsBadBody octets.now }
+
+    // What is written as a function of the octets.
+    ensures exact { Gives view frame.new (bvll_at octets.now) }
+{
+    message_to(octets, frame)
 }
 
 /// Reads a message from the octets of a datagram, all of them (Annex J.2): accepts exactly the
@@ -118,5 +149,7 @@ pub fn decode(octets: &[u8]) -> Result<Bvll<'_>, BvllFault>
     // The result as a function of the octets.
     ensures exact { Gives view result (bvll_at octets.now) }
 {
-    message_at(octets)
+    let mut frame = Err(BvllFault::Length);
+    decode_to(octets, &mut frame);
+    frame
 }

@@ -152,30 +152,55 @@ fn source_of<'a>(raw: Option<RawAddress<'a>>) -> Result<Option<AddressRef<'a>>, 
     Ok(Some(AddressRef { network, mac }))
 }
 
-/// The fields, once they are judged.
-fn fields<'a>(raw: RawNpdu<'a>) -> Result<Npdu<'a>, NpduFault>
-    ensures { Gives (λ n. view n) result (fields_of (raw_fields raw.entry)) }
+/// Writes the fields, once they are judged, into their place.
+#[inline(always)]
+fn fields_to<'a>(raw: RawNpdu<'a>, npdu: &mut Result<Npdu<'a>, NpduFault>)
+    ensures { Gives (λ n. view n) npdu.new (fields_of (raw_fields raw.entry)) }
 {
-    let destination = destination_of(raw.destination)?;
-    let source = source_of(raw.source)?;
-    Ok(Npdu {
-        destination,
-        source,
-        reply_expected: raw.reply_expected,
-        priority: raw.priority,
-        payload: raw.payload,
-    })
+    match destination_of(raw.destination) {
+        Ok(destination) => match source_of(raw.source) {
+            Ok(source) => {
+                *npdu = Ok(Npdu {
+                    destination,
+                    source,
+                    reply_expected: raw.reply_expected,
+                    priority: raw.priority,
+                    payload: raw.payload,
+                })
+            }
+            Err(fault) => *npdu = Err(fault),
+        },
+        Err(fault) => *npdu = Err(fault),
+    }
 }
 
-/// The message that the octets are, or the first fault by number.
-fn whole(octets: &[u8]) -> Result<Npdu<'_>, NpduFault>
-    ensures { Gives (λ n. view n) result (npdu_at octets.now) }
+/// Writes the message that the octets are, or the first fault by number, into its place.
+#[inline(never)]
+fn whole_to<'a>(octets: &'a [u8], npdu: &mut Result<Npdu<'a>, NpduFault>)
+    ensures { Gives (λ n. view n) npdu.new (npdu_at octets.now) }
 {
-    let raw = raw(octets)?;
-    if raw.version != PROTOCOL_VERSION {
-        return Err(NpduFault::Version);
+    match raw(octets) {
+        Ok(raw) if raw.version == PROTOCOL_VERSION => fields_to(raw, npdu),
+        Ok(_) => *npdu = Err(NpduFault::Version),
+        Err(fault) => *npdu = Err(fault),
     }
-    fields(raw)
+}
+
+/// Reads the octets as one message, as [`decode`] does, and writes what that answers into its place, where it stays.
+#[inline(always)]
+pub fn decode_to<'a>(octets: &'a [u8], npdu: &mut Result<Npdu<'a>, NpduFault>)
+    // What is read is what the octets are.
+    ensures found { IfOk npdu.new (λ n. IsNpdu octets.now (view n)) }
+    // What the octets are is read.
+    ensures only { (f : Fields) → IsNpdu octets.now f → IsOkAnd npdu.new (λ n. view n ≡ f) }
+    // What is wrong with octets that are no message.
+    ensures short { IsErrOf npdu.new NpduFault.Short ↔ IsShort octets.now }
+    ensures version { IsErrOf npdu.new NpduFault.Version ↔ IsBadVersion octets.now }
+    ensures address { IsErrOf npdu.new NpduFault.Address ↔ IsBadAddress octets.now }
+    // What is written as a function of the octets.
+    ensures exact { Gives (λ n. view n) npdu.new (npdu_at octets.now) }
+{
+    whole_to(octets, npdu)
 }
 
 /// Reads the octets as one message, all of them (ISO 16484-5, clause 6.2).
@@ -195,5 +220,7 @@ pub fn decode(octets: &[u8]) -> Result<Npdu<'_>, NpduFault>
     // The answer as a function of the octets.
     ensures exact { Gives (λ n. view n) result (npdu_at octets.now) }
 {
-    whole(octets)
+    let mut npdu = Err(NpduFault::Short);
+    decode_to(octets, &mut npdu);
+    npdu
 }

@@ -6,13 +6,13 @@ use Rattle.gw_frames.specs.bvll.Bvll.{view, IsBvll}
 use Rattle.gw_frames.specs.bvll.Reading.{bvll_at}
 use Rattle.gw_frames.specs.bvll.Shape.{IsBadMarker, IsBadLength, IsBadFunction, IsBadBody}
 use Rattle.gw_frames.proofs.bvll_lemmas.Messages.{reads_as, marker_is, length_is, function_is, body_is}
-use Rattle.gw_frames.proofs.bvll.reading.decode.Goals as goal
+use Rattle.gw_frames.proofs.bvll.reading.decode_to.Goals as goal
 
 pub returns : goal.returns
 returns c =
     let octets = c.args.octets.now in
-    let r = c.message_at.result in
-    let given = c.message_at.ensures in
+    let r = c.message_to.new.frame in
+    let given = c.message_to.ensures in
     let fits : AreOctets octets = λ i. omega (arith, c.type_inv.octets i) in
     record {
       found = gives_found view r (bvll_at octets) (IsBvll octets) given (λ m e. (reads_as octets m fits).0 e);
