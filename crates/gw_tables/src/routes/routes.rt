@@ -107,18 +107,30 @@ impl Routes {
         ensures way { result ≡ way self.now net }
         ensures port { IsWayOf self.now result }
     {
+        let mut way = Way::Unknown;
+        self.find_to(net, &mut way);
+        way
+    }
+
+    /// Writes which way the network of this number lies into its place, as [`Routes::find`] answers it.
+    pub fn find_to(&self, net: u16, found: &mut Way)
+        ensures way { found.new ≡ way self.now net }
+        ensures port { IsWayOf self.now found.new }
+    {
         if net == EVERYWHERE {
-            return Way::Everywhere;
+            *found = Way::Everywhere;
+            return;
         }
         let Some(net) = NetNum::new(net) else {
-            return Way::Unknown;
+            *found = Way::Unknown;
+            return;
         };
         match place_of(&self.fixed.direct, net) {
-            Some(place) if place + 1 == self.fixed.direct.len() => Way::Device,
-            Some(place) => Way::Port(place + 1),
+            Some(place) if place + 1 == self.fixed.direct.len() => *found = Way::Device,
+            Some(place) => *found = Way::Port(place + 1),
             None => match route_to(&self.fixed.configured, &self.learned, net) {
-                Some(route) => Way::Router(route),
-                None => Way::Unknown,
+                Some(route) => *found = Way::Router(route),
+                None => *found = Way::Unknown,
             },
         }
     }
