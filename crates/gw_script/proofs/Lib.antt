@@ -1,4 +1,5 @@
 pub mod SearchLemmas
+pub mod FindingLemmas
 pub mod LineLemmas
 pub mod UnreadLemmas
 pub mod AppendLemmas

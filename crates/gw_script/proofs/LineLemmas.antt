@@ -2,10 +2,10 @@
 use Rattle.std.proofs.Common.{◌≡◌, ◌≢◌, ℕ, suc, ◌+◌, ◌<◌, false, ◌==◌, List, [], ◌∷◌, ◌++◌, length, codes, take, drop, Some, refl, sym, ap, ◌∙◌, arith, append_assoc}
 use Rattle.std.proofs.lemmas.List.{length-take-le, length-append}
 use Rattle.std.proofs.lemmas.Bool.Decides.{nat_tests}
-use Rattle.memchr.specs.Find.{IsFirstByte, is_byte}
 use Rattle.gw_script.specs.Script.{lines_of, onto_first}
 use Rattle.gw_addr.specs.Text.{Lacks}
 use Rattle.gw_script.specs.Reader.{BeginsLong}
+use Rattle.gw_script.specs.internal.Finding.{IsFirstAt}
 use Rattle.gw_script.proofs.SearchLemmas.{found_parts}
 
 other : (c : ℕ) (line : List ℕ) → Lacks 10 (c ∷ line) → (c == 10) ≡ false
@@ -63,7 +63,7 @@ begins_long unread rest lacks many =
     record { line = unread ++ line.more; others = line.others; over = omega (arith, length-append unread line.more); lines = line.lines }
 
 -- the first line ends at the first line feed that is unread
-pub first_line : (unread : List ℕ) (k : ℕ) → IsFirstByte (is_byte 10) unread (Some k) → (rest : List ℕ) → lines_of (unread ++ rest) ≡ take k unread ∷ lines_of (drop (k + 1) unread ++ rest)
+pub first_line : (unread : List ℕ) (k : ℕ) → IsFirstAt 10 unread k → (rest : List ℕ) → lines_of (unread ++ rest) ≡ take k unread ∷ lines_of (drop (k + 1) unread ++ rest)
 first_line unread k found rest =
     let parts = found_parts 10 unread k found in
     ap (λ (t : List ℕ). lines_of (t ++ rest)) parts.0
@@ -71,7 +71,7 @@ first_line unread k found rest =
     ∙ lines_of-line (take k unread) (drop (k + 1) unread ++ rest) parts.1
 
 -- the same where it is long
-pub first_line_long : (unread : List ℕ) (k : ℕ) → IsFirstByte (is_byte 10) unread (Some k) → 4096 < k → (rest : List ℕ) → BeginsLong (unread ++ rest)
+pub first_line_long : (unread : List ℕ) (k : ℕ) → IsFirstAt 10 unread k → 4096 < k → (rest : List ℕ) → BeginsLong (unread ++ rest)
 first_line_long unread k found over rest =
-    let len : length (take k unread) ≡ k = length-take-le k unread (omega (arith, found.0.high)) in
+    let len : length (take k unread) ≡ k = length-take-le k unread (omega (arith, found.inside)) in
     record { line = take k unread; others = lines_of (drop (k + 1) unread ++ rest); over = omega (arith, len); lines = first_line unread k found rest }

@@ -9,30 +9,23 @@ use Rattle.std.proofs.lemmas.Str.Ascii.{IsAscii-cons}
 use Rattle.std.specs.Str.{IsAscii, IsUtf8}
 use Rattle.std.specs.Char.{IsAsciiDigit}
 use Rattle.std.specs.Fmt.{decimal}
-use Rattle.memchr.specs.Find.{IsFirstByte, is_byte}
 use Rattle.gw_addr.specs.declared.bip.BipAddr.{BipAddr}
 use Rattle.gw_addr.specs.Address.{IsAddress, text_of}
 use Rattle.gw_addr.specs.Text.{Lacks}
 use Rattle.gw_addr.proofs.Lacking.{address_lacks}
-
--- what no search finds isn't there
-pub none_lacks : (c : ℕ) (xs : List ℕ) → IsFirstByte (is_byte c) xs None → Lacks c xs
-none_lacks c xs none i lt e = none i (omega arith) lt (eq-eqb (get_or xs i 0) c e)
+use Rattle.gw_script.specs.internal.Finding.{IsFirstAt}
 
 -- what a search finds is between what comes before it, which lacks it, and what comes after it
-pub found_parts : (c : ℕ) (xs : List ℕ) (k : ℕ) → IsFirstByte (is_byte c) xs (Some k) → (xs ≡ take k xs ++ c ∷ drop (k + 1) xs) × Lacks c (take k xs)
+pub found_parts : (c : ℕ) (xs : List ℕ) (k : ℕ) → IsFirstAt c xs k → (xs ≡ take k xs ++ c ∷ drop (k + 1) xs) × Lacks c (take k xs)
 found_parts c xs k found =
-    let inside : k < length xs = found.0.high in
-    let here : get_or xs k 0 ≡ c = grind (arith, nat_tests, found.1) in
-    let tail : drop k xs ≡ c ∷ drop (suc k) xs = drop-cons xs k 0 inside ∙ ap (λ (d : ℕ). d ∷ drop (suc k) xs) here in
+    let tail : drop k xs ≡ c ∷ drop (suc k) xs = drop-cons xs k 0 found.inside ∙ ap (λ (d : ℕ). d ∷ drop (suc k) xs) found.here in
     let step : suc k ≡ k + 1 = omega arith in
     let after : drop (suc k) xs ≡ drop (k + 1) xs = ap (λ (j : ℕ). drop j xs) step in
     let whole : xs ≡ take k xs ++ c ∷ drop (k + 1) xs = sym (take-append-drop k xs) ∙ ap (λ (t : List ℕ). take k xs ++ t) (tail ∙ ap (λ (t : List ℕ). c ∷ t) after) in (
       whole,
       λ i lt e.
-          let low : i < k = omega (arith, length-take-le k xs (omega arith)) in
-          let same : get_or xs i 0 ≡ c = sym (get_or-take k xs i 0 low) ∙ e in
-          found.0.before i (omega arith) low (eq-eqb (get_or xs i 0) c same),
+          let low : i < k = omega (arith, length-take-le k xs (omega (arith, found.inside))) in
+          found.before i low (sym (get_or-take k xs i 0 low) ∙ e),
     )
 
 small_octet : (a : BipAddr) → IsAddress a → (i : ℕ) → get_or a.ip i 0 < 2 ^ 64

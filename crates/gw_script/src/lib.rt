@@ -4,6 +4,7 @@
 #![tactic(auto)]
 
 mod event;
+mod finding;
 mod flaw;
 mod law;
 mod line;

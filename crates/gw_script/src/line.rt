@@ -1,6 +1,6 @@
 //! The grammar of a line: `tick`, or a datagram as `<port> <address> <hex>`.
 
-ghost use Rattle.std.specs.Prelude.{◌≡◌, ◌≢◌, ◌+◌, ◌*◌, ◌<◌, ◌≤◌, ◌++◌, ◌∷◌, ℕ, List, length};
+ghost use Rattle.std.specs.Prelude.{◌≡◌, ◌≢◌, ◌+◌, ◌*◌, ◌/◌, ◌<◌, ◌≤◌, ◌++◌, ◌∷◌, ℕ, List, length};
 ghost use Rattle.std.specs.Prelude.{Ok, None, Some, IsErr, IfSome, IsNone, slice_index};
 ghost use Rattle.std.specs.Bool.{OnTrue, OnFalse};
 ghost use Rattle.std.specs.Option.{option_map};
@@ -14,8 +14,8 @@ ghost use Rattle.gw_addr.specs.Text.{Lacks};
 ghost use Rattle.gw_script.specs.internal.Pairs.{IsReadTo, IsValue};
 
 use crate::event::{Event, SpelledAddr};
+use crate::finding::place_of;
 use gw_addr::BipAddr;
-use memchr::memchr;
 
 /// How many octets the datagram of a line has at most.
 pub const MAX_DATAGRAM: usize = 2048;
@@ -24,6 +24,12 @@ pub const MAX_DATAGRAM: usize = 2048;
 const BASE: u8 = 16;
 /// How many octets are read from their digits, or written in them, at once.
 pub(crate) const BLOCK: usize = 8;
+/// How many at once where there are fewer.
+pub(crate) const HALF_BLOCK: usize = 4;
+/// How many digits a block has.
+pub(crate) const BLOCK_DIGITS: usize = 2 * BLOCK;
+/// How many a half block has.
+pub(crate) const HALF_DIGITS: usize = 2 * HALF_BLOCK;
 
 /// The event that a line of at most 4096 octets writes, or `None` where it writes none. The octets of a datagram are lent from the
 /// buffer.
@@ -108,12 +114,13 @@ pub(crate) fn port_of(ports: u8, digit: u8) -> Option<u8>
 }
 
 /// What is before the first space, and what is after it.
+#[tactic(auto, using(crate::proofs::SearchLemmas::found_parts))]
 pub(crate) fn split_at_space(text: &[u8]) -> Option<(&[u8], &[u8])>
     ensures found { IfSome result (λ x. text.now ≡ x.0.now ++ 32 ∷ x.1.now) }
     ensures first { IfSome result (λ x. Lacks 32 x.0.now) }
     ensures only { IsNone result → Lacks 32 text.now }
 {
-    let at = memchr(b' ', text)?;
+    let at = place_of(b' ', text)?;
     Some((&text[..at], &text[at + 1..]))
 }
 
@@ -137,30 +144,30 @@ fn digit_value(digit: u8) -> u8
     number.min(letter)
 }
 
-/// The values of the digits of the block that starts with this octet.
+/// The values of so many digits from the first one of an octet on.
 #[inline(always)]
-fn block_values(text: &[u8], start: usize) -> [u8; 2 * BLOCK]
-    requires { 2 * (start + BLOCK) ≤ length text.now }
-    ensures { (k : ℕ) → k < 2 * BLOCK → IsValue (slice_index text.now (2 * start + k)) (slice_index result k) }
+fn block_values<const DIGITS: usize>(text: &[u8], start: usize) -> [u8; DIGITS]
+    requires { 2 * start + DIGITS ≤ length text.now }
+    ensures { (k : ℕ) → k < DIGITS → IsValue (slice_index text.now (2 * start + k)) (slice_index result k) }
 {
-    let mut values = [0; 2 * BLOCK];
-    for k in 0..2 * BLOCK {
+    let mut values = [0; DIGITS];
+    for k in 0..DIGITS {
         values[k] = digit_value(text[2 * start + k]);
     }
     values
 }
 
-/// Reads the octets of the block that starts with this one, and answers the largest value of a digit up to its end.
+/// Reads the octets of so many digits, of which this octet is the first, and answers the largest value of a digit up to their end.
 #[inline(always)]
-fn read_block(text: &[u8], octets: &mut [u8], start: usize, largest: u8) -> u8
+fn read_block<const DIGITS: usize>(text: &[u8], octets: &mut [u8], start: usize, largest: u8) -> u8
     requires pairs { length text.now ≡ 2 * length octets.old }
-    requires within { start + BLOCK ≤ length octets.old }
+    requires within { 2 * start + DIGITS ≤ length text.now }
     requires before { IsReadTo text.now octets.old start largest }
-    ensures { IsReadTo text.now octets.new (start + BLOCK) result }
+    ensures { IsReadTo text.now octets.new (start + DIGITS / 2) result }
 {
-    let values = block_values(text, start);
+    let values = block_values::<DIGITS>(text, start);
     let mut largest = largest;
-    for k in 0..BLOCK {
+    for k in 0..DIGITS / 2 {
         let high = values[2 * k];
         let low = values[2 * k + 1];
         largest = largest.max(high).max(low);
@@ -180,7 +187,7 @@ fn read_blocks(text: &[u8], octets: &mut [u8]) -> u8
     let last = octets.len() - BLOCK;
     let mut largest = 0;
     for block in 0..octets.len().div_ceil(BLOCK) {
-        largest = read_block(text, octets, last.min(BLOCK * block), largest);
+        largest = read_block::<BLOCK_DIGITS>(text, octets, last.min(BLOCK * block), largest);
     }
     largest
 }
@@ -201,6 +208,23 @@ fn read_each(text: &[u8], octets: &mut [u8]) -> u8
     largest
 }
 
+/// Reads the octets of digit pairs, fewer than a block, and answers the largest value of a digit. Four or more are two half
+/// blocks, which may have octets in common.
+#[inline(always)]
+#[tactic(auto, using(crate::proofs::PairLemmas::read_none, crate::proofs::PairLemmas::read_less))]
+fn read_few(text: &[u8], octets: &mut [u8]) -> u8
+    requires pairs { length text.now ≡ 2 * length octets.old }
+    requires few { length octets.old < BLOCK }
+    ensures { IsReadTo text.now octets.new (length octets.new) result }
+{
+    if octets.len() < HALF_BLOCK {
+        return read_each(text, octets);
+    }
+    let last = octets.len() - HALF_BLOCK;
+    let largest = read_block::<HALF_DIGITS>(text, octets, 0, 0);
+    read_block::<HALF_DIGITS>(text, octets, last, largest)
+}
+
 /// Reads the octets of digit pairs, and answers whether all of them were digits. It checks that only at the end,
 /// so that no digit is waited for.
 #[inline(never)]
@@ -210,7 +234,7 @@ fn read_pairs(text: &[u8], octets: &mut [u8]) -> bool
     ensures only { OnFalse result (IsErr (decode_of text.now)) }
 {
     let largest = if octets.len() < BLOCK {
-        read_each(text, octets)
+        read_few(text, octets)
     } else {
         read_blocks(text, octets)
     };

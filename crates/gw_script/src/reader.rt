@@ -6,8 +6,8 @@ ghost use Rattle.std.specs.Io.KnownBytes.{Keeps, IsAtEnd, prepend_known};
 ghost use Rattle.gw_addr.specs.Text.{Lacks};
 ghost use Rattle.gw_script.specs.Reader.{IsAtHand, IsGiven, IsNextLine, IsPaid, IsWithin};
 
+use crate::finding::place_of;
 use crate::source::{OctetSource, ReadFailed};
-use memchr::memchr;
 use std::marker::Model;
 
 /// How many octets can be unread at most.
@@ -128,7 +128,7 @@ impl LineReader {
                 span: TICK_LEN + 1,
             });
         }
-        match memchr(b'\n', unread) {
+        match place_of(b'\n', unread) {
             Some(len) if len <= MAX_LINE => Some(NextLine::Line { len, span: len + 1 }),
             Some(_) => Some(NextLine::Long),
             None if unread.len() > MAX_LINE => Some(NextLine::Long),

@@ -1,6 +1,6 @@
 //! The pieces of the text that a replay writes, each appended to a buffer.
 
-ghost use Rattle.std.specs.Prelude.{◌≡◌, ◌+◌, ◌*◌, ◌<◌, ◌≤◌, ◌++◌, ◌-◌, IsOk, OnOk, length, slice_index, slice_range, take, vec_capacity, vec_len};
+ghost use Rattle.std.specs.Prelude.{◌≡◌, ◌+◌, ◌*◌, ◌/◌, ◌<◌, ◌≤◌, ◌++◌, ◌-◌, IsOk, OnOk, length, slice_index, slice_range, take, vec_capacity, vec_len};
 ghost use Rattle.hex.specs.Hex.{encode_upper, upper_digits};
 ghost use Rattle.gw_addr.specs.Address.{text_of};
 ghost use Rattle.gw_addr.specs.Appending.{IsAppended, IsAppendedWhole};
@@ -8,7 +8,7 @@ ghost use Rattle.gw_script.specs.Text.{EndsWith, end_line, send_head, send_line,
 ghost use Rattle.gw_script.specs.internal.Digits.{AreDigits, AreWritten};
 
 use crate::event::SpelledAddr;
-use crate::line::BLOCK;
+use crate::line::{BLOCK, BLOCK_DIGITS, HALF_BLOCK, HALF_DIGITS};
 use gw_addr::{BipAddr, keep_whole, put_decimal, put_octet, put_slice};
 use std::alloc::AllocError;
 
@@ -216,14 +216,14 @@ fn upper_digit(number: u8) -> u8
     }
 }
 
-/// The digits of the octets of a block, whose first octet this is.
+/// So many digits, from the first one of this octet on.
 #[inline(always)]
-fn block_digits(octets: &[u8], start: usize) -> [u8; 2 * BLOCK]
-    requires { start + BLOCK ≤ length octets.now }
-    ensures { AreDigits octets.now (2 * start) result (2 * BLOCK) }
+fn block_digits<const DIGITS: usize>(octets: &[u8], start: usize) -> [u8; DIGITS]
+    requires { 2 * start + DIGITS ≤ 2 * length octets.now }
+    ensures { AreDigits octets.now (2 * start) result (2 * (DIGITS / 2)) }
 {
-    let mut digits = [0; 2 * BLOCK];
-    for i in 0..BLOCK {
+    let mut digits = [0; DIGITS];
+    for i in 0..DIGITS / 2 {
         let octet = octets[start + i];
         digits[2 * i] = upper_digit(octet >> 4);
         digits[2 * i + 1] = upper_digit(octet & 15);
@@ -231,16 +231,16 @@ fn block_digits(octets: &[u8], start: usize) -> [u8; 2 * BLOCK]
     digits
 }
 
-/// Writes the digits of the octets of a block, whose first octet this is, after those before it.
+/// Writes so many digits, from the first one of this octet on, after those before it.
 #[inline(always)]
-fn write_block(octets: &[u8], digits: &mut [u8], start: usize)
+fn write_block<const DIGITS: usize>(octets: &[u8], digits: &mut [u8], start: usize)
     requires pairs { length digits.old ≡ 2 * length octets.now }
-    requires within { start + BLOCK ≤ length octets.now }
+    requires within { 2 * start + DIGITS ≤ 2 * length octets.now }
     requires before { AreWritten octets.now digits.old (2 * start) }
-    ensures { AreWritten octets.now digits.new (2 * (start + BLOCK)) }
+    ensures { AreWritten octets.now digits.new (2 * (start + DIGITS / 2)) }
 {
-    let block = block_digits(octets, start);
-    for i in 0..2 * BLOCK {
+    let block = block_digits::<DIGITS>(octets, start);
+    for i in 0..2 * (DIGITS / 2) {
         digits[2 * start + i] = block[i];
     }
 }
@@ -255,7 +255,7 @@ fn write_blocks(octets: &[u8], digits: &mut [u8])
 {
     let last = octets.len() - BLOCK;
     for block in 0..octets.len().div_ceil(BLOCK) {
-        write_block(octets, digits, last.min(BLOCK * block));
+        write_block::<BLOCK_DIGITS>(octets, digits, last.min(BLOCK * block));
     }
 }
 
@@ -271,6 +271,21 @@ fn write_each(octets: &[u8], digits: &mut [u8])
     }
 }
 
+/// Writes octets, fewer than a block. Four or more are two half blocks, which may have octets in common.
+#[inline(always)]
+fn write_few(octets: &[u8], digits: &mut [u8])
+    requires pairs { length digits.old ≡ 2 * length octets.now }
+    requires few { length octets.now < BLOCK }
+    ensures { AreWritten octets.now digits.new (2 * length octets.now) }
+{
+    if octets.len() < HALF_BLOCK {
+        write_each(octets, digits);
+        return;
+    }
+    write_block::<HALF_DIGITS>(octets, digits, 0);
+    write_block::<HALF_DIGITS>(octets, digits, octets.len() - HALF_BLOCK);
+}
+
 /// Writes octets in upper-case digits over as many digits as they have.
 #[inline(never)]
 fn write_digits(octets: &[u8], digits: &mut [u8])
@@ -278,7 +293,7 @@ fn write_digits(octets: &[u8], digits: &mut [u8])
     ensures { digits.new ≡ encode_upper octets.now }
 {
     if octets.len() < BLOCK {
-        write_each(octets, digits);
+        write_few(octets, digits);
     } else {
         write_blocks(octets, digits);
     }

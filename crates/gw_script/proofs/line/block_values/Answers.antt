@@ -1,13 +1,13 @@
-use Rattle.std.proofs.Common.{◌≡◌, inl, inr, refl, ◌∙◌, arith}
+use Rattle.std.proofs.Common.{◌≡◌, inl, inr, ◌∙◌, arith}
 use Rattle.std.proofs.lemmas.Bool.{cases_lt}
-use Rattle.std.proofs.lemmas.List.{get_or-set_other, get_or-set_same, length-set}
+use Rattle.std.proofs.lemmas.List.{get_or-set_other, get_or-set_same, length-set, length-replicate}
 use Rattle.gw_script.proofs.line.block_values.Goals as goal
 
 pub loop-k-init : goal.loop-k-init
-loop-k-init c = (refl, λ j lt. absurd (omega arith))
+loop-k-init g c = (length-replicate g.row.DIGITS 0, λ j lt. absurd (omega arith))
 
 pub loop-k-preserved : goal.loop-k-preserved
-loop-k-preserved c =
+loop-k-preserved g c =
     let values = c.loop-k.values in
     let value = c.digit_value.result in (
       length-set values c.loop-k.k value ∙ c.loop-k.invariant.0,
@@ -21,4 +21,4 @@ loop-k-preserved c =
     )
 
 pub returns : goal.returns
-returns c = λ k lt. c.loop-k.invariant.1 k (omega arith)
+returns g c = λ k lt. c.loop-k.invariant.1 k (omega arith)

@@ -7,7 +7,7 @@ use Rattle.gw_script.proofs.line.read_pairs.Goals as goal
 all_read : (c : Joined-octets-lt-BLOCK) → IsReadTo c.args.text.now c.if-octets-lt-BLOCK.octets (length c.if-octets-lt-BLOCK.octets) c.if-octets-lt-BLOCK.largest
 all_read c =
     elim c.if-octets-lt-BLOCK.branch [
-      | then-octets-lt-BLOCK w ↦ rw (w.octets-is, w.largest-is) w.read_each-largest.ensures
+      | then-octets-lt-BLOCK w ↦ rw (w.octets-is, w.largest-is) w.read_few-largest.ensures
       | else-octets-lt-BLOCK w ↦ rw (w.octets-is, w.largest-is) w.read_blocks-largest.ensures
     ]
 

@@ -6,7 +6,7 @@ use Rattle.gw_script.proofs.DigitLemmas.{octet_more}
 use Rattle.gw_script.proofs.text.block_digits.Goals as goal
 
 pub loop-i-preserved : goal.loop-i-preserved
-loop-i-preserved c =
+loop-i-preserved g c =
     let octets = c.args.octets.now in
     let octet : ℕ = get_or octets (c.args.start + c.loop-i.i) 0 in
     let digits = c.loop-i.digits in
