@@ -100,12 +100,7 @@ fn put_long_tag(out: &mut Vec<u8>, tag: Tag) -> Result<(), AllocError>
 /// the buffer holds what it held.
 #[inline(always)]
 #[tactic(auto, using(crate::proofs::tags_lemmas::Canonical::in_one_octet))]
-pub fn put_one(
-    out: &mut Vec<u8>,
-    number: u8,
-    context: bool,
-    content: u8,
-) -> Result<(), AllocError>
+pub fn put_one(out: &mut Vec<u8>, number: u8, context: bool, content: u8) -> Result<(), AllocError>
     requires { number < 15 }
     ensures appended { IsAppended (canonical (length_tag number context 1) ++ content ∷ []) out.old out.new result }
     ensures whole { IsAppendedWhole (canonical (length_tag number context 1) ++ content ∷ []) out.old out.new result }
