@@ -124,6 +124,7 @@ fn header(pdu_type: PduType, first: u8, octets: &[u8]) -> Found<'_>
 }
 
 /// The APDU, said by the reading function alone.
+#[inline(always)]
 fn whole(octets: &[u8]) -> Result<Apdu<'_>, ApduFault>
     ensures { Gives (λ a. view a) result (apdu_at octets.now) }
 {
@@ -139,6 +140,7 @@ fn whole(octets: &[u8]) -> Result<Apdu<'_>, ApduFault>
 /// # Errors
 ///
 /// 1 `Short` and 2 `Kind`, as [`ApduFault`] says. `Kind` is judged by the first octet alone.
+#[inline(always)]
 pub fn decode(octets: &[u8]) -> Result<Apdu<'_>, ApduFault>
     // What is read is what the octets are.
     ensures found { IfOk result (λ a. IsApdu octets.now (view a)) }
