@@ -35,6 +35,7 @@ fn read(octets: &[u8]) -> Result<ReadReq, BodyFault>
 ///
 /// 1 `InvalidTag`, 2 `Missing`, 3 `OutOfRange` and 4 `TooMany`, as [`BodyFault`] says: the first in
 /// the order of the octets.
+#[inline(always)]
 pub fn decode_read(octets: &[u8]) -> Result<ReadReq, BodyFault>
     // What is read is what the octets are.
     ensures found { IfOk result (λ r. IsRead octets.now (read_view r)) }
