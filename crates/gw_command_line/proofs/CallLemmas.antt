@@ -21,6 +21,8 @@ unfolding clap_on_literals commands
 calls_are_refused = record {
   trial = λ program. (refl, refl);
   stamp = λ program. (refl, refl);
+  metrics = λ program. (refl, refl);
+  answer = λ program. (refl, refl);
   turns = λ program. refl;
   stats = λ program. refl;
   stats_long = λ program. refl;

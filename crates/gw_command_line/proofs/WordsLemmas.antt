@@ -1,5 +1,5 @@
 -- What the program makes of words, from what a parse of them gives.
-use Rattle.std.proofs.Common.{◌≡◌, ◌⊎◌, inl, inr, refl, subst, true, List, Option, Some, None, Result, Ok, Err, []}
+use Rattle.std.proofs.Common.{◌≡◌, ◌⊎◌, inl, inr, refl, subst, true, List, Result, Ok, Err, []}
 use Rattle.clap.specs.Words.{IsAmong, Text, fault_of, is_simple, is_simple_and_free}
 use Rattle.clap.specs.declared.error.kind.ErrorKind.{ErrorKind}
 use Rattle.clap.specs.declared.error.kind.ErrorKind.TheVariants as parse
@@ -27,24 +27,24 @@ pub refusal_answers : (words : List Text) (k : ErrorKind) (r : Result Choice Wor
     → (k ≡ parse.OutOfMemory) ⊎ IsAmong k (fault_of commands words) → IsRefusal k r → IsAnswer words r
 refusal_answers words k (Ok (choice.Help text)) among is =
     (k, mistake_among (fault_of commands words) k among (λ memory. memory_shows_nothing k memory is), is)
-refusal_answers words k (Ok (choice.Usage text)) among is = (k, mistake_among (fault_of commands words) k among is.2, is)
+refusal_answers words k (Ok (choice.Usage text)) among is = inl (k, mistake_among (fault_of commands words) k among is.2, is)
 refusal_answers words k (Err fault.CommandLine) among is = inl (k, mistake_among (fault_of commands words) k among is.2, is)
 refusal_answers words k (Err fault.Memory) among is = tt
 refusal_answers words k (Ok (choice.Check file)) among is = absurd is
 refusal_answers words k (Ok (choice.Replay file explains counts)) among is = absurd is
 refusal_answers words k (Ok (choice.Run options)) among is = absurd is
 
--- nothing is chosen for which nothing can be chosen
-no_choice : {B : Type 0} (request : Option Request) (choice : Choice) → ((r : Request) → IsChosen (Some r) (Ok choice) → ⊥)
-    → IsChosen request (Ok choice) → B
-no_choice None choice never is = absurd is
-no_choice (Some r) choice never is = absurd (never r is)
+-- nothing is chosen that neither a request nor a reason is
+no_choice : {B : Type 0} (asked : Result Request Text) (choice : Choice) → ((request : Request) → IsChosen (Ok request) (Ok choice) → ⊥)
+    → ((line : Text) → IsChosen (Err line) (Ok choice) → ⊥) → IsChosen asked (Ok choice) → B
+no_choice (Ok request) choice never none is = absurd (never request is)
+no_choice (Err line) choice never none is = absurd (none line is)
 
 -- what is chosen of words that the parser takes answers them
 pub taken_answers : (words : List Text) (r : Result Choice WordsFault) → fault_of commands words ≡ [] → IsChosen (asked_in words) r
     → IsAnswer words r
-taken_answers words (Ok (choice.Help text)) none is = no_choice (asked_in words) (choice.Help text) (λ r never. never) is
-taken_answers words (Ok (choice.Usage text)) none is = no_choice (asked_in words) (choice.Usage text) (λ r never. never) is
+taken_answers words (Ok (choice.Help text)) none is = no_choice (asked_in words) (choice.Help text) (λ r no. no) (λ l no. no) is
+taken_answers words (Ok (choice.Usage text)) none is = inr (none, is)
 taken_answers words (Err fault.CommandLine) none is = inr (none, is)
 taken_answers words (Err fault.Memory) none is = tt
 taken_answers words (Ok (choice.Check file)) none is = (none, is)
@@ -52,15 +52,16 @@ taken_answers words (Ok (choice.Replay file explains counts)) none is = (none, i
 taken_answers words (Ok (choice.Run options)) none is = (none, is)
 
 -- what is chosen of what is known to be asked for
-chosen : (words : List Text) (request : Request) (r : Result Choice WordsFault) → asked_in words ≡ Some request
-    → IsChosen (asked_in words) r → IsChosen (Some request) r
-chosen words request r asks is = subst (λ (o : Option Request). IsChosen o r) asks is
+chosen : (words : List Text) (request : Request) (r : Result Choice WordsFault) → asked_in words ≡ Ok request
+    → IsChosen (asked_in words) r → IsChosen (Ok request) r
+chosen words request r asks is = subst (λ (o : Result Request Text). IsChosen o r) asks is
 
 -- the answer to words that ask for something is that, or memory ran out
 pub chooses : (words : List Text) (request : Request) (r : Result Choice WordsFault) → AskFor words request → IsAnswer words r
     → Chooses request r
 chooses words request (Ok (choice.Help text)) asks is = absurd (no_kind (fault_of commands words) is.0 asks.taken is.1)
-chooses words request (Ok (choice.Usage text)) asks is = absurd (no_kind (fault_of commands words) is.0 asks.taken is.1)
+chooses words request (Ok (choice.Usage text)) asks (inl is) = absurd (no_kind (fault_of commands words) is.0 asks.taken is.1)
+chooses words request (Ok (choice.Usage text)) asks (inr is) = chosen words request (Ok (choice.Usage text)) asks.asked is.1
 chooses words request (Err fault.CommandLine) asks (inl is) = no_kind (fault_of commands words) is.0 asks.taken is.1
 chooses words request (Err fault.CommandLine) asks (inr is) = chosen words request (Err fault.CommandLine) asks.asked is.1
 chooses words request (Err fault.Memory) asks is = tt

@@ -1,5 +1,5 @@
 -- Worked command lines: what words ask for, and which ask for nothing, whatever the program's name is.
-use Rattle.std.specs.Prelude.{◌≡◌, true, false, List, [], ◌∷◌, Some, None, codes}
+use Rattle.std.specs.Prelude.{◌≡◌, true, false, List, [], ◌∷◌, Some, None, Err, codes}
 use Rattle.clap.specs.Words.{Text, fault_of}
 use Rattle.clap.specs.declared.error.kind.ErrorKind.TheVariants as parse
 use Rattle.gw_command_line.specs.CommandLine.{AskFor}
@@ -11,9 +11,9 @@ use Rattle.gw_command_line.specs.options.Options.{most_count}
 abbrev pub Calls : List Text → Request → Type 0
 Calls words request = (program : Text) → AskFor (program ∷ words) request
 
--- these words, after the program's name, are taken by the parser and ask for nothing
-abbrev pub Mistakes : List Text → Type 0
-Mistakes words = (program : Text) → (fault_of commands (program ∷ words) ≡ []) × (asked_in (program ∷ words) ≡ None)
+-- these words, after the program's name, are taken by the parser and ask for nothing, as this line says
+abbrev pub Mistakes : List Text → Text → Type 0
+Mistakes words line = (program : Text) → (fault_of commands (program ∷ words) ≡ []) × (asked_in (program ∷ words) ≡ Err line)
 
 -- these words, after the program's name, have a value that isn't a number in its range
 abbrev pub OutOfRange : List Text → Type 0
@@ -67,8 +67,12 @@ pub record CallsAreTaken : Type 0 where
       })
 
 pub record CallsAreRefused : Type 0 where
-  pub trial : Mistakes (codes "run" ∷ on_site (codes "--trial" ∷ codes "new.toml" ∷ []))
-  pub stamp : Mistakes (codes "run" ∷ on_site (codes "--stamp" ∷ []))
+  pub trial : Mistakes (codes "run" ∷ on_site (codes "--trial" ∷ codes "new.toml" ∷ [])) (codes "--trial and --trial-log go together\n")
+  pub stamp : Mistakes (codes "run" ∷ on_site (codes "--stamp" ∷ [])) (codes "--stamp needs --log\n")
+  pub metrics : Mistakes (codes "run" ∷ on_site (codes "--metrics" ∷ codes "site.toml" ∷ []))
+      (codes "--config and --metrics use one file: site.toml\n")
+  pub answer : Mistakes (codes "run" ∷ on_site (codes "--reload" ∷ codes "again" ∷ codes "--log" ∷ codes "again.answer" ∷ []))
+      (codes "--log and --reload use one file: again.answer\n")
   pub turns : OutOfRange (codes "run" ∷ on_site (codes "--turns" ∷ codes "0" ∷ []))
   pub stats : OutOfRange (codes "run" ∷ on_site (codes "--stats" ∷ codes "0" ∷ []))
   pub stats_long : OutOfRange (codes "run" ∷ on_site (codes "--stats" ∷ codes "4294967296" ∷ []))

@@ -1,9 +1,10 @@
 -- What a call of the program asks for, by the name of its command and the values of its options.
-use Rattle.std.specs.Prelude.{◌&&◌, not, ℕ, Bool, true, false, List, ◌∷◌, nat_eq, if◌then◌else◌, Option, Some, None, codes}
+use Rattle.std.specs.Prelude.{not, ℕ, Bool, true, false, List, [], ◌++◌, nat_eq, if◌then◌else◌, Option, Some, None, Result, Ok, Err, codes}
 use Rattle.std.specs.Cmp.Lexicographic.{pointwise}
-use Rattle.std.specs.Option.{option_and_then}
 use Rattle.clap.specs.Words.{Row, Text, first_of, subcommand_of}
 use Rattle.gw_command_line.specs.Commands.{commands}
+use Rattle.gw_command_line.specs.declared.options.files.FileOption.TheVariants as option
+use Rattle.gw_command_line.specs.options.Files.{FileUse, clash_of, reads, replaces, requests, writes}
 use Rattle.gw_command_line.specs.options.Values.{Values, count_in, is_true, period_in}
 
 -- what `run` is asked for
@@ -38,27 +39,57 @@ abbrev pub can_stamp : Bool → Option Text → Bool
 can_stamp stamp (Some log) = true
 can_stamp stamp None = not stamp
 
--- `run`, whose numbers have to be such, with a trial and its log, or neither, and with stamps only of a log in a file
-abbrev pub service_of : Text → Values → Option ℕ → Option (Option ℕ) → Option Request
-service_of file value (Some turns) (Some stats) =
-    if are_paired (value (codes "trial")) (value (codes "trial-log")) && can_stamp (is_true (value (codes "stamp"))) (value (codes "log"))
-    then Some (Serves record {
-      config = file;
-      log = value (codes "log");
-      turns = turns;
-      verbose = is_true (value (codes "verbose"));
-      stats = stats;
-      state = value (codes "state");
-      reload = value (codes "reload");
-      trial = value (codes "trial");
-      trial_log = value (codes "trial-log");
-      audit = value (codes "audit");
-      stamp = is_true (value (codes "stamp"));
-      metrics = value (codes "metrics");
-    }) else None
-service_of file value _ _ = None
+-- the logs that `run` writes
+abbrev pub logs_of : Service → List FileUse
+logs_of s = writes option.Log s.log [] ++ (writes option.TrialLog s.trial_log [] ++ writes option.Audit s.audit [])
 
-abbrev pub run_asked : Text → Values → Option Request
+-- what it keeps, and the request to read the configuration again
+abbrev pub kept_of : Service → List FileUse
+kept_of s = replaces option.State s.state ++ (replaces option.Metrics s.metrics ++ requests option.Reload s.reload)
+
+-- the files that it uses: two configurations, which are read, and those
+abbrev pub files_of : Service → List FileUse
+files_of s = (reads option.Config (Some s.config) ++ reads option.Trial s.trial) ++ (logs_of s ++ kept_of s)
+
+-- Why what `run` is asked for doesn't go together, as a line: a trial without its log, or a log without its trial; stamps
+-- without a log in a file; or two options that use one file, which one of them writes.
+abbrev pub mistake_of : Service → Option Text
+mistake_of s =
+    if not (are_paired s.trial s.trial_log) then Some (codes "--trial and --trial-log go together\n")
+    else if not (can_stamp s.stamp s.log) then Some (codes "--stamp needs --log\n")
+    else clash_of (files_of s)
+
+-- a request, unless this line says why there is none
+abbrev pub unless : Option Text → Request → Result Request Text
+unless None request = Ok request
+unless (Some line) request = Err line
+
+abbrev pub judged : Service → Result Request Text
+judged s = unless (mistake_of s) (Serves s)
+
+-- `run` by the values of its options
+abbrev pub service_at : Text → Values → ℕ → Option ℕ → Service
+service_at file value turns stats = record {
+  config = file;
+  log = value (codes "log");
+  turns = turns;
+  verbose = is_true (value (codes "verbose"));
+  stats = stats;
+  state = value (codes "state");
+  reload = value (codes "reload");
+  trial = value (codes "trial");
+  trial_log = value (codes "trial-log");
+  audit = value (codes "audit");
+  stamp = is_true (value (codes "stamp"));
+  metrics = value (codes "metrics");
+}
+
+-- its numbers have to be such
+abbrev pub service_of : Text → Values → Option ℕ → Option (Option ℕ) → Result Request Text
+service_of file value (Some turns) (Some stats) = judged (service_at file value turns stats)
+service_of file value _ _ = Err []
+
+abbrev pub run_asked : Text → Values → Result Request Text
 run_asked file value = service_of file value (count_in (value (codes "turns"))) (period_in (value (codes "stats")))
 
 -- a command's name is this one
@@ -66,23 +97,29 @@ abbrev pub is_named : Text → Text → Bool
 is_named name other = pointwise nat_eq name other
 
 -- the commands that need a configuration's file
-abbrev pub asked_of_file : Text → Values → Text → Option Request
+abbrev pub asked_of_file : Text → Values → Text → Result Request Text
 asked_of_file name value file =
-    if is_named name (codes "check") then Some (Checks file)
+    if is_named name (codes "check") then Ok (Checks file)
     else if is_named name (codes "run") then run_asked file value
-    else None
+    else Err []
 
--- what a call of the command of this name asks for, whose options have these values; `None` if it asks for nothing
-abbrev pub asked : Text → Values → Option Request
+abbrev pub asked_of_config : Text → Values → Option Text → Result Request Text
+asked_of_config name value (Some file) = asked_of_file name value file
+asked_of_config name value None = Err []
+
+-- What a call of the command of this name asks for, whose options have these values; or why it asks for nothing, as a line. It
+-- is empty where the parser takes no such words.
+abbrev pub asked : Text → Values → Result Request Text
 asked name value =
     if is_named name (codes "replay")
-    then Some (Replays (value (codes "config")) (is_true (value (codes "explain"))) (is_true (value (codes "stats"))))
-    else option_and_then (asked_of_file name value) (value (codes "config"))
+    then Ok (Replays (value (codes "config")) (is_true (value (codes "explain"))) (is_true (value (codes "stats"))))
+    else asked_of_config name value (value (codes "config"))
 
 -- what a call asks for: its command, and the rows of its options
-abbrev pub asked_by : Text × List Row → Option Request
-asked_by call = asked call.0 (λ id. first_of id call.1)
+abbrev pub asked_by : Option (Text × List Row) → Result Request Text
+asked_by (Some call) = asked call.0 (λ id. first_of id call.1)
+asked_by None = Err []
 
 -- what the words ask for
-abbrev pub asked_in : List Text → Option Request
-asked_in words = option_and_then asked_by (subcommand_of commands words)
+abbrev pub asked_in : List Text → Result Request Text
+asked_in words = asked_by (subcommand_of commands words)

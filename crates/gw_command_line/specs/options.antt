@@ -1,3 +1,4 @@
+pub mod Files
 pub mod Options
 pub mod Parses
 pub mod Values

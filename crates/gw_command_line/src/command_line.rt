@@ -1,15 +1,17 @@
 //! The command line: which command the words choose, read with `clap`.
 
-ghost use Rattle.std.specs.Prelude.{◌≡◌, Some, codes, map, option_map, string_bytes};
-ghost use Rattle.std.specs.Option.{option_and_then};
+ghost use Rattle.std.specs.Prelude.{◌≡◌, ◌++◌, ◌<◌, ◌^◌, map, option_map, string_bytes, IfOk, IfSome, OnOk};
 ghost use Rattle.clap.specs.Words.{first_value, found_of, kind_of, subcommand_rows_of};
-ghost use Rattle.gw_command_line.specs.CommandLine.{AskFor, Chooses, IsAnswer, IsChosen, IsRefusal};
-ghost use Rattle.gw_command_line.specs.Requests.{Request, are_paired, asked, asked_by, asked_of_file, can_stamp};
-ghost use Rattle.gw_command_line.specs.Requests.{run_asked};
+ghost use Rattle.gw_command_line.specs.CommandLine.{AskFor, Chooses, IsAnswer, IsChosen, IsRefusal, service};
+ghost use Rattle.gw_command_line.specs.Requests.{Request, are_paired, asked, asked_by, asked_of_file, can_stamp, files_of, judged, mistake_of};
+ghost use Rattle.gw_command_line.specs.Requests.{kept_of, logs_of, run_asked, service_at};
 
 use crate::commands::make_commands;
 use crate::moved::moved_command;
-use crate::options::{WordsFault, count_of, file_of, is_given, period_of};
+use crate::options::{
+    FileOption, FileUse, WordsFault, add_read, add_replaced, add_request, add_written, clash_of,
+    count_of, file_of, is_given, period_of,
+};
 use clap::error::ErrorKind;
 use clap::{ArgMatches, Error};
 use gw_configuration::RunOptions;
@@ -85,7 +87,116 @@ fn can_stamp(stamp: bool, log: &Option<String>) -> bool
     }
 }
 
-/// What `run` asks for under the configuration in this file. `CommandLine` if its options don't go together.
+/// The name in an option.
+fn name_of(file: &Option<String>) -> Option<&str>
+    ensures { option_map (λ name. name.now) result ≡ option_map string_bytes file.now }
+{
+    match file {
+        Some(name) => Some(name.as_str()),
+        None => None,
+    }
+}
+
+/// Adds the logs that `run` is asked to write.
+fn add_logs(alloc: Global, options: &RunOptions, files: &mut Vec<FileUse>) -> Result<(), AllocError>
+    ensures { OnOk result (files.new.items ≡ files.old.items ++ logs_of (service options.now)) }
+{
+    add_written(alloc, FileOption::Log, name_of(&options.log), "", files)?;
+    add_written(
+        alloc,
+        FileOption::TrialLog,
+        name_of(&options.trial_log),
+        "",
+        files,
+    )?;
+    add_written(alloc, FileOption::Audit, name_of(&options.audit), "", files)
+}
+
+/// Adds what `run` is asked to keep, and the request to read the configuration again.
+fn add_kept(alloc: Global, options: &RunOptions, files: &mut Vec<FileUse>) -> Result<(), AllocError>
+    ensures { OnOk result (files.new.items ≡ files.old.items ++ kept_of (service options.now)) }
+{
+    add_replaced(alloc, FileOption::State, name_of(&options.state), files)?;
+    add_replaced(alloc, FileOption::Metrics, name_of(&options.metrics), files)?;
+    add_request(alloc, FileOption::Reload, name_of(&options.reload), files)
+}
+
+/// The files that `run` uses.
+fn files_of(alloc: Global, options: &RunOptions) -> Result<Vec<FileUse>, AllocError>
+    ensures { IfOk result (λ files. files.items ≡ files_of (service options.now)) }
+{
+    let mut files = Vec::new(alloc);
+    add_read(
+        alloc,
+        FileOption::Config,
+        Some(options.config.as_str()),
+        &mut files,
+    )?;
+    add_read(
+        alloc,
+        FileOption::Trial,
+        name_of(&options.trial),
+        &mut files,
+    )?;
+    add_logs(alloc, options, &mut files)?;
+    add_kept(alloc, options, &mut files)?;
+    Ok(files)
+}
+
+/// Why what `run` is asked for doesn't go together, as a line, if it doesn't.
+fn mistake_of(alloc: Global, options: &RunOptions) -> Result<Option<String>, AllocError>
+    ensures { IfOk result (λ line. option_map string_bytes line ≡ mistake_of (service options.now)) }
+{
+    if !are_paired(&options.trial, &options.trial_log) {
+        return Ok(Some(String::from_str(alloc, "--trial and --trial-log go together\n")?));
+    }
+    if !can_stamp(options.stamp, &options.log) {
+        return Ok(Some(String::from_str(alloc, "--stamp needs --log\n")?));
+    }
+    let files = files_of(alloc, options)?;
+    clash_of(alloc, &files)
+}
+
+/// To serve with these options, or why they don't go together.
+fn judged_choice(alloc: Global, options: RunOptions) -> Result<Choice, WordsFault>
+    ensures { IsChosen (judged (service options)) result }
+{
+    match mistake_of(alloc, &options)? {
+        Some(line) => Ok(Choice::Usage(line)),
+        None => Ok(Choice::Run(options)),
+    }
+}
+
+/// What `run` is asked for by the values of its options.
+fn options_of(
+    alloc: Global,
+    matches: &ArgMatches<'_>,
+    config: String,
+    turns: u64,
+    stats: Option<u64>,
+) -> Result<RunOptions, AllocError>
+    requires few { turns < 2 ^ 63 }
+    requires seconds { IfSome stats (λ n. 0 < n) }
+    ensures { IfOk result (λ options. service options
+        ≡ service_at (string_bytes config) (first_value (found_of matches.now)) turns stats) }
+{
+    Ok(RunOptions {
+        config,
+        log: file_of(alloc, matches, "log")?,
+        turns,
+        verbose: is_given(matches, "verbose"),
+        stats,
+        state: file_of(alloc, matches, "state")?,
+        reload: file_of(alloc, matches, "reload")?,
+        trial: file_of(alloc, matches, "trial")?,
+        trial_log: file_of(alloc, matches, "trial-log")?,
+        audit: file_of(alloc, matches, "audit")?,
+        stamp: is_given(matches, "stamp"),
+        metrics: file_of(alloc, matches, "metrics")?,
+    })
+}
+
+/// What `run` asks for under the configuration in this file, or why its options don't go together.
 fn run_choice(alloc: Global, matches: &ArgMatches<'_>, config: String) -> Result<Choice, WordsFault>
     ensures { IsChosen (run_asked (string_bytes config) (first_value (found_of matches.now))) result }
 {
@@ -95,27 +206,8 @@ fn run_choice(alloc: Global, matches: &ArgMatches<'_>, config: String) -> Result
     let Some(stats) = period_of(matches, "stats") else {
         return Err(WordsFault::CommandLine);
     };
-    let trial = file_of(alloc, matches, "trial")?;
-    let trial_log = file_of(alloc, matches, "trial-log")?;
-    let log = file_of(alloc, matches, "log")?;
-    let stamp = is_given(matches, "stamp");
-    if !are_paired(&trial, &trial_log) || !can_stamp(stamp, &log) {
-        return Err(WordsFault::CommandLine);
-    }
-    Ok(Choice::Run(RunOptions {
-        config,
-        log,
-        turns,
-        verbose: is_given(matches, "verbose"),
-        stats,
-        state: file_of(alloc, matches, "state")?,
-        reload: file_of(alloc, matches, "reload")?,
-        trial,
-        trial_log,
-        audit: file_of(alloc, matches, "audit")?,
-        stamp,
-        metrics: file_of(alloc, matches, "metrics")?,
-    }))
+    let options = options_of(alloc, matches, config, turns, stats)?;
+    judged_choice(alloc, options)
 }
 
 /// What the command of this name asks for under the configuration in this file.
@@ -159,7 +251,7 @@ fn choice_for(alloc: Global, name: &str, matches: &ArgMatches<'_>) -> Result<Cho
 
 /// What words that the parser takes ask for.
 fn choice_among(alloc: Global, matches: &ArgMatches<'_>) -> Result<Choice, WordsFault>
-    ensures { IsChosen (option_and_then asked_by (subcommand_rows_of matches.now)) result }
+    ensures { IsChosen (asked_by (subcommand_rows_of matches.now)) result }
 {
     match matches.subcommand() {
         Some((name, matches)) => choice_for(alloc, name, matches),

@@ -3,6 +3,7 @@
 //! Each program makes its commands of these: `gw_command_line` those of `bacgw`, `gw_tool_line` those of `bacgwctl`.
 mod builders;
 mod fault;
+mod files;
 mod values;
 
 pub use builders::{
@@ -10,4 +11,5 @@ pub use builders::{
     make_option, make_positional,
 };
 pub use fault::WordsFault;
+pub use files::{FileOption, FileUse, add_read, add_replaced, add_request, add_written, clash_of};
 pub use values::{MAX_COUNT, MAX_SECONDS, count_of, file_of, is_given, period_of};

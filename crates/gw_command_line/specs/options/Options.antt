@@ -12,9 +12,13 @@ most_count = 9223372036854775807
 abbrev pub most_seconds : ℕ
 most_seconds = 4294967295
 
--- an option of a name that has a value, and one that has to be given
+-- an option of a name, which is written with two dashes
+abbrev pub long : Text → Rule
+long name = record (new_rule name) { long = Some name }
+
+-- one that has a value, and one that has to be given
 abbrev pub option : Text → Rule
-option name = record (new_rule name) { long = Some name; value_names = 1 }
+option name = record (long name) { value_names = 1 }
 
 abbrev pub needed : Text → Rule
 needed name = record (option name) { required = true }
@@ -29,7 +33,7 @@ positional name = record (new_rule name) { value_names = 1 }
 
 -- an option of a name that has no value
 abbrev pub flag : Text → Rule
-flag name = record (new_rule name) { long = Some name; action = Some SetTrue }
+flag name = record (long name) { action = Some SetTrue }
 
 -- one that has no value, and has to be given
 abbrev pub needed_flag : Text → Rule

@@ -3,7 +3,7 @@
 ghost use Rattle.std.specs.Prelude.{◌≡◌, false, codes, IfOk};
 ghost use Rattle.clap.specs.Words.{app_of, rule_of};
 ghost use Rattle.clap.specs.declared.builder.command.Command.TheViews.{out-Command};
-ghost use Rattle.gw_command_line.specs.options.Options.{flag, needed, needed_flag, number, of_file, option, positional};
+ghost use Rattle.gw_command_line.specs.options.Options.{flag, long, needed, needed_flag, number, of_file, option, positional};
 
 use clap::builder::ValueParser;
 use clap::{Arg, ArgAction, Command};
@@ -23,10 +23,16 @@ pub fn make_option<'a>(alloc: Global, name: &'a str, value_name: &'a str, help: 
     ensures rule { rule_of result ≡ option name.now }
     ensures local { result.global ≡ false }
 {
-    Arg::new(alloc, name)
-        .long(name)
-        .value_name(value_name)
-        .help(help)
+    let arg = make_long(alloc, name, help);
+    arg.value_name(value_name)
+}
+
+/// An option of this name that is written with two dashes, of which help says this.
+fn make_long<'a>(alloc: Global, name: &'a str, help: &'a str) -> Arg<'a>
+    ensures rule { rule_of result ≡ long name.now }
+    ensures local { result.global ≡ false }
+{
+    Arg::new(alloc, name).long(name).help(help)
 }
 
 /// An option of this name whose value is a number from 1 to the most.
@@ -40,7 +46,8 @@ pub fn make_number<'a>(
     ensures rule { rule_of result ≡ number name.now most }
     ensures local { result.global ≡ false }
 {
-    make_option(alloc, name, value_name, help).value_parser(ValueParser::unsigned(1, most))
+    let parser = ValueParser::unsigned(1, most);
+    make_option(alloc, name, value_name, help).value_parser(parser)
 }
 
 /// A file that is named by a word of its own.
@@ -56,10 +63,7 @@ pub fn make_flag<'a>(alloc: Global, name: &'a str, help: &'a str) -> Arg<'a>
     ensures rule { rule_of result ≡ flag name.now }
     ensures local { result.global ≡ false }
 {
-    Arg::new(alloc, name)
-        .long(name)
-        .help(help)
-        .action(ArgAction::SetTrue)
+    make_long(alloc, name, help).action(ArgAction::SetTrue)
 }
 
 /// An option of this name that has no value, and has to be given.
