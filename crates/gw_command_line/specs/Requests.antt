@@ -4,7 +4,7 @@ use Rattle.std.specs.Cmp.Lexicographic.{pointwise}
 use Rattle.clap.specs.Words.{Row, Text, first_of, subcommand_of}
 use Rattle.gw_command_line.specs.Commands.{commands}
 use Rattle.gw_command_line.specs.declared.options.files.FileOption.TheVariants as option
-use Rattle.gw_command_line.specs.options.Files.{FileUse, clash_of, reads, replaces, requests, writes}
+use Rattle.gw_command_line.specs.options.Files.{FileUse, clash_of, reads, replaces, requests, unless, writes}
 use Rattle.gw_command_line.specs.options.Values.{Values, count_in, is_true, period_in}
 
 -- what `run` is asked for
@@ -59,11 +59,7 @@ mistake_of s =
     else if not (can_stamp s.stamp s.log) then Some (codes "--stamp needs --log\n")
     else clash_of (files_of s)
 
--- a request, unless this line says why there is none
-abbrev pub unless : Option Text → Request → Result Request Text
-unless None request = Ok request
-unless (Some line) request = Err line
-
+-- to serve so, or why not
 abbrev pub judged : Service → Result Request Text
 judged s = unless (mistake_of s) (Serves s)
 

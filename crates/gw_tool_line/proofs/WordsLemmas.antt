@@ -27,7 +27,7 @@ pub refusal_answers : (words : List Text) (k : ErrorKind) (r : Result Choice Wor
     → (k ≡ parse.OutOfMemory) ⊎ IsAmong k (fault_of commands words) → IsRefusal k r → IsAnswer words r
 refusal_answers words k (Ok (choice.Help text)) among is =
     (k, mistake_among (fault_of commands words) k among (λ memory. memory_shows_nothing k memory is), is)
-refusal_answers words k (Ok (choice.Usage text)) among is = (k, mistake_among (fault_of commands words) k among is.2, is)
+refusal_answers words k (Ok (choice.Usage text)) among is = inl (k, mistake_among (fault_of commands words) k among is.2, is)
 refusal_answers words k (Err fault.CommandLine) among is = inl (k, mistake_among (fault_of commands words) k among is.2, is)
 refusal_answers words k (Err fault.Memory) among is = tt
 refusal_answers words k (Ok (choice.Check file explains lints)) among is = absurd is
@@ -45,17 +45,17 @@ refusal_answers words k (Ok (choice.State config state)) among is = absurd is
 refusal_answers words k (Ok (choice.Reload config file was)) among is = absurd is
 refusal_answers words k (Ok (choice.Suggest file fills exact)) among is = absurd is
 
--- nothing is chosen for which nothing can be chosen
-no_choice : {B : Type 0} (request : Option Request) (choice : Choice) → ((r : Request) → IsChosen (Some r) (Ok choice) → ⊥)
-    → IsChosen request (Ok choice) → B
-no_choice None choice never is = absurd is
-no_choice (Some r) choice never is = absurd (never r is)
+-- nothing is chosen that neither a request nor a reason is
+no_choice : {B : Type 0} (asked : Result Request Text) (choice : Choice) → ((request : Request) → IsChosen (Ok request) (Ok choice) → ⊥)
+    → ((line : Text) → IsChosen (Err line) (Ok choice) → ⊥) → IsChosen asked (Ok choice) → B
+no_choice (Ok request) choice never none is = absurd (never request is)
+no_choice (Err line) choice never none is = absurd (none line is)
 
 -- what is chosen of words that the parser takes answers them
 pub taken_answers : (words : List Text) (r : Result Choice WordsFault) → fault_of commands words ≡ [] → IsChosen (asked_in words) r
     → IsAnswer words r
-taken_answers words (Ok (choice.Help text)) none is = no_choice (asked_in words) (choice.Help text) (λ r never. never) is
-taken_answers words (Ok (choice.Usage text)) none is = no_choice (asked_in words) (choice.Usage text) (λ r never. never) is
+taken_answers words (Ok (choice.Help text)) none is = no_choice (asked_in words) (choice.Help text) (λ r no. no) (λ l no. no) is
+taken_answers words (Ok (choice.Usage text)) none is = inr (none, is)
 taken_answers words (Err fault.CommandLine) none is = inr (none, is)
 taken_answers words (Err fault.Memory) none is = tt
 taken_answers words (Ok (choice.Check file explains lints)) none is = (none, is)
@@ -74,17 +74,18 @@ taken_answers words (Ok (choice.Reload config file was)) none is = (none, is)
 taken_answers words (Ok (choice.Suggest file fills exact)) none is = (none, is)
 
 -- what is chosen of what is known to be asked for
-chosen : (words : List Text) (request : Request) (r : Result Choice WordsFault) → asked_in words ≡ Some request
-    → IsChosen (asked_in words) r → IsChosen (Some request) r
-chosen words request r asks is = subst (λ (o : Option Request). IsChosen o r) asks is
+chosen : (words : List Text) (request : Request) (r : Result Choice WordsFault) → asked_in words ≡ Ok request
+    → IsChosen (asked_in words) r → IsChosen (Ok request) r
+chosen words request r asks is = subst (λ (o : Result Request Text). IsChosen o r) asks is
 
 -- the answer to words that ask for something is that, or memory ran out
 pub chooses : (words : List Text) (request : Request) (r : Result Choice WordsFault) → AskFor words request → IsAnswer words r
     → Chooses request r
 chooses words request (Ok (choice.Help text)) asks is = absurd (no_kind (fault_of commands words) is.0 asks.taken is.1)
-chooses words request (Ok (choice.Usage text)) asks is = absurd (no_kind (fault_of commands words) is.0 asks.taken is.1)
+chooses words request (Ok (choice.Usage text)) asks (inl is) = absurd (no_kind (fault_of commands words) is.0 asks.taken is.1)
+chooses words request (Ok (choice.Usage text)) asks (inr is) = absurd (asks.sound (chosen words request (Ok (choice.Usage text)) asks.asked is.1).0)
 chooses words request (Err fault.CommandLine) asks (inl is) = no_kind (fault_of commands words) is.0 asks.taken is.1
-chooses words request (Err fault.CommandLine) asks (inr is) = asks.sound (chosen words request (Err fault.CommandLine) asks.asked is.1)
+chooses words request (Err fault.CommandLine) asks (inr is) = chosen words request (Err fault.CommandLine) asks.asked is.1
 chooses words request (Err fault.Memory) asks is = tt
 chooses words request (Ok (choice.Check file explains lints)) asks is =
     chosen words request (Ok (choice.Check file explains lints)) asks.asked is.1

@@ -1,5 +1,5 @@
 -- Worked command lines: what words ask for, and which ask for nothing, whatever the program's name is.
-use Rattle.std.specs.Prelude.{◌≡◌, true, false, List, [], ◌∷◌, Some, None, codes}
+use Rattle.std.specs.Prelude.{◌≡◌, true, false, List, [], ◌∷◌, Some, None, Err, codes}
 use Rattle.clap.specs.Words.{Text, fault_of}
 use Rattle.clap.specs.declared.error.kind.ErrorKind.TheVariants as parse
 use Rattle.gw_tool_line.specs.CommandLine.{AskFor}
@@ -12,9 +12,9 @@ use Rattle.gw_command_line.specs.options.Options.{most_count}
 abbrev pub Calls : List Text → Request → Type 0
 Calls words request = (program : Text) → AskFor (program ∷ words) request
 
--- these words, after the program's name, are taken by the parser and ask for nothing
-abbrev pub Mistakes : List Text → Type 0
-Mistakes words = (program : Text) → (fault_of commands (program ∷ words) ≡ []) × (asked_in (program ∷ words) ≡ None)
+-- these words, after the program's name, are taken by the parser and ask for nothing, as this line says
+abbrev pub Mistakes : List Text → Text → Type 0
+Mistakes words line = (program : Text) → (fault_of commands (program ∷ words) ≡ []) × (asked_in (program ∷ words) ≡ Err line)
 
 -- these words, after the program's name, have a value that isn't a number in its range
 abbrev pub OutOfRange : List Text → Type 0
@@ -72,9 +72,17 @@ pub record CallsAreRefused : Type 0 where
   pub check_json_lint : (program : Text) → fault_of commands (program ∷ codes "lint" ∷ on_site (codes "--json" ∷ [])) ≡ parse.UnknownArgument ∷ []
   pub check_json_migrate : (program : Text) → fault_of commands (program ∷ codes "migrate" ∷ on_site (codes "--json" ∷ [])) ≡ parse.UnknownArgument ∷ []
   pub why_json_count : Mistakes (codes "why" ∷ on_site (codes "--json" ∷ codes "--count" ∷ []))
+      (codes "--json and --count exclude each other\n")
   pub compare_json_steps : Mistakes
       (codes "compare" ∷ on_site (codes "--with" ∷ codes "new.toml" ∷ codes "--json" ∷ codes "--steps" ∷ []))
+      (codes "--json and --steps exclude each other\n")
   pub reload_most : Mistakes (codes "reload" ∷ on_site (codes "--reload" ∷ codes "again" ∷ codes "--most" ∷ codes "20" ∷ []))
+      (codes "--most needs --was\n")
+  pub reload_config : Mistakes (codes "reload" ∷ on_site (codes "--reload" ∷ codes "site.toml" ∷ []))
+      (codes "--config and --reload use one file: site.toml\n")
+  pub reload_was : Mistakes
+      (codes "reload" ∷ on_site (codes "--reload" ∷ codes "again" ∷ codes "--was" ∷ codes "again.answer" ∷ []))
+      (codes "--was and --reload use one file: again.answer\n")
   pub compare_most : OutOfRange (codes "compare" ∷ on_site (codes "--with" ∷ codes "new.toml" ∷ codes "--most" ∷ codes "0" ∷ []))
   pub reload_none : OutOfRange
       (codes "reload" ∷ on_site (codes "--reload" ∷ codes "again" ∷ codes "--was" ∷ codes "old.toml" ∷ codes "--most" ∷ codes "0" ∷ []))

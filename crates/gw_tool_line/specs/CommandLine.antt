@@ -1,6 +1,6 @@
 -- Which words the program takes, and what it makes of them. `fault_of` of the crate `clap` lists the kinds of fault
 -- that a parser finds at some words, and is empty if it takes them.
-use Rattle.std.specs.Prelude.{◌≡◌, ◌⊎◌, ⊤, ℕ, List, [], Option, Some, None, Result, Ok, Err, option_map, string_bytes}
+use Rattle.std.specs.Prelude.{◌≡◌, ◌⊎◌, ⊤, ℕ, List, [], Option, Some, None, Result, Ok, Err, codes, option_map, string_bytes}
 use Rattle.clap.specs.Words.{IsAmong, Text, fault_of}
 use Rattle.clap.specs.declared.error.kind.ErrorKind.{ErrorKind}
 use Rattle.clap.specs.declared.error.kind.ErrorKind.TheVariants as parse
@@ -50,26 +50,25 @@ IsFor request (choice.Points file) = request ≡ ListsPoints (string_bytes file)
 IsFor request (choice.Help text) = ⊥
 IsFor request (choice.Usage text) = ⊥
 
--- What is compared before a reload, and a bad command line if the options don't go together; memory may run out.
-abbrev pub IsWas : Option (Option (Text × ℕ)) → Result (Option Shown) WordsFault → Type 0
-IsWas (Some was) (Ok shown) = was ≡ option_map was_of shown
-IsWas None (Ok shown) = ⊥
-IsWas (Some was) (Err fault.CommandLine) = ⊥
-IsWas None (Err fault.CommandLine) = ⊤
-IsWas was (Err fault.Memory) = ⊤
-
 -- No choice is what was asked for: the text at which the log is to have begun is no moment.
 abbrev pub IsVoid : Request → Type 0
 IsVoid (TranslatesLog file text) = (start : Option Moment) → ¬ (IsStart text start)
 IsVoid _ = ⊥
 
--- a choice is what a call asks for, and a bad command line is a call that asks for nothing; memory may run out at any
-abbrev pub IsChosen : Option Request → Result Choice WordsFault → Type 0
-IsChosen (Some request) (Ok choice) = IsFor request choice
-IsChosen None (Ok choice) = ⊥
-IsChosen (Some request) (Err fault.CommandLine) = IsVoid request
-IsChosen None (Err fault.CommandLine) = ⊤
-IsChosen request (Err fault.Memory) = ⊤
+-- what is said of a start that is no moment
+abbrev pub no_moment : Text
+no_moment = codes "--start takes a moment, as 2026-11-25T08:00:00+01:00\n"
+
+-- A choice is what a call asks for, and a bad command line is a call that asks for nothing or for what can't be, with the line
+-- that says why, if there is one; memory may run out at any.
+abbrev pub IsChosen : Result Request Text → Result Choice WordsFault → Type 0
+IsChosen (Ok request) (Ok (choice.Usage text)) = IsVoid request × (string_bytes text ≡ no_moment)
+IsChosen (Ok request) (Ok choice) = IsFor request choice
+IsChosen (Err line) (Ok (choice.Usage text)) = string_bytes text ≡ line
+IsChosen (Err line) (Ok _) = ⊥
+IsChosen (Ok request) (Err fault.CommandLine) = ⊥
+IsChosen (Err line) (Err fault.CommandLine) = line ≡ []
+IsChosen asked (Err fault.Memory) = ⊤
 
 -- what the program makes of a parse that failed: help or the version if that was asked for, and else a bad command
 -- line, with how the program is called if there is memory for it; memory may have run out in the parse, or for the
@@ -93,12 +92,12 @@ AsksToShow words = (k : ErrorKind) × IsAmong k (fault_of commands words) × IsS
 abbrev pub IsMistake : List Text → Type 0
 IsMistake words = (k : ErrorKind) × IsAmong k (fault_of commands words) × IsWrong k
 
--- what the program makes of words: what they call if the parser takes them, help or the version if that was
--- asked for, a bad command line if there is another fault; memory may run out at any words, since what parses them
+-- what the program makes of words: what they call if the parser takes them, or why they call nothing; help or the version if
+-- that was asked for, a bad command line if there is another fault; memory may run out at any words, since what parses them
 -- is made first
 abbrev pub IsAnswer : List Text → Result Choice WordsFault → Type 0
 IsAnswer words (Ok (choice.Help text)) = AsksToShow words
-IsAnswer words (Ok (choice.Usage text)) = IsMistake words
+IsAnswer words (Ok (choice.Usage text)) = IsMistake words ⊎ IsTaken words (Ok (choice.Usage text))
 IsAnswer words (Ok choice) = IsTaken words (Ok choice)
 IsAnswer words (Err fault.CommandLine) = IsMistake words ⊎ IsTaken words (Err fault.CommandLine)
 IsAnswer words (Err fault.Memory) = ⊤
@@ -106,7 +105,7 @@ IsAnswer words (Err fault.Memory) = ⊤
 -- the parser takes the words, which ask for this
 pub record AskFor (words : List Text) (request : Request) : Type 0 where
   pub taken : fault_of commands words ≡ []
-  pub asked : asked_in words ≡ Some request
+  pub asked : asked_in words ≡ Ok request
   pub sound : ¬ (IsVoid request)
 
 -- it is chosen, or memory ran out

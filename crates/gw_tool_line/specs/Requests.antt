@@ -1,9 +1,11 @@
 -- What a call of the program asks for, by the name of its command and the values of its options.
-use Rattle.std.specs.Prelude.{ℕ, Bool, true, false, List, ◌∷◌, nat_eq, if◌then◌else◌, Option, Some, None, codes}
+use Rattle.std.specs.Prelude.{ℕ, Bool, true, false, List, [], ◌∷◌, ◌++◌, nat_eq, if◌then◌else◌, Option, Some, None, Result, Ok, Err, codes}
 use Rattle.std.specs.Cmp.Lexicographic.{pointwise}
-use Rattle.std.specs.Option.{option_and_then, option_map}
+use Rattle.std.specs.Option.{option_map}
 use Rattle.clap.specs.Words.{Row, Text, first_of, subcommand_of}
 use Rattle.gw_tool_line.specs.Commands.{commands}
+use Rattle.gw_command_line.specs.declared.options.files.FileOption.TheVariants as option
+use Rattle.gw_command_line.specs.options.Files.{FileUse, clash_of, reads, requests, unless}
 use Rattle.gw_command_line.specs.options.Values.{Values, count_in, is_true}
 
 -- what a call asks for: the files that it names, and what is to be done with them
@@ -23,99 +25,115 @@ pub data Request : Type 0 where
   Reports : (file : Text) (log : Option Text) → Request
   ListsPoints : (file : Text) → Request
 
+-- Below, what a command asks for, or why it asks for nothing, as a line. It is empty where the parser takes no such words.
+
 -- `check`: in JSON, or in words
-abbrev pub check_asked : Text → Values → Option Request
+abbrev pub check_asked : Text → Values → Result Request Text
 check_asked file value =
-    if is_true (value (codes "json")) then Some (ChecksJson file) else Some (Checks file false false)
+    if is_true (value (codes "json")) then Ok (ChecksJson file) else Ok (Checks file false false)
 
 -- a comparison in words, also with its steps, or in JSON without them
-abbrev pub comparison_in : Text → Text → ℕ → Values → Option Request
+abbrev pub comparison_in : Text → Text → ℕ → Values → Result Request Text
 comparison_in old new most value =
     let steps = is_true (value (codes "steps")) in
     if is_true (value (codes "json"))
-    then if steps then None else Some (ComparesJson old new most)
-    else Some (Compares old new most steps)
+    then if steps then Err (codes "--json and --steps exclude each other\n") else Ok (ComparesJson old new most)
+    else Ok (Compares old new most steps)
 
 -- `compare`, whose other file has to be named, and whose number has to be one
-abbrev pub comparison_of : Text → Values → Option Text → Option ℕ → Option Request
+abbrev pub comparison_of : Text → Values → Option Text → Option ℕ → Result Request Text
 comparison_of old value (Some new) (Some most) = comparison_in old new most value
-comparison_of old value _ _ = None
+comparison_of old value _ _ = Err []
 
-abbrev pub compare_asked : Text → Values → Option Request
+abbrev pub compare_asked : Text → Values → Result Request Text
 compare_asked file value = comparison_of file value (value (codes "with")) (count_in (value (codes "most")))
 
 -- `state`, whose other file has to be named
-abbrev pub state_asked : Text → Option Text → Option Request
-state_asked config None = None
-state_asked config (Some state) = Some (Shows config state)
+abbrev pub state_asked : Text → Option Text → Result Request Text
+state_asked config None = Err []
+state_asked config (Some state) = Ok (Shows config state)
 
--- what `reload` compares first: the file of the old configuration, and the most lines, which need that file
-abbrev pub was_in : Option Text → Option Text → Option (Option (Text × ℕ))
-was_in None None = Some None
-was_in None (Some most) = None
-was_in (Some old) most = option_map (λ n. Some (old, n)) (count_in most)
+-- the files that `reload` uses: two configurations, which are read, and the request
+abbrev pub files_of : (config request : Text) → Option (Text × ℕ) → List FileUse
+files_of config request was =
+    reads option.Config (Some config) ++ (reads option.Was (option_map (λ w. w.0) was) ++ requests option.Reload (Some request))
 
--- `reload`, whose request has to be named
-abbrev pub reload_of : Text → Option Text → Option (Option (Text × ℕ)) → Option Request
-reload_of config (Some request) (Some was) = Some (Reloads config request was)
-reload_of config _ _ = None
+-- `reload`, whose request has to be named, and is no file of a configuration
+abbrev pub request_asked : Text → Option Text → Option (Text × ℕ) → Result Request Text
+request_asked config (Some request) was = unless (clash_of (files_of config request was)) (Reloads config request was)
+request_asked config None was = Err []
 
-abbrev pub reload_asked : Text → Values → Option Request
-reload_asked config value =
-    reload_of config (value (codes "reload")) (was_in (value (codes "was")) (value (codes "most")))
+-- what it compares first: the file of the old configuration, in at most so many lines
+abbrev pub reload_of : Text → Option Text → Text → Option ℕ → Result Request Text
+reload_of config request old (Some most) = request_asked config request (Some (old, most))
+reload_of config request old None = Err []
+
+-- how many lines there are at most needs that file
+abbrev pub reload_by : Text → Option Text → (was most : Option Text) → Result Request Text
+reload_by config request None None = request_asked config request None
+reload_by config request None (Some most) = Err (codes "--most needs --was\n")
+reload_by config request (Some old) most = reload_of config request old (count_in most)
+
+abbrev pub reload_asked : Text → Values → Result Request Text
+reload_asked config value = reload_by config (value (codes "reload")) (value (codes "was")) (value (codes "most"))
 
 -- `why`: in words, by counts, or as JSON objects, but not by counts and as objects
-abbrev pub why_asked : Text → Values → Option Request
+abbrev pub why_asked : Text → Values → Result Request Text
 why_asked file value =
     let counts = is_true (value (codes "count")) in
     let strict = is_true (value (codes "strict")) in
     if is_true (value (codes "json"))
-    then if counts then None else Some (Judges file strict)
-    else Some (Explains file counts strict)
+    then if counts then Err (codes "--json and --count exclude each other\n") else Ok (Judges file strict)
+    else Ok (Explains file counts strict)
 
 -- `log` as JSON objects, which have no start
-abbrev pub list_asked : (file start : Option Text) → Option Request
-list_asked file None = Some (ListsLog file)
-list_asked file (Some start) = None
+abbrev pub list_asked : (file start : Option Text) → Result Request Text
+list_asked file None = Ok (ListsLog file)
+list_asked file (Some start) = Err (codes "--json and --start exclude each other\n")
 
 -- `log` of a file, or of standard input if none is named: in words, or as JSON objects
-abbrev pub log_asked : Values → Option Request
+abbrev pub log_asked : Values → Result Request Text
 log_asked value =
     if is_true (value (codes "json"))
     then list_asked (value (codes "file")) (value (codes "start"))
-    else Some (TranslatesLog (value (codes "file")) (value (codes "start")))
+    else Ok (TranslatesLog (value (codes "file")) (value (codes "start")))
 
 -- a command's name is this one
 abbrev pub is_named : Text → Text → Bool
 is_named name other = pointwise nat_eq name other
 
 -- the commands that need a configuration's file
-abbrev pub asked_of_file : Text → Values → Text → Option Request
+abbrev pub asked_of_file : Text → Values → Text → Result Request Text
 asked_of_file name value file =
     if is_named name (codes "check") then check_asked file value
-    else if is_named name (codes "explain") then Some (Checks file true (is_true (value (codes "lint"))))
-    else if is_named name (codes "lint") then Some (Checks file false true)
-    else if is_named name (codes "migrate") then Some (Migrates file)
+    else if is_named name (codes "explain") then Ok (Checks file true (is_true (value (codes "lint"))))
+    else if is_named name (codes "lint") then Ok (Checks file false true)
+    else if is_named name (codes "migrate") then Ok (Migrates file)
     else if is_named name (codes "why") then why_asked file value
     else if is_named name (codes "compare") then compare_asked file value
     else if is_named name (codes "reload") then reload_asked file value
     else if is_named name (codes "suggest")
-    then Some (Suggests file (is_true (value (codes "fill"))) (is_true (value (codes "exact"))))
+    then Ok (Suggests file (is_true (value (codes "fill"))) (is_true (value (codes "exact"))))
     else if is_named name (codes "state") then state_asked file (value (codes "state"))
-    else if is_named name (codes "report") then Some (Reports file (value (codes "log")))
-    else if is_named name (codes "objects") then Some (ListsPoints file)
-    else None
+    else if is_named name (codes "report") then Ok (Reports file (value (codes "log")))
+    else if is_named name (codes "objects") then Ok (ListsPoints file)
+    else Err []
 
--- what a call of the command of this name asks for, whose options have these values; `None` if it asks for nothing
-abbrev pub asked : Text → Values → Option Request
+abbrev pub asked_of_config : Text → Values → Option Text → Result Request Text
+asked_of_config name value (Some file) = asked_of_file name value file
+asked_of_config name value None = Err []
+
+-- what a call of the command of this name asks for, whose options have these values
+abbrev pub asked : Text → Values → Result Request Text
 asked name value =
     if is_named name (codes "log") then log_asked value
-    else option_and_then (asked_of_file name value) (value (codes "config"))
+    else asked_of_config name value (value (codes "config"))
 
 -- what a call asks for: its command, and the rows of its options
-abbrev pub asked_by : Text × List Row → Option Request
-asked_by call = asked call.0 (λ id. first_of id call.1)
+abbrev pub asked_by : Option (Text × List Row) → Result Request Text
+asked_by (Some call) = asked call.0 (λ id. first_of id call.1)
+asked_by None = Err []
 
 -- what the words ask for
-abbrev pub asked_in : List Text → Option Request
-asked_in words = option_and_then asked_by (subcommand_of commands words)
+abbrev pub asked_in : List Text → Result Request Text
+asked_in words = asked_by (subcommand_of commands words)

@@ -1,21 +1,25 @@
 //! The command line: which command the words choose, read with `clap`.
 
-ghost use Rattle.std.specs.Prelude.{◌≡◌, Ok, Some, codes, map, option_map, string_bytes};
-ghost use Rattle.std.specs.Option.{option_and_then};
+ghost use Rattle.std.specs.Prelude.{◌≡◌, Err, Ok, Some, codes, map, option_map, string_bytes, IfOk};
 ghost use Rattle.clap.specs.Words.{first_value, found_of, kind_of, subcommand_rows_of};
-ghost use Rattle.gw_tool_line.specs.CommandLine.{AskFor, Chooses, IsAnswer, IsChosen, IsRefusal, IsWas};
+ghost use Rattle.gw_tool_line.specs.CommandLine.{AskFor, Chooses, IsAnswer, IsChosen, IsRefusal, was_of};
 ghost use Rattle.gw_tool_line.specs.Requests.{Reports, Request, TranslatesLog, asked, asked_by, asked_of_file};
-ghost use Rattle.gw_tool_line.specs.Requests.{check_asked, compare_asked, comparison_in, list_asked, log_asked, reload_asked};
-ghost use Rattle.gw_tool_line.specs.Requests.{state_asked, was_in, why_asked};
+ghost use Rattle.gw_tool_line.specs.Requests.{check_asked, compare_asked, comparison_in, files_of, list_asked, log_asked, reload_asked};
+ghost use Rattle.gw_tool_line.specs.Requests.{request_asked, state_asked, why_asked};
 
 use crate::commands::make_commands;
 use crate::moments::start_of;
 use crate::options::Shown;
 use clap::error::ErrorKind;
 use clap::{ArgMatches, Error};
-use gw_command_line::options::{WordsFault, count_of, file_of, is_given};
+use gw_command_line::options::{
+    FileOption, FileUse, WordsFault, add_read, add_request, clash_of, count_of, file_of, is_given,
+};
 use gw_log_words::Moment;
-use std::alloc::Global;
+use std::alloc::{AllocError, Global};
+
+/// What is said of a start that is no moment.
+const NO_MOMENT: &str = "--start takes a moment, as 2026-11-25T08:00:00+01:00\n";
 
 /// What the words ask for.
 #[derive(Drop)]
@@ -101,6 +105,13 @@ pub enum Choice {
     Usage(String),
 }
 
+/// That the words are no command line, as this line says.
+fn usage(alloc: Global, line: &str) -> Result<Choice, WordsFault>
+    ensures { IsChosen (Err line.now) result }
+{
+    Ok(Choice::Usage(String::from_str(alloc, line)?))
+}
+
 /// What is made of a parse that gave no matches.
 fn refusal_of(alloc: Global, error: Error) -> Result<Choice, WordsFault>
     ensures { IsRefusal (kind_of error) result }
@@ -144,7 +155,7 @@ fn compare_choice(
         return Err(WordsFault::CommandLine);
     };
     match file_of(alloc, matches, "with")? {
-        Some(new) => comparison_choice(matches, old, new, most),
+        Some(new) => comparison_choice(alloc, matches, old, new, most),
         None => Err(WordsFault::CommandLine),
     }
 }
@@ -152,6 +163,7 @@ fn compare_choice(
 /// The comparison of two files in at most so many lines. `CommandLine` if it is to be in JSON and with its
 /// steps.
 fn comparison_choice(
+    alloc: Global,
     matches: &ArgMatches<'_>,
     old: String,
     new: String,
@@ -170,7 +182,7 @@ fn comparison_choice(
         });
     }
     if steps {
-        return Err(WordsFault::CommandLine);
+        return usage(alloc, "--json and --steps exclude each other\n");
     }
     Ok(Choice::CompareJson { old, new, most })
 }
@@ -190,7 +202,64 @@ fn state_choice(
     }
 }
 
-/// What `reload` asks for under the configuration in this file.
+/// The files that `reload` uses.
+fn files_of(
+    alloc: Global,
+    config: &str,
+    request: &str,
+    was: &Option<Shown>,
+) -> Result<Vec<FileUse>, AllocError>
+    ensures { IfOk result (λ files. files.items ≡ files_of config.now request.now (option_map was_of was.now)) }
+{
+    let old = match was {
+        Some(shown) => Some(shown.old.as_str()),
+        None => None,
+    };
+    let mut files = Vec::new(alloc);
+    add_read(alloc, FileOption::Config, Some(config), &mut files)?;
+    add_read(alloc, FileOption::Was, old, &mut files)?;
+    add_request(alloc, FileOption::Reload, Some(request), &mut files)?;
+    Ok(files)
+}
+
+/// To ask with this request for the configuration in this file to be read again, or which two files are one.
+fn asking_choice(
+    alloc: Global,
+    config: String,
+    request: String,
+    was: Option<Shown>,
+) -> Result<Choice, WordsFault>
+    ensures { IsChosen (request_asked (string_bytes config) (Some (string_bytes request)) (option_map was_of was)) result }
+{
+    let files = files_of(alloc, &config, &request, &was)?;
+    match clash_of(alloc, &files)? {
+        Some(line) => Ok(Choice::Usage(line)),
+        None => Ok(Choice::Reload {
+            config,
+            request,
+            was,
+        }),
+    }
+}
+
+/// What `reload` asks for under the configuration in this file, by what it compares first.
+fn request_choice(
+    alloc: Global,
+    matches: &ArgMatches<'_>,
+    config: String,
+    was: Option<Shown>,
+) -> Result<Choice, WordsFault>
+    ensures { let request = first_value (found_of matches.now) (codes "reload") in
+        IsChosen (request_asked (string_bytes config) request (option_map was_of was)) result }
+{
+    match file_of(alloc, matches, "reload")? {
+        Some(request) => asking_choice(alloc, config, request, was),
+        None => Err(WordsFault::CommandLine),
+    }
+}
+
+/// What `reload` asks for under the configuration in this file. Without the file of the old configuration there is no number of
+/// lines.
 fn reload_choice(
     alloc: Global,
     matches: &ArgMatches<'_>,
@@ -198,33 +267,14 @@ fn reload_choice(
 ) -> Result<Choice, WordsFault>
     ensures { IsChosen (reload_asked (string_bytes config) (first_value (found_of matches.now))) result }
 {
-    let was = match was_of(alloc, matches) {
-        Ok(was) => was,
-        Err(fault) => return Err(fault),
-    };
-    match file_of(alloc, matches, "reload")? {
-        Some(request) => Ok(Choice::Reload {
-            config,
-            request,
-            was,
-        }),
-        None => Err(WordsFault::CommandLine),
-    }
-}
-
-/// What `reload` compares first. `CommandLine` if its number of lines is none, or it is given alone.
-fn was_of(alloc: Global, matches: &ArgMatches<'_>) -> Result<Option<Shown>, WordsFault>
-    ensures { let value = first_value (found_of matches.now) in
-        IsWas (was_in (value (codes "was")) (value (codes "most"))) result }
-{
     let Some(old) = file_of(alloc, matches, "was")? else {
         return match matches.get_str("most") {
-            Some(_) => Err(WordsFault::CommandLine),
-            None => Ok(None),
+            Some(_) => usage(alloc, "--most needs --was\n"),
+            None => request_choice(alloc, matches, config, None),
         };
     };
     match count_of(matches, "most") {
-        Some(most) => Ok(Some(Shown { old, most })),
+        Some(most) => request_choice(alloc, matches, config, Some(Shown { old, most })),
         None => Err(WordsFault::CommandLine),
     }
 }
@@ -236,7 +286,7 @@ fn report_choice(
     file: String,
 ) -> Result<Choice, WordsFault>
     ensures { let log = first_value (found_of matches.now) (codes "log") in
-        IsChosen (Some (Reports (string_bytes file) log)) result }
+        IsChosen (Ok (Reports (string_bytes file) log)) result }
 {
     let log = file_of(alloc, matches, "log")?;
     Ok(Choice::Report { file, log })
@@ -249,37 +299,45 @@ fn log_choice(alloc: Global, matches: &ArgMatches<'_>) -> Result<Choice, WordsFa
 {
     let file = file_of(alloc, matches, "file")?;
     if is_given(matches, "json") {
-        list_choice(matches, file)
+        list_choice(alloc, matches, file)
     } else {
-        words_choice(matches, file)
+        words_choice(alloc, matches, file)
     }
 }
 
 /// What `log` of this file, or of standard input, asks for as JSON objects.
-fn list_choice(matches: &ArgMatches<'_>, file: Option<String>) -> Result<Choice, WordsFault>
+fn list_choice(
+    alloc: Global,
+    matches: &ArgMatches<'_>,
+    file: Option<String>,
+) -> Result<Choice, WordsFault>
     ensures { let start = first_value (found_of matches.now) (codes "start") in
         IsChosen (list_asked (option_map string_bytes file) start) result }
 {
     match matches.get_str("start") {
-        Some(_) => Err(WordsFault::CommandLine),
+        Some(_) => usage(alloc, "--json and --start exclude each other\n"),
         None => Ok(Choice::Objects(file)),
     }
 }
 
 /// What `log` of this file, or of standard input, asks for in words.
-fn words_choice(matches: &ArgMatches<'_>, file: Option<String>) -> Result<Choice, WordsFault>
+fn words_choice(
+    alloc: Global,
+    matches: &ArgMatches<'_>,
+    file: Option<String>,
+) -> Result<Choice, WordsFault>
     ensures { let start = first_value (found_of matches.now) (codes "start") in
-        IsChosen (Some (TranslatesLog (option_map string_bytes file) start)) result }
+        IsChosen (Ok (TranslatesLog (option_map string_bytes file) start)) result }
 {
     match start_of(matches.get_str("start")) {
         Ok(start) => Ok(Choice::Log { file, start }),
-        Err(fault) => Err(fault),
+        Err(_) => Ok(Choice::Usage(String::from_str(alloc, NO_MOMENT)?)),
     }
 }
 
 /// What `why` asks for under the configuration in this file. `CommandLine` if it is to count, and to answer
 /// by JSON objects.
-fn why_choice(matches: &ArgMatches<'_>, file: String) -> Result<Choice, WordsFault>
+fn why_choice(alloc: Global, matches: &ArgMatches<'_>, file: String) -> Result<Choice, WordsFault>
     ensures { IsChosen (why_asked (string_bytes file) (first_value (found_of matches.now))) result }
 {
     let counts = is_given(matches, "count");
@@ -292,7 +350,7 @@ fn why_choice(matches: &ArgMatches<'_>, file: String) -> Result<Choice, WordsFau
         });
     }
     if counts {
-        return Err(WordsFault::CommandLine);
+        return usage(alloc, "--json and --count exclude each other\n");
     }
     Ok(Choice::Judge { file, strict })
 }
@@ -329,7 +387,7 @@ fn choice_of_file(
         return Ok(Choice::Migrate(file));
     }
     if name == "why" {
-        return why_choice(matches, file);
+        return why_choice(alloc, matches, file);
     }
     if name == "compare" {
         return compare_choice(alloc, matches, file);
@@ -370,7 +428,7 @@ fn choice_for(alloc: Global, name: &str, matches: &ArgMatches<'_>) -> Result<Cho
 
 /// What words that the parser takes ask for.
 fn choice_among(alloc: Global, matches: &ArgMatches<'_>) -> Result<Choice, WordsFault>
-    ensures { IsChosen (option_and_then asked_by (subcommand_rows_of matches.now)) result }
+    ensures { IsChosen (asked_by (subcommand_rows_of matches.now)) result }
 {
     match matches.subcommand() {
         Some((name, matches)) => choice_for(alloc, name, matches),

@@ -57,3 +57,8 @@ clash_line one other =
 -- that of the first file that clashes
 abbrev pub clash_of : List FileUse → Option Text
 clash_of files = option_and_then (λ one. option_map (clash_line one) (find (clash one) files)) (find (has_clash files) files)
+
+-- what is asked for, unless this line says why it isn't
+abbrev pub unless : {A : Type 0} → Option Text → A → Result A Text
+unless None asked = Ok asked
+unless (Some line) asked = Err line

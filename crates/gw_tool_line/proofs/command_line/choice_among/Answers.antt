@@ -1,7 +1,6 @@
-use Rattle.std.proofs.Common.{◌≡◌, ◌∙◌, ap, sym, subst, Option, Some}
+use Rattle.std.proofs.Common.{◌≡◌, ◌∙◌, ap, sym, subst, Some, Result}
 use mathlib.Core.Path.{fun_ext}
-use Rattle.std.specs.Option.{option_and_then}
-use Rattle.clap.specs.Words.{first_of, first_value, found_of, rows_of, subcommand_rows_of}
+use Rattle.clap.specs.Words.{Text, first_of, first_value, found_of, rows_of, subcommand_rows_of}
 use Rattle.clap.specs.declared.parser.matches.ArgMatches.TheViews.{out-ArgMatches}
 use Rattle.clap.proofs.WalkLemmas.{first_value-rows}
 use Rattle.gw_tool_line.specs.CommandLine.{IsChosen}
@@ -16,6 +15,6 @@ returns-in-Some c =
     let entered : subcommand_rows_of c.args.matches.now ≡ Some (c.in-Some.name.now, rows_of found) =
     entered_call (out-ArgMatches c.args.matches.now).subcommand c.in-Some.name.now (rows_of found) c.in-Some.ensures.name c.in-Some.ensures.rows in
     let values : (λ id. first_of id (rows_of found)) ≡ first_value found = fun_ext (λ id. sym (first_value-rows found id)) in
-    let asks : option_and_then asked_by (subcommand_rows_of c.args.matches.now) ≡ asked c.in-Some.name.now (first_value found) =
-    ap (option_and_then asked_by) entered ∙ ap (λ (value : Values). asked c.in-Some.name.now value) values in
-    subst (λ (o : Option Request). IsChosen o c.choice_for.result) (sym asks) c.choice_for.ensures
+    let asks : asked_by (subcommand_rows_of c.args.matches.now) ≡ asked c.in-Some.name.now (first_value found) =
+    ap asked_by entered ∙ ap (λ (value : Values). asked c.in-Some.name.now value) values in
+    subst (λ (o : Result Request Text). IsChosen o c.choice_for.result) (sym asks) c.choice_for.ensures

@@ -1,5 +1,4 @@
 use Rattle.std.proofs.Common.{◌≡◌, ◌∙◌, ◌⊎◌, sym, ap, subst, map, string_bytes, List, [], Option}
-use Rattle.std.specs.Option.{option_and_then}
 use Rattle.clap.specs.Words.{App, IsAmong, Kinds, Row, Text, app_of, fault_of, is_simple, is_simple_and_free, kind_of, subcommand_of}
 use Rattle.clap.specs.declared.error.kind.ErrorKind.TheVariants as parse
 use Rattle.gw_tool_line.specs.CommandLine.{IsChosen}
@@ -15,7 +14,7 @@ returns-in-Ok-clause-answers c =
     let none : fault_of commands words ≡ [] = sym (ap (λ (a : App). fault_of a words) is) ∙ c.in-Ok.ensures.kinds (ap is_simple_and_free is ∙ commands_are_simple) in
     let entered = (c.in-Ok.ensures.matches (ap is_simple is ∙ parse_is_simple)).1 ∙ ap (λ (a : App). subcommand_of a words) is in
     taken_answers words c.choice_among.result none
-    (subst (λ (o : Option (Text × List Row)). IsChosen (option_and_then asked_by o) c.choice_among.result) entered c.choice_among.ensures)
+    (subst (λ (o : Option (Text × List Row)). IsChosen (asked_by o) c.choice_among.result) entered c.choice_among.ensures)
 
 pub returns-in-Err-clause-answers : goal.returns-in-Err-clause-answers
 returns-in-Err-clause-answers c =
