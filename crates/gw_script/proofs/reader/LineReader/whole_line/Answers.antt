@@ -1,4 +1,4 @@
-use Rattle.std.proofs.Common.{length, Some, None, ap, arith}
+use Rattle.std.proofs.Common.{length, ap, arith}
 use Rattle.gw_addr.specs.Text.{Lacks}
 use Rattle.gw_script.specs.internal.Finding.{IsFirstAt}
 use Rattle.gw_script.proofs.LineLemmas.{tick_line, first_line, first_line_long, begins_long}
