@@ -307,7 +307,7 @@ pub(crate) fn add_answer(
         return Ok(());
     };
     if goes_to_all {
-        message.here.add_spread_in(octets, sends)
+        message.here.spread(octets, sends)
     } else {
         let port = message.here.port.number;
         sends.push(Batch::to_one(port, message.link(), octets))

@@ -58,7 +58,7 @@ fn add_managed<A: Asker>(
     if is_apdu(message) {
         return Ok(());
     }
-    relay.add_manage(message, turn)
+    relay.manage(message, turn)
 }
 
 /// Adds what is done about any message but for the device: it is distributed; and if it goes on to the network
@@ -79,11 +79,11 @@ fn add_each_way<A: Asker>(
     ensures silent { let m = message_view message.now in
         passed_asks relay.now m ≡ [] → is_unregistered m.here m.from m.frame ≡ false → IsOk result }
 {
-    let goes_on = relay.add_cast(message, turn)?;
+    let goes_on = relay.cast(message, turn)?;
     if !goes_on {
         return Ok(false);
     }
-    relay.add_route(message, turn)?;
+    relay.route(message, turn)?;
     add_managed(relay, message, turn)?;
     Ok(true)
 }
@@ -114,7 +114,7 @@ fn add_passed<A: Asker>(
         passed_asks relay.now m ≡ [] → is_unregistered m.here m.from m.frame ≡ false → IsOk result }
 {
     if is_plain(message) {
-        relay.add_route(message, turn)?;
+        relay.route(message, turn)?;
         return Ok(true);
     }
     add_each_way(relay, message, turn)
@@ -141,7 +141,7 @@ fn add_entry<A: Asker>(
         (entered_response rules relay.now (message_view message.now)).asks ≡ [] → IsOk result }
 {
     if relay.format().names_stations() && message.here.goes_on(message.from, message.frame) {
-        relay.add_entry(message, turn)
+        relay.admit(message, turn)
     } else {
         Ok(true)
     }
@@ -173,7 +173,7 @@ fn add_served<A: Asker>(
         return Ok(None);
     };
     let context = context_of(format, network, message);
-    let Served { answer, change } = device.serve(&context, apdu, &mut turn.asker)?;
+    let Served { answer, change } = device.answer(&context, apdu, &mut turn.asker)?;
     add_answer(network, message, answer, &mut turn.sends)?;
     Ok(change)
 }
@@ -232,7 +232,7 @@ pub(crate) fn respond<A: Asker>(
     match received {
         Received::Dropped(_) => Ok(None),
         Received::Managed(message) => {
-            relay.add_link(message, turn)?;
+            relay.link(message, turn)?;
             Ok(None)
         }
         Received::Message(message) => add_message(relay, device, network, message, turn),

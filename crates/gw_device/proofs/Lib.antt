@@ -2,5 +2,4 @@ pub mod Changes
 pub mod PropertyLemmas
 pub mod Unread
 pub mod Writes
-pub mod AskerLemmas
 pub mod LimitLemmas

@@ -9,12 +9,9 @@ use Rattle.gw_codecs.specs.apdu.Answers.{abort}
 use Rattle.gw_codecs.specs.apdu.Reasons.{segmentation_not_supported}
 use Rattle.gw_objects.specs.Objects.{Database}
 use Rattle.gw_objects.specs.Write.{Write}
-use Rattle.gw_rules.specs.declared.rule.Rule.{Rule}
 use Rattle.gw_rules.specs.Ask.{Ask}
-use Rattle.gw_rules.specs.Authorizer.{denied_of}
 use Rattle.gw_device.specs.declared.context.Context.{Context}
 use Rattle.gw_device.specs.declared.answer.Answer.{Answer as RustAnswer}
-use Rattle.gw_device.specs.declared.reply.Reply.{Reply}
 use Rattle.gw_device.specs.declared.served.Served.{Served}
 
 -- an APDU, and whether it goes to everyone on the requester's network
@@ -44,12 +41,6 @@ pub record Response : Type 0 where
 pub record IsServed (due : Response) (served : Served) : Type 0 where
   pub answer : option_map answer_view served.answer ≡ due.answer
   pub change : served.change ≡ due.change
-
--- A reply of the code has this answer, the asks that the rules deny, in order, and this change.
-pub record IsReply (rules : List Rule) (due : Response) (reply : Reply) : Type 0 where
-  pub answer : option_map answer_view reply.answer ≡ due.answer
-  pub refusals : reply.refusals ≡ denied_of rules due.asks
-  pub change : reply.change ≡ due.change
 
 -- a change, if there is one, is of one of the value objects
 abbrev pub HasPlace : Database → Option Write → Type 0

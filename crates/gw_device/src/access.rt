@@ -12,8 +12,7 @@ use gw_rules::{Ask, Operation, Service};
 /// The instance by which a read names the device itself, whatever its instance (clause 12.11).
 const ANY_INSTANCE: u32 = 4_194_303;
 
-/// The objects of the device, and what is known of the APDU that wants access to them. Each service
-/// is a method.
+/// The objects of the device, and what is known of the APDU that wants access to them.
 #[derive(Clone, Copy)]
 pub(crate) struct Access<'a> {
     /// The objects.

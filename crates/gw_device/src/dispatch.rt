@@ -9,7 +9,8 @@ ghost use Rattle.gw_codecs.specs.services.Read.{read_at};
 ghost use Rattle.gw_codecs.specs.services.WhoHas.{who_has_at};
 ghost use Rattle.gw_codecs.specs.services.WhoIs.{who_is_at};
 ghost use Rattle.gw_codecs.specs.services.Write.{write_at};
-ghost use Rattle.gw_device.specs.Device.{confirmed_response, device_response, or_reject, or_silence, unconfirmed_response};
+ghost use Rattle.gw_device.specs.Device.{confirmed_response, device_answer, device_asks, device_response, or_reject, or_silence};
+ghost use Rattle.gw_device.specs.Device.{unconfirmed_response};
 ghost use Rattle.gw_device.specs.Multi.{multi_response};
 ghost use Rattle.gw_device.specs.Read.{read_response};
 ghost use Rattle.gw_device.specs.Response.{HasPlace, IsServed, turned_down};
@@ -17,10 +18,9 @@ ghost use Rattle.gw_device.specs.WhoHas.{who_has_response};
 ghost use Rattle.gw_device.specs.WhoIs.{who_is_response};
 ghost use Rattle.gw_device.specs.Write.{write_response};
 
-use crate::Served;
-use crate::access::Access;
 use crate::error::reject_reason;
 use crate::short::{abort, reject};
+use crate::{Context, Device, Served};
 use gw_codecs::apdu::{AbortReason, ConfirmedRequest, Header, RejectReason, decode};
 use gw_codecs::services::{
     READ_PROPERTY, READ_PROPERTY_MULTIPLE, WHO_HAS, WHO_IS, WRITE_PROPERTY, decode_multi,
@@ -47,78 +47,75 @@ fn aborted(alloc: Global, invoke: u8) -> Result<Served, AllocError>
     Ok(Served::to_client(octets))
 }
 
-impl Access<'_> {
+impl Device {
     fn read_property<A: Asker>(
         &self,
+        context: &Context,
         header: &ConfirmedRequest,
         body: &[u8],
         asker: &mut A,
     ) -> Result<Served, AllocError>
         ensures served { (rules : List Rule) → A.StandsFor asker.old rules →
             IfOk result (IsServed (or_reject header.now.invoke
-            (read_response rules self.now.objects.now self.now.context.now header.now)
-            (read_at body.now))) }
+            (read_response rules self.now context.now header.now) (read_at body.now))) }
         ensures asks { (rules : List Rule) → A.StandsFor asker.old rules →
             let due = or_reject header.now.invoke
-            (read_response rules self.now.objects.now self.now.context.now header.now)
-            (read_at body.now) in
+            (read_response rules self.now context.now header.now) (read_at body.now) in
             OnOk result (A.kept asker.new ≡ A.kept asker.old ++ A.kept_of rules due.asks) }
         ensures stays { (rules : List Rule) → A.StandsFor asker.old rules →
             A.StandsFor asker.new rules }
         ensures place { IfOk result (λ served. served.change ≡ None) }
     {
         match decode_read(body) {
-            Ok(request) => self.read(header, &request, asker),
+            Ok(request) => self.read(context, header, &request, asker),
             Err(fault) => rejected(asker.alloc(), header.invoke, reject_reason(fault)?),
         }
     }
 
     fn read_property_multiple<A: Asker>(
         &self,
+        context: &Context,
         header: &ConfirmedRequest,
         body: &[u8],
         asker: &mut A,
     ) -> Result<Served, AllocError>
         ensures served { (rules : List Rule) → A.StandsFor asker.old rules →
             IfOk result (IsServed (or_reject header.now.invoke
-            (multi_response rules self.now.objects.now self.now.context.now header.now)
-            (multi_at body.now))) }
+            (multi_response rules self.now context.now header.now) (multi_at body.now))) }
         ensures asks { (rules : List Rule) → A.StandsFor asker.old rules →
             let due = or_reject header.now.invoke
-            (multi_response rules self.now.objects.now self.now.context.now header.now)
-            (multi_at body.now) in
+            (multi_response rules self.now context.now header.now) (multi_at body.now) in
             OnOk result (A.kept asker.new ≡ A.kept asker.old ++ A.kept_of rules due.asks) }
         ensures stays { (rules : List Rule) → A.StandsFor asker.old rules →
             A.StandsFor asker.new rules }
         ensures place { IfOk result (λ served. served.change ≡ None) }
     {
         match decode_multi(asker.alloc(), body) {
-            Ok(request) => self.read_multiple(header, &request, asker),
+            Ok(request) => self.read_multiple(context, header, &request, asker),
             Err(fault) => rejected(asker.alloc(), header.invoke, reject_reason(fault)?),
         }
     }
 
     fn write_property<A: Asker>(
         &self,
+        context: &Context,
         header: &ConfirmedRequest,
         body: &[u8],
         asker: &mut A,
     ) -> Result<Served, AllocError>
         ensures served { (rules : List Rule) → A.StandsFor asker.old rules →
             IfOk result (IsServed (or_reject header.now.invoke
-            (write_response rules self.now.objects.now self.now.context.now header.now.invoke)
-            (write_at body.now))) }
+            (write_response rules self.now context.now header.now.invoke) (write_at body.now))) }
         ensures asks { (rules : List Rule) → A.StandsFor asker.old rules →
             let due = or_reject header.now.invoke
-            (write_response rules self.now.objects.now self.now.context.now header.now.invoke)
-            (write_at body.now) in
+            (write_response rules self.now context.now header.now.invoke) (write_at body.now) in
             OnOk result (A.kept asker.new ≡ A.kept asker.old ++ A.kept_of rules due.asks) }
         ensures stays { (rules : List Rule) → A.StandsFor asker.old rules →
             A.StandsFor asker.new rules }
-        ensures place { IfOk result (λ served. HasPlace self.now.objects.now served.change) }
+        ensures place { IfOk result (λ served. HasPlace self.now served.change) }
     {
         match decode_write(body) {
-            Ok(request) => self.write(header.invoke, &request, asker),
+            Ok(request) => self.write(context, header.invoke, &request, asker),
             Err(fault) => rejected(asker.alloc(), header.invoke, reject_reason(fault)?),
         }
     }
@@ -126,36 +123,35 @@ impl Access<'_> {
     /// A confirmed request, by its service. One to a broadcast is dropped, and a segment is aborted.
     fn confirmed<A: Asker>(
         &self,
+        context: &Context,
         header: &ConfirmedRequest,
         body: &[u8],
         asker: &mut A,
     ) -> Result<Served, AllocError>
         ensures served { (rules : List Rule) → A.StandsFor asker.old rules →
             IfOk result (IsServed
-            (confirmed_response rules self.now.objects.now self.now.context.now header.now body.now)) }
+            (confirmed_response rules self.now context.now header.now body.now)) }
         ensures asks { (rules : List Rule) → A.StandsFor asker.old rules →
-            let due = confirmed_response rules self.now.objects.now self.now.context.now header.now
-            body.now in
+            let due = confirmed_response rules self.now context.now header.now body.now in
             OnOk result (A.kept asker.new ≡ A.kept asker.old ++ A.kept_of rules due.asks) }
         ensures stays { (rules : List Rule) → A.StandsFor asker.old rules →
             A.StandsFor asker.new rules }
-        ensures place { IfOk result (λ served. HasPlace self.now.objects.now served.change) }
+        ensures place { IfOk result (λ served. HasPlace self.now served.change) }
         // What isn't answered needs no memory.
         ensures silent { (rules : List Rule) →
-            let due = confirmed_response rules self.now.objects.now self.now.context.now header.now
-            body.now in
+            let due = confirmed_response rules self.now context.now header.now body.now in
             due.answer ≡ None → IsOk result }
     {
-        if self.context.broadcast {
+        if context.broadcast {
             return Ok(Served::silence());
         }
         if header.segment.is_some() {
             return aborted(asker.alloc(), header.invoke);
         }
         match header.service {
-            READ_PROPERTY => self.read_property(header, body, asker),
-            READ_PROPERTY_MULTIPLE => self.read_property_multiple(header, body, asker),
-            WRITE_PROPERTY => self.write_property(header, body, asker),
+            READ_PROPERTY => self.read_property(context, header, body, asker),
+            READ_PROPERTY_MULTIPLE => self.read_property_multiple(context, header, body, asker),
+            WRITE_PROPERTY => self.write_property(context, header, body, asker),
             _ => {
                 let reason = RejectReason::UNRECOGNIZED_SERVICE;
                 rejected(asker.alloc(), header.invoke, reason)
@@ -166,61 +162,72 @@ impl Access<'_> {
     /// An unconfirmed request, by its service. What can't be read is dropped.
     fn unconfirmed<A: Asker>(
         &self,
+        context: &Context,
         service: u8,
         body: &[u8],
         asker: &mut A,
     ) -> Result<Served, AllocError>
         ensures served { (rules : List Rule) → A.StandsFor asker.old rules →
             IfOk result (IsServed
-            (unconfirmed_response rules self.now.objects.now self.now.context.now service body.now)) }
+            (unconfirmed_response rules self.now context.now service body.now)) }
         ensures asks { (rules : List Rule) → A.StandsFor asker.old rules →
-            let due = unconfirmed_response rules self.now.objects.now self.now.context.now service body.now
-            in
+            let due = unconfirmed_response rules self.now context.now service body.now in
             OnOk result (A.kept asker.new ≡ A.kept asker.old ++ A.kept_of rules due.asks) }
         ensures stays { (rules : List Rule) → A.StandsFor asker.old rules →
             A.StandsFor asker.new rules }
         ensures place { IfOk result (λ served. served.change ≡ None) }
         // What asks nothing needs no memory.
         ensures silent { (rules : List Rule) →
-            let due = unconfirmed_response rules self.now.objects.now self.now.context.now service body.now
-            in
+            let due = unconfirmed_response rules self.now context.now service body.now in
             due.asks ≡ [] → IsOk result }
     {
         match service {
             WHO_HAS => match decode_who_has(body) {
-                Ok(request) => self.who_has(&request, asker),
+                Ok(request) => self.who_has(context, &request, asker),
                 Err(_) => Ok(Served::silence()),
             },
             WHO_IS => match decode_who_is(body) {
-                Ok(request) => self.who_is(&request, asker),
+                Ok(request) => self.who_is(context, &request, asker),
                 Err(_) => Ok(Served::silence()),
             },
             _ => Ok(Served::silence()),
         }
     }
 
-    /// What the device gives to the octets of an APDU, by its type. What is no APDU, or no request,
-    /// is dropped. `AllocError` where memory was refused.
-    pub fn serve<A: Asker>(&self, octets: &[u8], asker: &mut A) -> Result<Served, AllocError>
-        ensures served { (rules : List Rule) → A.StandsFor asker.old rules →
-            IfOk result (IsServed
-            (device_response rules self.now.objects.now self.now.context.now octets.now)) }
+    /// What the device gives to the octets of an APDU, by its type: the answer if there is one, and the
+    /// change that is granted, if there is one. What is no APDU, or no request, is dropped. Each ask is put to
+    /// `asker`, in order. Nothing is changed.
+    ///
+    /// # Errors
+    ///
+    /// 1 Memory. The asker may then have kept a part of what it is to keep.
+    pub fn answer<A: Asker>(
+        &self,
+        context: &Context,
+        apdu: &[u8],
+        asker: &mut A,
+    ) -> Result<Served, AllocError>
+        ensures served { (rules : List Rule) → A.StandsFor asker.old rules → IfOk result
+            (IsServed (device_response rules self.now context.now apdu.now)) }
         ensures asks { (rules : List Rule) → A.StandsFor asker.old rules →
-            let due = device_response rules self.now.objects.now self.now.context.now octets.now in
-            OnOk result (A.kept asker.new ≡ A.kept asker.old ++ A.kept_of rules due.asks) }
+            let due = device_asks rules self.now context.now apdu.now in
+            OnOk result (A.kept asker.new ≡ A.kept asker.old ++ A.kept_of rules due) }
         ensures stays { (rules : List Rule) → A.StandsFor asker.old rules →
             A.StandsFor asker.new rules }
-        ensures place { IfOk result (λ served. HasPlace self.now.objects.now served.change) }
+        ensures place { IfOk result (λ served. HasPlace self.now served.change) }
+        // What is neither asked about nor answered needs no memory.
         ensures silent { (rules : List Rule) →
-            let due = device_response rules self.now.objects.now self.now.context.now octets.now in
-            due.asks ≡ [] → due.answer ≡ None → IsOk result }
+            device_asks rules self.now context.now apdu.now ≡ [] →
+            device_answer rules self.now context.now apdu.now ≡ None → IsOk result }
     {
-        let Ok(apdu) = decode(octets) else {
+        let Ok(apdu) = decode(apdu) else {
             return Ok(Served::silence());
         };
         match apdu.header {
-            Header::ConfirmedRequest(header) => self.confirmed(&header, apdu.rest, asker),
-            Header::UnconfirmedRequest { service } => self.unconfirmed(service, apdu.rest, asker),
+            Header::ConfirmedRequest(header) => self.confirmed(context, &header, apdu.rest, asker),
+            Header::UnconfirmedRequest { service } => self.unconfirmed(
+                context, service, apdu.rest, asker,
+            ),
             _ => Ok(Served::silence()),
         }
     }

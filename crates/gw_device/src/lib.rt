@@ -5,7 +5,6 @@
 mod access;
 mod answer;
 mod change;
-mod client;
 mod context;
 mod device;
 mod dispatch;
@@ -15,7 +14,6 @@ mod limited;
 mod multi;
 mod piece;
 mod read;
-mod reply;
 mod served;
 mod services;
 mod short;
@@ -25,8 +23,6 @@ mod write;
 
 pub use answer::{Answer, HEADER_ROOM};
 pub use change::Change;
-pub use client::Client;
 pub use context::Context;
 pub use device::Device;
-pub use reply::Reply;
 pub use served::Served;

@@ -7,9 +7,9 @@ ghost use Rattle.gw_codecs.specs.services.WhoIs.{limits_view, who_is_view};
 ghost use Rattle.gw_device.specs.Response.{IsServed, with_room};
 ghost use Rattle.gw_device.specs.WhoIs.{i_am_apdu, is_within, unconfirmed, who_is_ask, who_is_response};
 
-use crate::Served;
 use crate::access::Access;
 use crate::short::begin_apdu;
+use crate::{Context, Device, Served};
 use gw_addr::put_slice;
 use gw_codecs::services::{I_AM, IAm, Limits, Segmentation, WHO_IS, WhoIs, encode_i_am};
 use gw_objects::{Configured, MAX_APDU, Property};
@@ -68,15 +68,27 @@ impl Access<'_> {
             Property::ObjectIdentifier.number(),
         )
     }
+}
 
-    /// What the device gives to a Who-Is (clause 16.10). `AllocError` where memory was refused.
-    pub fn who_is<A: Asker>(&self, request: &WhoIs, asker: &mut A) -> Result<Served, AllocError>
+impl Device {
+    /// What the device gives to a Who-Is (clause 16.10). Its ask, if there is one, is put to `asker`; nothing is
+    /// changed.
+    ///
+    /// # Errors
+    ///
+    /// 1 Memory. The asker may then have kept a part of what it is to keep.
+    pub fn who_is<A: Asker>(
+        &self,
+        context: &Context,
+        request: &WhoIs,
+        asker: &mut A,
+    ) -> Result<Served, AllocError>
         ensures served { (rules : List Rule) → A.StandsFor asker.old rules →
             let request = who_is_view request.now in IfOk result
-            (IsServed (who_is_response rules self.now.objects.now self.now.context.now request)) }
+            (IsServed (who_is_response rules self.now context.now request)) }
         ensures asks { (rules : List Rule) → A.StandsFor asker.old rules →
             let request = who_is_view request.now in
-            let due = who_is_response rules self.now.objects.now self.now.context.now request in
+            let due = who_is_response rules self.now context.now request in
             OnOk result (A.kept asker.new ≡ A.kept asker.old ++ A.kept_of rules due.asks) }
         ensures stays { (rules : List Rule) → A.StandsFor asker.old rules →
             A.StandsFor asker.new rules }
@@ -84,16 +96,17 @@ impl Access<'_> {
         // What asks nothing needs no memory.
         ensures silent { (rules : List Rule) →
             let request = who_is_view request.now in
-            (who_is_response rules self.now.objects.now self.now.context.now request).asks ≡ []
+            (who_is_response rules self.now context.now request).asks ≡ []
             → IsOk result }
     {
-        if !self.is_within(&request.limits) {
+        let access = self.access(context);
+        if !access.is_within(&request.limits) {
             return Ok(Served::silence());
         }
-        if !asker.authorize(&self.who_is_ask())? {
+        if !asker.authorize(&access.who_is_ask())? {
             return Ok(Served::silence());
         }
-        let octets = i_am_apdu(asker.alloc(), self.objects.configured())?;
+        let octets = i_am_apdu(asker.alloc(), self.configured())?;
         Ok(Served::to_everyone(octets))
     }
 }

@@ -1,16 +1,12 @@
 -- A broadcast by the gateway, by the length of its NPDU.
-use Rattle.std.proofs.Common.{◌≡◌, ◌∙◌, sym, ap, refl, ℕ, ◌<◌, ◌≤◌, List, [], ◌∷◌, ◌++◌, length, arith, Option}
+use Rattle.std.proofs.Common.{◌≡◌, ◌∙◌, sym, ap, refl, ℕ, ◌≤◌, List, [], ◌∷◌, ◌++◌, length, arith, Option}
 use Rattle.std.specs.Option.{option_map_or}
-use Rattle.std.proofs.lemmas.Bool.{le-leb, lt-leb}
+use Rattle.std.proofs.lemmas.Bool.{le-leb}
 use Rattle.gw_addr.specs.declared.bip.BipAddr.{BipAddr}
 use Rattle.gw_frames.specs.bvll.Bvll.{encoding, forwarded, original_broadcast}
 use Rattle.gw_relay.specs.Cast.{devices, managers, spread}
 use Rattle.gw_relay.specs.Sends.{Batch, Sending, sendings, sendings_of, sent}
 use Rattle.gw_relay.specs.declared.port.PortState.{PortState}
-
-pub spread_long : (state : PortState) (npdu : List ℕ) → 1497 < length npdu → spread state npdu ≡ []
-unfolding spread
-spread_long state npdu long = rw (lt-leb (length npdu) 1497 long) refl
 
 pub spread_short : (state : PortState) (npdu : List ℕ) → length npdu ≤ 1497
     → spread state npdu ≡ sent state.port.number (state.port.broadcast ∷ []) (original_broadcast npdu)

@@ -259,23 +259,10 @@ impl PortState {
         Ok(())
     }
 
-    /// The sends of a broadcast by the gateway on the port: to its subnet, to all peers and to all
-    /// foreign devices (Annex J.4, J.5). An NPDU of over 1497 octets isn't sent. The only fault is
-    /// want of memory.
-    pub fn spread(&self, alloc: Global, npdu: &[u8]) -> Result<Sends, AllocError>
-        ensures { IfOk result (λ sends. sends ≡ spread self.now npdu.now) }
-    {
-        let mut sends = Sends::new(alloc);
-        if npdu.len() > gw_frames::npdu::MAX_LEN {
-            return Ok(sends);
-        }
-        self.add_spread(Outgoing::copied(alloc, npdu)?, &mut sends)?;
-        Ok(sends)
-    }
-
-    /// Adds the sends of a broadcast by the gateway of the NPDU in a buffer, where it has four octets in front of
-    /// it for the header of the frame. The only fault is want of memory; a part may then be added.
-    pub fn add_spread_in(&self, buffer: Vec<u8>, sends: &mut Sends) -> Result<(), AllocError>
+    /// Adds the sends of a broadcast by the gateway on the port: to its subnet, to all peers and to all foreign
+    /// devices (Annex J.4, J.5). The NPDU is in a buffer, after four octets for the header of the frame. No policy
+    /// is asked. The only fault is want of memory; a part may then be added.
+    pub fn spread(&self, buffer: Vec<u8>, sends: &mut Sends) -> Result<(), AllocError>
         requires least { 4 ≤ vec_len buffer }
         requires most { vec_len buffer ≤ 1501 }
         ensures { OnOk result (sends.new ≡ sends.old ++ spread self.now (drop 4 buffer.items)) }
@@ -323,7 +310,7 @@ impl Relay {
     /// the turn. It answers whether the message goes on to the network layer: to routing, network
     /// messages and the device. It changes nothing. The only fault is want of memory, and then a part
     /// may be added.
-    pub fn add_cast<A: Asker>(
+    pub fn cast<A: Asker>(
         &self,
         message: &Message<'_>,
         turn: &mut Turn<A>,

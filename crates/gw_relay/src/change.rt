@@ -1,8 +1,5 @@
 //! What changes in the tables of a port, or in the routes.
 
-ghost use Rattle.std.specs.Prelude.{◌≡◌};
-ghost use Rattle.std.specs.Option.{option_or};
-
 use gw_addr::{BipAddr, NetNum, Sequence};
 use gw_tables::bdt_fdt::Bdt;
 
@@ -42,14 +39,4 @@ pub enum Change {
         /// The networks, in order.
         networks: Sequence<NetNum>,
     },
-}
-
-/// Keeps a change that is to be committed, if there is none yet.
-#[inline(always)]
-pub(crate) fn set_change(change: &mut Option<Change>, later: Option<Change>)
-    ensures { change.new ≡ option_or change.old later }
-{
-    if change.is_none() {
-        *change = later;
-    }
 }

@@ -168,7 +168,7 @@ impl Relay {
     /// admitted. It changes nothing. The only fault is want of memory, and then a part may be added; what
     /// asks nothing wants none.
     #[inline(always)]
-    pub fn add_entry<A: Asker>(
+    pub fn admit<A: Asker>(
         &self,
         message: &Message<'_>,
         turn: &mut Turn<A>,

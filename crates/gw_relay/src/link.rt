@@ -41,7 +41,7 @@ impl Relay {
     /// J.5): the policy is asked once, and the answer goes to the sender. A frame of another kind
     /// asks nothing and gets no answer. What that gives is added to the turn. It changes nothing. The
     /// only fault is want of memory, and then a part may be added; what asks nothing wants none.
-    pub fn add_link<A: Asker>(
+    pub fn link<A: Asker>(
         &self,
         message: &TableMessage<'_>,
         turn: &mut Turn<A>,

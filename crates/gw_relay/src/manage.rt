@@ -357,7 +357,7 @@ impl Relay {
     /// What-Is-Network-Number get an answer, and of an I-Am-Router-To-Network each network that the
     /// policy allows is to be learned. What that gives is added to the turn. It changes nothing. The
     /// only fault is want of memory, and then a part may be added; what asks nothing wants none.
-    pub fn add_manage<A: Asker>(
+    pub fn manage<A: Asker>(
         &self,
         message: &Message<'_>,
         turn: &mut Turn<A>,

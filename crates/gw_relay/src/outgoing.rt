@@ -72,16 +72,6 @@ impl Outgoing {
         }
     }
 
-    /// An NPDU of these octets.
-    pub(crate) fn copied(alloc: Global, npdu: &[u8]) -> Result<Self, AllocError>
-        requires { length npdu.now ≤ max_len }
-        ensures { IfOk result (λ copied. copied ≡ npdu.now) }
-    {
-        let mut octets = buffer(alloc, npdu)?;
-        octets.extend_from_slice(npdu)?;
-        Ok(Outgoing { octets })
-    }
-
     /// The NPDU in a buffer, after its first four octets.
     pub(crate) fn in_buffer(octets: Vec<u8>) -> Self
         requires least { 4 ≤ vec_len octets }

@@ -1,37 +1,22 @@
-//! The relay: its state, what it answers to one event, and what it changes.
+//! The relay: its state, and what changes it.
 
 ghost use Rattle.std.specs.Prelude.{◌≡◌, ◌<◌, ◌^◌, ℕ, [], false, List, length, map, IfOk, IsOk, OnOk, OnErr};
 ghost use Rattle.std.specs.List.{AllByRecursion};
-ghost use Rattle.std.specs.Option.{option_map};
-ghost use Rattle.gw_frames.specs.bvll.Bvll.{view as frame_view};
-ghost use Rattle.gw_rules.specs.declared.rule.Rule.{Rule};
-ghost use Rattle.gw_relay.specs.Asks.{link_asks};
-ghost use Rattle.gw_relay.specs.Cast.{cast_asks, cast_response, goes_on, is_unregistered, spread};
-ghost use Rattle.gw_relay.specs.Link.{link_response};
-ghost use Rattle.gw_relay.specs.Manage.{manage_asks, manage_response};
-ghost use Rattle.gw_relay.specs.Message.{message_view};
-ghost use Rattle.gw_relay.specs.Response.{IsAdded};
-ghost use Rattle.gw_relay.specs.Route.{route_asks, route_response};
 ghost use Rattle.gw_relay.specs.Initial.{direct_of, initial, resumed, routed_of};
 ghost use Rattle.gw_tables.specs.routes.History.{IsStateAfter};
 ghost use Rattle.gw_tables.specs.routes.History.{History as Learned};
 ghost use Rattle.gw_tables.specs.routes.Table.{Routed};
-ghost use Rattle.gw_relay.specs.declared.port.PortState.{PortState};
 ghost use Rattle.gw_relay.specs.History.{Acts, AreStatesAfter, acts_after, acts_later, initial_acts, learned_after, ports_from};
-ghost use Rattle.gw_relay.specs.State.{after, at_port, later, port_at, wants_room};
+ghost use Rattle.gw_relay.specs.State.{after, later, wants_room};
 ghost use Rattle.gw_relay.specs.declared.port.Port.{Port};
 
 use crate::change::Change;
 use crate::commit::{make, tick_each};
 use crate::initial::{port_states, port_states_with, routes_of};
-use crate::message::{Message, TableMessage};
-use crate::port::{PortState, port_at};
-use crate::response::RelayResponse;
-use crate::sends::Sends;
-use crate::turn::Turn;
+use crate::port::PortState;
 use gw_addr::NetNum;
 use gw_configuration::Config;
-use gw_rules::{Authorizer, Format, Judge};
+use gw_rules::Format;
 use gw_tables::bdt_fdt::PortTables;
 use gw_tables::routes::{Route, Routes};
 use std::alloc::{AllocError, Global};
@@ -122,74 +107,6 @@ impl Relay {
         })
     }
 
-    /// The port of this number, from 1, with its tables, or none.
-    pub fn port_at(&self, port: u8) -> Option<&PortState>
-        ensures { option_map (λ state. state.now) result ≡ port_at self.now.ports port }
-    {
-        port_at(self.ports.as_slice(), usize::from(port))
-    }
-
-    /// Does what [`add_link`](Self::add_link) does, and keeps the refusals. The only fault is want of
-    /// memory, and then nothing is added; what asks nothing wants none.
-    pub fn link<J: Judge>(
-        &self,
-        alloc: Global,
-        judge: &J,
-        message: &TableMessage<'_>,
-        given: &mut RelayResponse,
-    ) -> Result<(), AllocError>
-        ensures relayed { (rules : List Rule) → J.StandsFor judge.now rules →
-            let m = message.now in
-            let due = link_response rules self.now.format m.here.now m.from (frame_view m.frame.now) in
-            OnOk result (IsAdded rules due given.old given.new) }
-        ensures err { OnErr result (given.new ≡ given.old) }
-        ensures silent { let m = message.now in
-            link_asks self.now.format m.here.now.port m.from (frame_view m.frame.now) ≡ [] → IsOk result }
-    {
-        let mut turn = Turn::new(Authorizer::new(alloc, judge));
-        self.add_link(message, &mut turn)?;
-        given.add_turn(turn)?;
-        Ok(())
-    }
-
-    /// Does what [`add_cast`](Self::add_cast) does, and keeps the refusals. The only fault is want of
-    /// memory, and then nothing is added.
-    pub fn cast<J: Judge>(
-        &self,
-        alloc: Global,
-        judge: &J,
-        message: &Message<'_>,
-        given: &mut RelayResponse,
-    ) -> Result<bool, AllocError>
-        ensures relayed { (rules : List Rule) → J.StandsFor judge.now rules →
-            let due = cast_response rules self.now.format (message_view message.now) in
-            OnOk result (IsAdded rules due given.old given.new) }
-        ensures goes_on { let m = message_view message.now in
-            IfOk result (λ goes. goes ≡ goes_on m.here m.from m.frame) }
-        ensures err { OnErr result (given.new ≡ given.old) }
-        // What asks nothing and refuses no unregistered sender wants no memory.
-        ensures silent { let m = message_view message.now in
-            cast_asks self.now.format m ≡ [] → is_unregistered m.here m.from m.frame ≡ false → IsOk result }
-    {
-        let mut turn = Turn::new(Authorizer::new(alloc, judge));
-        let goes_on = self.add_cast(message, &mut turn)?;
-        given.add_turn(turn)?;
-        Ok(goes_on)
-    }
-
-    /// The sends of a broadcast by the gateway on the port of this number: on its subnet, and to
-    /// all peers and foreign devices. No policy is asked. On a port that isn't there nothing is
-    /// sent. The only fault is want of memory.
-    pub fn spread(&self, alloc: Global, port: u8, npdu: &[u8]) -> Result<Sends, AllocError>
-        ensures { let sent = λ (state : PortState). spread state npdu.now in
-            IfOk result (λ sends. sends ≡ at_port [] sent self.now.ports port) }
-    {
-        match self.port_at(port) {
-            Some(state) => state.spread(alloc, npdu),
-            None => Ok(Sends::new(alloc)),
-        }
-    }
-
     /// The ports with their tables, in order.
     pub fn ports(&self) -> &[PortState]
         ensures { result.now ≡ self.now.ports }
@@ -209,49 +126,6 @@ impl Relay {
         ensures { result.now ≡ self.now.routes }
     {
         &self.routes
-    }
-
-    /// Does what [`add_route`](Self::add_route) does, and keeps the refusals. The only fault is want of
-    /// memory, and then nothing is added; what asks nothing wants none.
-    #[inline(always)]
-    pub fn route<J: Judge>(
-        &self,
-        alloc: Global,
-        judge: &J,
-        message: &Message<'_>,
-        given: &mut RelayResponse,
-    ) -> Result<(), AllocError>
-        ensures relayed { (rules : List Rule) → J.StandsFor judge.now rules →
-            let m = message_view message.now in
-            OnOk result (IsAdded rules (route_response rules self.now m) given.old given.new) }
-        ensures err { OnErr result (given.new ≡ given.old) }
-        ensures silent { route_asks self.now (message_view message.now) ≡ [] → IsOk result }
-    {
-        let mut turn = Turn::new(Authorizer::new(alloc, judge));
-        self.add_route(message, &mut turn)?;
-        given.add_turn(turn)?;
-        Ok(())
-    }
-
-    /// Does what [`add_manage`](Self::add_manage) does, and keeps the refusals. The only fault is want
-    /// of memory, and then nothing is added; what asks nothing wants none.
-    pub fn manage<J: Judge>(
-        &self,
-        alloc: Global,
-        judge: &J,
-        message: &Message<'_>,
-        given: &mut RelayResponse,
-    ) -> Result<(), AllocError>
-        ensures relayed { (rules : List Rule) → J.StandsFor judge.now rules →
-            let m = message_view message.now in
-            OnOk result (IsAdded rules (manage_response rules self.now m) given.old given.new) }
-        ensures err { OnErr result (given.new ≡ given.old) }
-        ensures silent { manage_asks self.now (message_view message.now) ≡ [] → IsOk result }
-    {
-        let mut turn = Turn::new(Authorizer::new(alloc, judge));
-        self.add_manage(message, &mut turn)?;
-        given.add_turn(turn)?;
-        Ok(())
     }
 
     /// Makes a change whole. If a registration finds no room, a deletion no registration, or

@@ -356,7 +356,7 @@ impl Relay {
     /// ports' routers are asked for one. What that gives is added to the turn. It changes nothing. The only
     /// fault is want of memory, and then a part may be added; what asks nothing wants none.
     #[inline(always)]
-    pub fn add_route<A: Asker>(
+    pub fn route<A: Asker>(
         &self,
         message: &Message<'_>,
         turn: &mut Turn<A>,

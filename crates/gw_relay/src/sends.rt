@@ -230,29 +230,6 @@ impl Sends {
         Ok(())
     }
 
-    /// Adds others after them. An `Err` if there is no memory for the list, or if there would
-    /// be more than 2^64 - 1 datagrams, which no memory holds: they are as before. If there are no
-    /// others, or were none before, it takes no memory.
-    #[inline(always)]
-    pub fn append(&mut self, others: Sends) -> Result<(), AllocError>
-        ensures ok { OnOk result (self.new ≡ self.old ++ others) }
-        ensures err { OnErr result (self.new ≡ self.old) }
-        ensures silent { others ≡ [] → IsOk result }
-        ensures first { self.old ≡ [] → IsOk result }
-    {
-        if others.count == 0 {
-            return Ok(());
-        }
-        if self.count == 0 {
-            *self = others;
-            return Ok(());
-        }
-        let count = sum(self.count, others.count)?;
-        self.batches.append(self.alloc, others.batches)?;
-        self.count = count;
-        Ok(())
-    }
-
     /// The messages in order, each with the addresses that it goes to.
     pub fn batches(&self) -> &[Batch]
         ensures all { flat_map sendings_of result.now ≡ self.now }

@@ -3,7 +3,7 @@
 ghost use Rattle.std.specs.Prelude.{◌≡◌, [], None};
 ghost use Rattle.std.specs.Option.{option_or};
 
-use crate::change::{Change, set_change};
+use crate::change::Change;
 use crate::sends::Sends;
 use gw_rules::Asker;
 use std::alloc::Global;
@@ -48,21 +48,8 @@ impl<A: Asker> Turn<A> {
         ensures sends { self.new.sends ≡ self.old.sends }
         ensures change { self.new.change ≡ option_or self.old.change change }
     {
-        set_change(&mut self.change, change);
-    }
-}
-
-impl<A: Drop> Turn<A> {
-    /// What is sent, and what is to be committed.
-    pub fn into_effects(self) -> (Sends, Option<Change>)
-        ensures sends { result.0 ≡ self.sends }
-        ensures change { result.1 ≡ self.change }
-    {
-        let Turn {
-            asker: _,
-            sends,
-            change,
-        } = self;
-        (sends, change)
+        if self.change.is_none() {
+            self.change = change;
+        }
     }
 }

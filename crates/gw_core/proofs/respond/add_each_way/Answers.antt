@@ -13,11 +13,11 @@ returns-in_err-goes_on-clause-silent g c = λ asks known.
     let ok = c.in_err-goes_on.ensures.silent (empty_left (cast_asks c.args.relay.now.format (message_view c.args.message.now)) _ asks) known in
     absurd cc
 
-pub returns-in_err-add_route-clause-silent : goal.returns-in_err-add_route-clause-silent
-returns-in_err-add_route-clause-silent g c = λ asks known.
+pub returns-in_err-route-clause-silent : goal.returns-in_err-route-clause-silent
+returns-in_err-route-clause-silent g c = λ asks known.
     let on = sym c.in_ok-goes_on.ensures.goes_on ∙ c.if-not-goes_on.false in
     let silent = on_asks c.args.relay.now (message_view c.args.message.now) on asks in
-    let ok = c.in_err-add_route.ensures.silent silent.0 in
+    let ok = c.in_err-route.ensures.silent silent.0 in
     absurd cc
 
 pub returns-in_err-add_managed-clause-silent : goal.returns-in_err-add_managed-clause-silent
@@ -44,8 +44,8 @@ returns-clause-walked g c = λ rules stands.
     let on = sym c.in_ok-goes_on.ensures.goes_on ∙ c.if-not-goes_on.false in
     let cast = c.in_ok-goes_on.ensures.turn rules stands in
     let then = c.in_ok-goes_on.ensures.stays rules stands in
-    let routed = c.in_ok-add_route.ensures.turn rules then in
-    let managed = c.in_ok-add_managed.ensures.walked rules (c.in_ok-add_route.ensures.stays rules then) in
+    let routed = c.in_ok-route.ensures.turn rules then in
+    let managed = c.in_ok-add_managed.ensures.walked rules (c.in_ok-route.ensures.stays rules then) in
     let later = walked_both kept kept_of g.met.A.Asker.kept_both rules (route_response rules relay m) (manage_response rules relay m) _ _ _
     routed managed in
     walked_like kept kept_of rules _ (passed_response rules relay m) _ _ (asks_on relay m on) (sends_on rules relay m on)

@@ -1,15 +1,25 @@
-use Rattle.std.proofs.Common.{◌∙◌, ap}
+use Rattle.std.proofs.Common.{◌∙◌, sym, ap, refl, List, ◌++◌}
 use Rattle.gw_relay.specs.Cast.{cast_response}
 use Rattle.gw_relay.specs.Message.{message_view}
-use Rattle.gw_rules.specs.Authorizer.{AuthorizerState}
-use Rattle.gw_relay.proofs.Adding.{walked_added}
+use Rattle.gw_relay.specs.Sends.{Sending}
+use Rattle.gw_relay.proofs.Adding.{none_kept, none_walked, or_none}
+use Rattle.gw_relay.proofs.Asking.{strange_asks, strange_sends, unheard_asks, unheard_sends}
 use Rattle.gw_relay.proofs.relay.Relay.cast.Goals as goal
 
-pub returns-clause-relayed : goal.returns-clause-relayed
-returns-clause-relayed g c = λ rules stands.
-    let due = cast_response rules c.args.self.now.format (message_view c.args.message.now) in
-    let asks = c.new-turn.ensures.asker in
-    let walked = c.in_ok-goes_on.ensures.turn rules (rw (asks, c.new.ensures.judge) stands) in
-    walked_added rules due c.new-turn.result c.add_cast.new.turn c.args.given.now c.add_turn.new.self walked
-    c.new-turn.ensures.sends (ap (λ (a : AuthorizerState _). a.denied) asks ∙ c.new.ensures.denied) c.new-turn.ensures.change
-    c.in_ok-add_turn.ensures.sends c.in_ok-add_turn.ensures.refusals c.in_ok-add_turn.ensures.change
+pub returns-then-not-accepts-clause-turn : goal.returns-then-not-accepts-clause-turn
+returns-then-not-accepts-clause-turn g c = λ rules stands.
+    let m = message_view c.args.message.now in
+    let heard = sym c.accepts.ensures ∙ c.if-not-accepts.true in
+    none_walked g.A.Asker.kept g.A.Asker.kept_of g.met.A.Asker.kept_none rules (cast_response rules c.args.self.now.format m) c.args.turn.now
+    (unheard_sends rules c.args.self.now.format m heard) (unheard_asks c.args.self.now.format m heard) refl
+
+pub returns-then-is_unregistered-clause-turn : goal.returns-then-is_unregistered-clause-turn
+returns-then-is_unregistered-clause-turn g c = λ rules stands.
+    let m = message_view c.args.message.now in
+    let turn = c.args.turn.now in
+    let heard = sym c.accepts.ensures ∙ c.if-not-accepts.false in
+    let strange = sym c.is_unregistered.ensures ∙ c.if-is_unregistered.true in record {
+      sends = c.in_ok-add_refusal.ensures.ok ∙ ap (λ (l : List Sending). turn.sends ++ l) (sym (strange_sends rules c.args.self.now.format m heard strange));
+      verdicts = none_kept g.A.Asker.kept g.A.Asker.kept_of g.met.A.Asker.kept_none rules turn.asker _ (strange_asks c.args.self.now.format m heard strange);
+      change = or_none turn.change;
+    }

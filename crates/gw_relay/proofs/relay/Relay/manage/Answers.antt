@@ -1,15 +1,17 @@
-use Rattle.std.proofs.Common.{◌∙◌, ap}
-use Rattle.gw_relay.specs.Manage.{manage_response}
+use Rattle.std.proofs.Common.{◌∙◌, sym, ap, subst}
+use Rattle.std.specs.Prelude.{OnOk}
+use Rattle.gw_rules.specs.declared.format.Format.{Format}
 use Rattle.gw_relay.specs.Message.{message_view}
-use Rattle.gw_rules.specs.Authorizer.{AuthorizerState}
-use Rattle.gw_relay.proofs.Adding.{walked_added}
+use Rattle.gw_relay.specs.Response.{Response}
+use Rattle.gw_relay.specs.Turn.{IsWalked}
+use Rattle.gw_relay.specs.internal.Serving.{learn_response}
+use Rattle.gw_relay.proofs.Learning.{learned_due}
 use Rattle.gw_relay.proofs.relay.Relay.manage.Goals as goal
 
-pub returns-clause-relayed : goal.returns-clause-relayed
-returns-clause-relayed g c = λ rules stands.
-    let due = manage_response rules c.args.self.now (message_view c.args.message.now) in
-    let asks = c.new-turn.ensures.asker in
-    let walked = c.in_ok-add_manage.ensures.turn rules (rw (asks, c.new.ensures.judge) stands) in
-    walked_added rules due c.new-turn.result c.add_manage.new.turn c.args.given.now c.add_turn.new.self walked
-    c.new-turn.ensures.sends (ap (λ (a : AuthorizerState _). a.denied) asks ∙ c.new.ensures.denied) c.new-turn.ensures.change
-    c.in_ok-add_turn.ensures.sends c.in_ok-add_turn.ensures.refusals c.in_ok-add_turn.ensures.change
+pub returns-then-is_i_am_router-clause-turn : goal.returns-then-is_i_am_router-clause-turn
+returns-then-is_i_am_router-clause-turn g c = λ rules stands.
+    let m = message_view c.args.message.now in
+    let names = sym c.is_i_am_router.ensures ∙ c.if-is_i_am_router.true in
+    subst (λ (due : Response). OnOk c.learn.result (IsWalked g.A.Asker.kept g.A.Asker.kept_of rules due c.args.turn.now c.learn.new.turn))
+    (ap (λ (format : Format). learn_response rules format m) c.format.ensures ∙ sym (learned_due rules c.args.self.now m names))
+    (c.learn.ensures.turn rules stands)
