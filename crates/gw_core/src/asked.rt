@@ -122,7 +122,7 @@ pub(crate) fn asked_of(
     };
     for verdict in verdicts {
         asked.push(Asked {
-            port: from.port,
+            port: from.here.port.number,
             source: from.source_of(&verdict.ask),
             verdict: *verdict,
         })?;

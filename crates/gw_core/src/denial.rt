@@ -8,9 +8,9 @@ ghost use Rattle.gw_core.specs.internal.View.{origin_of, origin_view};
 
 use crate::event::Counts;
 use crate::receive::Received;
-use gw_addr::{BipAddr, NetNum, Source};
+use gw_addr::{BipAddr, Source};
 use gw_audit::{Denial, Denials};
-use gw_relay::local_source;
+use gw_relay::{Message, PortState, local_source};
 use gw_rules::{Ask, NO_RULE, Operation, Refusal, Rule, RuleList, RuleName};
 use std::alloc::{AllocError, Global};
 
@@ -44,48 +44,44 @@ pub fn rule_name(rules: &RuleList, by: Option<u16>) -> RuleName
     }
 }
 
-/// The port that a datagram came on, who it claims to come from, and the link source.
+/// Where what is received comes from. It lends the message, so that a source is made only for an ask that is kept.
 #[derive(Clone, Copy)]
-pub(crate) struct Origin {
-    pub port: u8,
-    source: Source,
-    network: NetNum,
+pub(crate) struct Origin<'a> {
+    /// The port that it came on.
+    pub here: &'a PortState,
     link: BipAddr,
+    message: Option<&'a Message<'a>>,
 }
 
-impl Origin {
+impl Origin<'_> {
     /// Whom an ask is of: an ask to enter is of the link source, and any other of whom the datagram claims
     /// to come from.
     pub(crate) fn source_of(&self, ask: &Ask) -> Source
         ensures { result ≡ source_of (origin_view self.now) ask.now }
     {
-        match ask.operation {
-            Some(number) if number == Operation::Enter.number() => {
-                local_source(self.network, self.link)
-            }
-            _ => self.source,
+        match self.message {
+            Some(message) if ask.operation != Some(Operation::Enter.number()) => message.claim(),
+            _ => local_source(self.here.port.network, self.link),
         }
     }
 }
 
 /// Where what is received comes from: a frame that manages a table, from its sender; a message, from
 /// who it claims to come from.
-pub(crate) fn origin_of(received: &Received<'_>) -> Option<Origin>
+pub(crate) fn origin_of<'a>(received: &'a Received<'a>) -> Option<Origin<'a>>
     ensures { option_map origin_view result ≡ origin_of received.now }
 {
     match received {
         Received::Dropped(_) => None,
         Received::Managed(message) => Some(Origin {
-            port: message.here.port.number,
-            source: local_source(message.here.port.network, message.from),
-            network: message.here.port.network,
+            here: message.here,
             link: message.from,
+            message: None,
         }),
         Received::Message(message) => Some(Origin {
-            port: message.here.port.number,
-            source: message.claim(),
-            network: message.here.port.network,
+            here: message.here,
             link: message.link(),
+            message: Some(message),
         }),
     }
 }
@@ -144,7 +140,7 @@ fn denials_from(
     alloc: Global,
     rules: &RuleList,
     counts: Counts,
-    from: &Origin,
+    from: &Origin<'_>,
     refusals: &[Refusal],
 ) -> Result<Denials, AllocError>
     requires { counts.denials + 1 + length refusals.now < 2 ^ 64 }
@@ -158,7 +154,7 @@ fn denials_from(
         denials.push(Denial {
             number: first + place as u64,
             tick: counts.ticks,
-            port: from.port,
+            port: from.here.port.number,
             source: from.source_of(&refusal.ask),
             ask: refusal.ask,
             rule: rule_name(rules, refusal.by),

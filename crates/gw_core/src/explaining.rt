@@ -71,7 +71,7 @@ fn put_line(
 fn put_lines(
     out: &mut Vec<u8>,
     rules: &RuleList,
-    from: &Origin,
+    from: &Origin<'_>,
     verdicts: &[Verdict],
 ) -> Result<(), AllocError>
     ensures ok { let text = verdict_lines rules.now (Some (origin_view from.now)) verdicts.now in

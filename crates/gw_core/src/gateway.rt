@@ -74,29 +74,6 @@ fn is_lasting(change: &Option<RelayChange>, write: &Option<Change>) -> bool
     matches!(change, Some(RelayChange::Entries { .. })) || write.is_some()
 }
 
-/// Makes a change of the relay, where there is one. The only fault is want of memory; then nothing
-/// changed.
-fn commit_change(relay: &mut Relay, change: Option<RelayChange>) -> Result<(), AllocError>
-    ensures state { OnOk result (relay.new ≡ moved (option_map Commit change) relay.old) }
-    ensures err { OnErr result (relay.new ≡ relay.old) }
-    ensures no_growth { change ≡ None → IsOk result }
-{
-    match change {
-        Some(change) => relay.commit(change),
-        None => Ok(()),
-    }
-}
-
-/// Makes a write to the device, where there is one. It takes no memory.
-fn commit_write(device: &mut Device, write: Option<Change>)
-    requires place { HasPlace device.old write }
-    ensures { device.new ≡ changed write device.old }
-{
-    if let Some(write) = write {
-        device.commit(write);
-    }
-}
-
 /// A gateway. It takes one event in a call, whole: it answers what the event does, and is then in
 /// the next state.
 pub struct Gateway {
@@ -352,8 +329,12 @@ impl Gateway {
         ensures err { OnErr result (self.new ≡ self.old) }
         ensures no_growth { change ≡ None → IsOk result }
     {
-        commit_change(&mut self.relay, change)?;
-        commit_write(&mut self.device, write);
+        if let Some(change) = change {
+            self.relay.commit(change)?;
+        }
+        if let Some(write) = write {
+            self.device.commit(write);
+        }
         self.counts.denials += denied;
         Ok(())
     }

@@ -1,5 +1,6 @@
 -- What the code's values mean, without where they lie in memory.
 use Rattle.std.specs.Prelude.{not, if◌then◌else◌, Option, Some, None}
+use Rattle.std.specs.Option.{option_map_or}
 use Rattle.gw_frames.specs.bvll.Bvll.{view as frame_view}
 use Rattle.gw_relay.specs.Cast.{accepts, is_unregistered}
 use Rattle.gw_relay.specs.Claim.{local_source}
@@ -41,4 +42,10 @@ origin_of (lent.Managed m) = Some (node_origin m.here.now m.from)
 origin_of (lent.Message m) = Some (message_origin (message_view m))
 
 abbrev pub origin_view : CodeOrigin → Origin
-origin_view o = record { port = o.port; source = o.source; link = local_source o.network o.link }
+origin_view o =
+    let link = local_source o.here.now.port.network o.link in
+    record {
+      port = o.here.now.port.number;
+      source = option_map_or (λ m. (message_view m.now).claim) o.message link;
+      link = link;
+    }
