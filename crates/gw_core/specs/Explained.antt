@@ -13,6 +13,7 @@ use Rattle.gw_core.specs.Asks.{asks}
 use Rattle.gw_core.specs.Denials.{name_at}
 use Rattle.gw_core.specs.Receive.{Origin, origin, receive, source_of}
 use Rattle.gw_core.specs.State.{State}
+use Rattle.gw_core.specs.declared.asked.Asked.{Asked}
 
 -- the rule by which the policy decides, its number from 1 and its name; or that none matches
 abbrev pub by_text : List Rule → Option ℕ → List ℕ
@@ -36,6 +37,14 @@ ask_line rules source ask = codes "ask " ++ ask_text source ask ++ codes " " ++ 
 abbrev pub ask_lines : List Rule → Option Origin → List Ask → List ℕ
 ask_lines rules None asks = []
 ask_lines rules (Some from) asks = flat_map (λ ask. ask_line rules (source_of from ask) ask) asks
+
+-- the line of an ask with its verdict, and of each of several: those of an event's asks (`asked_at`) are its text
+abbrev pub asked_line : List Rule → Asked → List ℕ
+asked_line rules a =
+    codes "ask " ++ ask_text a.source a.verdict.ask ++ codes " " ++ judged_text rules a.verdict.is_allowed a.verdict.by ++ 10 ∷ []
+
+abbrev pub asked_lines : List Rule → List Asked → List ℕ
+asked_lines rules asked = flat_map (asked_line rules) asked
 
 -- a line for each ask of an event, in their order
 unfoldable pub asks_text : State → Event → List ℕ

@@ -2,8 +2,8 @@
 pub mod Arrivals
 pub mod Frame
 pub mod Kept
+pub mod Outcome
 pub mod Replies
 pub mod Reports
 pub mod Respond
-pub mod Verdicts
 pub mod View

@@ -1,16 +1,14 @@
 //! A line for each ask of an event, allowed or denied.
 
-ghost use Rattle.std.specs.Prelude.{◌≡◌, ◌≤◌, ◌++◌, [], IsOk, OnOk, Some, vec_capacity};
+ghost use Rattle.std.specs.Prelude.{◌≡◌, ◌≤◌, ◌++◌, [], IsOk, OnOk, vec_capacity};
 ghost use Rattle.gw_addr.specs.Appending.{IsAppended};
-ghost use Rattle.gw_core.specs.Explained.{by_text, judged_text, verdict_text};
-ghost use Rattle.gw_core.specs.internal.View.{origin_of, origin_view};
-ghost use Rattle.gw_core.specs.internal.Verdicts.{verdict_line, verdict_lines};
+ghost use Rattle.gw_core.specs.Explained.{asked_line, asked_lines, by_text, judged_text, verdict_text};
 
-use crate::denial::{Origin, name_at, origin_of};
-use crate::receive::Received;
-use gw_addr::{Source, put_decimal, put_octet, put_slice};
+use crate::asked::Asked;
+use crate::denial::name_at;
+use gw_addr::{put_decimal, put_octet, put_slice};
 use gw_audit::put_ask;
-use gw_rules::{Ask, RuleList, Verdict};
+use gw_rules::{Ask, RuleList};
 use std::alloc::AllocError;
 
 /// Appends by which rule the policy decides: its number and its name, or that none matches.
@@ -51,56 +49,26 @@ pub fn put_verdict(out: &mut Vec<u8>, rules: &RuleList, ask: &Ask) -> Result<(),
     put_judged(out, rules, rules.allows(ask), rules.first(ask))
 }
 
-/// Appends the line of an ask of a datagram that claims to come from there.
-fn put_line(
-    out: &mut Vec<u8>,
-    rules: &RuleList,
-    source: &Source,
-    verdict: &Verdict,
-) -> Result<(), AllocError>
-    ensures { IsAppended (verdict_line rules.now source.now verdict.now) out.old out.new result }
+/// Appends the line of an ask.
+fn put_line(out: &mut Vec<u8>, rules: &RuleList, asked: &Asked) -> Result<(), AllocError>
+    ensures { IsAppended (asked_line rules.now asked.now) out.old out.new result }
 {
     put_slice(out, b"ask ")?;
-    put_ask(out, source, &verdict.ask)?;
+    put_ask(out, &asked.source, &asked.verdict.ask)?;
     put_octet(out, b' ')?;
-    put_judged(out, rules, verdict.is_allowed, verdict.by)?;
+    put_judged(out, rules, asked.verdict.is_allowed, asked.verdict.by)?;
     put_octet(out, b'\n')
 }
 
-/// Appends a line for each ask. If there is none it takes no memory.
-fn put_lines(
-    out: &mut Vec<u8>,
-    rules: &RuleList,
-    from: &Origin<'_>,
-    verdicts: &[Verdict],
-) -> Result<(), AllocError>
-    ensures ok { let text = verdict_lines rules.now (Some (origin_view from.now)) verdicts.now in
-        OnOk result (out.new.items ≡ out.old.items ++ text) }
-    ensures silent { verdicts.now ≡ [] → IsOk result }
+/// Appends a line for each ask of an event, allowed or denied, in their order, with the rule that decides it. If there is
+/// none it takes no memory. If a growth was refused, a part of the lines may be there.
+pub fn append_asked(out: &mut Vec<u8>, rules: &RuleList, asked: &[Asked]) -> Result<(), AllocError>
+    ensures ok { OnOk result (out.new.items ≡ out.old.items ++ asked_lines rules.now asked.now) }
+    ensures silent { asked.now ≡ [] → IsOk result }
     ensures capacity { vec_capacity out.old ≤ vec_capacity out.new }
 {
-    for verdict in verdicts {
-        let source = from.source_of(&verdict.ask);
-        put_line(out, rules, &source, verdict)?;
+    for ask in asked {
+        put_line(out, rules, ask)?;
     }
     Ok(())
-}
-
-/// Appends a line for each ask about what is received, in their order, with the rule that decides it. If a growth was
-/// refused, a part of the lines may be there.
-pub(crate) fn put_verdicts(
-    out: &mut Vec<u8>,
-    rules: &RuleList,
-    received: &Received<'_>,
-    verdicts: &[Verdict],
-) -> Result<(), AllocError>
-    ensures ok { let due = verdict_lines rules.now (origin_of received.now) verdicts.now in
-        OnOk result (out.new.items ≡ out.old.items ++ due) }
-    ensures silent { verdicts.now ≡ [] → IsOk result }
-    ensures capacity { vec_capacity out.old ≤ vec_capacity out.new }
-{
-    match origin_of(received) {
-        Some(from) => put_lines(out, rules, &from, verdicts),
-        None => Ok(()),
-    }
 }

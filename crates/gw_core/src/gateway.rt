@@ -1,26 +1,24 @@
 //! The gateway: its state, and what it answers to one event.
 
-ghost use Rattle.std.specs.Prelude.{◌≡◌, ◌+◌, ◌≤◌, ◌<◌, ◌^◌, ◌↔◌, ◌++◌, ◌||◌, [], true, length, None, is_some, vec_capacity};
+ghost use Rattle.std.specs.Prelude.{◌≡◌, ◌+◌, ◌≤◌, ◌<◌, ◌^◌, ◌↔◌, ◌||◌, [], true, length, None, is_some};
 ghost use Rattle.std.specs.Prelude.{IsOk, IfOk, OnOk, OnErr, IsErrOf};
 ghost use Rattle.std.specs.Option.{option_map};
 ghost use Rattle.gw_addr.specs.declared.TheConstants.{MAX_PORTS};
 ghost use Rattle.gw_device.specs.Response.{HasPlace};
 ghost use Rattle.gw_relay.specs.State.{Commit, moved};
-ghost use Rattle.gw_core.specs.Asked.{asked_at};
 ghost use Rattle.gw_core.specs.Effects.{changed};
-ghost use Rattle.gw_core.specs.Explained.{asks_text};
 ghost use Rattle.gw_core.specs.Lasting.{lasting_move, lasts};
 ghost use Rattle.gw_core.specs.Resumed.{carried, saved_of};
 ghost use Rattle.gw_script.specs.Event.{Datagram, Tick};
 
-use crate::asked::{AllAsked, Report, Reporter};
+use crate::asked::{Report, Reporter};
 use crate::denial::denials_of;
 use crate::drops::DropReason;
 use crate::effects::Effects;
 use crate::event::Counts;
-use crate::explaining::put_verdicts;
 use crate::fault::StepFault;
 use crate::receive::{Arrival, read_npdu, receive};
+use crate::reporting::{DenialsAlone, Reporting};
 use crate::respond::{network_of, respond};
 use crate::saving::saved_ports;
 use gw_addr::BipAddr;
@@ -30,7 +28,7 @@ use gw_device::{Change, Device};
 use gw_frames::npdu::NpduFault;
 use gw_relay::{Change as RelayChange, Relay, Sends, Turn};
 use gw_rule_index::Policy;
-use gw_rules::{Authorizer, Recorder, RuleList};
+use gw_rules::RuleList;
 use gw_state::{Origin, Saved, SavedCounts};
 use std::alloc::{AllocError, Global};
 use std::marker::Model;
@@ -49,22 +47,26 @@ pub struct Taken {
     pub lasts: bool,
 }
 
-/// What is done about a datagram, the changes that are granted, and what is reported of all that was asked.
+/// What an event that was taken does, and what is reported of what it asked.
 #[derive(Drop)]
-struct Outcome<T> {
-    taken: Taken,
-    change: Option<RelayChange>,
-    write: Option<Change>,
-    asked: T,
-}
-
-/// What an event that was taken does, and what it asked.
-#[derive(Drop)]
-pub struct Watched {
+pub struct Reported<T> {
     /// What it does.
     pub taken: Taken,
-    /// What it asked, allowed or denied, in order.
-    pub asked: AllAsked,
+    /// What is reported of what it asked.
+    pub asked: T,
+}
+
+/// What is done about a datagram, the changes that are granted, and what is reported of all that was asked.
+#[derive(Drop)]
+pub struct Outcome<T> {
+    /// What it does.
+    pub taken: Taken,
+    /// What the relay commits.
+    pub change: Option<RelayChange>,
+    /// The write that the device commits.
+    pub write: Option<Change>,
+    /// What is reported of what it asked.
+    pub asked: T,
 }
 
 /// Whether what was granted lasts: a table of peers, or a write to the device.
@@ -122,6 +124,7 @@ impl Gateway {
     ghost use Rattle.gw_core.specs.History.{IsStateAfter, IsStep};
     ghost use Rattle.gw_core.specs.Receive.{origin, receive};
     ghost use Rattle.gw_core.specs.internal.Arrivals.{event_of};
+    ghost use Rattle.gw_core.specs.internal.Outcome.{IsOutcome};
 
     /// A gateway of this configuration that goes on from these counts. The only fault is want of
     /// memory.
@@ -232,6 +235,13 @@ impl Gateway {
         self.policy.rules()
     }
 
+    /// Its policy.
+    pub(crate) fn policy(&self) -> &Policy
+        ensures { result.now ≡ self.now.rules }
+    {
+        &self.policy
+    }
+
     /// How many denials more may be numbered.
     fn left(&self) -> u64
         ensures { result + self.now.denials ≡ 2 ^ 63 }
@@ -242,7 +252,7 @@ impl Gateway {
     /// What is done about a datagram, and what the asker reports of its asks, while the gateway stays as it is. The
     /// asker has asked nothing yet. The faults are those of [`Gateway::step`].
     #[inline(always)]
-    fn outcome<A: Reporter>(
+    pub(crate) fn outcome<A: Reporter>(
         &self,
         alloc: Global,
         arrival: &Arrival<'_>,
@@ -250,27 +260,10 @@ impl Gateway {
     ) -> Result<Outcome<A::Asked>, StepFault>
         requires stands { A.StandsFor asker self.now.rules }
         requires begun { A.kept asker ≡ [] }
-        requires count { self.now.denials ≤ 2 ^ 63 }
-        ensures effects { let event = event_of arrival.now in
-            IfOk result (λ outcome. outcome.taken.effects ≡ effects_at self.now event) }
-        ensures drop { let event = event_of arrival.now in
-            IfOk result (λ outcome. outcome.taken.drop ≡ drop_at self.now event) }
-        ensures lasts { let event = event_of arrival.now in
-            IfOk result (λ outcome. outcome.taken.lasts ≡ lasts self.now event) }
-        ensures denied { let due = denials_at self.now (event_of arrival.now) in
-            IfOk result (λ outcome. length outcome.taken.effects.denials ≡ length due) }
-        ensures moves { let event = event_of arrival.now in
-            IfOk result (λ outcome. option_map Commit outcome.change ≡ move_at self.now event) }
-        ensures stays { asks self.now (event_of arrival.now) ≡ [] →
-            IfOk result (λ outcome. outcome.change ≡ None) }
-        ensures write { let event = event_of arrival.now in
-            IfOk result (λ outcome. outcome.write ≡ change_at self.now event) }
-        ensures place { IfOk result (λ outcome. HasPlace self.now.device outcome.write) }
+        ensures outcome { IfOk result (IsOutcome self.now (event_of arrival.now)) }
         ensures asked { let event = event_of arrival.now in
             let due = A.asked (origin (receive self.now event)) self.now.rules (asks self.now event) in
             IfOk result (λ outcome. outcome.asked ≡ due) }
-        ensures room { let due = denials_at self.now (event_of arrival.now) in
-            IsOk result → self.now.denials + length due ≤ 2 ^ 63 }
         ensures count_end { IsErrOf result StepFault.CountEnd
             → passes_end self.now (event_of arrival.now) ≡ true }
         ensures silent { NeedsNoMemory self.now (event_of arrival.now) → IsOk result }
@@ -363,74 +356,34 @@ impl Gateway {
         ensures silent { NeedsNoMemory self.old (Datagram port from octets.now) → IsOk result }
         ensures err { OnErr result (self.new ≡ self.old) }
     {
-        match self.take(alloc, port, from, octets) {
-            Ok(taken) => Ok(taken.effects),
+        match self.take::<DenialsAlone>(alloc, port, from, octets) {
+            Ok(reported) => Ok(reported.taken.effects),
             Err(fault) => Err(fault),
         }
     }
 
-    /// Does what [`Gateway::step`] does, and says why the datagram was dropped, if it was, and whether it
-    /// lasts.
+    /// Does what [`Gateway::step`] does, and says why the datagram was dropped, if it was, whether it lasts, and
+    /// what is to be reported of what it asked.
     ///
     /// # Errors
     ///
     /// Those of [`Gateway::step`].
     #[inline(never)]
-    pub fn take(
+    pub fn take<R: Reporting>(
         &mut self,
         alloc: Global,
         port: u8,
         from: BipAddr,
         octets: &[u8],
-    ) -> Result<Taken, StepFault>
+    ) -> Result<Reported<R::Asked>, StepFault>
         ensures step { IfOk result
-            (λ taken. IsStep self.old (Datagram port from octets.now) taken.effects self.new) }
+            (λ reported. IsStep self.old (Datagram port from octets.now) reported.taken.effects self.new) }
         ensures drop { IfOk result
-            (λ taken. taken.drop ≡ drop_at self.old (Datagram port from octets.now)) }
+            (λ reported. reported.taken.drop ≡ drop_at self.old (Datagram port from octets.now)) }
         ensures lasts { IfOk result
-            (λ taken. taken.lasts ≡ lasts self.old (Datagram port from octets.now)) }
-        ensures count_end { IsErrOf result StepFault.CountEnd
-            → passes_end self.old (Datagram port from octets.now) ≡ true }
-        // Memory only where something is asked or sent.
-        ensures silent { NeedsNoMemory self.old (Datagram port from octets.now) → IsOk result }
-        ensures err { OnErr result (self.new ≡ self.old) }
-    {
-        let now = &*self;
-        let arrival = Arrival { port, from, octets };
-        let asker = Authorizer::new(alloc, &now.policy);
-        let Outcome {
-            taken,
-            change,
-            write,
-            asked: _,
-        } = now.outcome(alloc, &arrival, asker)?;
-        self.move_on(change, write, taken.effects.denials.len() as u64)?;
-        Ok(taken)
-    }
-
-    /// Does what [`Gateway::take`] does, and says what the datagram asked, allowed or denied. All that is
-    /// asked is kept, which wants memory.
-    ///
-    /// # Errors
-    ///
-    /// Those of [`Gateway::step`].
-    #[inline(never)]
-    pub fn take_watched(
-        &mut self,
-        alloc: Global,
-        port: u8,
-        from: BipAddr,
-        octets: &[u8],
-    ) -> Result<Watched, StepFault>
-        ensures step { IfOk result
-            (λ watched. IsStep self.old (Datagram port from octets.now) watched.taken.effects self.new) }
-        ensures drop { IfOk result
-            (λ watched. watched.taken.drop ≡ drop_at self.old (Datagram port from octets.now)) }
-        ensures lasts { IfOk result
-            (λ watched. watched.taken.lasts ≡ lasts self.old (Datagram port from octets.now)) }
-        // All that it asks, in order.
+            (λ reported. reported.taken.lasts ≡ lasts self.old (Datagram port from octets.now)) }
         ensures asked { IfOk result
-            (λ watched. watched.asked ≡ asked_at self.old (Datagram port from octets.now)) }
+            (λ reported. reported.asked ≡ R.asked self.old (Datagram port from octets.now)) }
         ensures count_end { IsErrOf result StepFault.CountEnd
             → passes_end self.old (Datagram port from octets.now) ≡ true }
         // Memory only where something is asked or sent.
@@ -439,40 +392,14 @@ impl Gateway {
     {
         let now = &*self;
         let arrival = Arrival { port, from, octets };
-        let asker = Recorder::new(alloc, &now.policy);
         let Outcome {
             taken,
             change,
             write,
             asked,
-        } = now.outcome(alloc, &arrival, asker)?;
+        } = R::outcome(now, alloc, &arrival)?;
         self.move_on(change, write, taken.effects.denials.len() as u64)?;
-        Ok(Watched { taken, asked })
-    }
-
-    /// Appends a line for each ask that a datagram raises, allowed or denied, with the rule that decides
-    /// it. The datagram isn't taken. If a growth was refused, a part of the lines may be there.
-    pub(crate) fn append_asks(
-        &self,
-        alloc: Global,
-        arrival: &Arrival<'_>,
-        out: &mut Vec<u8>,
-    ) -> Result<(), AllocError>
-        ensures ok { let a = arrival.now in
-            let due = asks_text self.now (Datagram a.port a.from a.octets.now) in
-            OnOk result (out.new.items ≡ out.old.items ++ due) }
-        ensures silent { let a = arrival.now in
-            NeedsNoMemory self.now (Datagram a.port a.from a.octets.now) → IsOk result }
-        ensures capacity { vec_capacity out.old ≤ vec_capacity out.new }
-    {
-        let frame = gw_frames::bvll::decode(arrival.octets);
-        let mut npdu = Err(NpduFault::Short);
-        read_npdu(&frame, &mut npdu);
-        let network = network_of(&self.device);
-        let received = receive(self.relay.ports(), network, arrival, &frame, &npdu);
-        let mut turn = Turn::new(Recorder::new(alloc, &self.policy));
-        respond(&self.relay, &self.device, network, &received, &mut turn)?;
-        put_verdicts(out, self.policy.rules(), &received, turn.asker.verdicts())
+        Ok(Reported { taken, asked })
     }
 
     /// Takes a tick. `CountEnd` where the count of ticks would pass 2^63; then nothing changed.

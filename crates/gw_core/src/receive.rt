@@ -26,7 +26,7 @@ const MAX_NPDU: usize = gw_frames::npdu::MAX_LEN;
 
 /// A datagram, and where it came.
 #[derive(Clone, Copy)]
-pub(crate) struct Arrival<'a> {
+pub struct Arrival<'a> {
     /// The number of the port that it came on, from 1.
     pub port: u8,
     /// Whom it came from.

@@ -1,34 +1,35 @@
 //! A run: what a gateway answers to a list of events.
 
-ghost use Rattle.std.specs.Prelude.{◌≡◌, ◌≤◌, ◌++◌, ℕ, IfOk, IsOk, IsErrOf, OnOk, OnErr, map, false, true, vec_capacity};
+ghost use Rattle.std.specs.Prelude.{◌≡◌, ℕ, IfOk, IsOk, IsErrOf, OnOk, OnErr, map, false, true};
 ghost use Rattle.gw_script.specs.Event.{event_view};
-ghost use Rattle.gw_core.specs.Asked.{asked_at};
 ghost use Rattle.gw_core.specs.Drops.{drop_at};
 ghost use Rattle.gw_core.specs.Effects.{NeedsNoMemory, effects_at, passes_end};
-ghost use Rattle.gw_core.specs.Explained.{asks_text};
 ghost use Rattle.gw_core.specs.Lasting.{lasts};
 ghost use Rattle.gw_core.specs.History.{HasTaken, StopsAtEnd, next, run_from, state_from};
 
-use crate::asked::AllAsked;
 use crate::effects::Effects;
 use crate::fault::StepFault;
-use crate::gateway::{Gateway, Taken, Watched};
-use crate::receive::Arrival;
+use crate::gateway::{Gateway, Reported, Taken};
+use crate::reporting::{DenialsAlone, Reporting};
 use gw_script::Event;
-use std::alloc::{AllocError, Global};
+use std::alloc::Global;
 
-/// Takes one event of either kind: what it does, why it was dropped, if it was, and whether it lasts. The
-/// faults are those of [`Gateway::step`] and [`Gateway::tick`]; then nothing changed.
+/// Takes one event of either kind: what it does, why it was dropped, if it was, whether it lasts, and what is to be
+/// reported of what it asked. The faults are those of [`Gateway::step`] and [`Gateway::tick`]; then nothing changed.
 #[inline(always)]
-pub fn take_event(
+pub fn take_event<R: Reporting>(
     alloc: Global,
     gateway: &mut Gateway,
     event: &Event<'_>,
-) -> Result<Taken, StepFault>
+) -> Result<Reported<R::Asked>, StepFault>
     ensures given { IfOk result
-        (λ taken. taken.effects ≡ effects_at gateway.old (event_view event.now)) }
-    ensures drop { IfOk result (λ taken. taken.drop ≡ drop_at gateway.old (event_view event.now)) }
-    ensures lasts { IfOk result (λ taken. taken.lasts ≡ lasts gateway.old (event_view event.now)) }
+        (λ reported. reported.taken.effects ≡ effects_at gateway.old (event_view event.now)) }
+    ensures drop { IfOk result
+        (λ reported. reported.taken.drop ≡ drop_at gateway.old (event_view event.now)) }
+    ensures lasts { IfOk result
+        (λ reported. reported.taken.lasts ≡ lasts gateway.old (event_view event.now)) }
+    ensures asked { IfOk result
+        (λ reported. reported.asked ≡ R.asked gateway.old (event_view event.now)) }
     ensures moved { OnOk result (gateway.new ≡ next gateway.old (event_view event.now)) }
     ensures within { IsOk result → passes_end gateway.old (event_view event.now) ≡ false }
     ensures count_end { IsErrOf result StepFault.CountEnd →
@@ -38,78 +39,17 @@ pub fn take_event(
     ensures err { OnErr result (gateway.new ≡ gateway.old) }
 {
     match event {
-        Event::Datagram { port, from, octets } => gateway.take(alloc, *port, *from, octets),
+        Event::Datagram { port, from, octets } => { gateway.take::<R>(alloc, *port, *from, octets) }
         Event::Tick => {
             gateway.tick()?;
-            Ok(Taken {
+            let taken = Taken {
                 effects: Effects::none(alloc),
                 drop: None,
                 lasts: false,
-            })
-        }
-    }
-}
-
-/// Takes one event of either kind as [`take_event`] does, and says what it asked. The faults are those of
-/// [`Gateway::step`] and [`Gateway::tick`]; then nothing changed.
-pub fn take_event_watched(
-    alloc: Global,
-    gateway: &mut Gateway,
-    event: &Event<'_>,
-) -> Result<Watched, StepFault>
-    ensures given { IfOk result
-        (λ watched. watched.taken.effects ≡ effects_at gateway.old (event_view event.now)) }
-    ensures drop { IfOk result
-        (λ watched. watched.taken.drop ≡ drop_at gateway.old (event_view event.now)) }
-    ensures lasts { IfOk result
-        (λ watched. watched.taken.lasts ≡ lasts gateway.old (event_view event.now)) }
-    ensures asked { IfOk result
-        (λ watched. watched.asked ≡ asked_at gateway.old (event_view event.now)) }
-    ensures moved { OnOk result (gateway.new ≡ next gateway.old (event_view event.now)) }
-    ensures within { IsOk result → passes_end gateway.old (event_view event.now) ≡ false }
-    ensures count_end { IsErrOf result StepFault.CountEnd →
-        passes_end gateway.old (event_view event.now) ≡ true }
-    ensures memory { IsErrOf result StepFault.Memory →
-        ¬ (NeedsNoMemory gateway.old (event_view event.now)) }
-    ensures err { OnErr result (gateway.new ≡ gateway.old) }
-{
-    match event {
-        Event::Datagram { port, from, octets } => {
-            gateway.take_watched(alloc, *port, *from, octets)
-        }
-        Event::Tick => {
-            let taken = take_event(alloc, gateway, event)?;
-            Ok(Watched {
-                taken,
-                asked: AllAsked::new(alloc),
-            })
-        }
-    }
-}
-
-/// Appends a line for each ask that an event raises, allowed or denied, with the rule that decides it. The event isn't
-/// taken. `AllocError` if a growth was refused; a part of the lines may then be there.
-pub fn append_asked(
-    alloc: Global,
-    gateway: &Gateway,
-    event: &Event<'_>,
-    text: &mut Vec<u8>,
-) -> Result<(), AllocError>
-    ensures ok { let due = asks_text gateway.now (event_view event.now) in
-        OnOk result (text.new.items ≡ text.old.items ++ due) }
-    ensures silent { NeedsNoMemory gateway.now (event_view event.now) → IsOk result }
-    ensures capacity { vec_capacity text.old ≤ vec_capacity text.new }
-{
-    match event {
-        Event::Datagram { port, from, octets } => {
-            let arrival = Arrival {
-                port: *port,
-                from: *from,
-                octets,
             };
-            gateway.append_asks(alloc, &arrival, text)
+            let asked = R::nothing(alloc);
+            Ok(Reported { taken, asked })
         }
-        Event::Tick => Ok(()),
     }
 }
 
@@ -132,8 +72,8 @@ pub fn run(
     let mut given = Vec::new(alloc);
     let mut rest = events;
     while let [event, later @ ..] = rest {
-        let Taken { effects, .. } = take_event(alloc, gateway, event)?;
-        if given.push(effects).is_err() {
+        let reported = take_event::<DenialsAlone>(alloc, gateway, event)?;
+        if given.push(reported.taken.effects).is_err() {
             return Err(StepFault::Memory);
         }
         rest = later;

@@ -11,7 +11,7 @@ ghost use Rattle.gw_decisions.specs.tally.Tally.{IsTally, tally_text};
 ghost use Rattle.gw_decisions.specs.Counted.{AreCounted};
 
 use gw_configuration::Config;
-use gw_core::{Counts, Event, Gateway, take_event_watched};
+use gw_core::{AllAsks, Counts, Event, Gateway, take_event};
 use gw_decisions::count_asked;
 use gw_decisions::tally::{Tally, put_tally};
 use gw_script::{LineReader, MAX_DATAGRAM, NextLine, OctetSource, parse_line};
@@ -63,7 +63,7 @@ fn count_event(
     ensures rules { gateway.new.rules ≡ gateway.old.rules }
     ensures places { length tally.new ≡ length tally.old }
 {
-    match take_event_watched(alloc, gateway, event) {
+    match take_event::<AllAsks>(alloc, gateway, event) {
         Ok(watched) => {
             count_asked(tally, watched.asked.as_slice());
             Ok(())

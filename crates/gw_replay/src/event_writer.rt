@@ -1,17 +1,21 @@
 //! How a replay reports an event: what it does, or before that also what it asks.
 
-ghost use Rattle.std.specs.Prelude.{◌≡◌, ◌+◌, ◌≤◌, ◌++◌, OnOk, IfErr, vec_capacity, vec_len};
+ghost use Rattle.std.specs.Prelude.{◌≡◌, ◌+◌, ◌≤◌, ◌++◌, [], IfErr, IsOk, OnOk, length, vec_capacity, vec_len};
 ghost use Rattle.gw_script.specs.Event.{Tick, event_view};
 ghost use Rattle.gw_core.specs.Effects.{NeedsNoMemory};
+ghost use Rattle.gw_core.specs.Explained.{asked_lines};
 ghost use Rattle.gw_core.specs.History.{next};
 ghost use Rattle.gw_replay.specs.internal.LineOutcome.{IsEventFault};
-ghost use Rattle.gw_replay.specs.Shown.{event_text};
+ghost use Rattle.gw_replay.specs.Shown.{effects_text, event_text};
 
 use crate::replaying::RunFault;
 use crate::shown::append_effects;
-use gw_core::{Gateway, StepFault, append_asked, take_event};
+use gw_core::{
+    AllAsks, Asked, DenialsAlone, Effects, Gateway, StepFault, append_asked, take_event,
+};
+use gw_rules::RuleList;
 use gw_script::{Event, SpelledAddr, append_end};
-use std::alloc::Global;
+use std::alloc::{AllocError, Global};
 
 /// How a replay reports an event.
 pub(crate) trait EventText {
@@ -86,9 +90,9 @@ fn append_step(
     ensures fault { IfErr result (IsEventFault gateway.old (event_view event.now)) }
     ensures capacity { vec_capacity text.old ≤ vec_capacity text.new }
 {
-    let taken = take_event(alloc, gateway, event);
-    let effects = match &taken {
-        Ok(taken) => &taken.effects,
+    let reported = take_event::<DenialsAlone>(alloc, gateway, event);
+    let effects = match &reported {
+        Ok(reported) => &reported.taken.effects,
         Err(StepFault::Memory) => return Err(RunFault::Memory),
         Err(StepFault::CountEnd) => return Err(RunFault::CountEnd),
     };
@@ -120,6 +124,25 @@ fn append_taken(
         Event::Datagram { .. } => append_step(alloc, gateway, event, sender, text),
         Event::Tick => append_tick(gateway, text),
     }
+}
+
+/// Appends a line for each ask of an event, and after them those of what it does. Refused only if the buffer had no room
+/// for them.
+fn append_explained(
+    text: &mut Vec<u8>,
+    rules: &RuleList,
+    asked: &[Asked],
+    effects: &Effects,
+    sender: &Option<SpelledAddr<'_>>,
+) -> Result<(), AllocError>
+    ensures ok { let due = asked_lines rules.now asked.now ++ effects_text effects.now in
+        OnOk result (text.new.items ≡ text.old.items ++ due) }
+    ensures room { asked.now ≡ [] →
+        vec_len text.old + length (effects_text effects.now) ≤ vec_capacity text.old → IsOk result }
+    ensures capacity { vec_capacity text.old ≤ vec_capacity text.new }
+{
+    append_asked(text, rules, asked)?;
+    append_effects(text, effects, sender)
 }
 
 impl EventText for Plain {
@@ -161,9 +184,16 @@ impl EventText for Explaining {
         text: &mut Vec<u8>,
     ) -> Result<(), RunFault> {
         text.clear();
-        let Ok(()) = append_asked(self.alloc, gateway, event, text) else {
-            return Err(RunFault::Memory);
+        let reported = match take_event::<AllAsks>(self.alloc, gateway, event) {
+            Ok(reported) => reported,
+            Err(StepFault::Memory) => return Err(RunFault::Memory),
+            Err(StepFault::CountEnd) => return Err(RunFault::CountEnd),
         };
-        append_taken(self.alloc, gateway, event, sender, text)
+        let asked = reported.asked.as_slice();
+        let effects = &reported.taken.effects;
+        match append_explained(text, gateway.rules(), asked, effects, sender) {
+            Ok(()) => Ok(()),
+            Err(_) => Err(RunFault::Memory),
+        }
     }
 }

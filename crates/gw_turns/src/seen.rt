@@ -5,7 +5,7 @@ ghost use Rattle.gw_script.specs.Event.{event_view};
 ghost use Rattle.gw_core.specs.Effects.{NeedsNoMemory, passes_end};
 ghost use Rattle.gw_core.specs.Guard.{IsSeen, IsTaken};
 
-use gw_core::{AllAsked, Gateway, StepFault, Taken, take_event, take_event_watched};
+use gw_core::{AllAsked, AllAsks, DenialsAlone, Gateway, StepFault, Taken, take_event};
 use gw_script::Event;
 use std::alloc::Global;
 
@@ -29,7 +29,7 @@ pub(crate) fn take_seen(
     ensures err { OnErr result (gateway.new ≡ gateway.old) }
 {
     if is_watched {
-        match take_event_watched(alloc, gateway, event) {
+        match take_event::<AllAsks>(alloc, gateway, event) {
             Ok(watched) => {
                 *asked = Some(watched.asked);
                 return Ok(watched.taken);
@@ -38,5 +38,8 @@ pub(crate) fn take_seen(
             Err(StepFault::CountEnd) => return Err(StepFault::CountEnd),
         }
     }
-    take_event(alloc, gateway, event)
+    match take_event::<DenialsAlone>(alloc, gateway, event) {
+        Ok(reported) => Ok(reported.taken),
+        Err(fault) => Err(fault),
+    }
 }

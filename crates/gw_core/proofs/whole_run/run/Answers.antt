@@ -10,20 +10,20 @@ use Rattle.gw_core.proofs.whole_run.run.Goals as goal
 pub loop-rest-init : goal.loop-rest-init
 loop-rest-init c = run_begins c.args.gateway.now (map event_view c.args.events.now) _ c.new-given.ensures.items
 
-pub returns-in_err-effects-clause-count_end : goal.returns-in_err-effects-clause-count_end
-returns-in_err-effects-clause-count_end c = λ ended.
+pub returns-in_err-reported-clause-count_end : goal.returns-in_err-reported-clause-count_end
+returns-in_err-reported-clause-count_end c = λ ended.
     let split = first_split c.loop-rest.rest.now _ c.in-len1-up.len_at_least in
     run_stops c.args.gateway.now c.loop-rest.gateway c.take_event.new.gateway (map event_view c.args.events.now)
-    (map event_view c.loop-rest.rest.now) _ c.loop-rest.given.items _ c.loop-rest.invariant split c.in_err-effects.ensures.err
-    (c.in_err-effects.ensures.count_end
-    (passed_as c.in_err-effects.field-0.0 CountEnd c.from_residual.result c.from_residual.ensures ended))
+    (map event_view c.loop-rest.rest.now) _ c.loop-rest.given.items _ c.loop-rest.invariant split c.in_err-reported.ensures.err
+    (c.in_err-reported.ensures.count_end
+    (passed_as c.in_err-reported.field-0.0 CountEnd c.from_residual.result c.from_residual.ensures ended))
 
-pub returns-in_err-effects-clause-err : goal.returns-in_err-effects-clause-err
-returns-in_err-effects-clause-err c =
+pub returns-in_err-reported-clause-err : goal.returns-in_err-reported-clause-err
+returns-in_err-reported-clause-err c =
     let p = c.loop-rest.invariant in
     on_err c.from_residual.result (
       length p.done,
-      c.in_err-effects.ensures.err ∙ p.state ∙ ap (state_from c.args.gateway.now)
+      c.in_err-reported.ensures.err ∙ p.state ∙ ap (state_from c.args.gateway.now)
           (sym (first_events (map event_view c.args.events.now) p.done (map event_view c.loop-rest.rest.now) p.parts)),
     )
 
@@ -32,8 +32,8 @@ returns-then-is_err-clause-err c =
     let split = first_split c.loop-rest.rest.now _ c.in-len1-up.len_at_least in
     let p = run_goes_on c.args.gateway.now c.loop-rest.gateway c.take_event.new.gateway (map event_view c.args.events.now)
     (map event_view c.loop-rest.rest.now) _ c.loop-rest.given.items
-    (c.loop-rest.given.items ++ c.in_ok-effects.field-0.effects ∷ []) _ c.in_ok-effects.field-0.effects c.loop-rest.invariant split c.in_ok-effects.ensures.moved
-    c.in_ok-effects.ensures.given refl in (
+    (c.loop-rest.given.items ++ c.in_ok-reported.reported.taken.effects ∷ []) _ c.in_ok-reported.reported.taken.effects c.loop-rest.invariant split c.in_ok-reported.ensures.moved
+    c.in_ok-reported.ensures.given refl in (
       length p.done,
       p.state ∙ ap (state_from c.args.gateway.now) (sym (first_events (map event_view c.args.events.now) p.done _ p.parts)),
     )
@@ -43,8 +43,8 @@ loop-rest-preserved c =
     let split = first_split c.loop-rest.rest.now _ c.in-len1-up.len_at_least in
     let pushed = rw c.if-is_err.ensures.negation at c.push.ensures.items in
     run_goes_on c.args.gateway.now c.loop-rest.gateway c.take_event.new.gateway (map event_view c.args.events.now)
-    (map event_view c.loop-rest.rest.now) _ c.loop-rest.given.items _ _ c.in_ok-effects.field-0.effects c.loop-rest.invariant split c.in_ok-effects.ensures.moved
-    c.in_ok-effects.ensures.given pushed
+    (map event_view c.loop-rest.rest.now) _ c.loop-rest.given.items _ _ c.in_ok-reported.reported.taken.effects c.loop-rest.invariant split c.in_ok-reported.ensures.moved
+    c.in_ok-reported.ensures.given pushed
 
 pub returns-clause-effects : goal.returns-clause-effects
 unfolding run_from

@@ -8,14 +8,19 @@ use Rattle.gw_core.proofs.EffectLemmas.{drop_at-tick, lasts-tick, nothing_is, ef
 use Rattle.gw_core.proofs.whole_run.take_event.Goals as goal
 
 pub returns-in_ok-tick-in-Tick-clause-given : goal.returns-in_ok-tick-in-Tick-clause-given
-returns-in_ok-tick-in-Tick-clause-given c =
+returns-in_ok-tick-in-Tick-clause-given g c =
     nothing_is c.none.result c.none.ensures.sends c.none.ensures.denials ∙ sym (effects_at-tick c.args.gateway.now)
     ∙ ap (λ (e : LentEvent). effects_at c.args.gateway.now (event_view e)) (sym c.in-Tick.is)
 
 pub returns-in_ok-tick-in-Tick-clause-drop : goal.returns-in_ok-tick-in-Tick-clause-drop
-returns-in_ok-tick-in-Tick-clause-drop c =
+returns-in_ok-tick-in-Tick-clause-drop g c =
     drop_at-tick c.args.gateway.now ∙ ap (λ (e : LentEvent). drop_at c.args.gateway.now (event_view e)) (sym c.in-Tick.is)
 
 pub returns-in_ok-tick-in-Tick-clause-lasts : goal.returns-in_ok-tick-in-Tick-clause-lasts
-returns-in_ok-tick-in-Tick-clause-lasts c =
+returns-in_ok-tick-in-Tick-clause-lasts g c =
     lasts-tick c.args.gateway.now ∙ ap (λ (e : LentEvent). lasts c.args.gateway.now (event_view e)) (sym c.in-Tick.is)
+
+pub returns-in_ok-tick-in-Tick-clause-asked : goal.returns-in_ok-tick-in-Tick-clause-asked
+returns-in_ok-tick-in-Tick-clause-asked g c =
+    c.nothing-asked.ensures c.args.gateway.now
+    ∙ ap (λ (e : LentEvent). g.R.Reporting.asked c.args.gateway.now (event_view e)) (sym c.in-Tick.is)

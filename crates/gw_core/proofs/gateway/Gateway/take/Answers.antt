@@ -1,37 +1,35 @@
-use Rattle.std.proofs.Common.{◌+◌, ◌^◌, ◌≤◌, Err, refl, ap, subst, ◌∙◌, arith}
+use Rattle.std.proofs.Common.{◌+◌, ◌^◌, ◌≤◌, Err, refl, ap, ◌∙◌, arith}
 use Rattle.std.specs.Option.{option_map}
 use Rattle.gw_relay.specs.State.{Commit}
 use Rattle.gw_core.specs.declared.fault.StepFault.TheVariants.{CountEnd}
 use Rattle.gw_script.specs.Event.{Datagram}
-use Rattle.gw_core.specs.State.{State}
 use Rattle.gw_core.proofs.EffectLemmas.{passes_end-within}
 use Rattle.gw_core.proofs.HistoryLemmas.{fault_of_call, moves_on}
 use Rattle.gw_core.proofs.gateway.Gateway.take.Goals as goal
 
-pub outcome-requires-clause-stands : goal.outcome-requires-clause-stands
-outcome-requires-clause-stands c = c.new-asker.ensures.judge ∙ ap (λ (s : State). s.rules) c.now.view_is
-
 pub returns-in_err-taken-clause-count_end : goal.returns-in_err-taken-clause-count_end
-returns-in_err-taken-clause-count_end c = λ h.
+returns-in_err-taken-clause-count_end g c = λ h.
     let same = fault_of_call c.from_residual.result c.in_err-taken.field-0.0 CountEnd c.from_residual.ensures.1 h in
     c.in_err-taken.ensures.count_end (ap Err same)
 
 pub returns-in_err-taken-clause-silent : goal.returns-in_err-taken-clause-silent
-returns-in_err-taken-clause-silent c = λ none. let ok = c.in_err-taken.ensures.silent none in absurd cc
+returns-in_err-taken-clause-silent g c = λ none. let ok = c.in_err-taken.ensures.silent none in absurd cc
 
 pub returns-clause-step : goal.returns-clause-step
-returns-clause-step c =
+returns-clause-step g c =
     let w = c.args.self.now in
     let event = Datagram c.args.port c.args.from c.args.octets.now in
-    let ticks : w.ticks + 0 ≤ 2 ^ 63 = subst (λ (s : State). s.ticks + 0 ≤ 2 ^ 63) c.now.view_is (omega (arith, c.now.invariant.ticks)) in
-    let sized = c.len.ensures ∙ c.in_ok-taken.ensures.denied in
+    let is = c.in_ok-taken.ensures.outcome in
+    let ticks : w.ticks + 0 ≤ 2 ^ 63 = omega (arith, is.ticks) in
     record {
-      effects = c.in_ok-taken.ensures.effects;
+      effects = is.effects;
       state = moves_on w _ c.args.port c.args.from c.args.octets.now
           (option_map Commit c.in_ok-taken.field-0.change) c.in_ok-taken.field-0.write c.len.result c.in_ok-move_on.ensures.state
-          c.in_ok-taken.ensures.moves c.in_ok-taken.ensures.write sized;
-      counts = passes_end-within w event _ refl ticks (c.in_ok-taken.ensures.room refl);
+          is.moves is.write (c.len.ensures ∙ is.denied);
+      counts = passes_end-within w event _ refl ticks is.room;
     }
 
 pub returns-in_err-move_on-clause-silent : goal.returns-in_err-move_on-clause-silent
-returns-in_err-move_on-clause-silent c = λ none. let ok = c.in_err-move_on.ensures.no_growth (c.in_ok-taken.ensures.stays none.0) in absurd cc
+returns-in_err-move_on-clause-silent g c = λ none.
+    let ok = c.in_err-move_on.ensures.no_growth (c.in_ok-taken.ensures.outcome.stays none.0) in
+    absurd cc

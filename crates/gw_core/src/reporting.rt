@@ -1,0 +1,89 @@
+//! What is reported of what an event asks, beside its denials: nothing, or all of it.
+
+ghost use Rattle.std.specs.Prelude.{◌≡◌, true, IsOk, IfOk, IsErrOf};
+ghost use Rattle.gw_script.specs.Event.{Event, Tick};
+ghost use Rattle.gw_core.specs.Effects.{NeedsNoMemory, passes_end};
+ghost use Rattle.gw_core.specs.State.{State};
+ghost use Rattle.gw_core.specs.internal.Arrivals.{event_of};
+ghost use Rattle.gw_core.specs.internal.Outcome.{IsOutcome};
+
+use crate::asked::AllAsked;
+use crate::fault::StepFault;
+use crate::gateway::{Gateway, Outcome};
+use crate::receive::Arrival;
+use gw_rules::{Authorizer, Recorder};
+use std::alloc::Global;
+
+/// What is reported of what an event asks, beside its denials. What takes an event is generic in it, so that one walk
+/// serves who watches what is asked and who doesn't.
+pub trait Reporting {
+    /// What is reported.
+    type Asked: Drop;
+
+    /// What is reported of an event in a state.
+    ghost asked: { State → Event → Self.Asked };
+
+    /// What is reported of a tick, which asks nothing. It takes no memory.
+    fn nothing(alloc: Global) -> Self::Asked
+        ensures { (w : State) → result ≡ asked w Tick };
+
+    /// What is done about a datagram, and what is reported of it, while the gateway stays as it is. The faults are those
+    /// of [`Gateway::step`].
+    fn outcome(
+        gateway: &Gateway,
+        alloc: Global,
+        arrival: &Arrival<'_>,
+    ) -> Result<Outcome<Self::Asked>, StepFault>
+        ensures outcome { IfOk result (IsOutcome gateway.now (event_of arrival.now)) }
+        ensures asked { let event = event_of arrival.now in
+            IfOk result (λ outcome. outcome.asked ≡ asked gateway.now event) }
+        ensures count_end { IsErrOf result StepFault.CountEnd
+            → passes_end gateway.now (event_of arrival.now) ≡ true }
+        ensures silent { NeedsNoMemory gateway.now (event_of arrival.now) → IsOk result };
+}
+
+/// Nothing is reported beside the denials: only a denied ask wants memory.
+#[derive(Clone, Copy, Default)]
+pub struct DenialsAlone;
+
+impl Reporting for DenialsAlone {
+    type Asked = ();
+
+    ghost asked = { λ w event. tt };
+
+    fn nothing(_alloc: Global) {}
+
+    #[inline(always)]
+    fn outcome(
+        gateway: &Gateway,
+        alloc: Global,
+        arrival: &Arrival<'_>,
+    ) -> Result<Outcome<()>, StepFault> {
+        gateway.outcome(alloc, arrival, Authorizer::new(alloc, gateway.policy()))
+    }
+}
+
+/// All that is asked is reported, allowed or denied, in order, with what the policy says of it. Each ask wants memory.
+#[derive(Clone, Copy, Default)]
+pub struct AllAsks;
+
+impl Reporting for AllAsks {
+    ghost use Rattle.gw_core.specs.Asked.{asked_at};
+
+    type Asked = AllAsked;
+
+    ghost asked = { asked_at };
+
+    fn nothing(alloc: Global) -> AllAsked {
+        AllAsked::new(alloc)
+    }
+
+    #[inline(always)]
+    fn outcome(
+        gateway: &Gateway,
+        alloc: Global,
+        arrival: &Arrival<'_>,
+    ) -> Result<Outcome<AllAsked>, StepFault> {
+        gateway.outcome(alloc, arrival, Recorder::new(alloc, gateway.policy()))
+    }
+}
