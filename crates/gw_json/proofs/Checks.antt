@@ -1,23 +1,22 @@
 -- The objects of a check have numbers below 2^64, and aren't deep.
-use Rattle.std.proofs.Common.{◌≡◌, ℕ, ◌^◌, ◌<◌, ◌≤◌, Bool, true, false, List, [], ◌∷◌, length, Option, Some, None, decimal, refl, arith}
+use Rattle.std.proofs.Common.{◌≡◌, ℕ, ◌^◌, ◌<◌, ◌≤◌, Bool, true, false, List, [], ◌∷◌, length, map, Option, Some, None, decimal, refl, arith}
 use Rattle.std.specs.Prelude.{codes}
-use Rattle.std.specs.List.{AllByRecursion, flat_map}
-use Rattle.json.specs.Json.{Json, null, boolean, number, string, array, object, Members, no_members, member}
+use Rattle.std.specs.List.{AllByRecursion}
+use Rattle.json.specs.Json.{null, boolean, number, string, no_members}
 use Rattle.gw_configuration.specs.Configuration.{Configuration}
 use Rattle.gw_configuration.specs.declared.device.Device.{Device}
 use Rattle.gw_configuration.specs.declared.fault.ConfigFault.{ConfigFault}
 use Rattle.gw_configuration.specs.declared.fault.ConfigFault.TheVariants as faults
 use Rattle.gw_configuration.specs.declared.port.Port.{Port}
-use Rattle.gw_json.specs.Check.{checked_value, counts_members, device_value, fault_row, fault_value, format_number, networks_value}
-use Rattle.gw_json.specs.Document.{items_of}
+use Rattle.gw_json.specs.Check.{checked_value, device_value, fault_row, fault_value, format_number, networks_value}
 use Rattle.gw_json.specs.Laws.{ChecksRead, FaultsRead, NumbersFit}
-use Rattle.gw_json.proofs.Documents.{AreShallow, IsShallow, array_shallow, boolean_shallow, items_array, line_read, member_shallow, none_shallow, null_shallow, number_shallow, object_shallow, or_shallow, string_shallow, wider}
+use Rattle.gw_json.proofs.Documents.{IsShallow, boolean_shallow, items_array, line_read, member_shallow, none_shallow, null_shallow, number_shallow, object_shallow, or_shallow, string_shallow, wider}
 use Rattle.gw_json.proofs.Plain.{Each}
 use Rattle.gw_rules.specs.declared.format.Format.{Format}
 use Rattle.gw_rules.specs.declared.format.Format.TheVariants as formats
 
 each_network : (ports : List Port) → AllByRecursion (λ port. port.network < 2 ^ 64) ports
-    → Each (IsShallow 0) (flat_map (λ port. number (decimal port.network) ∷ []) ports)
+    → Each (IsShallow 0) (map (λ port. number (decimal port.network)) ports)
 each_network [] fit = tt
 each_network (port ∷ ports) fit = (number_shallow 0 port.network fit.0, each_network ports fit.1)
 
@@ -36,13 +35,13 @@ checked_shallow c fit =
     (member_shallow 2 (codes "device") (device_value c.device) _ (wider 1 2 (device_value c.device) (omega arith) device)
     (member_shallow 2 (codes "ports") (number (decimal (length c.ports))) _ (number_shallow 2 (length c.ports) fit.ports)
     (member_shallow 2 (codes "networks") (networks_value c.ports) _
-    (wider 1 2 (networks_value c.ports) (omega arith) (items_array 0 (flat_map (λ port. number (decimal port.network) ∷ []) c.ports) (each_network c.ports fit.networks)))
+    (wider 1 2 (networks_value c.ports) (omega arith) (items_array 0 (map (λ port. number (decimal port.network)) c.ports) (each_network c.ports fit.networks)))
     (member_shallow 2 (codes "objects") (number (decimal (length c.objects))) _ (number_shallow 2 (length c.objects) fit.objects)
     (member_shallow 2 (codes "rules") (number (decimal (length c.rules))) _ (number_shallow 2 (length c.rules) fit.rules)
     (member_shallow 2 (codes "routes") (number (decimal (length c.routes))) no_members (number_shallow 2 (length c.routes) fit.routes) (none_shallow 2)))))))))
 
 pub checks_read : ChecksRead
-checks_read c fit = let made = checked_shallow c fit in line_read (checked_value c) made.decimals (omega (arith, made.shallow))
+checks_read c fit = line_read 3 (checked_value c) (omega arith) (checked_shallow c fit)
 
 row_small : (fault : ConfigFault) → (fault_row fault).0 < 2 ^ 64
 row_small faults.NotToml = omega arith
@@ -62,6 +61,4 @@ fault_shallow fault explanation =
     (member_shallow 0 (codes "explanation") _ no_members (or_shallow 0 (λ line. string line) explanation null (λ line. string_shallow 0 line) (null_shallow 0)) (none_shallow 0)))))
 
 pub faults_read : FaultsRead
-faults_read fault explanation =
-    let made = fault_shallow fault explanation in
-    line_read (fault_value fault explanation) made.decimals (omega (arith, made.shallow))
+faults_read fault explanation = line_read 1 (fault_value fault explanation) (omega arith) (fault_shallow fault explanation)

@@ -1,5 +1,5 @@
 -- A reader of JSON reads the line of a value whose numbers are below 2^64, and which isn't deep, as that value.
-use Rattle.std.proofs.Common.{◌≡◌, ℕ, suc, ◌^◌, ◌<◌, ◌≤◌, Bool, true, false, List, [], ◌∷◌, ◌++◌, Option, Some, None, decimal, refl, sym, subst, arith}
+use Rattle.std.proofs.Common.{◌≡◌, ℕ, suc, ◌^◌, ◌<◌, ◌≤◌, Bool, true, false, List, [], ◌∷◌, ◌++◌, map, Option, Some, None, decimal, refl, sym, subst, arith}
 use Rattle.std.specs.Prelude.{⊤, if◌then◌else◌}
 use Rattle.std.specs.Option.{option_map_or}
 use Rattle.std.specs.List.{flat_map}
@@ -8,8 +8,8 @@ use Rattle.json.specs.Print.{print}
 use Rattle.json.specs.Tree.{json_tokens, items_tokens, members_tokens, depth, items_depth, members_depth, HasNumbers, ItemsHaveNumbers, MembersHaveNumbers}
 use Rattle.json.proofs.Printed.Decimals.{IsNumber-decimal}
 use Rattle.json.proofs.Printed.Trees.{document-print}
-use Rattle.gw_json.specs.Document.{items_of, line_of}
-use Rattle.gw_json.specs.Laws.{ReadsAs}
+use Rattle.gw_json.specs.Document.{items_of}
+use Rattle.gw_json.specs.Laws.{IsRead}
 use Rattle.gw_json.proofs.Plain.{Each, IsPlain, IsPlainToken, all_plain, decimal_plain, each_append, print_plain}
 
 -- each number is a decimal below 2^64
@@ -64,14 +64,6 @@ mutual
   members_plain no_members are = (tt, tt)
   members_plain (member k j ms) are = (tt, each_append IsPlainToken (json_tokens j) (members_tokens ms) (tokens_plain j are.0) (members_plain ms are.1))
 
-pub line_read : (j : Json) → AreDecimals j → depth j ≤ 128 → ReadsAs (line_of j) j
-line_read j are shallow = record {
-  text = print (json_tokens j);
-  ends = refl;
-  plain = all_plain (print (json_tokens j)) (print_plain false (json_tokens j) (tokens_plain j are));
-  reads = document-print j (numbers_are j are) shallow;
-}
-
 -- ---- arrays
 
 -- a value of decimals that nests at most so deep
@@ -95,11 +87,18 @@ each_flat : {A B : Type 0} (P : B → Type 0) (f : A → List B) (xs : List A) �
 each_flat P f [] each = tt
 each_flat P f (x ∷ xs) each = each_append P (f x) (flat_map f xs) (each x) (each_flat P f xs each)
 
+each_mapped : {A : Type 0} (most : ℕ) (f : A → Json) (xs : List A) → ((x : A) → IsShallow most (f x)) → Each (IsShallow most) (map f xs)
+each_mapped most f [] each = tt
+each_mapped most f (x ∷ xs) each = (each x, each_mapped most f xs each)
+
 pub items_array : (most : ℕ) (js : List Json) → Each (IsShallow most) js → IsShallow (suc most) (array (items_of js))
 items_array most js items = record { decimals = items_decimals most js items; shallow = omega (arith, items_shallow most js items) }
 
 pub array_shallow : {A : Type 0} (most : ℕ) (f : A → List Json) (xs : List A) → ((x : A) → Each (IsShallow most) (f x)) → IsShallow (suc most) (array (items_of (flat_map f xs)))
 array_shallow most f xs each = items_array most (flat_map f xs) (each_flat (IsShallow most) f xs each)
+
+pub mapped_shallow : {A : Type 0} (most : ℕ) (f : A → Json) (xs : List A) → ((x : A) → IsShallow most (f x)) → IsShallow (suc most) (array (items_of (map f xs)))
+mapped_shallow most f xs each = items_array most (map f xs) (each_mapped most f xs each)
 
 pub wider : (least most : ℕ) (j : Json) → least ≤ most → IsShallow least j → IsShallow most j
 wider least most j less one = record { decimals = one.decimals; shallow = omega (arith, less, one.shallow) }
@@ -133,3 +132,13 @@ chosen_shallow most false x y one other = other
 pub or_shallow : {A : Type 0} (most : ℕ) (f : A → Json) (o : Option A) (d : Json) → ((a : A) → IsShallow most (f a)) → IsShallow most d → IsShallow most (option_map_or f o d)
 or_shallow most f None d some none = none
 or_shallow most f (Some a) d some none = some a
+
+-- ---- a line
+
+pub line_read : (most : ℕ) (j : Json) → most ≤ 128 → IsShallow most j → IsRead j
+line_read most j few is = record {
+  text = print (json_tokens j);
+  ends = refl;
+  plain = all_plain (print (json_tokens j)) (print_plain false (json_tokens j) (tokens_plain j is.decimals));
+  reads = document-print j (numbers_are j is.decimals) (omega (arith, few, is.shallow));
+}

@@ -1,8 +1,9 @@
 -- What a line of the log shows is the denial whose line it is.
 use Rattle.std.proofs.Common.{◌≡◌, ◌∙◌, ◌-◌, ◌≤◌, ◌++◌, ℕ, Bool, true, false, List, [], ◌∷◌, length, take, drop, Option, Some, None, Result, Ok, Err, IfOk, refl, ap, sym, subst, arith}
-use Rattle.std.specs.Prelude.{◌==◌, ◌&&◌, if◌then◌else◌, codes, is_some}
+use Rattle.std.specs.Prelude.{◌==◌, ◌&&◌, if◌then◌else◌, is_some}
 use Rattle.std.specs.Global.{Vec}
-use Rattle.std.proofs.lemmas.List.{append-nil, length-drop}
+use Rattle.std.proofs.lemmas.List.{length-drop}
+use Rattle.json.specs.Json.{Json}
 use Rattle.gw_audit.proofs.TranslatingLemmas.{line_again, line_takes, shown_again}
 use Rattle.gw_audit.specs.Entry.{IsLineOf, IsShowable, denial_of, shown_ask}
 use Rattle.gw_audit.specs.declared.denial.Denial.{Denial}
@@ -10,27 +11,28 @@ use Rattle.gw_audit.specs.declared.entry.Shown.{Shown}
 use Rattle.gw_audit.specs.declared.entry.ShownAsk.{ShownAsk}
 use Rattle.gw_audit.specs.internal.Reading.{denial_of_parts, line_in}
 use Rattle.gw_json.specs.Laws.{DenialsStay}
-use Rattle.gw_json.specs.Log.{IsDenialIn, IsEntryOf, IsFrontMember, IsOther, denial_line, shown_line, shown_members}
+use Rattle.gw_json.specs.Document.{line_of}
+use Rattle.gw_json.specs.Log.{AreFrontMembers, IsDenialIn, IsEntryOf, IsOther, denial_value, shown_value}
 use Rattle.gw_log_words.proofs.LawLemmas.{own_line}
 use Rattle.gw_log_words.specs.Fields.{end_from, fields_of, is_denial}
 
--- the object of what a line shows, with a member of what is in front, is that of the denial whose line it is
-same_object : (member : List ℕ) (shown : Shown)
-    → shown_line member shown.number shown.tick shown.ask shown.rule.now ≡ denial_line member (denial_of shown)
-same_object member shown =
-    ap (λ (ask : ShownAsk). shown_line member shown.number shown.tick ask shown.rule.now)
+-- the object of what a line shows is that of the denial whose line it is
+same_object : (before : List (List ℕ × Json)) (shown : Shown)
+    → line_of (shown_value before shown.number shown.tick shown.ask shown.rule.now) ≡ line_of (denial_value before (denial_of shown))
+same_object before shown =
+    ap (λ (ask : ShownAsk). line_of (shown_value before shown.number shown.tick ask shown.rule.now))
     (sym (shown_again shown.number shown.tick shown.rule.now shown.ask))
 
 pub entry_shown : {E : Type 0} (r : Result (Vec ℕ) E) (front fields : List ℕ) (shown : Shown) → IsLineOf fields (denial_of shown)
     → IsShowable (denial_of shown)
-    → IfOk r (λ text. (member : List ℕ) × IsFrontMember front member
-    × (text.items ≡ shown_line member shown.number shown.tick shown.ask shown.rule.now))
+    → IfOk r (λ text. (before : List (List ℕ × Json)) × AreFrontMembers front before
+    × (text.items ≡ line_of (shown_value before shown.number shown.tick shown.ask shown.rule.now)))
     → IfOk r (λ text. IsDenialIn front fields text.items)
 entry_shown (Ok text) front fields shown spelled is made = record {
   denial = denial_of shown;
   showable = is;
   spelled = spelled;
-  member = made.0;
+  before = made.0;
   fronted = made.1;
   object = made.2 ∙ same_object made.0 shown;
 }
@@ -93,23 +95,22 @@ other_made (Err e) line fields is other = other
 
 -- ---- nothing changes for a denial's line
 
-of_parts : (d : Denial) → denial_line [] (denial_of_parts d.number d.tick (shown_ask d) d.rule) ≡ denial_line [] d
-of_parts d = ap (λ (ask : ShownAsk). shown_line [] d.number d.tick ask d.rule) (shown_again d.number d.tick d.rule (shown_ask d))
+of_parts : (d : Denial) → denial_value [] (denial_of_parts d.number d.tick (shown_ask d) d.rule) ≡ denial_value [] d
+of_parts d = ap (λ (ask : ShownAsk). shown_value [] d.number d.tick ask d.rule) (shown_again d.number d.tick d.rule (shown_ask d))
 
-same_line : (d e : Denial) (line : List ℕ) → IsShowable d → IsLineOf line d → IsShowable e → IsLineOf line e → denial_line [] d ≡ denial_line [] e
-same_line d e line d_is d_line e_is e_line =
+same_value : (d e : Denial) (line : List ℕ) → IsShowable d → IsLineOf line d → IsShowable e → IsLineOf line e → denial_value [] d ≡ denial_value [] e
+same_value d e line d_is d_line e_is e_line =
     let parts_d = denial_of_parts d.number d.tick (shown_ask d) d.rule in
     let parts_e = denial_of_parts e.number e.tick (shown_ask e) e.rule in
     let same : parts_d ≡ parts_e = some_same parts_d parts_e (sym (line_again line d d_is d_line) ∙ line_again line e e_is e_line) in
-    sym (of_parts d) ∙ ap (λ (p : Denial). denial_line [] p) same ∙ of_parts e
+    sym (of_parts d) ∙ ap (λ (p : Denial). denial_value [] p) same ∙ of_parts e
 
 pub denials_stay : DenialsStay
 denials_stay d line text is spelled entry =
     let own = own_line line d is spelled in
     let none : length line - length line ≡ 0 = omega arith in
     let made = subst (λ (f : Option (List ℕ)). IsEntryOf line f text) own entry in
-    let no_member : made.member ≡ [] = subst (λ (n : ℕ). IsFrontMember (take n line) made.member) none made.fronted in
+    let no_front : made.before ≡ [] = subst (λ (n : ℕ). AreFrontMembers (take n line) made.before) none made.fronted in
     made.object
-    ∙ ap (λ (m : List ℕ). denial_line m made.denial) no_member
-    ∙ sym (same_line d made.denial line is spelled made.showable made.spelled)
-    ∙ ap (λ (t : List ℕ). t ++ codes "}\n") (append-nil (shown_members d.number d.tick (shown_ask d) d.rule))
+    ∙ ap (λ (rows : List (List ℕ × Json)). line_of (denial_value rows made.denial)) no_front
+    ∙ ap line_of (sym (same_value d made.denial line is spelled made.showable made.spelled))

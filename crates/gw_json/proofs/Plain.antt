@@ -1,16 +1,11 @@
--- What a reader of JSON finds in a line.
+-- A text that a writer of JSON gives has no control octets.
 use Rattle.std.proofs.Common.{◌≡◌, ◌≢◌, ◌⊎◌, inl, inr, ℕ, zero, suc, ◌+◌, ◌<◌, ◌≤◌, ◌/◌, ◌%◌, ◌^◌, ◌==◌, Bool, true, false, cond, List, [], ◌∷◌, ◌++◌, length, Some, None, Option, decimal, refl, sym, ap, ◌∙◌, arith, rules, subst}
 use Rattle.std.specs.Prelude.{⊤, All, get_or, nat_lt, flat_map, slice_index, ◌||◌, ◌&&◌}
 use Rattle.std.specs.Char.{digit_char}
 use Rattle.std.proofs.lemmas.Fmt.{decimal_is_IsNumeral}
 use Rattle.std.proofs.lemmas.Str.Parse.{digit_at}
-use Rattle.json.specs.Json.{Json, null, boolean, number, string, array, object, Items, no_items, item, Members, no_members, member, document, max_depth}
 use Rattle.json.specs.Print.{escape, escape_byte, escape_letter, print, print_from, quoted, separator, token_text, ends, begins}
 use Rattle.json.specs.Token.{Token}
-use Rattle.json.specs.Tree.{json_tokens, items_tokens, members_tokens, depth, members_depth, HasNumbers, MembersHaveNumbers}
-use Rattle.json.proofs.Printed.Decimals.{IsNumber-decimal}
-use Rattle.json.proofs.Printed.Trees.{document-print}
-use Rattle.gw_json.specs.Laws.{ReadsAs}
 
 -- ---- texts without control octets
 
@@ -116,63 +111,3 @@ print_plain b [] are = tt
 print_plain b (t ∷ ts) are =
     each_append (λ octet. 32 ≤ octet) (separator b t) (token_text t ++ print_from (ends t) ts) (separator_plain b t)
     (each_append (λ octet. 32 ≤ octet) (token_text t) (print_from (ends t) ts) (token_plain t are.0) (print_plain (ends t) ts are.1))
-
--- ---- objects whose values are single tokens
-
--- a value without parts, and a number that fits 64 bits if it is one
-abbrev pub IsSingle : Json → Type 0
-IsSingle null = ⊤
-IsSingle (boolean b) = ⊤
-IsSingle (number s) = (n : ℕ) × (s ≡ decimal n) × (n < 2 ^ 64)
-IsSingle (string s) = ⊤
-IsSingle (array js) = ⊥
-IsSingle (object ms) = ⊥
-
-abbrev pub AreSingle : Members → Type 0
-AreSingle no_members = ⊤
-AreSingle (member k j ms) = IsSingle j × AreSingle ms
-
-single_numbers : (j : Json) → IsSingle j → HasNumbers j
-single_numbers null is = tt
-single_numbers (boolean b) is = tt
-single_numbers (number s) is = subst (λ (t : List ℕ). HasNumbers (number t)) (sym is.1) (IsNumber-decimal is.0 is.2)
-single_numbers (string s) is = tt
-single_numbers (array js) is = absurd is
-single_numbers (object ms) is = absurd is
-
-single_depth : (j : Json) → IsSingle j → depth j ≡ 0
-single_depth null is = refl
-single_depth (boolean b) is = refl
-single_depth (number s) is = refl
-single_depth (string s) is = refl
-single_depth (array js) is = absurd is
-single_depth (object ms) is = absurd is
-
-single_plain : (j : Json) → IsSingle j → Each IsPlainToken (json_tokens j)
-single_plain null is = (tt, tt)
-single_plain (boolean b) is = (tt, tt)
-single_plain (number s) is = (subst IsPlain (sym is.1) (decimal_plain is.0 is.2), tt)
-single_plain (string s) is = (tt, tt)
-single_plain (array js) is = absurd is
-single_plain (object ms) is = absurd is
-
-members_numbers : (ms : Members) → AreSingle ms → MembersHaveNumbers ms
-members_numbers no_members are = tt
-members_numbers (member k j ms) are = (single_numbers j are.0, members_numbers ms are.1)
-
-members_depth_0 : (ms : Members) → AreSingle ms → members_depth ms ≡ 0
-members_depth_0 no_members are = refl
-members_depth_0 (member k j ms) are = rw (single_depth j are.0, members_depth_0 ms are.1) refl
-
-members_plain : (ms : Members) → AreSingle ms → Each IsPlainToken (members_tokens ms)
-members_plain no_members are = (tt, tt)
-members_plain (member k j ms) are = (tt, each_append IsPlainToken (json_tokens j) (members_tokens ms) (single_plain j are.0) (members_plain ms are.1))
-
--- a reader of JSON reads the object, and the line has no control octet
-pub reads : (ms : Members) → AreSingle ms → ReadsAs (print (json_tokens (object ms)) ++ 10 ∷ []) (object ms)
-reads ms are = record {
-  text = print (json_tokens (object ms));
-  ends = refl;
-  plain = all_plain (print (json_tokens (object ms))) (print_plain false (json_tokens (object ms)) (tt, members_plain ms are));
-  reads = document-print (object ms) (members_numbers ms are) (omega (arith, members_depth_0 ms are));
-}

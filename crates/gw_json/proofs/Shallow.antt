@@ -1,15 +1,15 @@
 -- The objects of a comparison have numbers below 2^64, and aren't deep.
-use Rattle.std.proofs.Common.{◌≡◌, ℕ, suc, ◌^◌, ◌<◌, ◌≤◌, Bool, true, false, List, [], ◌∷◌, Option, Some, None, inl, inr, decimal, refl, arith}
+use Rattle.std.proofs.Common.{◌≡◌, ℕ, suc, ◌^◌, ◌<◌, ◌≤◌, Bool, true, false, List, [], ◌∷◌, ◌++◌, map, Option, Some, None, inl, inr, decimal, refl, arith}
 use Rattle.std.specs.Prelude.{codes, if◌then◌else◌, nat_le, nat_lt, slice_get, ◌-◌, ◌==◌}
 use Rattle.std.specs.List.{flat_map, list_all}
 use Rattle.std.specs.Option.{option_map_or}
 use Rattle.std.proofs.lemmas.Bool.{cases_Bool}
-use Rattle.json.specs.Json.{Json, null, boolean, number, string, array, object, no_items, item, Members, no_members, member}
-use Rattle.json.specs.Tree.{depth}
+use Rattle.json.specs.Json.{Json, null, boolean, number, string, no_members}
 use Rattle.gw_ask_sets.specs.regions.Values.{has_operation}
-use Rattle.gw_json.specs.Comparison.{end_value, fields_members, found_value, named_operation, operations_value, other_fields, range_value, range_values, ranges_value, rule_value, rules_value, station_end, summary_value, values_value, verdict_word}
+use Rattle.gw_json.specs.Comparison.{deciders_members, end_value, field_member, found_value, named_operation, operations_value, other_fields, range_value, range_values, ranges_value, rule_value, rules_value, summary_value, values_value, verdict_word}
+use Rattle.gw_json.specs.Document.{members_of}
 use Rattle.gw_json.specs.Laws.{ComparisonsRead, SummariesRead}
-use Rattle.gw_json.proofs.Documents.{AreShallow, IsShallow, array_shallow, boolean_shallow, chosen_shallow, line_read, member_shallow, none_shallow, null_shallow, number_shallow, object_shallow, or_shallow, string_shallow, wider}
+use Rattle.gw_json.proofs.Documents.{AreShallow, IsShallow, array_shallow, boolean_shallow, chosen_shallow, line_read, mapped_shallow, member_shallow, none_shallow, null_shallow, number_shallow, object_shallow, or_shallow, string_shallow, wider}
 use Rattle.gw_json.proofs.Plain.{Each}
 use Rattle.gw_ask_sets.specs.regions.Ranges.{between, both, greater, lesser}
 use Rattle.gw_ask_sets.specs.regions.Regions.{Region}
@@ -94,10 +94,11 @@ operations_shallow values =
     chosen_shallow 1 (list_all (has_operation values) ALL) null _ (null_shallow 1)
     (array_shallow 0 (named_operation values) ALL (λ operation. named_shallow (has_operation values operation) (operation_name operation)))
 
-fields_shallow : (region : Region) (names : List FieldName) (rest : Members) → AreShallow 3 rest → AreShallow 3 (fields_members region names rest)
+fields_shallow : (region : Region) (names : List FieldName) (rest : List (List ℕ × Json)) → AreShallow 3 (members_of rest)
+    → AreShallow 3 (members_of (map (field_member region) names ++ rest))
 fields_shallow region [] rest are = are
 fields_shallow region (field ∷ names) rest are =
-    member_shallow 3 (field_key field) (values_value field (value_of field region)) (fields_members region names rest)
+    member_shallow 3 (field_key field) (values_value field (value_of field region)) _
     (values_shallow field (value_of field region)) (fields_shallow region names rest are)
 
 rule_shallow : (rules : List Rule) (place : ℕ) → IsShallow 0 (rule_value rules place)
@@ -106,7 +107,7 @@ rule_shallow rules place =
     (or_shallow 0 (λ rule. string rule.name) (slice_get rules (place - 1)) null (λ rule. string_shallow 0 rule.name) (null_shallow 0))
 
 rules_shallow : (rules : List Rule) (places : List ℕ) → IsShallow 1 (rules_value rules places)
-rules_shallow rules places = array_shallow 0 (λ place. rule_value rules place ∷ []) places (λ place. (rule_shallow rules place, tt))
+rules_shallow rules places = mapped_shallow 0 (rule_value rules) places (rule_shallow rules)
 
 found_shallow : (old new : List Rule) (f : Found) → IsShallow 4 (found_value old new f)
 found_shallow old new f =
@@ -115,12 +116,12 @@ found_shallow old new f =
     let ops = wider 1 3 (operations_value f.region.operation) (omega arith) (operations_shallow f.region.operation) in
     object_shallow 3 _ (member_shallow 3 (codes "verdict") (string (verdict_word f.allows)) _ (string_shallow 3 (verdict_word f.allows))
     (member_shallow 3 (codes "operation") (operations_value f.region.operation) _ ops
-    (fields_shallow f.region other_fields _
+    (fields_shallow f.region other_fields (deciders_members old new f)
     (member_shallow 3 (codes "by") (rules_value new f.new_rules.items) _ by
     (member_shallow 3 (codes "was_by") (rules_value old f.old_rules.items) no_members was (none_shallow 3))))))
 
 pub comparisons_read : ComparisonsRead
-comparisons_read old new f = let found = found_shallow old new f in line_read (found_value old new f) found.decimals (omega (arith, found.shallow))
+comparisons_read old new f = line_read 4 (found_value old new f) (omega arith) (found_shallow old new f)
 
 summary_shallow : (kinds steps : ℕ) (finished : Bool) → kinds < 2 ^ 64 → steps < 2 ^ 64 → IsShallow 1 (summary_value kinds finished steps)
 summary_shallow kinds steps finished few short =
@@ -130,5 +131,4 @@ summary_shallow kinds steps finished few short =
 
 pub summaries_read : SummariesRead
 summaries_read kinds steps finished few short =
-    let made = summary_shallow kinds steps finished few short in
-    line_read (summary_value kinds finished steps) made.decimals (omega (arith, made.shallow))
+    line_read 1 (summary_value kinds finished steps) (omega arith) (summary_shallow kinds steps finished few short)

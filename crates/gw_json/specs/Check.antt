@@ -1,14 +1,13 @@
 -- What `check` says of a configuration, as a JSON object.
-use Rattle.std.specs.Prelude.{ℕ, true, false, List, [], ◌∷◌, length, codes, decimal, Option}
-use Rattle.std.specs.List.{flat_map}
+use Rattle.std.specs.Prelude.{ℕ, true, false, List, [], ◌∷◌, length, map, codes, decimal, Option}
 use Rattle.std.specs.Option.{option_map_or}
-use Rattle.json.specs.Json.{Json, null, boolean, number, string, array, object, Members, no_members, member}
+use Rattle.json.specs.Json.{Json, null, boolean, number, string, array}
 use Rattle.gw_configuration.specs.Configuration.{Configuration}
 use Rattle.gw_configuration.specs.declared.device.Device.{Device}
 use Rattle.gw_configuration.specs.declared.fault.ConfigFault.{ConfigFault}
 use Rattle.gw_configuration.specs.declared.fault.ConfigFault.TheVariants as faults
 use Rattle.gw_configuration.specs.declared.port.Port.{Port}
-use Rattle.gw_json.specs.Document.{items_of}
+use Rattle.gw_json.specs.Document.{items_of, object_of}
 use Rattle.gw_rules.specs.declared.format.Format.{Format}
 use Rattle.gw_rules.specs.declared.format.Format.TheVariants as formats
 
@@ -21,28 +20,25 @@ format_number formats.Three = 3
 
 abbrev pub device_value : Device → Json
 device_value device =
-    object (member (codes "network") (number (decimal device.network))
-    (member (codes "instance") (number (decimal device.instance))
-    (member (codes "name") (string device.name) no_members)))
+    object_of ((codes "network", number (decimal device.network)) ∷ (codes "instance", number (decimal device.instance))
+    ∷ (codes "name", string device.name) ∷ [])
 
 -- the networks of the ports, in order
 abbrev pub networks_value : List Port → Json
-networks_value ports = array (items_of (flat_map (λ port. number (decimal port.network) ∷ []) ports))
+networks_value ports = array (items_of (map (λ port. number (decimal port.network)) ports))
 
--- how many there are
-abbrev pub counts_members : Configuration → Members
-counts_members c =
-    member (codes "objects") (number (decimal (length c.objects)))
-    (member (codes "rules") (number (decimal (length c.rules)))
-    (member (codes "routes") (number (decimal (length c.routes))) no_members))
-
+-- its format, its device, its networks, and how many ports, objects, rules and routes there are
 abbrev pub checked_value : Configuration → Json
 checked_value c =
-    object (member (codes "valid") (boolean true)
-    (member (codes "format") (number (decimal (format_number c.format)))
-    (member (codes "device") (device_value c.device)
-    (member (codes "ports") (number (decimal (length c.ports)))
-    (member (codes "networks") (networks_value c.ports) (counts_members c))))))
+    object_of ((codes "valid", boolean true)
+    ∷ (codes "format", number (decimal (format_number c.format)))
+    ∷ (codes "device", device_value c.device)
+    ∷ (codes "ports", number (decimal (length c.ports)))
+    ∷ (codes "networks", networks_value c.ports)
+    ∷ (codes "objects", number (decimal (length c.objects)))
+    ∷ (codes "rules", number (decimal (length c.rules)))
+    ∷ (codes "routes", number (decimal (length c.routes)))
+    ∷ [])
 
 -- ---- a fault
 
@@ -60,7 +56,8 @@ fault_row faults.Memory = (8, codes "Memory")
 -- the fault, and the line that says where it is and what is wrong there, or null
 abbrev pub fault_value : ConfigFault → Option (List ℕ) → Json
 fault_value fault explanation =
-    object (member (codes "valid") (boolean false)
-    (member (codes "number") (number (decimal (fault_row fault).0))
-    (member (codes "fault") (string (fault_row fault).1)
-    (member (codes "explanation") (option_map_or (λ line. string line) explanation null) no_members))))
+    object_of ((codes "valid", boolean false)
+    ∷ (codes "number", number (decimal (fault_row fault).0))
+    ∷ (codes "fault", string (fault_row fault).1)
+    ∷ (codes "explanation", option_map_or (λ line. string line) explanation null)
+    ∷ [])

@@ -1,11 +1,10 @@
 -- What two policies decide otherwise: a JSON object for each region, and a last one that sums up.
-use Rattle.std.specs.Prelude.{ℕ, ◌-◌, Bool, ◌==◌, if◌then◌else◌, List, [], ◌∷◌, drop, slice_get, codes, decimal, Some}
+use Rattle.std.specs.Prelude.{ℕ, ◌-◌, Bool, ◌==◌, if◌then◌else◌, List, [], ◌∷◌, ◌++◌, drop, map, slice_get, codes, decimal, Option}
 use Rattle.std.specs.List.{flat_map, list_all}
 use Rattle.std.specs.Option.{option_map_or}
-use Rattle.json.specs.Json.{Json, null, boolean, number, string, array, object, Members, no_items, item, no_members, member}
-use Rattle.gw_audit.specs.Line.{key_octets}
-use Rattle.gw_json.specs.Document.{items_of}
-use Rattle.gw_json.specs.Text.{station_word}
+use Rattle.json.specs.Json.{Json, null, boolean, number, string, array}
+use Rattle.gw_json.specs.Ask.{key_value}
+use Rattle.gw_json.specs.Document.{items_of, object_of}
 use Rattle.gw_ask_sets.specs.regions.Ranges.{both}
 use Rattle.gw_ask_sets.specs.regions.Regions.{Region}
 use Rattle.gw_ask_sets.specs.regions.Values.{has_operation, is_any}
@@ -38,18 +37,15 @@ operations_value values =
 -- ---- other fields
 
 -- an end of a range: of stations as the log's objects show one, and else a number
-abbrev pub station_end : ℕ → Json
-station_end key = string (station_word (key_octets key))
-
 abbrev pub end_value : FieldName → ℕ → Json
-end_value SourceKey key = station_end key
-end_value Sender key = station_end key
-end_value Station key = station_end key
+end_value SourceKey key = key_value key
+end_value Sender key = key_value key
+end_value Station key = key_value key
 end_value _ n = number (decimal n)
 
 -- `[1,7]`, from the least number to the greatest
 abbrev pub range_value : FieldName → Range → Json
-range_value field range = array (item (end_value field range.low) (item (end_value field range.high) no_items))
+range_value field range = array (items_of (end_value field range.low ∷ end_value field range.high ∷ []))
 
 -- a range without numbers that its field can't have, if others are left
 abbrev pub range_values : FieldName → Range → List Json
@@ -62,17 +58,14 @@ ranges_value field ranges = array (items_of (flat_map (range_values field) range
 abbrev pub values_value : FieldName → Values → Json
 values_value field values =
     if is_any values then null
-    else object (member (codes "absent") (boolean values.absent)
-    (member (codes "ranges") (ranges_value field values.ranges) no_members))
+    else object_of ((codes "absent", boolean values.absent) ∷ (codes "ranges", ranges_value field values.ranges) ∷ [])
 
 -- the fields but the operation, in the order of their numbers
 abbrev pub other_fields : List FieldName
 other_fields = drop 1 fields.ALL
 
-abbrev pub fields_members : Region → List FieldName → Members → Members
-fields_members region [] rest = rest
-fields_members region (field ∷ fields) rest =
-    member (field_key field) (values_value field (value_of field region)) (fields_members region fields rest)
+abbrev pub field_member : Region → FieldName → List ℕ × Json
+field_member region field = (field_key field, values_value field (value_of field region))
 
 -- ---- regions
 
@@ -80,26 +73,28 @@ abbrev pub verdict_word : Bool → List ℕ
 verdict_word allows = if allows then codes "allowed" else codes "denied"
 
 -- the name of the rule of a number, counted from 1, or `default` for 0, the deny of no rule; null if no rule has it
+abbrev pub name_or_null : Option Rule → Json
+name_or_null rule = option_map_or (λ r. string r.name) rule null
+
 abbrev pub rule_value : List Rule → ℕ → Json
-rule_value rules place =
-    if place == 0 then string (codes "default")
-    else option_map_or (λ rule. string rule.name) (slice_get rules (place - 1)) null
+rule_value rules place = if place == 0 then string (codes "default") else name_or_null (slice_get rules (place - 1))
 
 abbrev pub rules_value : List Rule → List ℕ → Json
-rules_value rules places = array (items_of (flat_map (λ place. rule_value rules place ∷ []) places))
+rules_value rules places = array (items_of (map (rule_value rules) places))
 
--- what the new policy says of a region, its asks, and the rules of the new and of the old policy that decide them
+-- what the new policy says of a region, and its operations
+abbrev pub verdict_members : Found → List (List ℕ × Json)
+verdict_members f = (codes "verdict", string (verdict_word f.allows)) ∷ (codes "operation", operations_value f.region.operation) ∷ []
+
+-- the rules of the new and of the old policy that decide it
+abbrev pub deciders_members : List Rule → List Rule → Found → List (List ℕ × Json)
+deciders_members old new f = (codes "by", rules_value new f.new_rules.items) ∷ (codes "was_by", rules_value old f.old_rules.items) ∷ []
+
+-- these, and the other fields of its asks
 abbrev pub found_value : List Rule → List Rule → Found → Json
-found_value old new f =
-    object (member (codes "verdict") (string (verdict_word f.allows))
-    (member (codes "operation") (operations_value f.region.operation)
-    (fields_members f.region other_fields
-    (member (codes "by") (rules_value new f.new_rules.items)
-    (member (codes "was_by") (rules_value old f.old_rules.items) no_members)))))
+found_value old new f = object_of (verdict_members f ++ map (field_member f.region) other_fields ++ deciders_members old new f)
 
 -- how many regions there are, whether they are all, and how many steps it took
 abbrev pub summary_value : ℕ → Bool → ℕ → Json
 summary_value kinds finished steps =
-    object (member (codes "kinds") (number (decimal kinds))
-    (member (codes "finished") (boolean finished)
-    (member (codes "steps") (number (decimal steps)) no_members)))
+    object_of ((codes "kinds", number (decimal kinds)) ∷ (codes "finished", boolean finished) ∷ (codes "steps", number (decimal steps)) ∷ [])

@@ -1,17 +1,16 @@
 -- What a reader of JSON (RFC 8259) finds in the lines.
-use Rattle.std.specs.Prelude.{◌≡◌, ℕ, ◌≤◌, ◌<◌, ◌^◌, Bool, List, [], ◌∷◌, ◌++◌, codes, length, All, Option, Some}
+use Rattle.std.specs.Prelude.{◌≡◌, ℕ, ◌≤◌, ◌<◌, ◌^◌, Bool, List, [], ◌∷◌, ◌++◌, length, All, Option, Some}
 use Rattle.std.specs.List.{AllByRecursion}
 use Rattle.json.specs.Json.{Json, document}
-use Rattle.gw_audit.specs.Entry.{IsLineOf, IsShowable, shown_ask}
+use Rattle.gw_audit.specs.Entry.{IsLineOf, IsShowable}
 use Rattle.gw_audit.specs.declared.denial.Denial.{Denial}
 use Rattle.gw_configuration.specs.Configuration.{Configuration}
 use Rattle.gw_configuration.specs.declared.fault.ConfigFault.{ConfigFault}
 use Rattle.gw_json.specs.Check.{checked_value, fault_value}
 use Rattle.gw_json.specs.Comparison.{found_value, summary_value}
 use Rattle.gw_json.specs.Document.{line_of}
-use Rattle.gw_json.specs.Log.{IsEntryIn, denial_line, front_octets_text, front_text, octets_line, shown_members, text_line}
-use Rattle.gw_json.specs.Value.{answer_value, denial_value, front_members, front_octets_members, no_front, octets_value, text_value}
-use Rattle.gw_json.specs.Why.{IsAnswerIn}
+use Rattle.gw_json.specs.Log.{IsEntryIn, denial_value, front_members, front_octets_members, octets_value, text_value}
+use Rattle.gw_json.specs.Why.{IsAnswerIn, answer_value}
 use Rattle.gw_ask_sets.specs.declared.regions.comparison.Found.{Found}
 use Rattle.gw_rules.specs.declared.rule.Rule.{Rule}
 
@@ -22,23 +21,26 @@ pub record ReadsAs (line : List ℕ) (value : Json) : Type 0 where
   pub plain : All (λ octet. 32 ≤ octet) text
   pub reads : document text ≡ Some value
 
+-- the line of each value is read as that value
+abbrev pub IsRead : Json → Type 0
+IsRead value = ReadsAs (line_of value) value
+
 -- each denial's line is read as the object of that denial, also with what is in front of it
 pub record DenialReads (d : Denial) : Type 0 where
-  pub alone : ReadsAs (denial_line [] d) (denial_value no_front d)
-  pub fronted : (front : List ℕ) → ReadsAs (denial_line (front_text front) d) (denial_value (front_members front) d)
-  pub by_octets : (front : List ℕ) → ReadsAs (denial_line (front_octets_text front) d) (denial_value (front_octets_members front) d)
+  pub alone : IsRead (denial_value [] d)
+  pub fronted : (front : List ℕ) → IsRead (denial_value (front_members front) d)
+  pub by_octets : (front : List ℕ) → IsRead (denial_value (front_octets_members front) d)
 
 abbrev pub DenialsRead : Type 0
 DenialsRead = (d : Denial) → IsShowable d → DenialReads d
 
 -- Nothing changes for the line of a denial with nothing in front: its object has what the line shows, and no more.
 abbrev pub DenialsStay : Type 0
-DenialsStay = (d : Denial) (line text : List ℕ) → IsShowable d → IsLineOf line d → IsEntryIn line text
-    → text ≡ shown_members d.number d.tick (shown_ask d) d.rule ++ codes "}\n"
+DenialsStay = (d : Denial) (line text : List ℕ) → IsShowable d → IsLineOf line d → IsEntryIn line text → text ≡ line_of (denial_value [] d)
 
 -- and so is every other line, whatever its octets are
 abbrev pub OthersRead : Type 0
-OthersRead = (line : List ℕ) → ReadsAs (text_line line) (text_value line) × ReadsAs (octets_line line) (octets_value line)
+OthersRead = (line : List ℕ) → IsRead (text_value line) × IsRead (octets_value line)
 
 -- the answer to an ask is read as the object of that answer
 abbrev pub AnswersRead : Type 0
@@ -48,12 +50,12 @@ AnswersRead =
 
 -- and the lines of a comparison, with numbers that fit 64 bits
 abbrev pub ComparisonsRead : Type 0
-ComparisonsRead = (old new : List Rule) (f : Found) → ReadsAs (line_of (found_value old new f)) (found_value old new f)
+ComparisonsRead = (old new : List Rule) (f : Found) → IsRead (found_value old new f)
 
 abbrev pub SummariesRead : Type 0
 SummariesRead =
     (kinds steps : ℕ) (finished : Bool) → kinds < 2 ^ 64 → steps < 2 ^ 64
-    → ReadsAs (line_of (summary_value kinds finished steps)) (summary_value kinds finished steps)
+    → IsRead (summary_value kinds finished steps)
 
 -- the numbers of a configuration fit 64 bits, as those of each value of the type do
 pub record NumbersFit (c : Configuration) : Type 0 where
@@ -67,8 +69,8 @@ pub record NumbersFit (c : Configuration) : Type 0 where
 
 -- and the lines of a check
 abbrev pub ChecksRead : Type 0
-ChecksRead = (c : Configuration) → NumbersFit c → ReadsAs (line_of (checked_value c)) (checked_value c)
+ChecksRead = (c : Configuration) → NumbersFit c → IsRead (checked_value c)
 
 abbrev pub FaultsRead : Type 0
 FaultsRead =
-    (fault : ConfigFault) (explanation : Option (List ℕ)) → ReadsAs (line_of (fault_value fault explanation)) (fault_value fault explanation)
+    (fault : ConfigFault) (explanation : Option (List ℕ)) → IsRead (fault_value fault explanation)

@@ -1,8 +1,7 @@
-pub mod Text
+pub mod Document
+pub mod Ask
 pub mod Log
 pub mod Why
-pub mod Value
-pub mod Document
 pub mod Comparison
 pub mod Check
 pub mod Laws

@@ -1,2 +1,2 @@
 -- What only private functions and proofs cite.
-pub mod Tokens
+pub mod View

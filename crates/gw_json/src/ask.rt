@@ -1,102 +1,116 @@
 //! The twelve fields of an ask.
 
-ghost use Rattle.std.specs.Prelude.{◌≡◌, ◌++◌, OnOk};
-ghost use Rattle.gw_json.specs.Text.{ask_text, asked_text, entry_text, network_text, object_text, property_text, request_text, source_text, station_of, stations_text, target_text, way_text};
+ghost use Rattle.std.specs.Prelude.{◌≡◌, string_bytes, IfOk};
+ghost use Rattle.gw_audit.specs.Line.{key_octets};
+ghost use Rattle.gw_json.specs.Ask.{ask_members, key_or_null, key_value, named_value, operation_value, station_of, station_value, station_word};
+ghost use Rattle.gw_json.specs.internal.View.{members_view, value_view};
 
-use crate::value::{put_field, put_number, put_operation, put_station, put_station_of};
-use gw_addr::put_slice;
-use gw_audit::ShownAsk;
+use crate::value::{Member, Value, number_value};
+use gw_addr::{Mac, bip_from_slice};
+use gw_audit::{ShownAsk, operation_named};
 use std::alloc::{AllocError, Global};
 
-/// Appends the fields under the keys that a rule has for them, each with a comma before it.
-pub(crate) fn put_ask(alloc: Global, out: &mut Vec<u8>, ask: &ShownAsk) -> Result<(), AllocError>
-    ensures { OnOk result (out.new.items ≡ out.old.items ++ ask_text ask.now) }
-{
-    put_source(alloc, out, ask)?;
-    put_request(alloc, out, ask)?;
-    put_target(out, ask)?;
-    put_stations(alloc, out, ask)
-}
+/// How many keys of 48 bits there are.
+const KEYS: u64 = 1 << 48;
 
-/// Appends who asks.
-fn put_source(alloc: Global, out: &mut Vec<u8>, ask: &ShownAsk) -> Result<(), AllocError>
-    ensures { OnOk result (out.new.items ≡ out.old.items ++ source_text ask.now) }
+/// The fields under the keys that a rule has for them.
+pub(crate) fn ask_members(alloc: Global, ask: &ShownAsk) -> Result<Vec<Member>, AllocError>
+    ensures { IfOk result (λ members. members_view members.items ≡ ask_members ask.now) }
 {
-    put_entry(out, ask)?;
-    put_network(out, ask)?;
-    put_slice(out, b",\"source\":")?;
-    put_station(alloc, out, &ask.source.mac)
-}
-
-fn put_entry(out: &mut Vec<u8>, ask: &ShownAsk) -> Result<(), AllocError>
-    ensures { OnOk result (out.new.items ≡ out.old.items ++ entry_text ask.now) }
-{
-    put_number(out, b",\"port\":", u64::from(ask.port))
-}
-
-fn put_network(out: &mut Vec<u8>, ask: &ShownAsk) -> Result<(), AllocError>
-    ensures { OnOk result (out.new.items ≡ out.old.items ++ network_text ask.now) }
-{
-    put_slice(out, b",\"source_network\":")?;
-    ask.source.net.put_text(out)
-}
-
-/// Appends what for, and where it goes.
-fn put_request(alloc: Global, out: &mut Vec<u8>, ask: &ShownAsk) -> Result<(), AllocError>
-    ensures { OnOk result (out.new.items ≡ out.old.items ++ request_text ask.now) }
-{
-    put_slice(out, b",\"operation\":")?;
-    put_asked(alloc, out, ask)?;
-    put_way(out, ask)
-}
-
-fn put_asked(alloc: Global, out: &mut Vec<u8>, ask: &ShownAsk) -> Result<(), AllocError>
-    ensures { OnOk result (out.new.items ≡ out.old.items ++ asked_text ask.now) }
-{
-    put_operation(alloc, out, ask.operation, ask.stations.is_some())
-}
-
-fn put_way(out: &mut Vec<u8>, ask: &ShownAsk) -> Result<(), AllocError>
-    ensures { OnOk result (out.new.items ≡ out.old.items ++ way_text ask.now) }
-{
-    put_field(out, b",\"destination\":", ask.destination_network)?;
-    put_field(out, b",\"service\":", ask.service)
-}
-
-/// Appends what it is about.
-fn put_target(out: &mut Vec<u8>, ask: &ShownAsk) -> Result<(), AllocError>
-    ensures { OnOk result (out.new.items ≡ out.old.items ++ target_text ask.now) }
-{
-    put_object(out, ask)?;
-    put_property(out, ask)
-}
-
-fn put_object(out: &mut Vec<u8>, ask: &ShownAsk) -> Result<(), AllocError>
-    ensures { OnOk result (out.new.items ≡ out.old.items ++ object_text ask.now) }
-{
-    put_field(out, b",\"object_type\":", ask.object_type)?;
-    put_field(out, b",\"instance\":", ask.instance)
-}
-
-fn put_property(out: &mut Vec<u8>, ask: &ShownAsk) -> Result<(), AllocError>
-    ensures { OnOk result (out.new.items ≡ out.old.items ++ property_text ask.now) }
-{
-    put_field(out, b",\"property\":", ask.property)?;
-    put_field(out, b",\"priority\":", ask.priority)
-}
-
-/// Appends the sender, and the station that the message is for.
-fn put_stations(alloc: Global, out: &mut Vec<u8>, ask: &ShownAsk) -> Result<(), AllocError>
-    ensures { OnOk result (out.new.items ≡ out.old.items ++ stations_text ask.now) }
-{
-    put_slice(out, b",\"sender\":")?;
-    put_station_of(alloc, out, ask.sender())?;
-    put_slice(out, b",\"station\":")?;
-    put_station_of(alloc, out, station_of(ask))
+    let source = station_value(alloc, &ask.source.mac)?;
+    let sender = key_or_null(alloc, ask.sender())?;
+    let station = key_or_null(alloc, station_of(ask))?;
+    Ok(vec![in alloc;
+        ("port", Value::Number(u64::from(ask.port))),
+        (
+            "source_network",
+            Value::Number(u64::from(ask.source.net.get()))
+        ),
+        ("source", source),
+        (
+            "operation",
+            operation_value(ask.operation, ask.stations.is_some())
+        ),
+        ("destination", number_value(ask.destination_network)),
+        ("service", number_value(ask.service)),
+        ("object_type", number_value(ask.object_type)),
+        ("instance", number_value(ask.instance)),
+        ("property", number_value(ask.property)),
+        ("priority", number_value(ask.priority)),
+        ("sender", sender),
+        ("station", station),
+    ]?)
 }
 
 fn station_of(ask: &ShownAsk) -> Option<u64>
     ensures { result ≡ station_of ask.now }
 {
     ask.stations.and_then(|stations| stations.station)
+}
+
+/// An operation by its name, or by its number if a line of the log has no name for it.
+fn operation_value(operation: Option<u64>, has_sender: bool) -> Value
+    ensures { value_view result ≡ operation_value has_sender operation }
+{
+    match operation {
+        Some(number) => named_value(number, has_sender),
+        None => Value::Null,
+    }
+}
+
+fn named_value(number: u64, has_sender: bool) -> Value
+    ensures { value_view result ≡ named_value has_sender number }
+{
+    match operation_named(number, has_sender) {
+        Some(operation) => Value::Word(operation.name()),
+        None => Value::Number(number),
+    }
+}
+
+/// A station by its key, or null if there is none.
+fn key_or_null(alloc: Global, key: Option<u64>) -> Result<Value, AllocError>
+    ensures { IfOk result (λ value. value_view value ≡ key_or_null key) }
+{
+    match key {
+        Some(key) => key_value(alloc, key),
+        None => Ok(Value::Null),
+    }
+}
+
+/// A station by its key.
+pub(crate) fn key_value(alloc: Global, key: u64) -> Result<Value, AllocError>
+    ensures { IfOk result (λ value. value_view value ≡ key_value key) }
+{
+    station_value(alloc, &station_of_key(key))
+}
+
+fn station_value(alloc: Global, mac: &Mac) -> Result<Value, AllocError>
+    ensures { IfOk result (λ value. value_view value ≡ station_value mac.now) }
+{
+    Ok(Value::Text(station_word(alloc, mac)?))
+}
+
+/// A station: six octets as an address of BACnet/IP, others as hexadecimal digits.
+fn station_word(alloc: Global, mac: &Mac) -> Result<String, AllocError>
+    ensures { IfOk result (λ word. string_bytes word ≡ station_word mac.now) }
+{
+    match bip_from_slice(mac.as_slice()) {
+        Ok(address) => address.to_string(alloc),
+        Err(_) => mac.to_string(alloc),
+    }
+}
+
+/// The station of a number: the six octets of 48 bits, or the eight of a greater number.
+fn station_of_key(key: u64) -> Mac
+    ensures { result ≡ key_octets key }
+{
+    let [first, second, a, b, c, d, high, low] = key.to_be_bytes();
+    let six = Mac::of_six([a, b, c, d, high, low]);
+    if key < KEYS {
+        return six;
+    }
+    match Mac::new(&[first, second, a, b, c, d, high, low]) {
+        Some(mac) => mac,
+        None => six,
+    }
 }

@@ -1,19 +1,14 @@
 //! What `check` says of a configuration, as a JSON object.
 
-ghost use Rattle.std.specs.Prelude.{◌≡◌, ◌++◌, ◌∷◌, [], codes, decimal, length, option_map, IfOk, OnOk};
-ghost use Rattle.std.specs.List.{flat_map};
+ghost use Rattle.std.specs.Prelude.{◌≡◌, decimal, option_map, IfOk};
 ghost use Rattle.std.specs.Option.{option_map_or};
-ghost use Rattle.json.specs.Json.{Json};
-ghost use Rattle.json.specs.Print.{print};
-ghost use Rattle.json.specs.Token.{key, number, string};
-ghost use Rattle.json.specs.Tree.{json_tokens, members_tokens};
-ghost use Rattle.gw_json.specs.Check.{checked_value, counts_members, device_value, fault_row, fault_value, format_number, networks_value};
-ghost use Rattle.gw_json.specs.Document.{IsLinePut, Writes};
-ghost use Rattle.gw_json.specs.internal.Tokens.{device_tokens, explanation_tokens, number_tokens, place_tokens, ports_tokens, row_tokens, start_tokens};
+ghost use Rattle.json.specs.Json.{null, number, string};
+ghost use Rattle.gw_json.specs.Check.{checked_value, device_value, fault_row, fault_value, format_number, networks_value};
+ghost use Rattle.gw_json.specs.Document.{IsLinePut, object_of};
+ghost use Rattle.gw_json.specs.internal.View.{members_view, value_view};
 
-use crate::document::{put_line, write_count, write_number, write_truth};
+use crate::value::{Member, Value, count_value, push_value, put_object, text_value};
 use gw_configuration::{Config, ConfigFault, Device, Format, Port};
-use json::Writer;
 use std::alloc::{AllocError, Global};
 
 /// Appends the line of a configuration: its format, its device, the networks of its ports, and how many ports, objects,
@@ -25,8 +20,8 @@ use std::alloc::{AllocError, Global};
 pub fn put_check(alloc: Global, out: &mut Vec<u8>, config: &Config) -> Result<(), AllocError>
     ensures { IsLinePut (checked_value config.now) out.old.items out.new.items result }
 {
-    let text = checked_text(alloc, config)?;
-    put_line(out, text)
+    let members = checked_members(alloc, config)?;
+    put_object(alloc, out, members)
 }
 
 /// Appends the line of a fault: its number, its name, and the line that says where it is, or null. An `Err` only if memory
@@ -44,41 +39,43 @@ pub fn put_fault(
     ensures { IsLinePut (fault_value fault (option_map (λ line. line.now) explanation.entry))
         out.old.items out.new.items result }
 {
-    let text = fault_text(alloc, fault, explanation)?;
-    put_line(out, text)
+    let members = fault_members(alloc, fault, explanation)?;
+    put_object(alloc, out, members)
 }
 
-fn checked_text(alloc: Global, config: &Config) -> Result<Vec<u8>, AllocError>
-    ensures { IfOk result (λ text. text.items ≡ print (json_tokens (checked_value config.now))) }
+fn fault_members(
+    alloc: Global,
+    fault: ConfigFault,
+    explanation: Option<&str>,
+) -> Result<Vec<Member>, AllocError>
+    ensures { IfOk result (λ members. object_of (members_view members.items)
+        ≡ fault_value fault (option_map (λ line. line.now) explanation.entry)) }
 {
-    let mut writer = Writer::new(Vec::new(alloc));
-    write_checked(&mut writer, config)?;
-    Ok(writer.into_inner())
+    let (number, name) = fault_row(fault);
+    let explanation = line_value(alloc, explanation)?;
+    Ok(vec![in alloc;
+        ("valid", Value::Boolean(false)),
+        ("number", Value::Number(number)),
+        ("fault", Value::Word(name)),
+        ("explanation", explanation),
+    ]?)
 }
 
-fn write_checked(writer: &mut Writer, config: &Config) -> Result<(), AllocError>
-    ensures { Writes result writer.old writer.new (json_tokens (checked_value config.now)) }
+fn checked_members(alloc: Global, config: &Config) -> Result<Vec<Member>, AllocError>
+    ensures { IfOk result (λ members. object_of (members_view members.items) ≡ checked_value config.now) }
 {
-    write_start(writer, config)?;
-    write_device(writer, config)?;
-    write_ports(writer, config)?;
-    write_counts(writer, config)
-}
-
-/// Writes that the configuration is valid, and its format.
-fn write_start(writer: &mut Writer, config: &Config) -> Result<(), AllocError>
-    ensures { Writes result writer.old writer.new (start_tokens config.now.format) }
-{
-    writer.begin_object()?;
-    write_truth(writer, "valid", true)?;
-    write_format(writer, config)
-}
-
-fn write_format(writer: &mut Writer, config: &Config) -> Result<(), AllocError>
-    ensures { Writes result writer.old writer.new
-        (key (codes "format") ∷ number (decimal (format_number config.now.format)) ∷ []) }
-{
-    write_number(writer, "format", format_number(config.format()))
+    let device = device_value(alloc, config.device())?;
+    let networks = networks_value(alloc, config.ports())?;
+    Ok(vec![in alloc;
+        ("valid", Value::Boolean(true)),
+        ("format", Value::Number(format_number(config.format()))),
+        ("device", device),
+        ("ports", count_value(config.ports().len())),
+        ("networks", networks),
+        ("objects", count_value(config.objects().len())),
+        ("rules", count_value(config.rules().rules().len())),
+        ("routes", count_value(config.routes().len())),
+    ]?)
 }
 
 fn format_number(format: Format) -> u64
@@ -91,194 +88,42 @@ fn format_number(format: Format) -> u64
     }
 }
 
-fn write_device(writer: &mut Writer, config: &Config) -> Result<(), AllocError>
-    ensures { Writes result writer.old writer.new (device_tokens config.now.device) }
+fn device_value(alloc: Global, device: &Device) -> Result<Value, AllocError>
+    ensures { IfOk result (λ value. value_view value ≡ device_value device.now) }
 {
-    writer.key("device")?;
-    write_device_value(writer, config.device())
+    let name = text_value(alloc, device.name.as_str())?;
+    Ok(Value::Object(vec![in alloc;
+        ("network", Value::Number(u64::from(device.network.get()))),
+        ("instance", Value::Number(u64::from(device.instance.get()))),
+        ("name", name),
+    ]?))
 }
 
-fn write_device_value(writer: &mut Writer, device: &Device) -> Result<(), AllocError>
-    ensures { Writes result writer.old writer.new (json_tokens (device_value device.now)) }
+/// The networks of the ports, in order.
+fn networks_value(alloc: Global, ports: &[Port]) -> Result<Value, AllocError>
+    ensures { IfOk result (λ value. value_view value ≡ networks_value ports.now) }
 {
-    writer.begin_object()?;
-    write_place(writer, device)?;
-    write_name(writer, device)?;
-    writer.end_object()
-}
-
-/// Writes the device's network and instance.
-fn write_place(writer: &mut Writer, device: &Device) -> Result<(), AllocError>
-    ensures { Writes result writer.old writer.new (place_tokens device.now) }
-{
-    write_device_network(writer, device)?;
-    write_instance(writer, device)
-}
-
-fn write_name(writer: &mut Writer, device: &Device) -> Result<(), AllocError>
-    ensures { Writes result writer.old writer.new (key (codes "name") ∷ string device.now.name ∷ []) }
-{
-    write_text(writer, "name", device.name.as_str())
-}
-
-fn write_device_network(writer: &mut Writer, device: &Device) -> Result<(), AllocError>
-    ensures { Writes result writer.old writer.new
-        (key (codes "network") ∷ number (decimal device.now.network) ∷ []) }
-{
-    write_number(writer, "network", u64::from(device.network.get()))
-}
-
-fn write_instance(writer: &mut Writer, device: &Device) -> Result<(), AllocError>
-    ensures { Writes result writer.old writer.new
-        (key (codes "instance") ∷ number (decimal device.now.instance) ∷ []) }
-{
-    write_number(writer, "instance", u64::from(device.instance.get()))
-}
-
-/// Writes how many ports there are, and their networks.
-fn write_ports(writer: &mut Writer, config: &Config) -> Result<(), AllocError>
-    ensures { Writes result writer.old writer.new (ports_tokens config.now.ports) }
-{
-    write_ports_of(writer, config.ports())
-}
-
-fn write_ports_of(writer: &mut Writer, ports: &[Port]) -> Result<(), AllocError>
-    ensures { Writes result writer.old writer.new (ports_tokens ports.now) }
-{
-    write_port_count(writer, ports)?;
-    write_port_networks(writer, ports)
-}
-
-fn write_port_networks(writer: &mut Writer, ports: &[Port]) -> Result<(), AllocError>
-    ensures { Writes result writer.old writer.new (key (codes "networks") ∷ json_tokens (networks_value ports.now)) }
-{
-    writer.key("networks")?;
-    write_networks(writer, ports)
-}
-
-fn write_port_count(writer: &mut Writer, ports: &[Port]) -> Result<(), AllocError>
-    ensures { Writes result writer.old writer.new
-        (key (codes "ports") ∷ number (decimal (length ports.now)) ∷ []) }
-{
-    write_count(writer, "ports", ports.len())
-}
-
-fn write_networks(writer: &mut Writer, ports: &[Port]) -> Result<(), AllocError>
-    ensures { Writes result writer.old writer.new (json_tokens (networks_value ports.now)) }
-{
-    writer.begin_array()?;
-    write_each_network(writer, ports)?;
-    writer.end_array()
-}
-
-fn write_each_network(writer: &mut Writer, ports: &[Port]) -> Result<(), AllocError>
-    ensures ok { OnOk result (writer.new.tokens ≡ writer.old.tokens
-        ++ flat_map (λ port. number_tokens port.network) ports.now) }
-    ensures before { OnOk result (writer.new.before ≡ writer.old.before) }
-{
+    let mut networks = Vec::with_capacity(alloc, ports.len())?;
     for port in ports {
-        write_network(writer, port)?;
+        push_value(&mut networks, network_value(port))?;
     }
-    Ok(())
+    Ok(Value::Array(networks))
 }
 
-fn write_network(writer: &mut Writer, port: &Port) -> Result<(), AllocError>
-    ensures { Writes result writer.old writer.new (number_tokens port.now.network) }
+fn network_value(port: &Port) -> Value
+    ensures { value_view result ≡ number (decimal port.now.network) }
 {
-    writer.u64(u64::from(port.network.get()))
+    Value::Number(u64::from(port.network.get()))
 }
 
-/// Writes how many objects, rules and routes there are, and the end.
-fn write_counts(writer: &mut Writer, config: &Config) -> Result<(), AllocError>
-    ensures { Writes result writer.old writer.new (members_tokens (counts_members config.now)) }
-{
-    write_objects(writer, config)?;
-    write_rules(writer, config)?;
-    write_routes(writer, config)?;
-    writer.end_object()
-}
-
-fn write_objects(writer: &mut Writer, config: &Config) -> Result<(), AllocError>
-    ensures { Writes result writer.old writer.new
-        (key (codes "objects") ∷ number (decimal (length config.now.objects)) ∷ []) }
-{
-    write_count(writer, "objects", config.objects().len())
-}
-
-fn write_rules(writer: &mut Writer, config: &Config) -> Result<(), AllocError>
-    ensures { Writes result writer.old writer.new
-        (key (codes "rules") ∷ number (decimal (length config.now.rules)) ∷ []) }
-{
-    write_count(writer, "rules", config.rules().rules().len())
-}
-
-fn write_routes(writer: &mut Writer, config: &Config) -> Result<(), AllocError>
-    ensures { Writes result writer.old writer.new
-        (key (codes "routes") ∷ number (decimal (length config.now.routes)) ∷ []) }
-{
-    write_count(writer, "routes", config.routes().len())
-}
-
-fn fault_text(
-    alloc: Global,
-    fault: ConfigFault,
-    explanation: Option<&str>,
-) -> Result<Vec<u8>, AllocError>
-    ensures { IfOk result (λ text. text.items
-        ≡ print (json_tokens (fault_value fault (option_map (λ line. line.now) explanation.entry)))) }
-{
-    let mut writer = Writer::new(Vec::new(alloc));
-    write_fault(&mut writer, fault, explanation)?;
-    Ok(writer.into_inner())
-}
-
-fn write_fault(
-    writer: &mut Writer,
-    fault: ConfigFault,
-    explanation: Option<&str>,
-) -> Result<(), AllocError>
-    ensures { Writes result writer.old writer.new
-        (json_tokens (fault_value fault (option_map (λ line. line.now) explanation.entry))) }
-{
-    writer.begin_object()?;
-    write_truth(writer, "valid", false)?;
-    write_row(writer, fault)?;
-    write_explanation(writer, explanation)
-}
-
-/// Writes the number and the name of a fault.
-fn write_row(writer: &mut Writer, fault: ConfigFault) -> Result<(), AllocError>
-    ensures { Writes result writer.old writer.new (row_tokens (fault_row fault)) }
-{
-    let (number, name) = fault_row(fault);
-    write_number(writer, "number", number)?;
-    write_text(writer, "fault", name)
-}
-
-fn write_text(writer: &mut Writer, name: &str, text: &str) -> Result<(), AllocError>
-    ensures { Writes result writer.old writer.new (key name.now ∷ string text.now ∷ []) }
-{
-    writer.key(name)?;
-    writer.string(text)
-}
-
-/// Writes the line that explains a fault, or null, and the end.
-fn write_explanation(writer: &mut Writer, explanation: Option<&str>) -> Result<(), AllocError>
-    ensures { Writes result writer.old writer.new
-        (explanation_tokens (option_map (λ line. line.now) explanation.entry)) }
-{
-    writer.key("explanation")?;
-    write_line(writer, explanation)?;
-    writer.end_object()
-}
-
-fn write_line(writer: &mut Writer, line: Option<&str>) -> Result<(), AllocError>
-    ensures { Writes result writer.old writer.new
-        (json_tokens (option_map_or (λ line. Json.string line) (option_map (λ line. line.now) line.entry) Json.null)) }
+/// A line, or null if there is none.
+fn line_value(alloc: Global, line: Option<&str>) -> Result<Value, AllocError>
+    ensures { IfOk result (λ value. value_view value
+        ≡ option_map_or (λ line. string line) (option_map (λ line. line.now) line.entry) null) }
 {
     match line {
-        Some(line) => writer.string(line),
-        None => writer.null(),
+        Some(line) => text_value(alloc, line),
+        None => Ok(Value::Null),
     }
 }
 

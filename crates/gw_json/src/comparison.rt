@@ -1,25 +1,20 @@
 //! What two policies decide otherwise, as JSON objects.
 
-ghost use Rattle.std.specs.Prelude.{◌≡◌, ◌++◌, ◌∷◌, [], codes, decimal, IfOk, OnOk};
+ghost use Rattle.std.specs.Prelude.{◌≡◌, ◌++◌, map, option_map, IfOk, OnOk};
 ghost use Rattle.std.specs.List.{flat_map};
 ghost use Rattle.json.specs.Json.{array};
-ghost use Rattle.json.specs.Print.{print};
-ghost use Rattle.json.specs.Token.{boolean, key, number};
-ghost use Rattle.json.specs.Tree.{json_tokens};
 ghost use Rattle.gw_ask_sets.specs.regions.Ranges.{both};
-ghost use Rattle.gw_ask_sets.specs.regions.Values.{has_operation};
 ghost use Rattle.gw_rules.specs.Bounds.{bounds};
 ghost use Rattle.gw_rules.specs.declared.format.Format.TheVariants.{Three};
 ghost use Rattle.gw_rules.specs.declared.operation.TheConstants.Operation.{ALL};
-ghost use Rattle.gw_json.specs.Comparison.{end_value, found_value, named_operation, operations_value, other_fields, range_value, ranges_value, rule_value, rules_value, station_end, summary_value, values_value, verdict_word};
-ghost use Rattle.gw_json.specs.Document.{IsLinePut, Writes, items_of};
-ghost use Rattle.gw_json.specs.internal.Tokens.{asks_tokens, deciders_tokens, extent_tokens, field_tokens, found_tokens, operation_tokens, range_tokens, rule_tokens, verdict_tokens};
+ghost use Rattle.gw_json.specs.Comparison.{deciders_members, end_value, field_member, found_value, name_or_null, named_operation, operations_value, other_fields, range_value, range_values, ranges_value, rule_value, rules_value, summary_value, values_value, verdict_members, verdict_word};
+ghost use Rattle.gw_json.specs.Document.{IsLinePut, items_of, object_of};
+ghost use Rattle.gw_json.specs.internal.View.{members_view, value_view, values_view};
 
-use crate::document::{put_line, write_count, write_number, write_truth};
-use crate::value::{station_of, station_word};
+use crate::ask::key_value;
+use crate::value::{Member, Value, count_value, joined, push_value, put_object, text_value};
 use gw_ask_sets::regions::{Found, Region, Values, both};
 use gw_rules::{FieldName, Format, NO_RULE, Operation, Range, Rule};
-use json::Writer;
 use std::alloc::{AllocError, Global};
 
 /// Appends the line of a region in which two policies decide every ask otherwise: what the new one says, the asks, and
@@ -38,8 +33,8 @@ pub fn put_found(
 ) -> Result<(), AllocError>
     ensures { IsLinePut (found_value old.now new.now found.now) out.old.items out.new.items result }
 {
-    let text = found_text(alloc, old, new, found)?;
-    put_line(out, text)
+    let members = found_members(alloc, old, new, found)?;
+    put_object(alloc, out, members)
 }
 
 /// Appends the last line of a comparison: how many regions it found, whether these are all, and how many steps it took.
@@ -57,56 +52,71 @@ pub fn put_summary(
 ) -> Result<(), AllocError>
     ensures { IsLinePut (summary_value kinds finished steps) out.old.items out.new.items result }
 {
-    let text = summary_text(alloc, kinds, finished, steps)?;
-    put_line(out, text)
+    let members = summary_members(alloc, kinds, finished, steps)?;
+    put_object(alloc, out, members)
 }
 
-#[tactic(auto, using(crate::proofs::Arrays::found_written))]
-fn found_text(
+fn summary_members(
+    alloc: Global,
+    kinds: usize,
+    finished: bool,
+    steps: u32,
+) -> Result<Vec<Member>, AllocError>
+    ensures { IfOk result (λ members. object_of (members_view members.items)
+        ≡ summary_value kinds finished steps) }
+{
+    Ok(vec![in alloc;
+        ("kinds", count_value(kinds)),
+        ("finished", Value::Boolean(finished)),
+        ("steps", Value::Number(u64::from(steps))),
+    ]?)
+}
+
+fn found_members(
     alloc: Global,
     old: &[Rule],
     new: &[Rule],
     found: &Found,
-) -> Result<Vec<u8>, AllocError>
-    ensures { IfOk result (λ text. text.items ≡ print (json_tokens (found_value old.now new.now found.now))) }
+) -> Result<Vec<Member>, AllocError>
+    ensures { IfOk result (λ members. object_of (members_view members.items)
+        ≡ found_value old.now new.now found.now) }
 {
-    let mut writer = Writer::new(Vec::new(alloc));
-    write_found(alloc, &mut writer, old, new, found)?;
-    Ok(writer.into_inner())
+    let verdict = verdict_members(alloc, found)?;
+    let fields = field_members(alloc, &found.region, other_fields())?;
+    let deciders = deciders_members(alloc, old, new, found)?;
+    joined(verdict, joined(fields, deciders)?)
 }
 
-fn write_found(
+/// What the new policy says of a region, and its operations.
+fn verdict_members(alloc: Global, found: &Found) -> Result<Vec<Member>, AllocError>
+    ensures { IfOk result (λ members. members_view members.items ≡ verdict_members found.now) }
+{
+    let operation = operations_value(alloc, &found.region.operation)?;
+    Ok(vec![in alloc;
+        ("verdict", Value::Word(verdict_word(found.allows))),
+        ("operation", operation),
+    ]?)
+}
+
+/// The names of the rules that decide, now and before.
+fn deciders_members(
     alloc: Global,
-    writer: &mut Writer,
     old: &[Rule],
     new: &[Rule],
     found: &Found,
-) -> Result<(), AllocError>
-    ensures { Writes result writer.old writer.new (found_tokens old.now new.now found.now) }
+) -> Result<Vec<Member>, AllocError>
+    ensures { IfOk result (λ members. members_view members.items
+        ≡ deciders_members old.now new.now found.now) }
 {
-    writer.begin_object()?;
-    write_verdict(writer, found.allows)?;
-    write_asks(alloc, writer, &found.region)?;
-    write_deciders(writer, old, new, found)?;
-    writer.end_object()
+    let by = rules_value(alloc, new, &found.new_rules)?;
+    let was_by = rules_value(alloc, old, &found.old_rules)?;
+    Ok(vec![in alloc; ("by", by), ("was_by", was_by)]?)
 }
 
-/// Writes what the new policy says.
-fn write_verdict(writer: &mut Writer, allows: bool) -> Result<(), AllocError>
-    ensures { Writes result writer.old writer.new (verdict_tokens allows) }
+fn verdict_word(allows: bool) -> &'static str
+    ensures { result.now ≡ verdict_word allows }
 {
-    writer.key("verdict")?;
-    writer.string(verdict_word(allows))
-}
-
-/// Writes the asks of a region.
-fn write_asks(alloc: Global, writer: &mut Writer, region: &Region) -> Result<(), AllocError>
-    ensures { Writes result writer.old writer.new (asks_tokens region.now) }
-{
-    writer.key("operation")?;
-    write_operations(writer, &region.operation)?;
-    write_fields(alloc, writer, region, other_fields())?;
-    Ok(())
+    if allows { "allowed" } else { "denied" }
 }
 
 /// The fields but the operation, in the order of their numbers.
@@ -116,193 +126,134 @@ fn other_fields() -> &'static [FieldName]
     &FieldName::ALL[1..]
 }
 
-fn verdict_word(allows: bool) -> &'static str
-    ensures { result.now ≡ verdict_word allows }
+/// The names of the rules of these numbers.
+fn rules_value(alloc: Global, rules: &[Rule], numbers: &[usize]) -> Result<Value, AllocError>
+    ensures { IfOk result (λ value. value_view value ≡ rules_value rules.now numbers.now) }
 {
-    if allows { "allowed" } else { "denied" }
-}
-
-/// Writes the names of the rules that decide, now and before.
-fn write_deciders(
-    writer: &mut Writer,
-    old: &[Rule],
-    new: &[Rule],
-    found: &Found,
-) -> Result<(), AllocError>
-    ensures { Writes result writer.old writer.new (deciders_tokens old.now new.now found.now) }
-{
-    writer.key("by")?;
-    write_rules(writer, new, &found.new_rules)?;
-    writer.key("was_by")?;
-    write_rules(writer, old, &found.old_rules)
-}
-
-/// Writes the names of the rules of these numbers.
-fn write_rules(writer: &mut Writer, rules: &[Rule], numbers: &[usize]) -> Result<(), AllocError>
-    ensures { Writes result writer.old writer.new (json_tokens (rules_value rules.now numbers.now)) }
-{
-    writer.begin_array()?;
-    write_each_rule(writer, rules, numbers)?;
-    writer.end_array()
-}
-
-fn write_each_rule(writer: &mut Writer, rules: &[Rule], numbers: &[usize]) -> Result<(), AllocError>
-    ensures ok { OnOk result (writer.new.tokens ≡ writer.old.tokens ++ flat_map (rule_tokens rules.now) numbers.now) }
-    ensures before { OnOk result (writer.new.before ≡ writer.old.before) }
-{
+    let mut names = Vec::with_capacity(alloc, numbers.len())?;
     for number in numbers {
-        write_rule(writer, rules, *number)?;
+        push_value(&mut names, rule_value(alloc, rules, *number)?)?;
     }
-    Ok(())
+    Ok(Value::Array(names))
 }
 
-/// Writes the name of a rule, `default` for 0, or null if no rule has the number.
-fn write_rule(writer: &mut Writer, rules: &[Rule], number: usize) -> Result<(), AllocError>
-    ensures { Writes result writer.old writer.new (rule_tokens rules.now number) }
+/// The name of a rule, `default` for 0, or null if no rule has the number.
+fn rule_value(alloc: Global, rules: &[Rule], number: usize) -> Result<Value, AllocError>
+    ensures { IfOk result (λ value. value_view value ≡ rule_value rules.now number) }
 {
     if number == 0 {
-        return writer.string(NO_RULE);
+        return Ok(Value::Word(NO_RULE));
     }
-    match rules.get(number - 1) {
-        Some(rule) => writer.string(rule.name.as_str()),
-        None => writer.null(),
+    name_or_null(alloc, rules.get(number - 1))
+}
+
+fn name_or_null(alloc: Global, rule: Option<&Rule>) -> Result<Value, AllocError>
+    ensures { IfOk result (λ value. value_view value
+        ≡ name_or_null (option_map (λ rule. rule.now) rule.entry)) }
+{
+    match rule {
+        Some(rule) => text_value(alloc, rule.name.as_str()),
+        None => Ok(Value::Null),
     }
 }
 
-/// Writes the names of the operations, or null if it may be each.
-fn write_operations(writer: &mut Writer, values: &Values) -> Result<(), AllocError>
-    ensures { Writes result writer.old writer.new (json_tokens (operations_value values.now)) }
+/// The names of the operations, or null if it may be each.
+fn operations_value(alloc: Global, values: &Values) -> Result<Value, AllocError>
+    ensures { IfOk result (λ value. value_view value ≡ operations_value values.now) }
 {
     if values.has_each_operation() {
-        writer.null()
+        Ok(Value::Null)
     } else {
-        write_named_operations(writer, values)
+        operation_names(alloc, values, &Operation::ALL)
     }
 }
 
-fn write_named_operations(writer: &mut Writer, values: &Values) -> Result<(), AllocError>
-    ensures { Writes result writer.old writer.new
-        (json_tokens (array (items_of (flat_map (named_operation values.now) ALL)))) }
-{
-    writer.begin_array()?;
-    write_each_operation(writer, values, &Operation::ALL)?;
-    writer.end_array()
-}
-
-fn write_each_operation(
-    writer: &mut Writer,
+/// The names of those of the operations that it may be.
+fn operation_names(
+    alloc: Global,
     values: &Values,
     operations: &[Operation],
-) -> Result<(), AllocError>
-    ensures ok { OnOk result (writer.new.tokens ≡ writer.old.tokens ++ flat_map (operation_tokens values.now) operations.now) }
-    ensures before { OnOk result (writer.new.before ≡ writer.old.before) }
+) -> Result<Value, AllocError>
+    ensures { IfOk result (λ value. value_view value
+        ≡ array (items_of (flat_map (named_operation values.now) operations.now))) }
 {
+    let mut names = Vec::with_capacity(alloc, operations.len())?;
     for operation in operations {
-        write_operation(writer, values, *operation)?;
+        push_operation(&mut names, values, *operation)?;
     }
-    Ok(())
+    Ok(Value::Array(names))
 }
 
-fn write_operation(
-    writer: &mut Writer,
+/// Appends the name of an operation if it may be that.
+fn push_operation(
+    names: &mut Vec<Value>,
     values: &Values,
     operation: Operation,
 ) -> Result<(), AllocError>
-    ensures { Writes result writer.old writer.new (operation_tokens values.now operation) }
+    ensures { OnOk result (values_view names.new.items
+        ≡ values_view names.old.items ++ named_operation values.now operation) }
 {
     if values.has_operation(operation) {
-        writer.string(operation.name())?;
+        push_value(names, Value::Word(operation.name()))?;
     }
     Ok(())
 }
 
-/// Writes the values of these fields, each after its key.
-fn write_fields(
+/// These fields of a region, each under its key.
+#[tactic(auto, using(crate::proofs::Views::members_append))]
+fn field_members(
     alloc: Global,
-    writer: &mut Writer,
     region: &Region,
     fields: &[FieldName],
-) -> Result<(), AllocError>
-    ensures ok { OnOk result (writer.new.tokens ≡ writer.old.tokens ++ flat_map (field_tokens region.now) fields.now) }
-    ensures before { OnOk result (writer.new.before ≡ writer.old.before) }
+) -> Result<Vec<Member>, AllocError>
+    ensures { IfOk result (λ members. members_view members.items
+        ≡ map (field_member region.now) fields.now) }
 {
+    let mut members: Vec<Member> = Vec::with_capacity(alloc, fields.len())?;
     for field in fields {
-        write_field(alloc, writer, region, *field)?;
+        let value = values_value(alloc, *field, region.get(*field))?;
+        members.push((field.key(), value))?;
     }
-    Ok(())
+    Ok(members)
 }
 
-fn write_field(
-    alloc: Global,
-    writer: &mut Writer,
-    region: &Region,
-    field: FieldName,
-) -> Result<(), AllocError>
-    ensures { Writes result writer.old writer.new (field_tokens region.now field) }
-{
-    writer.key(field.key())?;
-    write_values(alloc, writer, field, region.get(field))
-}
-
-/// Writes the values of a field, or null if it may be anything.
-fn write_values(
-    alloc: Global,
-    writer: &mut Writer,
-    field: FieldName,
-    values: &Values,
-) -> Result<(), AllocError>
-    ensures { Writes result writer.old writer.new (json_tokens (values_value field values.now)) }
+/// The values of a field, or null if it may be anything.
+fn values_value(alloc: Global, field: FieldName, values: &Values) -> Result<Value, AllocError>
+    ensures { IfOk result (λ value. value_view value ≡ values_value field values.now) }
 {
     if values.is_any() {
-        return writer.null();
+        return Ok(Value::Null);
     }
-    writer.begin_object()?;
-    write_truth(writer, "absent", values.absent)?;
-    writer.key("ranges")?;
-    write_ranges(alloc, writer, field, values.ranges.as_slice())?;
-    writer.end_object()
+    let ranges = ranges_value(alloc, field, values.ranges.as_slice())?;
+    Ok(Value::Object(vec![in alloc;
+        ("absent", Value::Boolean(values.absent)),
+        ("ranges", ranges),
+    ]?))
 }
 
-/// Writes ranges.
-fn write_ranges(
-    alloc: Global,
-    writer: &mut Writer,
-    field: FieldName,
-    ranges: &[Range],
-) -> Result<(), AllocError>
-    ensures { Writes result writer.old writer.new (json_tokens (ranges_value field ranges.now)) }
+/// Ranges without the numbers that the field can't have.
+fn ranges_value(alloc: Global, field: FieldName, ranges: &[Range]) -> Result<Value, AllocError>
+    ensures { IfOk result (λ value. value_view value ≡ ranges_value field ranges.now) }
 {
-    writer.begin_array()?;
-    write_each_range(alloc, writer, field, ranges)?;
-    writer.end_array()
-}
-
-fn write_each_range(
-    alloc: Global,
-    writer: &mut Writer,
-    field: FieldName,
-    ranges: &[Range],
-) -> Result<(), AllocError>
-    ensures ok { OnOk result (writer.new.tokens ≡ writer.old.tokens ++ flat_map (range_tokens field) ranges.now) }
-    ensures before { OnOk result (writer.new.before ≡ writer.old.before) }
-{
+    let mut shown = Vec::with_capacity(alloc, ranges.len())?;
     for range in ranges {
-        write_possible(alloc, writer, field, range)?;
+        push_range(alloc, &mut shown, field, range)?;
     }
-    Ok(())
+    Ok(Value::Array(shown))
 }
 
-/// Writes a range without the numbers that its field can't have, if others are left.
-fn write_possible(
+/// Appends a range without the numbers that its field can't have, if others are left.
+fn push_range(
     alloc: Global,
-    writer: &mut Writer,
+    shown: &mut Vec<Value>,
     field: FieldName,
     range: &Range,
 ) -> Result<(), AllocError>
-    ensures { Writes result writer.old writer.new (range_tokens field range.now) }
+    ensures { OnOk result (values_view shown.new.items
+        ≡ values_view shown.old.items ++ range_values field range.now) }
 {
     match possible(field, range) {
-        Some(shown) => write_range(alloc, writer, field, &shown),
+        Some(left) => push_value(shown, range_value(alloc, field, &left)?),
         None => Ok(()),
     }
 }
@@ -313,93 +264,20 @@ fn possible(field: FieldName, range: &Range) -> Option<Range>
     both(range, &field.bounds(Format::Three))
 }
 
-fn write_range(
-    alloc: Global,
-    writer: &mut Writer,
-    field: FieldName,
-    range: &Range,
-) -> Result<(), AllocError>
-    ensures { Writes result writer.old writer.new (json_tokens (range_value field range.now)) }
+fn range_value(alloc: Global, field: FieldName, range: &Range) -> Result<Value, AllocError>
+    ensures { IfOk result (λ value. value_view value ≡ range_value field range.now) }
 {
-    writer.begin_array()?;
-    write_end(alloc, writer, field, range.low)?;
-    write_end(alloc, writer, field, range.high)?;
-    writer.end_array()
+    let low = end_value(alloc, field, range.low)?;
+    let high = end_value(alloc, field, range.high)?;
+    Ok(Value::Array(vec![in alloc; low, high]?))
 }
 
-/// Writes an end of a range.
-fn write_end(
-    alloc: Global,
-    writer: &mut Writer,
-    field: FieldName,
-    number: u64,
-) -> Result<(), AllocError>
-    ensures { Writes result writer.old writer.new (json_tokens (end_value field number)) }
+/// An end of a range.
+fn end_value(alloc: Global, field: FieldName, number: u64) -> Result<Value, AllocError>
+    ensures { IfOk result (λ value. value_view value ≡ end_value field number) }
 {
     match field {
-        FieldName::SourceKey | FieldName::Sender | FieldName::Station => {
-            write_station(alloc, writer, number)
-        }
-        _ => writer.u64(number),
+        FieldName::SourceKey | FieldName::Sender | FieldName::Station => key_value(alloc, number),
+        _ => Ok(Value::Number(number)),
     }
-}
-
-fn write_station(alloc: Global, writer: &mut Writer, key: u64) -> Result<(), AllocError>
-    ensures { Writes result writer.old writer.new (json_tokens (station_end key)) }
-{
-    let word = station_word(alloc, &station_of(key))?;
-    writer.string(word.as_str())
-}
-
-fn summary_text(
-    alloc: Global,
-    kinds: usize,
-    finished: bool,
-    steps: u32,
-) -> Result<Vec<u8>, AllocError>
-    ensures { IfOk result (λ text. text.items ≡ print (json_tokens (summary_value kinds finished steps))) }
-{
-    let mut writer = Writer::new(Vec::new(alloc));
-    write_summary(&mut writer, kinds, finished, steps)?;
-    Ok(writer.into_inner())
-}
-
-fn write_summary(
-    writer: &mut Writer,
-    kinds: usize,
-    finished: bool,
-    steps: u32,
-) -> Result<(), AllocError>
-    ensures { Writes result writer.old writer.new (json_tokens (summary_value kinds finished steps)) }
-{
-    writer.begin_object()?;
-    write_extent(writer, kinds, finished)?;
-    write_steps(writer, steps)?;
-    writer.end_object()
-}
-
-/// Writes how many regions there are, and whether these are all.
-fn write_extent(writer: &mut Writer, kinds: usize, finished: bool) -> Result<(), AllocError>
-    ensures { Writes result writer.old writer.new (extent_tokens kinds finished) }
-{
-    write_kinds(writer, kinds)?;
-    write_finished(writer, finished)
-}
-
-fn write_kinds(writer: &mut Writer, kinds: usize) -> Result<(), AllocError>
-    ensures { Writes result writer.old writer.new (key (codes "kinds") ∷ number (decimal kinds) ∷ []) }
-{
-    write_count(writer, "kinds", kinds)
-}
-
-fn write_finished(writer: &mut Writer, finished: bool) -> Result<(), AllocError>
-    ensures { Writes result writer.old writer.new (key (codes "finished") ∷ boolean finished ∷ []) }
-{
-    write_truth(writer, "finished", finished)
-}
-
-fn write_steps(writer: &mut Writer, steps: u32) -> Result<(), AllocError>
-    ensures { Writes result writer.old writer.new (key (codes "steps") ∷ number (decimal steps) ∷ []) }
-{
-    write_number(writer, "steps", u64::from(steps))
 }

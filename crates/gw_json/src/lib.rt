@@ -7,7 +7,6 @@
 mod ask;
 mod check;
 mod comparison;
-mod document;
 pub mod laws;
 mod log;
 mod value;

@@ -1,14 +1,15 @@
 //! A log as JSON objects, one a line.
 
-ghost use Rattle.std.specs.Prelude.{◌≡◌, ◌+◌, ◌*◌, ◌<◌, ◌≤◌, ◌++◌, ℕ, List, [], length, take, drop, true, Some, codes, IfOk, IsErrOf, OnOk};
-ghost use Rattle.json.specs.Print.{quoted};
+ghost use Rattle.std.specs.Prelude.{◌≡◌, ◌+◌, ◌*◌, ◌<◌, ◌≤◌, ℕ, List, length, take, drop, true, Some, IfOk, IsErrOf};
 ghost use Rattle.gw_script.specs.Known.{OnKnown};
-ghost use Rattle.gw_json.specs.Log.{IsDenialIn, IsEntryIn, IsFrontMember, IsOther, LeavesEntries, front_octets_text, front_text, octets_line, shown_line};
+ghost use Rattle.json.specs.Json.{Json};
+ghost use Rattle.gw_json.specs.Document.{line_of};
+ghost use Rattle.gw_json.specs.Log.{AreFrontMembers, IsDenialIn, IsEntryIn, IsOther, LeavesEntries, place_members, shown_value};
+ghost use Rattle.gw_json.specs.internal.View.{members_view};
 ghost use Rattle.gw_log_words.specs.Fields.{is_denial};
 
-use crate::ask::put_ask;
-use crate::value::{empty_object, put_number, put_quoted};
-use gw_addr::put_slice;
+use crate::ask::ask_members;
+use crate::value::{Member, Value, joined, object_line, octets_member, text_member};
 use gw_audit::{Shown, read_line};
 use gw_log_words::denial_front;
 use gw_script::{LineTranslator, LinesFault, OctetSink, OctetSource, translate_lines};
@@ -97,75 +98,45 @@ fn denial_in(alloc: Global, front: &[u8], fields: &[u8]) -> Result<Vec<u8>, Allo
 
 /// The object of a denial with what is in front of its line.
 fn fronted(alloc: Global, front: &[u8], shown: &Shown<'_>) -> Result<Vec<u8>, AllocError>
-    ensures { IfOk result (λ text. (member : List ℕ) × IsFrontMember front.now member
-        × (text.items ≡ shown_line member shown.now.number shown.now.tick shown.now.ask shown.now.rule.now)) }
+    ensures { IfOk result (λ text. (before : List (List ℕ × Json)) × AreFrontMembers front.now before
+        × (text.items ≡ line_of (shown_value before shown.now.number shown.now.tick shown.now.ask shown.now.rule.now))) }
 {
-    let member = front_member(alloc, front)?;
-    denial(alloc, shown, &member)
+    let before = front_members(alloc, front)?;
+    denial(alloc, shown, before)
 }
 
-/// The member of what is in front: nothing if nothing is.
-fn front_member(alloc: Global, front: &[u8]) -> Result<Vec<u8>, AllocError>
-    ensures { IfOk result (λ member. IsFrontMember front.now member.items) }
+/// The member of what is in front: none if nothing is.
+fn front_members(alloc: Global, front: &[u8]) -> Result<Vec<Member>, AllocError>
+    ensures { IfOk result (λ members. AreFrontMembers front.now (members_view members.items)) }
 {
     if front.is_empty() {
         return Ok(Vec::new(alloc));
     }
     match str::from_utf8(front) {
-        Ok(text) => member_of(alloc, b",\"front\":", text),
-        Err(_) => front_octets(alloc, front),
+        Ok(text) => text_member(alloc, "front", text),
+        Err(_) => octets_member(alloc, "front_octets", front),
     }
 }
 
-/// The member of what is in front by its octets.
-fn front_octets(alloc: Global, front: &[u8]) -> Result<Vec<u8>, AllocError>
-    ensures { IfOk result (λ member. member.items ≡ front_octets_text front.now) }
+/// The object of a denial, with the member of what is in front of its line at the end.
+fn denial(alloc: Global, shown: &Shown<'_>, before: Vec<Member>) -> Result<Vec<u8>, AllocError>
+    ensures { IfOk result (λ text. text.items ≡ line_of (shown_value (members_view before.entry.items)
+        shown.now.number shown.now.tick shown.now.ask shown.now.rule.now)) }
 {
-    let digits = hex::encode_upper(alloc, front)?;
-    member_of(alloc, b",\"front_octets\":", digits.as_str())
+    let place = place_members(alloc, shown.number, shown.tick)?;
+    let ask = ask_members(alloc, &shown.ask)?;
+    let rule = text_member(alloc, "rule", shown.rule)?;
+    object_line(alloc, joined(joined(place, ask)?, joined(rule, before)?)?)
 }
 
-/// A label, and a text in quotes.
-fn member_of(alloc: Global, label: &[u8], text: &str) -> Result<Vec<u8>, AllocError>
-    ensures { IfOk result (λ member. member.items ≡ label.now ++ quoted text.now) }
+/// The number of a denial, and its tick.
+fn place_members(alloc: Global, number: u64, tick: u64) -> Result<Vec<Member>, AllocError>
+    ensures { IfOk result (λ members. members_view members.items ≡ place_members number tick) }
 {
-    let mut member = Vec::new(alloc);
-    put_slice(&mut member, label)?;
-    put_quoted(alloc, &mut member, text)?;
-    Ok(member)
-}
-
-/// The object of a denial, with this member at its end.
-fn denial(alloc: Global, shown: &Shown<'_>, member: &[u8]) -> Result<Vec<u8>, AllocError>
-    ensures { IfOk result (λ text. text.items
-        ≡ shown_line member.now shown.now.number shown.now.tick shown.now.ask shown.now.rule.now) }
-{
-    let mut text = empty_object(alloc)?;
-    put_number(&mut text, b"{\"number\":", shown.number)?;
-    put_number(&mut text, b",\"tick\":", shown.tick)?;
-    put_ask(alloc, &mut text, &shown.ask)?;
-    put_rule(alloc, &mut text, shown.rule, member)?;
-    Ok(text)
-}
-
-/// Appends the name of a rule, a member, and the end of the object.
-fn put_rule(alloc: Global, out: &mut Vec<u8>, rule: &str, member: &[u8]) -> Result<(), AllocError>
-    ensures { OnOk result
-        (out.new.items ≡ out.old.items ++ codes ",\"rule\":" ++ quoted rule.now ++ member.now ++ codes "}\n") }
-{
-    put_slice(out, b",\"rule\":")?;
-    put_quoted(alloc, out, rule)?;
-    put_slice(out, member)?;
-    put_slice(out, b"}\n")
-}
-
-/// Appends a label, a text in quotes, and the end of the object.
-fn put_last(alloc: Global, out: &mut Vec<u8>, label: &[u8], text: &str) -> Result<(), AllocError>
-    ensures { OnOk result (out.new.items ≡ out.old.items ++ label.now ++ quoted text.now ++ codes "}\n") }
-{
-    put_slice(out, label)?;
-    put_quoted(alloc, out, text)?;
-    put_slice(out, b"}\n")
+    Ok(vec![in alloc;
+        ("number", Value::Number(number)),
+        ("tick", Value::Number(tick)),
+    ]?)
 }
 
 /// The object of a line without own fields.
@@ -173,24 +144,7 @@ fn other(alloc: Global, line: &[u8]) -> Result<Vec<u8>, AllocError>
     ensures { IfOk result (λ text. IsOther line.now text.items) }
 {
     match str::from_utf8(line) {
-        Ok(text) => object_of(alloc, b"{\"line\":", text),
-        Err(_) => octets(alloc, line),
+        Ok(text) => object_line(alloc, text_member(alloc, "line", text)?),
+        Err(_) => object_line(alloc, octets_member(alloc, "octets", line)?),
     }
-}
-
-/// The object of a line by its octets.
-fn octets(alloc: Global, line: &[u8]) -> Result<Vec<u8>, AllocError>
-    ensures { IfOk result (λ text. text.items ≡ octets_line line.now) }
-{
-    let digits = hex::encode_upper(alloc, line)?;
-    object_of(alloc, b"{\"octets\":", digits.as_str())
-}
-
-/// The object of one text, after this label.
-fn object_of(alloc: Global, label: &[u8], text: &str) -> Result<Vec<u8>, AllocError>
-    ensures { IfOk result (λ octets. octets.items ≡ label.now ++ quoted text.now ++ codes "}\n") }
-{
-    let mut octets = Vec::new(alloc);
-    put_last(alloc, &mut octets, label, text)?;
-    Ok(octets)
 }

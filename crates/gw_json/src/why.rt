@@ -1,14 +1,14 @@
 //! Which rule would decide the asks of a text: a JSON object for each line.
 
-ghost use Rattle.std.specs.Prelude.{◌≡◌, ◌+◌, ◌-◌, ◌*◌, ◌<◌, ◌++◌, ℕ, List, Some, length, codes, option_map, slice_get, IfOk, IsErrOf, OnOk};
+ghost use Rattle.std.specs.Prelude.{◌≡◌, ◌+◌, ◌-◌, ◌*◌, ◌<◌, ℕ, List, Some, length, option_map, slice_get, IfOk, IsErrOf};
 ghost use Rattle.std.specs.Option.{option_and_then};
 ghost use Rattle.gw_script.specs.Known.{OnKnown};
-ghost use Rattle.gw_json.specs.Text.{number_text};
-ghost use Rattle.gw_json.specs.Why.{IsAnswerIn, LeavesVerdicts, SaysNoAsk, answer_line, grounds_text, name_text, noted_text, ruling_text, shown_note, truth_text, verdict_text};
+ghost use Rattle.gw_json.specs.Document.{line_of};
+ghost use Rattle.gw_json.specs.Why.{IsAnswerIn, LeavesVerdicts, SaysNoAsk, answer_value, name_value, note_value, noted_value, verdict_members};
+ghost use Rattle.gw_json.specs.internal.View.{members_view, value_view};
 
-use crate::ask::put_ask;
-use crate::value::{NULL, empty_object, put_field, put_quoted};
-use gw_addr::put_slice;
+use crate::ask::ask_members;
+use crate::value::{Member, Value, joined, number_value, object_line, text_value};
 use gw_audit::{ShownAsk, read_ask};
 use gw_configuration::{Config, Text};
 use gw_rules::{NO_RULE, Rule, RuleList};
@@ -77,68 +77,34 @@ impl Answers<'_> {
     /// The object of the answer to an ask.
     fn answer(&self, alloc: Global, ask: &ShownAsk) -> Result<Vec<u8>, AllocError>
         ensures { IfOk result (λ text. text.items
-            ≡ answer_line self.now.rules.now self.now.notes.now ask.now) }
+            ≡ line_of (answer_value self.now.rules.now self.now.notes.now ask.now)) }
     {
         let judged = ask.ask();
-        let mut text = empty_object(alloc)?;
-        self.put_verdict(
-            alloc,
-            &mut text,
-            self.rules.allows(&judged),
-            self.rules.first(&judged),
-        )?;
-        put_ask(alloc, &mut text, ask)?;
-        put_slice(&mut text, b"}\n")?;
-        Ok(text)
-    }
-
-    /// Appends the verdict of the rule of this number, or of none.
-    fn put_verdict(
-        &self,
-        alloc: Global,
-        out: &mut Vec<u8>,
-        is_allowed: bool,
-        by: Option<u16>,
-    ) -> Result<(), AllocError>
-        ensures { OnOk result (out.new.items ≡ out.old.items
-            ++ verdict_text self.now.rules.now self.now.notes.now is_allowed by) }
-    {
-        put_ruling(alloc, out, self.rules.rules(), is_allowed, by)?;
-        put_grounds(alloc, out, self.notes, by)
+        let (is_allowed, by) = (self.rules.allows(&judged), self.rules.first(&judged));
+        let verdict = verdict_members(alloc, self.rules.rules(), self.notes, is_allowed, by)?;
+        object_line(alloc, joined(verdict, ask_members(alloc, ask)?)?)
     }
 }
 
-/// Appends whether an ask is allowed, and the name of the rule that says so.
-fn put_ruling(
+/// What the policy says, by the rule of this number or by none.
+fn verdict_members(
     alloc: Global,
-    out: &mut Vec<u8>,
     rules: &[Rule],
+    notes: &[Text],
     is_allowed: bool,
     by: Option<u16>,
-) -> Result<(), AllocError>
-    ensures { OnOk result (out.new.items ≡ out.old.items ++ ruling_text rules.now is_allowed by) }
+) -> Result<Vec<Member>, AllocError>
+    ensures { IfOk result (λ members. members_view members.items
+        ≡ verdict_members rules.now notes.now is_allowed by) }
 {
-    put_truth(out, is_allowed)?;
-    put_name(alloc, out, item_at(rules, by))
-}
-
-/// Appends the number of that rule, and its note.
-fn put_grounds(
-    alloc: Global,
-    out: &mut Vec<u8>,
-    notes: &[Text],
-    by: Option<u16>,
-) -> Result<(), AllocError>
-    ensures { OnOk result (out.new.items ≡ out.old.items ++ grounds_text notes.now by) }
-{
-    put_rule_number(out, by)?;
-    put_note(alloc, out, item_at(notes, by))
-}
-
-fn put_rule_number(out: &mut Vec<u8>, by: Option<u16>) -> Result<(), AllocError>
-    ensures { OnOk result (out.new.items ≡ out.old.items ++ codes ",\"rule_number\":" ++ number_text by) }
-{
-    put_field(out, b",\"rule_number\":", number_of(by))
+    let rule = name_value(alloc, item_at(rules, by))?;
+    let note = note_value(alloc, item_at(notes, by))?;
+    Ok(vec![in alloc;
+        ("allow", Value::Boolean(is_allowed)),
+        ("rule", rule),
+        ("rule_number", number_value(number_of(by))),
+        ("note", note),
+    ]?)
 }
 
 /// The item of a number, which counts from 1.
@@ -160,48 +126,34 @@ fn number_of(by: Option<u16>) -> Option<u64>
     }
 }
 
-/// Appends whether an ask is allowed.
-fn put_truth(out: &mut Vec<u8>, truth: bool) -> Result<(), AllocError>
-    ensures { OnOk result (out.new.items ≡ out.old.items ++ codes "{\"allow\":" ++ truth_text truth) }
+/// The name of a rule, or `default` if there is none.
+fn name_value(alloc: Global, rule: Option<&Rule>) -> Result<Value, AllocError>
+    ensures { IfOk result (λ value. value_view value
+        ≡ name_value (option_map (λ rule. rule.now) rule.entry)) }
 {
-    put_slice(out, b"{\"allow\":")?;
-    if truth {
-        put_slice(out, b"true")
-    } else {
-        put_slice(out, b"false")
-    }
-}
-
-/// Appends the name of a rule, or `default` if there is none.
-fn put_name(alloc: Global, out: &mut Vec<u8>, rule: Option<&Rule>) -> Result<(), AllocError>
-    ensures { OnOk result (out.new.items ≡ out.old.items
-        ++ codes ",\"rule\":" ++ name_text (option_map (λ rule. rule.now) rule.entry)) }
-{
-    put_slice(out, b",\"rule\":")?;
     match rule {
-        Some(rule) => put_quoted(alloc, out, rule.name.as_str()),
-        None => put_quoted(alloc, out, NO_RULE),
+        Some(rule) => text_value(alloc, rule.name.as_str()),
+        None => Ok(Value::Word(NO_RULE)),
     }
 }
 
-/// Appends a note, or null if there is none or it is empty.
-fn put_note(alloc: Global, out: &mut Vec<u8>, note: Option<&Text>) -> Result<(), AllocError>
-    ensures { OnOk result (out.new.items ≡ out.old.items
-        ++ codes ",\"note\":" ++ shown_note (option_map (λ note. note.now) note.entry)) }
+/// A note, or null if there is none or it is empty.
+fn note_value(alloc: Global, note: Option<&Text>) -> Result<Value, AllocError>
+    ensures { IfOk result (λ value. value_view value
+        ≡ note_value (option_map (λ note. note.now) note.entry)) }
 {
-    put_slice(out, b",\"note\":")?;
     match note {
-        Some(note) => put_noted(alloc, out, note.as_str()),
-        None => put_slice(out, NULL),
+        Some(note) => noted_value(alloc, note.as_str()),
+        None => Ok(Value::Null),
     }
 }
 
-fn put_noted(alloc: Global, out: &mut Vec<u8>, note: &str) -> Result<(), AllocError>
-    ensures { OnOk result (out.new.items ≡ out.old.items ++ noted_text note.now) }
+fn noted_value(alloc: Global, note: &str) -> Result<Value, AllocError>
+    ensures { IfOk result (λ value. value_view value ≡ noted_value note.now) }
 {
     if note.is_empty() {
-        put_slice(out, NULL)
+        Ok(Value::Null)
     } else {
-        put_quoted(alloc, out, note)
+        text_value(alloc, note)
     }
 }
