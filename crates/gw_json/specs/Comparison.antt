@@ -83,8 +83,8 @@ abbrev pub rules_value : List Rule → List ℕ → Json
 rules_value rules places = array (items_of (map (rule_value rules) places))
 
 -- what the new policy says of a region, and its operations
-abbrev pub verdict_members : Found → List (List ℕ × Json)
-verdict_members f = (codes "verdict", string (verdict_word f.allows)) ∷ (codes "operation", operations_value f.region.operation) ∷ []
+abbrev pub outcome_members : Found → List (List ℕ × Json)
+outcome_members f = (codes "verdict", string (verdict_word f.allows)) ∷ (codes "operation", operations_value f.region.operation) ∷ []
 
 -- the rules of the new and of the old policy that decide it
 abbrev pub deciders_members : List Rule → List Rule → Found → List (List ℕ × Json)
@@ -92,7 +92,7 @@ deciders_members old new f = (codes "by", rules_value new f.new_rules.items) ∷
 
 -- these, and the other fields of its asks
 abbrev pub found_value : List Rule → List Rule → Found → Json
-found_value old new f = object_of (verdict_members f ++ map (field_member f.region) other_fields ++ deciders_members old new f)
+found_value old new f = object_of (outcome_members f ++ map (field_member f.region) other_fields ++ deciders_members old new f)
 
 -- how many regions there are, whether they are all, and how many steps it took
 abbrev pub summary_value : ℕ → Bool → ℕ → Json

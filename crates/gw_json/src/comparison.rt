@@ -7,7 +7,7 @@ ghost use Rattle.gw_ask_sets.specs.regions.Ranges.{both};
 ghost use Rattle.gw_rules.specs.Bounds.{bounds};
 ghost use Rattle.gw_rules.specs.declared.format.Format.TheVariants.{Three};
 ghost use Rattle.gw_rules.specs.declared.operation.TheConstants.Operation.{ALL};
-ghost use Rattle.gw_json.specs.Comparison.{deciders_members, end_value, field_member, found_value, name_or_null, named_operation, operations_value, other_fields, range_value, range_values, ranges_value, rule_value, rules_value, summary_value, values_value, verdict_members, verdict_word};
+ghost use Rattle.gw_json.specs.Comparison.{deciders_members, end_value, field_member, found_value, name_or_null, named_operation, operations_value, other_fields, range_value, range_values, ranges_value, rule_value, rules_value, summary_value, values_value, outcome_members, verdict_word};
 ghost use Rattle.gw_json.specs.Document.{IsLinePut, items_of, object_of};
 ghost use Rattle.gw_json.specs.internal.View.{members_view, value_view, values_view};
 
@@ -81,15 +81,15 @@ fn found_members(
     ensures { IfOk result (λ members. object_of (members_view members.items)
         ≡ found_value old.now new.now found.now) }
 {
-    let verdict = verdict_members(alloc, found)?;
+    let verdict = outcome_members(alloc, found)?;
     let fields = field_members(alloc, &found.region, other_fields())?;
     let deciders = deciders_members(alloc, old, new, found)?;
     joined(verdict, joined(fields, deciders)?)
 }
 
 /// What the new policy says of a region, and its operations.
-fn verdict_members(alloc: Global, found: &Found) -> Result<Vec<Member>, AllocError>
-    ensures { IfOk result (λ members. members_view members.items ≡ verdict_members found.now) }
+fn outcome_members(alloc: Global, found: &Found) -> Result<Vec<Member>, AllocError>
+    ensures { IfOk result (λ members. members_view members.items ≡ outcome_members found.now) }
 {
     let operation = operations_value(alloc, &found.region.operation)?;
     Ok(vec![in alloc;
