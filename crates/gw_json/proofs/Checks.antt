@@ -1,10 +1,9 @@
 -- The objects of a check have numbers below 2^64, and aren't deep.
-use Rattle.std.proofs.Common.{◌≡◌, ℕ, ◌^◌, ◌<◌, ◌≤◌, Bool, true, false, List, [], ◌∷◌, length, map, Option, Some, None, decimal, refl, arith}
+use Rattle.std.proofs.Common.{ℕ, ◌^◌, ◌<◌, true, false, List, [], ◌∷◌, length, map, Option, decimal, arith}
 use Rattle.std.specs.Prelude.{codes}
 use Rattle.std.specs.List.{AllByRecursion}
 use Rattle.json.specs.Json.{null, boolean, number, string, no_members}
 use Rattle.gw_configuration.specs.Configuration.{Configuration}
-use Rattle.gw_configuration.specs.declared.device.Device.{Device}
 use Rattle.gw_configuration.specs.declared.fault.ConfigFault.{ConfigFault}
 use Rattle.gw_configuration.specs.declared.fault.ConfigFault.TheVariants as faults
 use Rattle.gw_configuration.specs.declared.port.Port.{Port}

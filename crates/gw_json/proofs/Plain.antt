@@ -1,10 +1,10 @@
 -- A text that a writer of JSON gives has no control octets.
-use Rattle.std.proofs.Common.{◌≡◌, ◌≢◌, ◌⊎◌, inl, inr, ℕ, zero, suc, ◌+◌, ◌<◌, ◌≤◌, ◌/◌, ◌%◌, ◌^◌, ◌==◌, Bool, true, false, cond, List, [], ◌∷◌, ◌++◌, length, Some, None, Option, decimal, refl, sym, ap, ◌∙◌, arith, rules, subst}
-use Rattle.std.specs.Prelude.{⊤, All, get_or, nat_lt, flat_map, slice_index, ◌||◌, ◌&&◌}
+use Rattle.std.proofs.Common.{◌≡◌, ◌⊎◌, inl, inr, ℕ, zero, suc, ◌<◌, ◌≤◌, ◌/◌, ◌%◌, ◌^◌, ◌==◌, Bool, true, false, cond, List, [], ◌∷◌, ◌++◌, length, decimal, refl, arith}
+use Rattle.std.specs.Prelude.{⊤, get_or, nat_lt, slice_index, ◌||◌, ◌&&◌}
 use Rattle.std.specs.Char.{digit_char}
 use Rattle.std.proofs.lemmas.Fmt.{decimal_is_IsNumeral}
 use Rattle.std.proofs.lemmas.Str.Parse.{digit_at}
-use Rattle.json.specs.Print.{escape, escape_byte, escape_letter, print, print_from, quoted, separator, token_text, ends, begins}
+use Rattle.json.specs.Print.{escape, escape_byte, escape_letter, print_from, quoted, separator, token_text, ends, begins}
 use Rattle.json.specs.Token.{Token}
 
 -- ---- texts without control octets

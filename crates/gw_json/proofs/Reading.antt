@@ -1,9 +1,8 @@
 -- The objects of a log and of answers have numbers below 2^64, and aren't deep.
-use Rattle.std.proofs.Common.{◌≡◌, ℕ, ◌^◌, ◌<◌, inl, inr, length, Bool, true, false, List, [], ◌∷◌, ◌++◌, Option, Some, None, decimal, sym, subst, arith}
+use Rattle.std.proofs.Common.{◌≡◌, ℕ, ◌^◌, ◌<◌, inl, inr, length, Bool, true, List, [], ◌∷◌, ◌++◌, Option, Some, None, decimal, sym, subst, arith}
 use Rattle.std.specs.Prelude.{IfSome, codes, is_some, ◌==◌}
-use Rattle.std.specs.Option.{option_map_or}
 use Rattle.hex.specs.Hex.{encode_upper}
-use Rattle.json.specs.Json.{Json, null, boolean, number, string, no_members}
+use Rattle.json.specs.Json.{Json, null, number, string, no_members}
 use Rattle.gw_addr.specs.Station.{is_network}
 use Rattle.gw_audit.specs.Entry.{IsShowable, IsShownAsk, ShowsAsk, ask_shown, shown_ask}
 use Rattle.gw_audit.specs.Line.{operation_named}
@@ -15,7 +14,7 @@ use Rattle.gw_rules.specs.Operation.{operation_name}
 use Rattle.gw_rules.specs.RuleList.{IsNumberOf, allows, first}
 use Rattle.gw_rules.specs.declared.rule.Rule.{Rule}
 use Rattle.gw_rules.specs.declared.field.FieldName.TheVariants as fields
-use Rattle.gw_json.specs.Ask.{ask_members, key_or_null, key_value, named_value, number_value, operation_value, sender_of, station_of, station_value, station_word}
+use Rattle.gw_json.specs.Ask.{ask_members, key_or_null, key_value, number_value, operation_value, sender_of, station_of, station_word}
 use Rattle.gw_json.specs.Document.{members_of}
 use Rattle.gw_json.specs.Laws.{AnswersRead, DenialsRead, IsRead, OthersRead, ReadsAs}
 use Rattle.gw_json.specs.Log.{denial_value, front_members, front_octets_members, octets_value, text_value}

@@ -1,8 +1,7 @@
 -- The objects of a comparison have numbers below 2^64, and aren't deep.
-use Rattle.std.proofs.Common.{◌≡◌, ℕ, suc, ◌^◌, ◌<◌, ◌≤◌, Bool, true, false, List, [], ◌∷◌, ◌++◌, map, Option, Some, None, inl, inr, decimal, refl, arith}
+use Rattle.std.proofs.Common.{ℕ, ◌^◌, ◌<◌, ◌≤◌, Bool, true, false, List, [], ◌∷◌, ◌++◌, map, inl, inr, decimal, arith}
 use Rattle.std.specs.Prelude.{codes, if◌then◌else◌, nat_le, nat_lt, slice_get, ◌-◌, ◌==◌}
-use Rattle.std.specs.List.{flat_map, list_all}
-use Rattle.std.specs.Option.{option_map_or}
+use Rattle.std.specs.List.{list_all}
 use Rattle.std.proofs.lemmas.Bool.{cases_Bool}
 use Rattle.json.specs.Json.{Json, null, boolean, number, string, no_members}
 use Rattle.gw_ask_sets.specs.regions.Values.{has_operation}
@@ -11,7 +10,7 @@ use Rattle.gw_json.specs.Document.{members_of}
 use Rattle.gw_json.specs.Laws.{ComparisonsRead, SummariesRead}
 use Rattle.gw_json.proofs.Documents.{AreShallow, IsShallow, array_shallow, boolean_shallow, chosen_shallow, line_read, mapped_shallow, member_shallow, none_shallow, null_shallow, number_shallow, object_shallow, or_shallow, string_shallow, wider}
 use Rattle.gw_json.proofs.Plain.{Each}
-use Rattle.gw_ask_sets.specs.regions.Ranges.{between, both, greater, lesser}
+use Rattle.gw_ask_sets.specs.regions.Ranges.{between, greater, lesser}
 use Rattle.gw_ask_sets.specs.regions.Regions.{Region}
 use Rattle.gw_ask_sets.specs.regions.Values.{is_any}
 use Rattle.gw_ask_sets.specs.declared.regions.comparison.Found.{Found}
@@ -23,7 +22,6 @@ use Rattle.gw_rules.specs.Operation.{operation_name}
 use Rattle.gw_rules.specs.declared.field.FieldName.{FieldName}
 use Rattle.gw_rules.specs.declared.field.FieldName.TheVariants as fields
 use Rattle.gw_rules.specs.declared.format.Format.TheVariants.{Three}
-use Rattle.gw_rules.specs.declared.operation.Operation.{Operation}
 use Rattle.gw_rules.specs.declared.operation.TheConstants.Operation.{ALL}
 use Rattle.gw_rules.specs.declared.range.Range.{Range}
 use Rattle.gw_rules.specs.declared.rule.Rule.{Rule}

@@ -1,4 +1,4 @@
-use Rattle.std.proofs.Common.{◌≡◌, ◌∙◌, ◌++◌, ℕ, List, map, ap, ap₂}
+use Rattle.std.proofs.Common.{◌∙◌, ◌++◌, ℕ, List, map, ap, ap₂}
 use Rattle.json.specs.Json.{Json}
 use Rattle.gw_json.specs.Comparison.{deciders_members, field_member, other_fields, outcome_members}
 use Rattle.gw_json.specs.internal.View.{members_view}
