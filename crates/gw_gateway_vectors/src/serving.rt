@@ -1,11 +1,13 @@
 //! Serving a wire over memory, with a log over memory: every count, and what is left if a receive, a send, a write
 //! or a growth fails.
 
+ghost use Rattle.std.specs.Prelude.{◌<◌, ◌^◌};
+
 use crate::replays::make_gateway;
 use crate::wire::MemWire;
 use gw_cases::{MemWriter, number, number_or_none, put_word, unfolded};
-use gw_core::{Counts, Gateway};
-use gw_turns::{ServeStop, Served, serve, serve_with_reports};
+use gw_core::{Counts, Gateway, Unguarded};
+use gw_turns::{Pause, ServeState, ServeStop, Served, has_gone_on, report_of, serve, try_report};
 use gw_wire::Wire;
 use std::alloc::Global;
 use std::io;
@@ -91,7 +93,73 @@ struct Edges<'a> {
     reports: MemWriter,
 }
 
-/// Serves so many turns, with reports, each so many seconds.
+/// Reports what was done since the counts were those of [`BEFORE`].
+fn report(gateway: &Gateway, state: &ServeState, reports: &mut MemWriter) -> io::Result<()> {
+    if !has_gone_on(BEFORE, gateway, &state.served) {
+        return Err(ErrorKind::InvalidData.into());
+    }
+    let report = report_of(BEFORE, gateway, &state.served, state.tally);
+    try_report(&report, reports);
+    Ok(())
+}
+
+/// Reports what was done if a multiple of so many seconds has passed.
+fn report_due(
+    gateway: &Gateway,
+    state: &ServeState,
+    reports: &mut MemWriter,
+    seconds: u64,
+) -> io::Result<()>
+    requires { 0 < seconds }
+{
+    if gateway.counts().ticks.saturating_sub(BEFORE.ticks) % seconds == 0 {
+        report(gateway, state, reports)?;
+    }
+    Ok(())
+}
+
+/// Serves so many turns, stretch by stretch, and reports what was done each so many seconds and at the end.
+fn serve_reporting(
+    alloc: Global,
+    gateway: &mut Gateway,
+    edges: &mut Edges<'_>,
+    seconds: u64,
+    turns: u64,
+) -> io::Result<Result<Served, ServeStop>>
+    requires seconds { 0 < seconds }
+    requires turns { turns < 2 ^ 63 }
+    requires failures { edges.old.wire.failures < 2 ^ 127 }
+{
+    let mut state = ServeState::new(alloc);
+    for _ in 0..turns {
+        let left = turns - state.served.turns;
+        if left == 0 {
+            break;
+        }
+        let pause = match state.serve_to_tick(
+            alloc,
+            gateway,
+            &mut edges.wire,
+            &mut edges.log,
+            &mut Unguarded,
+            left,
+        ) {
+            Ok(pause) => pause,
+            Err(fault) => {
+                report(gateway, &state, &mut edges.reports)?;
+                let served = state.served;
+                return Ok(Err(ServeStop { fault, served }));
+            },
+        };
+        if let Pause::Tick = pause {
+            report_due(gateway, &state, &mut edges.reports, seconds)?;
+        }
+    }
+    report(gateway, &state, &mut edges.reports)?;
+    Ok(Ok(state.served))
+}
+
+/// Serves so many turns, if they can be served, and reports what was done each so many seconds and at the end.
 fn serve_with(
     alloc: Global,
     gateway: &mut Gateway,
@@ -102,18 +170,10 @@ fn serve_with(
     if seconds == 0 || turns >= 1 << 63 || edges.wire.failures() > 0 {
         return Err(ErrorKind::InvalidData.into());
     }
-    Ok(serve_with_reports(
-        alloc,
-        gateway,
-        &mut edges.wire,
-        &mut edges.log,
-        &mut edges.reports,
-        seconds,
-        turns,
-    ))
+    serve_reporting(alloc, gateway, edges, seconds, turns)
 }
 
-/// How a call with reports ends, and the reports. A case has how many seconds lie between two, how many turns are asked for, the call
+/// How serving by stretches with reports ends, and the reports. A case has how many seconds lie between two, how many turns are asked for, the call
 /// of the wire, the write to the log and the write of a report that fail, from 0, or `-`, and the script.
 pub fn reports(alloc: Global, config: &str, line: &str, out: &mut Vec<u8>) -> io::Result<()> {
     let mut words = line.splitn(6, ' ');

@@ -1,8 +1,8 @@
 mod ChainLemmas
 mod KeptLemmas
 mod LawLemmas
+mod PlainLemmas
 mod RunLemmas
 mod ServedLemmas
-pub mod ServingLemmas
 mod StampedLemmas
 mod WatchedLemmas

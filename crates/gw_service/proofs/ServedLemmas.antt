@@ -12,11 +12,12 @@ use Rattle.gw_core.specs.declared.event.Counts.{Counts}
 use Rattle.gw_state.specs.Saved.{Saved}
 use Rattle.gw_script.specs.Event.{Event}
 use Rattle.gw_turns.proofs.ServeLemmas.{lead_along, lead_nowhere}
-use Rattle.gw_turns.specs.Serve.{EndsBy, LeadTo, Scene, Turn, count_fault, count_turn, counts_after, counts_of, empty_turn, failed_turn}
+use Rattle.gw_turns.specs.Serve.{EndsBy, LeadTo, Scene, Stops, Turn, count_fault, count_turn, counts_after, counts_of, empty_turn, failed_turn}
 use Rattle.gw_turns.specs.Serve.{lost_event, scene, taken_event, turn_events}
 use Rattle.gw_turns.specs.Stretch.{AreGuarded, GuardsTurn}
 use Rattle.gw_wire.specs.Wire.{Call}
 use Rattle.gw_turns.specs.declared.serving.ServeFault.{ServeFault}
+use Rattle.gw_turns.specs.declared.serving.ServeFault.TheVariants as serving
 use Rattle.gw_turns.specs.declared.serving.Served.{Served}
 use Rattle.gw_system.specs.Requests.{Asking, GoesOn, answered, asked, nobody, recorded_by, unasked}
 use Rattle.gw_watchers.specs.Watching.{Watching}
@@ -27,20 +28,19 @@ use Rattle.gw_service.specs.Keeping.{IsKeptAtTick, IsKeptFor, IsPassed, troubles
 use Rattle.gw_service.specs.Kept.{Given, KeepsFirst, RunsBy, RunsKept, first_stage, manner_of, outcome_by, reporting_of}
 use Rattle.gw_service.specs.Laws.{FindsNone, IsAsServed, NobodyAsks}
 use Rattle.gw_notices.specs.Reload.{reload_line}
-use Rattle.gw_service.specs.Serving.{Ends, Serves, Service, first_scene, service}
+use Rattle.gw_service.specs.Serving.{Ends, Serves, Service, first_scene}
 use Rattle.gw_service.specs.Start.{BeginsAs, begun}
 use Rattle.gw_service.specs.Stats.{Reporting}
 use Rattle.gw_service.specs.declared.fault.ServiceFault.{ServiceFault}
 use Rattle.gw_service.specs.declared.keeping.Kept.{Kept}
 use Rattle.gw_service.specs.declared.keeping.Kept.TheVariants.{Nowhere, In}
 use Rattle.gw_service.proofs.ChainLemmas.{turns_counted}
-use Rattle.gw_service.proofs.ServingLemmas.{by_fault}
 use Rattle.gw_service.proofs.WatchedLemmas.{as_unwatched}
 
 -- ---- nobody asks
 
 -- no look finds a request then
-looks_none : {K : Type 0} (Adopts : K → Configuration → State → K → Type 0) (c d : Configuration) (s t : Standing K) (look : Look)
+pub looks_none : {K : Type 0} (Adopts : K → Configuration → State → K → Type 0) (c d : Configuration) (s t : Standing K) (look : Look)
     → IsLooked Adopts c s look d t → s.requests ≡ nobody → (look ≡ unrequested) × IsUnrequested c s d t × (t.requests ≡ nobody)
 looks_none Adopts c d s t unrequested is none =
     let goes = subst (λ (a : Asking). GoesOn a t.requests (unasked ∷ [])) none is.requests in (refl, is, goes.0)
@@ -51,7 +51,7 @@ looks_none Adopts c d s t (taken_over text new) is none =
     let goes = subst (λ (a : Asking). GoesOn a t.requests (asked (Ok (Some text)) ∷ answered line ∷ [])) none is.requests in
     absurd goes.1.0
 
-link_none : {K : Type 0} (manner : Manner K) (s t : Stage K) (link : Link) → IsLink manner s link t → s.requests ≡ nobody
+pub link_none : {K : Type 0} (manner : Manner K) (s t : Stage K) (link : Link) → IsLink manner s link t → s.requests ≡ nobody
     → FindsNone link × (t.config ≡ s.config) × (t.requests ≡ nobody) × (t.counts ≡ s.counts)
 link_none manner s t (served turns) is none = (tt, is.config, is.requests ∙ none, is.counts)
 link_none manner s t (ticked turns look text) is none =
@@ -91,7 +91,7 @@ nobody_asks manner count s t (Err f) links runs none =
 
 -- ---- nothing keeps the state
 
-first_nowhere : {S : Type 0} (held : S → Option (List ℕ)) (store : Option S) (c : Configuration) (w : State) (k : Kept S) → store ≡ None
+pub first_nowhere : {S : Type 0} (held : S → Option (List ℕ)) (store : Option S) (c : Configuration) (w : State) (k : Kept S) → store ≡ None
     → KeepsFirst held store c w k → k ≡ Nowhere
 first_nowhere held None c w Nowhere is keeps = refl
 first_nowhere held None c w (In k) is keeps = absurd keeps
@@ -137,13 +137,13 @@ counts_along s [] more = refl
 counts_along s (turn ∷ turns) more = counts_along (count_turn s turn) turns more
 
 -- From one stage to another these turns were served, and nothing keeps the state then.
-record AreServed {S : Type 0} (s t : Stage (Kept S)) : Type 0 where
-  turns : List Turn
-  led : LeadTo s.now.scene turns t.now.scene
-  counts : t.now.served ≡ counts_after s.now.served turns
-  nowhere : t.now.guard ≡ Nowhere
+pub record AreServed {S : Type 0} (s t : Stage (Kept S)) : Type 0 where
+  pub turns : List Turn
+  pub led : LeadTo s.now.scene turns t.now.scene
+  pub counts : t.now.served ≡ counts_after s.now.served turns
+  pub nowhere : t.now.guard ≡ Nowhere
 
-link_serves : {S : Type 0} (held : S → Option (List ℕ)) (how : Reporting) (s t : Stage (Kept S)) (link : Link)
+pub link_serves : {S : Type 0} (held : S → Option (List ℕ)) (how : Reporting) (s t : Stage (Kept S)) (link : Link)
     → IsLink (manner_of held how) s link t → s.requests ≡ nobody → s.now.guard ≡ Nowhere → AreServed s t
 link_serves held how s t (served turns) is none nowhere = record {
   turns = turns;
@@ -191,28 +191,33 @@ chain_serves held how s t (link ∷ links) chain none nowhere =
 
 -- ---- a run
 
+-- a stop is one by its fault
+by_fault : (c : Configuration) (turns : ℕ) (last : State) (before after : Ends) (by : ServeFault) (done : Served)
+    → Stops turns (first_scene c before) (record { fault = by; served = done }) (scene last after.log after.calls)
+    → Serves c turns before after (Err (fault_of_serving by))
+by_fault c turns last before after serving.Log done stops = record { gateway = last; served = done; stops = stops }
+by_fault c turns last before after serving.Memory done stops = inl (record { gateway = last; served = done; stops = stops })
+by_fault c turns last before after serving.CountEnd done stops = record { gateway = last; served = done; stops = stops }
+
 stopped : (c : Configuration) (count : ℕ) (before after : Ends) (moment last : Scene) (turns : List Turn) (f : ServeFault) (event : Event)
     → length turns < count → LeadTo (first_scene c before) turns moment → EndsBy f moment event last → last.log ≡ after.log
-    → last.calls ≡ after.calls → Serves c (service count None) before after [] (Err (fault_of_serving f))
+    → last.calls ≡ after.calls → Serves c count before after (Err (fault_of_serving f))
 stopped c count before after moment last turns f event fewer went ends log calls =
     let same = scene_as last last.gateway after.log after.calls refl log calls in
-    by_fault c (service count None) last.gateway before.log after.log before.calls after.calls [] f (count_fault (counts_of turns) f) (
-      record {
-        turns = turns;
-        fewer = fewer;
-        moment = moment;
-        went = went;
-        event = event;
-        last = subst (λ (x : Scene). EndsBy f moment event x) same ends;
-        counts = refl;
-      },
-      refl,
-    )
+    by_fault c count last.gateway before after f (count_fault (counts_of turns) f) (record {
+      turns = turns;
+      fewer = fewer;
+      moment = moment;
+      went = went;
+      event = event;
+      last = subst (λ (x : Scene). EndsBy f moment event x) same ends;
+      counts = refl;
+    })
 
 run_serves : {S : Type 0} (held : S → Option (List ℕ)) (how : Reporting) (count : ℕ) (c : Configuration) (before after : Ends)
     (s t : Stage (Kept S)) (answer : Result (Unit {0}) ServeFault) (links : List Link) → Runs (manner_of held how) count s answer links t
     → s.requests ≡ nobody → s.now.guard ≡ Nowhere → s.now.scene ≡ first_scene c before → t.now.scene.log ≡ after.log
-    → t.now.scene.calls ≡ after.calls → Serves c (service count None) before after [] (outcome_by answer)
+    → t.now.scene.calls ≡ after.calls → Serves c count before after (outcome_by answer)
 run_serves held how count c before after s t (Ok done) links runs none nowhere at log calls =
     let led = chain_serves held how s t links runs.chain none nowhere in
     let from = subst (λ (x : Scene). LeadTo x led.turns t.now.scene) at led.led in
@@ -227,7 +232,6 @@ run_serves held how count c before after s t (Ok done) links runs none nowhere a
         went = subst (λ (x : Scene). LeadTo (first_scene c before) led.turns x) same from;
         counts = refl;
       };
-      reports = refl;
     }
 run_serves held how count c before after s t (Err f) links runs none nowhere at log calls =
     let led = chain_serves held how s runs.then links runs.chain none nowhere in
@@ -248,10 +252,10 @@ begins_first c (Some state) line w no_state no_line begins = absurd cc
 
 kept_serves : {S Q L : Type 0} (given : Given S Q L) → given.saved ≡ None → given.line ≡ None → given.store ≡ None → given.requests ≡ None
     → (c : Configuration) (how : Service) (before after : Ends) (text : List ℕ) (outcome : Result (Unit {0}) ServiceFault)
-    → RunsKept given c how before after text outcome → Serves c (service how.turns None) before after [] outcome
+    → RunsKept given c how before after text outcome → Serves c how.turns before after outcome
 kept_serves given no_state no_line no_store no_requests c how before after text outcome runs =
     let fresh = begins_first c given.saved given.line runs.gateway no_state no_line runs.begins in
-    subst (λ (x : Result (Unit {0}) ServiceFault). Serves c (service how.turns None) before after [] x) (sym runs.answers)
+    subst (λ (x : Result (Unit {0}) ServiceFault). Serves c how.turns before after x) (sym runs.answers)
     (run_serves given.held (reporting_of given how runs.gateway) how.turns c before after
     (first_stage given c runs.gateway runs.keeper (troubles_in runs.keeper) before) runs.runs.last runs.answer runs.runs.links runs.runs.runs
     (ap (recorded_by given.said) no_requests) (first_nowhere given.held given.store c runs.gateway runs.keeper no_store runs.keeps)
@@ -260,7 +264,7 @@ kept_serves given no_state no_line no_store no_requests c how before after text 
 runs_serve : {S Q L : Type 0} (given : Given S Q L) → given.saved ≡ None → given.line ≡ None → given.store ≡ None → given.requests ≡ None
     → (watcher : Option (Watching L L)) (c : Configuration) (how : Service) (before after : Ends) (text : List ℕ)
     (outcome : Result (Unit {0}) ServiceFault) → RunsBy given watcher c how before after text outcome
-    → Serves c (service how.turns None) before after [] outcome
+    → Serves c how.turns before after outcome
 runs_serve given no_state no_line no_store no_requests None c how before after text outcome runs =
     kept_serves given no_state no_line no_store no_requests c how before after text outcome runs
 runs_serve given no_state no_line no_store no_requests (Some watcher) c how before after text outcome runs =
@@ -271,5 +275,4 @@ pub as_served : {S Q L : Type 0} (given : Given S Q L) → IsAsServed given
 as_served given no_state no_line no_store no_requests c how before after text outcome (inl runs) =
     runs_serve given no_state no_line no_store no_requests given.watcher c how before after text outcome runs
 as_served given no_state no_line no_store no_requests c how before after text outcome (inr unbegun) =
-    subst (λ (x : Result (Unit {0}) ServiceFault). Serves c (service how.turns None) before after [] x) (sym unbegun.2)
-    (inr (unbegun.0, refl))
+    subst (λ (x : Result (Unit {0}) ServiceFault). Serves c how.turns before after x) (sym unbegun.2) (inr unbegun.0)

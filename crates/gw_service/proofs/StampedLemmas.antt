@@ -4,19 +4,20 @@ use Rattle.std.specs.Prelude.{option_map, string_bytes}
 use Rattle.gw_configuration.specs.declared.run_options.RunOptions.{RunOptions}
 use Rattle.gw_configuration.specs.Configuration.{Configuration}
 use Rattle.gw_notices.specs.Announcement.{startup_line}
-use Rattle.gw_service.specs.Kept.{LeavesBy, LeavesService, LeavesWithState, Names, StateMachine, is_plain, names_of, ran, unopened, unprepared, whole_machine}
+use Rattle.gw_service.specs.Kept.{LeavesService, LeavesWithState, Names, StateMachine, names_of, ran, unopened, unprepared, whole_machine}
 use Rattle.gw_service.specs.Serving.{LeavesServed, Machine, Service, served, service, shut}
+use Rattle.gw_service.specs.StampedRun.{LeavesBy}
 use Rattle.gw_service.specs.declared.fault.ServiceFault.{ServiceFault}
 
 served_closes : {Log Sockets : Type 0} (m : Machine Log Sockets) (Closes : Sockets → Option Log → Type 0)
     → ((sockets : Sockets) (log : Option Log) → m.Closes sockets log → Closes sockets log) → (name held holds : Option (List ℕ)) (c : Configuration)
-    (how : Service) (is_verbose : Bool) (line said : List ℕ) (outcome : Result (Unit {0}) ServiceFault)
-    → LeavesServed m name held holds c how is_verbose line said outcome
-    → LeavesServed (record m { Closes = Closes }) name held holds c how is_verbose line said outcome
-served_closes m Closes so name held holds c how is_verbose line said outcome (shut failure opens is note) = shut failure opens is note
-served_closes m Closes so name held holds c how is_verbose line said outcome
-    (served log log_then sockets sockets_then output warning reports opens closes stays serves warns is) =
-    served log log_then sockets sockets_then output warning reports opens (so sockets_then log_then closes) stays serves warns is
+    (turns : ℕ) (is_verbose : Bool) (line said : List ℕ) (outcome : Result (Unit {0}) ServiceFault)
+    → LeavesServed m name held holds c turns is_verbose line said outcome
+    → LeavesServed (record m { Closes = Closes }) name held holds c turns is_verbose line said outcome
+served_closes m Closes so name held holds c turns is_verbose line said outcome (shut failure opens is note) = shut failure opens is note
+served_closes m Closes so name held holds c turns is_verbose line said outcome
+    (served log log_then sockets sockets_then output warning opens closes stays serves warns is) =
+    served log log_then sockets sockets_then output warning opens (so sockets_then log_then closes) stays serves warns is
 
 kept_closes : {Log Sockets S Q : Type 0} (m : Machine Log Sockets) (states : StateMachine S Q) (Closes : Sockets → Option Log → Type 0)
     → ((sockets : Sockets) (log : Option Log) → m.Closes sockets log → Closes sockets log) → (names : Names) (held holds : Option (List ℕ))
@@ -31,11 +32,6 @@ kept_closes m states Closes so names held holds c how is_verbose line said outco
     (ran before log log_then sockets sockets_then output warning text prepared opens closes stays leaves warns is) =
     ran before log log_then sockets sockets_then output warning text prepared opens (so sockets_then log_then closes) stays leaves warns is
 
-by_either : (b : Bool) (Plain Stated Other Another : Type 0) → (Plain → Other) → (Stated → Another) → LeavesBy b Plain Stated
-    → LeavesBy b Other Another
-by_either true Plain Stated Other Another first second leaves = first leaves
-by_either false Plain Stated Other Another first second leaves = second leaves
-
 pub service_closes : {Log Sockets S Q : Type 0} (m : Machine Log Sockets) (states : StateMachine S Q) (Closes : Sockets → Option Log → Type 0)
     → ((sockets : Sockets) (log : Option Log) → m.Closes sockets log → Closes sockets log) → (options : RunOptions)
     (held holds : Option (List ℕ)) (c : Configuration) (said : List ℕ) (outcome : Result (Unit {0}) ServiceFault)
@@ -44,23 +40,19 @@ pub service_closes : {Log Sockets S Q : Type 0} (m : Machine Log Sockets) (state
 service_closes m states Closes so options held holds c said outcome leaves =
     let name = option_map string_bytes options.log in
     let line = startup_line options.verbose c name in
-    let how = service options.turns options.stats in
-    let other = record m { Closes = Closes } in (
+    let how = service options.turns options.stats in (
       leaves.0,
       leaves.1,
-      by_either (is_plain options)
-          (LeavesServed m name held holds c how options.verbose line leaves.0 outcome)
-          (LeavesWithState m states (names_of options) held holds c how options.verbose line leaves.0 outcome)
-          (LeavesServed other name held holds c how options.verbose line leaves.0 outcome)
-          (LeavesWithState other states (names_of options) held holds c how options.verbose line leaves.0 outcome)
-          (served_closes m Closes so name held holds c how options.verbose line leaves.0 outcome)
-          (kept_closes m states Closes so (names_of options) held holds c how options.verbose line leaves.0 outcome) leaves.2,
+      (
+        kept_closes m states Closes so (names_of options) held holds c how options.verbose line leaves.0 outcome leaves.2.0,
+        λ is. served_closes m Closes so name held holds c options.turns options.verbose line leaves.0 outcome (leaves.2.1 is),
+      ),
     )
 
-pub with_them : (b : Bool) (Plain Stated : Type 0) → b ≡ true → Plain → LeavesBy b Plain Stated
-with_them true Plain Stated is leaves = leaves
-with_them false Plain Stated is leaves = absurd cc
+pub with_them : (b : Bool) (Stamped Plain : Type 0) → b ≡ true → Stamped → LeavesBy b Stamped Plain
+with_them true Stamped Plain is leaves = leaves
+with_them false Stamped Plain is leaves = absurd cc
 
-pub without_them : (b : Bool) (Plain Stated : Type 0) → b ≡ false → Stated → LeavesBy b Plain Stated
-without_them true Plain Stated is leaves = absurd cc
-without_them false Plain Stated is leaves = leaves
+pub without_them : (b : Bool) (Stamped Plain : Type 0) → b ≡ false → Plain → LeavesBy b Stamped Plain
+without_them true Stamped Plain is leaves = absurd cc
+without_them false Stamped Plain is leaves = leaves

@@ -1,4 +1,4 @@
--- What a run leaves that keeps its state or reads its configuration again.
+-- What a run leaves: one that may keep its state, read its configuration again, report and be watched.
 use Rattle.std.specs.Prelude.{◌≡◌, ◌⊎◌, ⊤, ℕ, ◌&&◌, ◌||◌, Bool, true, false, is_some, not, List, [], ◌++◌, Option, Some, None, Result, Ok, Err, option_map, string_bytes}
 use Rattle.std.specs.Global.{Vec}
 use Rattle.gw_configuration.specs.Configuration.{Configuration}
@@ -286,7 +286,7 @@ IsUnprepared machine LogOpens names c f =
     ⊎ ((IsStoreUnder machine.StoreOpens names.state (Err f) ⊎ IsMetricsUnder machine.StoreOpens names.metrics (Err f))
     ⊎ (IsUnwatched machine.FileReads machine.LastLines LogOpens c names.watch f ⊎ (f ≡ fault.Memory))))
 
--- What such a run leaves under a configuration: its state or its log's last line can't be had, and nothing is opened; not all can
+-- What a run leaves under a configuration: its state or its log's last line can't be had, and nothing is opened; not all can
 -- be opened, and why may be written; or all was opened, this line, a warning of the machine and what is due of the state were
 -- written, and then it ran and was closed.
 pub data LeavesWithState {Log Sockets S Q : Type 0} (machine : Machine Log Sockets) (states : StateMachine S Q) (names : Names)
@@ -310,11 +310,6 @@ pub data LeavesWithState {Log Sockets S Q : Type 0} (machine : Machine Log Socke
 abbrev pub is_plain : RunOptions → Bool
 is_plain options = not (is_some options.state) && (not (is_some options.reload) && not (is_watched (watch_names options)))
 
--- what a run leaves, by whether that is so
-abbrev pub LeavesBy : Bool → (Plain Stated : Type 0) → Type 0
-LeavesBy true Plain Stated = Plain
-LeavesBy false Plain Stated = Stated
-
 -- what a machine may give to any run
 pub record WholeMachine (Log Sockets S Q : Type 0) : Type 1 where
   pub machine : Machine Log Sockets
@@ -323,16 +318,15 @@ pub record WholeMachine (Log Sockets S Q : Type 0) : Type 1 where
 abbrev pub whole_machine : {Log Sockets S Q : Type 0} → Machine Log Sockets → StateMachine S Q → WholeMachine Log Sockets S Q
 whole_machine machine states = record { machine = machine; states = states }
 
--- What a run leaves under a configuration, by its options: without a state and a request file it is served from the gateway's
--- first state.
+-- What a run leaves under a configuration, by its options. If they name neither a state nor a request file, and nothing watches,
+-- then it is also what one of `serve` from the gateway's first state leaves.
 abbrev pub LeavesChosen : {Log Sockets S Q : Type 0} → WholeMachine Log Sockets S Q → RunOptions → (held holds : Option (List ℕ))
     → Configuration → List ℕ → Result (Unit {0}) ServiceFault → Type 0
 LeavesChosen whole options held holds c said outcome =
     let name = option_map string_bytes options.log in
     let line = startup_line options.verbose c name in
-    LeavesBy (is_plain options)
-    (LeavesServed whole.machine name held holds c (service options.turns options.stats) options.verbose line said outcome)
-    (LeavesWithState whole.machine whole.states (names_of options) held holds c (service options.turns options.stats) options.verbose line said outcome)
+    LeavesWithState whole.machine whole.states (names_of options) held holds c (service options.turns options.stats) options.verbose line said outcome
+    × (is_plain options ≡ true → LeavesServed whole.machine name held holds c options.turns options.verbose line said outcome)
 
 -- and before all it is said if rules say that they are audited, and no audit is named
 abbrev pub LeavesService : {Log Sockets S Q : Type 0} → WholeMachine Log Sockets S Q → RunOptions → (held holds : Option (List ℕ))

@@ -1,4 +1,4 @@
--- Laws of a run that keeps its state or reads its configuration again.
+-- Laws of a run.
 use Rattle.std.specs.Prelude.{◌≡◌, ◌⊎◌, ⊤, ℕ, ◌<◌, ◌≤◌, ◌^◌, List, [], Some, None, Result, All}
 use Rattle.gw_audit.specs.Entry.{IsLineOf, IsShowable}
 use Rattle.gw_audit.specs.declared.denial.Denial.{Denial}
@@ -15,7 +15,7 @@ use Rattle.gw_configuration.specs.Configuration.{Configuration}
 use Rattle.gw_watchers.specs.Watching.{Watching}
 use Rattle.gw_service.specs.Counts.{GoesOnFrom, own_fields}
 use Rattle.gw_service.specs.Kept.{Given, LeavesKept, RunsKept, RunsWatched}
-use Rattle.gw_service.specs.Serving.{Ends, Serves, Service, service}
+use Rattle.gw_service.specs.Serving.{Ends, Serves, Service}
 use Rattle.gw_service.specs.declared.fault.ServiceFault.{ServiceFault}
 
 -- a gateway judges by the rules of the configuration in force
@@ -76,4 +76,4 @@ abbrev pub IsAsServed : {S Q L : Type 0} → Given S Q L → Type 0
 IsAsServed {S} {Q} {L} given =
     given.saved ≡ None → given.line ≡ None → given.store ≡ None → given.requests ≡ None
     → (c : Configuration) (how : Service) (before after : Ends) (text : List ℕ) (outcome : Result (Unit {0}) ServiceFault)
-    → LeavesKept given c how before after text outcome → Serves c (service how.turns None) before after [] outcome
+    → LeavesKept given c how before after text outcome → Serves c how.turns before after outcome

@@ -10,11 +10,10 @@ use Rattle.gw_metrics.specs.declared.counts.StateTries.{StateTries}
 use Rattle.gw_metrics.specs.file.Writing.{Writing, WritesAtTick}
 use Rattle.gw_relay.specs.declared.port.PortState.{PortState}
 use Rattle.gw_rules.specs.declared.rule.Rule.{Rule}
-use Rattle.gw_turns.specs.Reports.{report_of}
+use Rattle.gw_turns.specs.Reports.{has_gone_on, report_of}
 use Rattle.gw_turns.specs.declared.report.Report.{Report}
 use Rattle.gw_turns.specs.declared.serving.Served.{Served}
 use Rattle.gw_turns.specs.declared.tally.Tally.{Tally}
-use Rattle.gw_service.specs.Stats.{has_gone_on}
 use Rattle.gw_notices.specs.declared.losses.Losses.{Losses}
 use Rattle.gw_service.specs.declared.metrics.Measures.{Measures}
 use Rattle.gw_notices.specs.declared.reload.ReloadCounts.{ReloadCounts}

@@ -1,16 +1,14 @@
--- What `run` leaves: what was opened, and what came of serving it from the gateway's first state,
--- over the definitions of `gw_core`.
+-- What `run` opens: the log and the sockets; and what serving them from the gateway's first state leaves, over the definitions of
+-- `gw_core` and `gw_turns`.
 use Rattle.std.specs.Prelude.{◌≡◌, ◌⊎◌, ⊤, ℕ, Bool, List, [], ◌++◌, Option, Some, None, Result, Ok, Err}
 use Rattle.std.specs.Io.KnownBytes.{Keeps}
 use Rattle.gw_core.specs.History.{state_after, no_counts}
-use Rattle.gw_turns.specs.Reports.{IsRunWith, reported_of}
-use Rattle.gw_turns.specs.Serve.{Scene, ServesAll, Stops, Turn, counts_of_answer, scene}
+use Rattle.gw_turns.specs.Serve.{Scene, ServesAll, Stops, scene}
 use Rattle.gw_core.specs.State.{State}
 use Rattle.gw_wire.specs.Wire.{Call}
 use Rattle.gw_turns.specs.declared.serving.Served.{Served}
 use Rattle.gw_turns.specs.declared.serving.ServeFault.{ServeFault}
 use Rattle.gw_turns.specs.declared.serving.ServeFault.TheVariants as serving
-use Rattle.gw_turns.specs.declared.serving.ServeStop.{ServeStop}
 use Rattle.gw_configuration.specs.Configuration.{Configuration}
 use Rattle.gw_configuration.specs.declared.port.Port.{Port}
 use Rattle.gw_notices.specs.Announcement.{IsWarning}
@@ -21,7 +19,7 @@ use Rattle.gw_system.specs.declared.opening.LogFailure.TheVariants as log_failur
 use Rattle.gw_system.specs.declared.opening.OpenFailure.{OpenFailure}
 use Rattle.gw_system.specs.declared.opening.OpenFailure.TheVariants as opening
 use Rattle.gw_system.specs.declared.opening.SocketFailure.{SocketFailure}
-use Rattle.gw_service.specs.Fault.{fault_of_opening, fault_of_serving}
+use Rattle.gw_service.specs.Fault.{fault_of_opening}
 use Rattle.gw_service.specs.declared.fault.ServiceFault.{ServiceFault}
 use Rattle.gw_service.specs.declared.fault.ServiceFault.TheVariants as fault
 
@@ -45,48 +43,27 @@ pub record Service : Type 0 where
 abbrev pub service : ℕ → Option ℕ → Service
 service turns stats = record { turns = turns; stats = stats }
 
--- what is said of a run from one state to another by these turns, in which so much was done
-abbrev pub reports_of : Option ℕ → State → List Turn → State → Served → List ℕ
-reports_of None before turns after served = []
-reports_of (Some seconds) before turns after served = reported_of seconds before turns after served
-
--- All turns were served, the gateway is as they left it, and these are their reports.
-pub record ServesWhole (c : Configuration) (how : Service) (before after : Ends) (text : List ℕ) : Type 0 where
+-- All turns were served, and the gateway is as they left it.
+pub record ServesWhole (c : Configuration) (turns : ℕ) (before after : Ends) : Type 0 where
   pub gateway : State
   pub served : Served
-  pub serves : ServesAll how.turns (first_scene c before) served (scene gateway after.log after.calls)
-  pub reports : text ≡ reports_of how.stats (state_after c no_counts []) serves.turns gateway served
+  pub serves : ServesAll turns (first_scene c before) served (scene gateway after.log after.calls)
 
--- Serving stopped by this fault, before all turns were done, and these are their reports.
-pub record StopsBy (by : ServeFault) (c : Configuration) (how : Service) (before after : Ends) (text : List ℕ)
-    : Type 0 where
+-- Serving stopped by this fault, before all turns were done.
+pub record StopsBy (by : ServeFault) (c : Configuration) (turns : ℕ) (before after : Ends) : Type 0 where
   pub gateway : State
   pub served : Served
-  pub stops : Stops how.turns (first_scene c before) (record { fault = by; served = served })
+  pub stops : Stops turns (first_scene c before) (record { fault = by; served = served })
       (scene gateway after.log after.calls)
-  pub reports : text ≡ reports_of how.stats (state_after c no_counts []) stops.turns gateway served
 
--- What serving from the gateway's first state leaves at each outcome, and what is said of it.
--- Memory may run out before the first turn too, and then nothing was received or reported.
-abbrev pub Serves : Configuration → Service → Ends → Ends → List ℕ → Result (Unit {0}) ServiceFault → Type 0
-Serves c how before after text (Ok done) = ServesWhole c how before after text
-Serves c how before after text (Err fault.Log) = StopsBy serving.Log c how before after text
-Serves c how before after text (Err fault.Memory) =
-    StopsBy serving.Memory c how before after text ⊎ ((after ≡ before) × (text ≡ []))
-Serves c how before after text (Err fault.CountEnd) = StopsBy serving.CountEnd c how before after text
-Serves c how before after text (Err _) = ⊥
-
--- the outcome of the program, by the answer of serving
-abbrev pub outcome_of : Result Served ServeStop → Result (Unit {0}) ServiceFault
-outcome_of (Ok served) = Ok tt
-outcome_of (Err stop) = Err (fault_of_serving stop.fault)
-
--- what serving from a state leaves at each outcome, all turns or a stop by the fault, and what is said of it
-abbrev pub ServesFrom : Service → Scene → Scene → List ℕ → Result (Unit {0}) ServiceFault → Type 0
-ServesFrom how before after text outcome =
-    (answer : Result Served ServeStop) × (outcome ≡ outcome_of answer)
-    × IsRunWith how.turns before answer after
-    (λ run. text ≡ reports_of how.stats before.gateway run after.gateway (counts_of_answer answer))
+-- What serving from the gateway's first state leaves at each outcome.
+-- Memory may run out before the first turn too, and then nothing was received.
+abbrev pub Serves : Configuration → (turns : ℕ) → Ends → Ends → Result (Unit {0}) ServiceFault → Type 0
+Serves c turns before after (Ok done) = ServesWhole c turns before after
+Serves c turns before after (Err fault.Log) = StopsBy serving.Log c turns before after
+Serves c turns before after (Err fault.Memory) = StopsBy serving.Memory c turns before after ⊎ (after ≡ before)
+Serves c turns before after (Err fault.CountEnd) = StopsBy serving.CountEnd c turns before after
+Serves c turns before after (Err _) = ⊥
 
 -- What a machine may give: the log of a name, the sockets of some ports, whether it routes IP itself, and log and
 -- sockets when they are closed; and what a log holds, and which calls sockets show.
@@ -157,18 +134,19 @@ ArentOpen LogOpens SocketsOpen name held holds (opening.Log f) =
 ArentOpen LogOpens SocketsOpen name held holds (opening.Sockets failure) =
     (log : Option _) × LogIsOpen LogOpens name held holds log × SocketsOpen (Err failure)
 
--- What `run` leaves under a configuration: not all can be opened, and why may be written; or all was opened, this
--- line was written and a warning of the machine, and then it was served, with its reports, and closed.
+-- What a run of `serve` leaves under a configuration: not all can be opened, and why may be written; or all was opened, this
+-- line was written and a warning of the machine, and then it was served from the gateway's first state, and closed.
 pub data LeavesServed {Log Sockets : Type 0} (machine : Machine Log Sockets) (name : Option (List ℕ))
     (held holds : Option (List ℕ))
-    (c : Configuration) (how : Service) (is_verbose : Bool) (line said : List ℕ) (outcome : Result (Unit {0}) ServiceFault)
+    (c : Configuration) (turns : ℕ) (is_verbose : Bool) (line said : List ℕ) (outcome : Result (Unit {0}) ServiceFault)
     : Type 0 where
   shut : (failure : OpenFailure) → ArentOpen machine.LogOpens (machine.SocketsOpen c.ports) name held holds failure →
       outcome ≡ Err (fault_of_opening failure) → IsNote is_verbose failure said →
-      LeavesServed machine name held holds c how is_verbose line said outcome
-  served : (log log_then : Option Log) (sockets sockets_then : Sockets) (output : Option (List ℕ)) (warning reports : List ℕ) →
+      LeavesServed machine name held holds c turns is_verbose line said outcome
+  served : (log log_then : Option Log) (sockets sockets_then : Sockets) (output : Option (List ℕ)) (warning : List ℕ) →
       AreOpen machine.LogOpens (machine.SocketsOpen c.ports) name held output log sockets →
       machine.Closes sockets_then log_then → LogStays log log_then output holds →
-      Serves c how (ends (log_held machine.held log output) (machine.calls sockets))
-      (ends (log_held machine.held log_then holds) (machine.calls sockets_then)) reports outcome →
-      IsWarning machine.RoutesIp is_verbose warning → said ≡ line ++ warning ++ reports → LeavesServed machine name held holds c how is_verbose line said outcome
+      Serves c turns (ends (log_held machine.held log output) (machine.calls sockets))
+      (ends (log_held machine.held log_then holds) (machine.calls sockets_then)) outcome →
+      IsWarning machine.RoutesIp is_verbose warning → said ≡ line ++ warning →
+      LeavesServed machine name held holds c turns is_verbose line said outcome

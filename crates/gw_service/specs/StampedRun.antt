@@ -1,12 +1,12 @@
 -- What a run leaves whose log in a file has stamps and notes: what the log holds is seen without them.
-use Rattle.std.specs.Prelude.{ℕ, List, Option, Result}
+use Rattle.std.specs.Prelude.{ℕ, Bool, true, false, List, Option, Result}
 use Rattle.gw_configuration.specs.declared.run_options.RunOptions.{RunOptions}
 use Rattle.gw_configuration.specs.Configuration.{Configuration}
 use Rattle.gw_log_words.specs.declared.noted.Noted.{Noted}
 use Rattle.gw_log_words.specs.declared.stamped.Stamped.{Stamped}
 use Rattle.gw_system.specs.Host.{OpensAtLine}
 use Rattle.gw_system.specs.StampedHost.{IsWhole, OpensStamped, held_in, log_if}
-use Rattle.gw_service.specs.Kept.{LeavesBy, LeavesService, WholeMachine, whole_machine}
+use Rattle.gw_service.specs.Kept.{LeavesService, WholeMachine, whole_machine}
 use Rattle.gw_service.specs.Serving.{Machine, machine}
 use Rattle.gw_service.specs.declared.fault.ServiceFault.{ServiceFault}
 
@@ -26,6 +26,11 @@ pub record TimedMachine (C Log Sockets S Q : Type 0) : Type 1 where
 
 abbrev pub timed_machine : {C Log Sockets S Q : Type 0} → WholeMachine Log Sockets S Q → TimedMachine C Log Sockets S Q
 timed_machine whole = record { whole = whole }
+
+-- what a run leaves, by whether there are stamps and notes
+abbrev pub LeavesBy : Bool → (Stamped Plain : Type 0) → Type 0
+LeavesBy true Stamped Plain = Stamped
+LeavesBy false Stamped Plain = Plain
 
 -- What a run leaves, by whether its options ask for stamps and notes: if they don't, what any run leaves.
 abbrev pub LeavesTimed : {C Log Sockets S Q : Type 0} → TimedMachine C Log Sockets S Q → RunOptions → (held holds : Option (List ℕ))

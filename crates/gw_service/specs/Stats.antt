@@ -1,17 +1,12 @@
 -- What is reported of a run, each so many seconds and at its end.
-use Rattle.std.specs.Prelude.{ℕ, ◌+◌, ◌-◌, ◌%◌, ◌==◌, ◌&&◌, Bool, nat_le, if◌then◌else◌, List, [], ◌++◌, Option, Some, None}
+use Rattle.std.specs.Prelude.{ℕ, ◌-◌, ◌%◌, ◌==◌, Bool, if◌then◌else◌, List, [], ◌++◌, Option, Some, None}
 use Rattle.gw_core.specs.State.{State}
 use Rattle.gw_core.specs.declared.event.Counts.{Counts}
-use Rattle.gw_turns.specs.Reports.{report_line, report_of}
+use Rattle.gw_turns.specs.Reports.{has_gone_on, report_line, report_of}
 use Rattle.gw_turns.specs.declared.serving.Served.{Served}
 use Rattle.gw_turns.specs.declared.tally.Tally.{Tally}
 use Rattle.gw_notices.specs.Stats.{reloads_text, unkept_text}
 use Rattle.gw_notices.specs.declared.reload.ReloadCounts.{ReloadCounts}
-
--- The counts of a gateway in this state didn't fall since it began with these, and each tick is an event that was taken.
-abbrev pub has_gone_on : Counts → State → Served → Bool
-has_gone_on start w s =
-    nat_le start.ticks w.ticks && (nat_le start.denials w.denials && nat_le w.ticks (start.ticks + s.taken))
 
 -- When what is reported: each so many seconds, if reports are asked for; since a gateway began with these counts; and whether
 -- its state is kept or its configuration read again, and whether that is read again.

@@ -100,7 +100,8 @@ pub record WatchesUnder {Log : Type 0} (FileReads LastLines : List ℕ → Resul
 abbrev pub IsWatcherUnder : {Log : Type 0} → (FileReads LastLines : List ℕ → Result (Option (List ℕ)) ReadFailure → Type 0) → LogOpening Log
     → Configuration → WatchNames → Option (Watching Log Log) → Type 0
 IsWatcherUnder FileReads LastLines LogOpens c names None = is_watched names ≡ false
-IsWatcherUnder FileReads LastLines LogOpens c names (Some w) = WatchesUnder FileReads LastLines LogOpens c names w
+IsWatcherUnder FileReads LastLines LogOpens c names (Some w) =
+    (is_watched names ≡ true) × WatchesUnder FileReads LastLines LogOpens c names w
 
 -- or why it can't
 abbrev pub IsUnwatched : {Log : Type 0} → (FileReads LastLines : List ℕ → Result (Option (List ℕ)) ReadFailure → Type 0) → LogOpening Log

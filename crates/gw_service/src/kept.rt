@@ -1,4 +1,7 @@
-//! A run that keeps its state, or reads its configuration again.
+//! A run: a gateway that may keep its state, read its configuration again, report and be watched.
+//!
+//! A function that owns a configuration or a gateway does nothing fallible after making it, and passes
+//! a reference on: each way out would drop a large value.
 
 ghost use Rattle.std.specs.Prelude.{◌≡◌, ◌<◌, ◌^◌, ◌||◌, ℕ, List, None, Ok, [], is_some, option_map, string_bytes, IfErr, IfOk, OnOk};
 ghost use Rattle.std.specs.Io.Buffered.{writer_buffer, writer_contents};
@@ -384,8 +387,7 @@ fn run_open<
     }
 }
 
-/// Serves the ports of a configuration as the options ask, with a state that is kept or with requests to read the configuration
-/// again. Faults: those of [`serve_ports`](crate::serve_ports).
+/// Serves the ports of a configuration as the options ask. Faults: those of [`serve_ports`](crate::serve_ports).
 pub(crate) fn serve_kept<H: Host, W: Write + Drop, E: OctetSink>(
     alloc: Global,
     config: Config,

@@ -1,4 +1,4 @@
-//! Laws of a run that keeps its state, reads its configuration again or is watched. The functions do nothing: their contracts are the laws.
+//! Laws of a run. The functions do nothing: their contracts are the laws.
 
 ghost use Rattle.std.specs.Prelude.{List, ℕ};
 ghost use Rattle.gw_core.specs.State.{State};
@@ -41,8 +41,7 @@ pub fn nobody_asks<K: StateKeeper>()
         NobodyAsks (manner K.Passes K.Ticks K.Adopts K.troubles report) }
 {}
 
-/// A run that neither keeps a state nor looks for requests, but reports or is watched, is one of [`serve`](gw_turns::serve) but for
-/// what it reports: the log, the calls of the wire and the outcome are those of serving from the gateway's first state.
+/// A run that neither keeps a state nor looks for requests is one of [`serve`](gw_turns::serve) but for what it reports: the log, the calls of the wire and the outcome are those of serving from the gateway's first state.
 pub fn as_served<S: Store + Drop, Q: Requests + Drop, L: OctetSink + Drop>()
     ensures { (given : Given S Q L) → IsAsServed given }
 {}

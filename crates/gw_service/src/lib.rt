@@ -23,7 +23,7 @@ pub use gw_configuration::RunOptions;
 pub use keeping::StateKeeper;
 pub use reload::{Adopted, reloaded};
 pub use running::Running;
-pub use serving::{serve_fresh, serve_ports};
+pub use serving::serve_ports;
 pub use stamped_run::serve_run;
 pub use stats::Schedule;
 pub use successor::Successor;

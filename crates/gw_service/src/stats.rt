@@ -3,16 +3,15 @@
 ghost use Rattle.std.proofs.Props.{props};
 ghost use Rattle.std.specs.Prelude.{◌≡◌, ◌-◌, ◌%◌, ◌==◌, ◌<◌, ◌≤◌, IfSome, IsTrue, if◌then◌else◌, [], List, ℕ, true};
 ghost use Rattle.std.specs.Io.KnownBytes.{Appends};
-ghost use Rattle.gw_turns.specs.ReportTurn.{HasGoneOn};
 ghost use Rattle.gw_service.specs.Metrics.{measures_of};
-ghost use Rattle.gw_service.specs.Stats.{due_stats, end_stats, has_gone_on, is_due, reporting, stats_text, tries_text};
+ghost use Rattle.gw_service.specs.Stats.{due_stats, end_stats, is_due, reporting, stats_text, tries_text};
 
 use crate::keeping::StateKeeper;
 use crate::metrics::Measures;
 use gw_core::{Counts, Gateway};
 use gw_notices::{ReloadCounts, report_reloads, report_unkept};
 use gw_script::OctetSink;
-use gw_turns::{ServeState, Served, report_of, try_report};
+use gw_turns::{ServeState, has_gone_on, report_of, try_report};
 
 /// When a report is due: the counts of the gateway at first, and the seconds from one to the next, if reports are asked for;
 /// and whether it says how often the state couldn't be kept, and how often the configuration was read again.
@@ -27,17 +26,6 @@ pub struct Schedule {
     /// Whether the configuration is read again if that is asked for.
     pub reloads: bool,
     pub ghost some: { IfSome seconds (λ n. 0 < n) } by { Prim.hlevel props },
-}
-
-/// Whether a gateway's counts didn't fall since it began with these, and each tick is an event that was taken. It is always so.
-fn has_gone_on(start: Counts, gateway: &Gateway, served: &Served) -> bool
-    ensures is { result ≡ has_gone_on start gateway.now served.now }
-    ensures means { IsTrue result → HasGoneOn start gateway.now served.now }
-{
-    let now = gateway.counts();
-    start.ticks <= now.ticks
-        && start.denials <= now.denials
-        && now.ticks - start.ticks <= served.taken
 }
 
 /// Whether so many seconds have passed, or a multiple of that.

@@ -21,7 +21,7 @@ fn is_counted(options: &RunOptions) -> bool
 }
 
 /// Whether the options ask for something that watches: a trial, an audit, or counts of the rules.
-pub(crate) fn is_watched(options: &RunOptions) -> bool
+fn is_watched(options: &RunOptions) -> bool
     ensures { result ≡ is_watched (watch_names options.now) }
 {
     options.trial.is_some() || options.audit.is_some() || is_counted(options)

@@ -2,7 +2,6 @@ pub mod Tally
 pub mod Serve
 pub mod ServeTurn
 pub mod Reports
-pub mod ReportTurn
 pub mod Served
 pub mod Stretch
 pub mod Both

@@ -5,7 +5,6 @@ mod alike;
 mod keeper;
 pub mod laws;
 mod report;
-mod reporting;
 mod seen;
 mod serving;
 mod stretch;
@@ -13,8 +12,7 @@ mod tally;
 
 pub use alike::Part;
 pub use keeper::Keeper;
-pub use report::{Report, report_of, try_report};
-pub use reporting::serve_with_reports;
+pub use report::{Report, has_gone_on, report_of, try_report};
 pub use serving::{ServeFault, ServeState, ServeStop, Served, serve};
 pub use stretch::Pause;
 pub use tally::Tally;

@@ -1,12 +1,11 @@
 //! A report of serving: what was done so far and what the tables hold, and its line.
 
-ghost use Rattle.std.specs.Prelude.{◌≡◌, ◌+◌, ◌≤◌, ◌++◌, decimal, length, IsOk, OnOk};
+ghost use Rattle.std.specs.Prelude.{◌≡◌, ◌+◌, ◌≤◌, ◌++◌, decimal, length, IsOk, IsTrue, OnOk};
 ghost use Rattle.std.specs.Io.KnownBytes.{Appends};
 ghost use Rattle.gw_addr.specs.declared.TheConstants.{MAX_PORTS};
 ghost use Rattle.gw_tables.specs.bdt_fdt.Peers.{peers};
 ghost use Rattle.gw_tables.specs.declared.bdt_fdt.bdt.TheConstants.{MAX_ENTRIES};
-ghost use Rattle.gw_turns.specs.ReportTurn.{HasGoneOn};
-ghost use Rattle.gw_turns.specs.Reports.{calls_text, drops_text, events_text, field, peer_count, refusals_text, registrations, report_line, report_of, tables_text, tally_text};
+ghost use Rattle.gw_turns.specs.Reports.{HasGoneOn, calls_text, drops_text, events_text, field, has_gone_on, peer_count, refusals_text, registrations, report_line, report_of, tables_text, tally_text};
 
 use crate::serving::Served;
 use crate::tally::Tally;
@@ -74,6 +73,18 @@ fn peer_count(ports: &[PortState]) -> u64
         count += peers_of(state) as u64;
     }
     count
+}
+
+/// Whether a gateway's counts didn't fall since it began with these, and each tick is an event that was taken. It is always so
+/// while it is served.
+pub fn has_gone_on(start: Counts, gateway: &Gateway, served: &Served) -> bool
+    ensures is { result ≡ has_gone_on start gateway.now served.now }
+    ensures means { IsTrue result → HasGoneOn start gateway.now served.now }
+{
+    let now = gateway.counts();
+    start.ticks <= now.ticks
+        && start.denials <= now.denials
+        && now.ticks - start.ticks <= served.taken
 }
 
 /// What is reported of a gateway that began with these counts, when so much was done.

@@ -1,17 +1,39 @@
 use Rattle.std.proofs.Common.{List, ℕ, ◌++◌, ◌≡◌, ap, rules, subst}
+use Rattle.std.specs.Io.Buffered.{writer_contents}
 use Rattle.std.specs.Io.KnownBytes.{Appends}
+use Rattle.std.specs.Prelude.{option_map, string_bytes}
 use Rattle.gw_notices.proofs.AppendLemmas.{appends_two}
+use Rattle.gw_notices.specs.Announcement.{startup_line}
+use Rattle.gw_system.specs.Host.{OpensAtLine}
+use Rattle.gw_service.specs.Kept.{state_machine}
+use Rattle.gw_service.specs.Serving.{machine}
+use Rattle.gw_service.proofs.PlainLemmas.{plain_is_served}
 use Rattle.gw_service.proofs.serving.serve_ports.Goals as goal
 
 pub returns-clause-served : goal.returns-clause-served
 returns-clause-served g c =
-    let done = c.serve_chosen.ensures.served in
+    let done = c.serve_kept.ensures.served in
     let note = c.unaudited_note.result.now in
     let same : c.as_bytes.result.now ≡ note = search rules in
-    let held = g.E.OctetSink.held in (
+    let held = g.E.OctetSink.held in
+    let old = c.args.host.now in
+    let options = c.args.options.now in
+    let given = machine (OpensAtLine (g.H.Host.LogOpens old) (g.H.Host.LogIsCut old) g.H.Log.OctetSink.held) (g.H.Host.SocketsOpen old)
+    (g.H.Host.RoutesIp old) (g.H.Host.Closes c.serve_kept.new.host) g.H.Log.OctetSink.held g.H.Sockets.Wire.calls in
+    let states = state_machine (g.H.Host.FileReads old) (g.H.Host.LastLines old) (g.H.Host.StoreOpens old) (g.H.Host.ReloadsOpen old)
+    g.H.StateStore.Store.held g.H.Reloads.Requests.recorded in
+    let line = startup_line options.verbose c.args.config (option_map string_bytes options.log) in (
       note ++ done.0,
-      (done.0, ap (λ (t : List ℕ). t ++ done.0) c.unaudited_note.ensures, done.1),
-      λ never. appends_two (held c.args.errors.now) (held c.write_note.new.errors) (held c.serve_chosen.new.errors) note done.0
+      (
+        done.0,
+        ap (λ (t : List ℕ). t ++ done.0) c.unaudited_note.ensures,
+        (
+          done.1,
+          λ plain. plain_is_served given states options (writer_contents g.W.Write.contents c.args.output.now)
+              (writer_contents g.W.Write.contents c.serve_kept.new.output) c.args.config line done.0 c.serve_kept.result plain done.1,
+        ),
+      ),
+      λ never. appends_two (held c.args.errors.now) (held c.write_note.new.errors) (held c.serve_kept.new.errors) note done.0
           (subst (λ (t : List ℕ). Appends (held c.args.errors.now) (held c.write_note.new.errors) t) same (c.write_note.ensures.said never))
           (done.2 (c.write_note.ensures.lasts never)),
     )

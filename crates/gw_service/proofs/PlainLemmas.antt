@@ -1,0 +1,283 @@
+-- A run whose options name neither a state nor a request file, and that nothing watches: it is one of `serve`, and reports nothing.
+use Rattle.std.proofs.Common.{◌≡◌, ◌∙◌, ℕ, List, [], ◌∷◌, ◌++◌, Bool, true, false, true≢false, Option, Some, None, refl, sym, ap, subst, inl, inr}
+use Rattle.std.proofs.lemmas.List.{append-nil}
+use Rattle.std.proofs.lemmas.List.Concat.{flat_map-cons}
+use Rattle.std.specs.Prelude.{Result, Ok, Err, is_some, not, ◌&&◌, ◌||◌, option_map, string_bytes}
+use Rattle.gw_configuration.specs.Configuration.{Configuration}
+use Rattle.gw_configuration.specs.declared.run_options.RunOptions.{RunOptions}
+use Rattle.gw_core.specs.State.{State}
+use Rattle.gw_core.specs.declared.event.Counts.{Counts}
+use Rattle.gw_notices.specs.Notices.{no_troubles, notice_of}
+use Rattle.gw_notices.specs.declared.troubles.Troubles.{Troubles}
+use Rattle.gw_state.specs.Saved.{Saved}
+use Rattle.gw_system.specs.Host.{LogOpening}
+use Rattle.gw_system.specs.Opening.{IsNote}
+use Rattle.gw_system.specs.Requests.{nobody, recorded_by}
+use Rattle.gw_system.specs.declared.opening.LogFailure.TheVariants as log_failure
+use Rattle.gw_system.specs.declared.opening.OpenFailure.TheVariants as opening
+use Rattle.gw_system.specs.declared.reading.ReadFailure.{ReadFailure}
+use Rattle.gw_turns.specs.declared.serving.ServeFault.{ServeFault}
+use Rattle.gw_wire.specs.declared.store.StoreFault.{StoreFault}
+use Rattle.gw_watchers.specs.Watching.{Watching}
+use Rattle.gw_service.specs.Chain.{AreLinks, IsLink, Link, Look, Runs, Stage, Standing, chain_text, link_text, look_text, standing_at}
+use Rattle.gw_service.specs.Chain.{served, ticked, unrequested, withheld}
+use Rattle.gw_service.specs.Keeping.{IsKeptFor, troubles_in}
+use Rattle.gw_service.specs.Kept.{AreRequestsUnder, Given, IsLastLine, IsMetricsUnder, IsStateUnder, IsStoreUnder, IsUnprepared, LeavesKept, LeavesWithState}
+use Rattle.gw_service.specs.Kept.{Names, RunsBy, RunsKept, StateMachine, first_stage, given, is_plain, manner_of, names_of, ran, reporting_of, text_before, unopened, unprepared}
+use Rattle.gw_service.specs.Serving.{Ends, LeavesServed, Machine, Service, service, shut}
+use Rattle.gw_service.specs.Serving.{served as served_by}
+use Rattle.gw_service.specs.Stats.{Reporting, due_by, end_by}
+use Rattle.gw_service.specs.Watch.{IsAuditNamed, IsTrialNamed, IsUnwatched, IsWatcherUnder, WatchNames, is_watched, watch_names}
+use Rattle.gw_service.specs.declared.fault.ServiceFault.{ServiceFault}
+use Rattle.gw_service.specs.declared.fault.ServiceFault.TheVariants as fault
+use Rattle.gw_service.specs.declared.keeping.Kept.{Kept}
+use Rattle.gw_service.specs.declared.keeping.Kept.TheVariants.{Nowhere}
+use Rattle.gw_service.proofs.ServedLemmas.{as_served, first_nowhere, link_none, link_serves, looks_none}
+
+-- ---- nothing is reported
+
+due_none : (seconds : Option ℕ) (start : Counts) (w : State) (text : List ℕ) → seconds ≡ None → due_by seconds start w text ≡ []
+due_none None start w text is = refl
+due_none (Some n) start w text is = absurd cc
+
+end_none : (seconds : Option ℕ) (text : List ℕ) → seconds ≡ None → end_by seconds text ≡ []
+end_none None text is = refl
+end_none (Some n) text is = absurd cc
+
+-- what is said after a tick, if no request was found, nothing is kept and no report is due
+tick_silent : {S : Type 0} (c : Configuration) (look : Look) (was is : Troubles) (report : List ℕ) → look ≡ unrequested → was ≡ no_troubles
+    → is ≡ no_troubles → report ≡ [] → (s : Standing (Kept S)) → (look_text c s look ++ notice_of was is) ++ report ≡ []
+tick_silent c look was is report unasked no_was no_is none s =
+    ap (λ (l : Look). (look_text c s l ++ notice_of was is) ++ report) unasked
+    ∙ ap (λ (t : Troubles). notice_of t is ++ report) no_was
+    ∙ ap (λ (t : Troubles). notice_of no_troubles t ++ report) no_is
+    ∙ none
+
+link_silent : {S : Type 0} (held : S → Option (List ℕ)) (how : Reporting) (s t : Stage (Kept S)) (link : Link)
+    → IsLink (manner_of held how) s link t → s.requests ≡ nobody → s.now.guard ≡ Nowhere → how.seconds ≡ None → s.said ≡ no_troubles
+    → (link_text link ≡ []) × (t.said ≡ no_troubles)
+link_silent held how s t (served turns) is none nowhere unreported said = (refl, is.said ∙ said)
+link_silent held how s t (ticked turns look text) is none nowhere unreported said =
+    let found = looks_none (IsKeptFor held) s.config t.config _ _ look is.done.looked none in
+    let after = link_serves held how s t (ticked turns look text) is none nowhere in
+    let now : t.said ≡ no_troubles = is.said ∙ ap troubles_in after.nowhere in (
+      is.lines ∙ tick_silent s.config look s.said t.said _ found.0 said now
+          (due_none how.seconds how.start t.now.scene.gateway _ unreported) (standing_at is.then s.requests s.counts),
+      now,
+    )
+link_silent held how s t (withheld turns event text) is none nowhere unreported said =
+    let after = link_serves held how s t (withheld turns event text) is none nowhere in
+    let now : t.said ≡ no_troubles = is.said ∙ ap troubles_in after.nowhere in (
+      is.lines ∙ ap (λ (x : Troubles). notice_of x t.said) said ∙ ap (λ (x : Troubles). notice_of no_troubles x) now,
+      now,
+    )
+
+chain_silent : {S : Type 0} (held : S → Option (List ℕ)) (how : Reporting) (s t : Stage (Kept S)) (links : List Link)
+    → AreLinks (manner_of held how) s links t → s.requests ≡ nobody → s.now.guard ≡ Nowhere → how.seconds ≡ None → s.said ≡ no_troubles
+    → chain_text links ≡ []
+unfolding AreLinks
+chain_silent held how s t [] chain none nowhere unreported said = refl
+chain_silent held how s t (link ∷ links) chain none nowhere unreported said =
+    let still = link_none (manner_of held how) s chain.0 link chain.1 none in
+    let after = link_serves held how s chain.0 link chain.1 none nowhere in
+    let first = link_silent held how s chain.0 link chain.1 none nowhere unreported said in
+    let later = chain_silent held how chain.0 t links chain.2 still.2 after.nowhere unreported first.1 in
+    flat_map-cons link_text link links ∙ ap (λ (x : List ℕ). x ++ chain_text links) first.0 ∙ later
+
+run_silent : {S : Type 0} (held : S → Option (List ℕ)) (how : Reporting) (count : ℕ) (s t : Stage (Kept S)) (answer : Result (Unit {0}) ServeFault)
+    (links : List Link) → Runs (manner_of held how) count s answer links t → s.requests ≡ nobody → s.now.guard ≡ Nowhere
+    → how.seconds ≡ None → s.said ≡ no_troubles → chain_text links ≡ []
+run_silent held how count s t (Ok done) links runs none nowhere unreported said =
+    chain_silent held how s t links runs.chain none nowhere unreported said
+run_silent held how count s t (Err f) links runs none nowhere unreported said =
+    chain_silent held how s runs.then links runs.chain none nowhere unreported said
+
+-- what is said of a whole run, if nothing is kept and no report is asked for
+all_silent : (is : Troubles) (chain report : List ℕ) → is ≡ no_troubles → chain ≡ [] → report ≡ []
+    → (notice_of no_troubles is ++ chain) ++ report ≡ []
+all_silent is chain report no_is no_chain none =
+    ap (λ (t : Troubles). (notice_of no_troubles t ++ chain) ++ report) no_is
+    ∙ ap (λ (x : List ℕ). x ++ report) no_chain
+    ∙ none
+
+kept_silent : {S Q L : Type 0} (given : Given S Q L) → given.store ≡ None → given.requests ≡ None → (c : Configuration) (how : Service)
+    (before after : Ends) (text : List ℕ) (outcome : Result (Unit {0}) ServiceFault) → how.stats ≡ None
+    → RunsKept given c how before after text outcome → text ≡ []
+kept_silent given no_store no_requests c how before after text outcome unreported runs =
+    let reporting = reporting_of given how runs.gateway in
+    let nowhere = first_nowhere given.held given.store c runs.gateway runs.keeper no_store runs.keeps in
+    let first = first_stage given c runs.gateway runs.keeper (troubles_in runs.keeper) before in
+    let said : first.said ≡ no_troubles = ap troubles_in nowhere in
+    let chain = run_silent given.held reporting how.turns first runs.runs.last runs.answer runs.runs.links runs.runs.runs
+    (ap (recorded_by given.said) no_requests) nowhere unreported said in
+    runs.runs.said ∙ all_silent first.said (chain_text runs.runs.links) _ said chain (end_none how.stats _ unreported)
+
+silent : {S Q L : Type 0} (given : Given S Q L) → given.store ≡ None → given.requests ≡ None → given.watcher ≡ None → (c : Configuration)
+    (how : Service) (before after : Ends) (text : List ℕ) (outcome : Result (Unit {0}) ServiceFault) → how.stats ≡ None
+    → LeavesKept given c how before after text outcome → text ≡ []
+silent given no_store no_requests no_watcher c how before after text outcome unreported (inl runs) =
+    kept_silent given no_store no_requests c how before after text outcome unreported
+    (subst (λ (w : Option (Watching _ _)). RunsBy given w c how before after text outcome) no_watcher runs)
+silent given no_store no_requests no_watcher c how before after text outcome unreported (inr unbegun) = unbegun.1
+
+-- ---- what is read and opened before
+
+state_none : (FileReads : List ℕ → Result (Option (List ℕ)) ReadFailure → Type 0) (name : Option (List ℕ)) (saved : Option Saved) → name ≡ None
+    → IsStateUnder FileReads name (Ok saved) → saved ≡ None
+state_none FileReads None saved is under = cc
+state_none FileReads (Some name) saved is under = absurd cc
+
+line_none : (LastLines : List ℕ → Result (Option (List ℕ)) ReadFailure → Type 0) (state log line : Option (List ℕ))
+    → state ≡ None → IsLastLine LastLines state log (Ok line) → line ≡ None
+line_none LastLines None log line is under = cc
+line_none LastLines (Some state) log line is under = absurd cc
+
+store_none : {S : Type 0} (StoreOpens : List ℕ → Result S StoreFault → Type 0) (name : Option (List ℕ)) (store : Option S) → name ≡ None
+    → IsStoreUnder StoreOpens name (Ok store) → store ≡ None
+store_none StoreOpens None store is under = cc
+store_none StoreOpens (Some name) store is under = absurd cc
+
+requests_none : {Q : Type 0} (ReloadsOpen : List ℕ → List ℕ → Q → Type 0) (name : Option (List ℕ)) (config : List ℕ) (requests : Option Q)
+    → name ≡ None → AreRequestsUnder ReloadsOpen name config requests → requests ≡ None
+requests_none ReloadsOpen None config None is under = refl
+requests_none ReloadsOpen None config (Some requests) is under = absurd under
+requests_none ReloadsOpen (Some name) config requests is under = absurd cc
+
+watcher_none : {Log : Type 0} (FileReads LastLines : List ℕ → Result (Option (List ℕ)) ReadFailure → Type 0) (LogOpens : LogOpening Log)
+    (c : Configuration) (names : WatchNames) (watcher : Option (Watching Log Log)) → is_watched names ≡ false
+    → IsWatcherUnder FileReads LastLines LogOpens c names watcher → watcher ≡ None
+watcher_none FileReads LastLines LogOpens c names None is under = refl
+watcher_none FileReads LastLines LogOpens c names (Some w) is under = absurd (true≢false (sym under.0 ∙ is))
+
+text_none : (name : Option (List ℕ)) (is_verbose : Bool) (c : Configuration) (saved : Option Saved) → name ≡ None
+    → text_before name is_verbose c saved ≡ []
+text_none None is_verbose c saved is = refl
+text_none (Some name) is_verbose c saved is = absurd cc
+
+-- ---- nothing can't be read or opened before
+
+no_state_fault : (FileReads : List ℕ → Result (Option (List ℕ)) ReadFailure → Type 0) (name : Option (List ℕ)) (f : ServiceFault) → name ≡ None
+    → IsStateUnder FileReads name (Err f) → f ≡ fault.Memory
+no_state_fault FileReads None f is under = absurd cc
+no_state_fault FileReads (Some name) f is under = absurd cc
+
+no_line_fault : (LastLines : List ℕ → Result (Option (List ℕ)) ReadFailure → Type 0) (state log : Option (List ℕ)) (f : ServiceFault)
+    → state ≡ None → IsLastLine LastLines state log (Err f) → f ≡ fault.Memory
+no_line_fault LastLines None log f is under = absurd cc
+no_line_fault LastLines (Some state) log f is under = absurd cc
+
+no_store_fault : {S : Type 0} (StoreOpens : List ℕ → Result S StoreFault → Type 0) (name : Option (List ℕ)) (f : ServiceFault) → name ≡ None
+    → IsStoreUnder StoreOpens name (Err f) → f ≡ fault.Memory
+no_store_fault StoreOpens None f is under = absurd cc
+no_store_fault StoreOpens (Some name) f is under = absurd cc
+
+no_metrics_fault : {S : Type 0} (StoreOpens : List ℕ → Result S StoreFault → Type 0) (name : Option (List ℕ)) (f : ServiceFault) → name ≡ None
+    → IsMetricsUnder StoreOpens name (Err f) → f ≡ fault.Memory
+no_metrics_fault StoreOpens None f is under = absurd cc
+no_metrics_fault StoreOpens (Some name) f is under = absurd cc
+
+no_trial_fault : {Log : Type 0} (FileReads LastLines : List ℕ → Result (Option (List ℕ)) ReadFailure → Type 0) (LogOpens : LogOpening Log)
+    (c : Configuration) (rules log : Option (List ℕ)) (f : ServiceFault) → rules ≡ None
+    → IsTrialNamed FileReads LastLines LogOpens c rules log (Err f) → f ≡ fault.Memory
+no_trial_fault FileReads LastLines LogOpens c None log f is under = absurd cc
+no_trial_fault FileReads LastLines LogOpens c (Some rules) log f is under = absurd cc
+
+no_audit_fault : {Log : Type 0} (LastLines : List ℕ → Result (Option (List ℕ)) ReadFailure → Type 0) (LogOpens : LogOpening Log)
+    (c : Configuration) (name : Option (List ℕ)) (f : ServiceFault) → name ≡ None
+    → IsAuditNamed LastLines LogOpens c name (Err f) → f ≡ fault.Memory
+no_audit_fault LastLines LogOpens c None f is under = absurd cc
+no_audit_fault LastLines LogOpens c (Some name) f is under = absurd cc
+
+-- the names of what such a run would open
+record AreNone (names : Names) : Type 0 where
+  state : names.state ≡ None
+  metrics : names.metrics ≡ None
+  reload : names.reload ≡ None
+  trial : names.watch.trial ≡ None
+  audit : names.watch.audit ≡ None
+  watched : is_watched names.watch ≡ false
+
+-- then only memory can end it before the log is opened
+watch_memory : {Log : Type 0} (FileReads LastLines : List ℕ → Result (Option (List ℕ)) ReadFailure → Type 0) (LogOpens : LogOpening Log)
+    (c : Configuration) (names : WatchNames) (f : ServiceFault) → names.trial ≡ None → names.audit ≡ None
+    → IsUnwatched FileReads LastLines LogOpens c names f → f ≡ fault.Memory
+watch_memory FileReads LastLines LogOpens c names f no_trial no_audit (inl trial) =
+    no_trial_fault FileReads LastLines LogOpens c names.trial names.trial_log f no_trial trial
+watch_memory FileReads LastLines LogOpens c names f no_trial no_audit (inr (inl audit)) =
+    no_audit_fault LastLines LogOpens c names.audit f no_audit audit
+watch_memory FileReads LastLines LogOpens c names f no_trial no_audit (inr (inr memory)) = memory
+
+unprepared_memory : {S Q Log : Type 0} (states : StateMachine S Q) (LogOpens : LogOpening Log) (names : Names) (c : Configuration) (f : ServiceFault)
+    → AreNone names → IsUnprepared states LogOpens names c f → f ≡ fault.Memory
+unprepared_memory states LogOpens names c f none (inl state) = no_state_fault states.FileReads names.state f none.state state
+unprepared_memory states LogOpens names c f none (inr (inl line)) = no_line_fault states.LastLines names.state names.log f none.state line
+unprepared_memory states LogOpens names c f none (inr (inr (inl (inl store)))) = no_store_fault states.StoreOpens names.state f none.state store
+unprepared_memory states LogOpens names c f none (inr (inr (inl (inr metrics)))) = no_metrics_fault states.StoreOpens names.metrics f none.metrics metrics
+unprepared_memory states LogOpens names c f none (inr (inr (inr (inl watch)))) =
+    watch_memory states.FileReads states.LastLines LogOpens c names.watch f none.trial none.audit watch
+unprepared_memory states LogOpens names c f none (inr (inr (inr (inr memory)))) = memory
+
+no_note : (is_verbose : Bool) (said : List ℕ) → said ≡ [] → IsNote is_verbose (opening.Log log_failure.Memory) said
+no_note true said none = none
+no_note false said none = none
+
+-- ---- the whole
+
+serves_plain : {Log Sockets S Q : Type 0} (m : Machine Log Sockets) (states : StateMachine S Q) (names : Names) (held holds : Option (List ℕ))
+    (c : Configuration) (how : Service) (is_verbose : Bool) (line said : List ℕ) (outcome : Result (Unit {0}) ServiceFault) → AreNone names
+    → how.stats ≡ None → LeavesWithState m states names held holds c how is_verbose line said outcome
+    → LeavesServed m names.log held holds c how.turns is_verbose line said outcome
+serves_plain m states names held holds c how is_verbose line said outcome none unreported (unprepared f why is stays unsaid) =
+    shut (opening.Log log_failure.Memory) (inl (refl, stays)) (is ∙ ap Err (unprepared_memory states m.LogOpens names c f none why))
+    (no_note is_verbose said unsaid)
+serves_plain m states names held holds c how is_verbose line said outcome none unreported (unopened failure opens is note) =
+    shut failure opens is note
+serves_plain m states names held holds c how is_verbose line said outcome none unreported
+    (ran before log log_then sockets sockets_then output warning text prepared opens closes stays leaves warns is) =
+    let at = given states.held states.said m.held before in
+    let no_saved = state_none states.FileReads names.state before.saved none.state prepared.saved in
+    let no_line = line_none states.LastLines names.state names.log at.line none.state prepared.line in
+    let no_store = store_none states.StoreOpens names.state before.store none.state prepared.store in
+    let no_requests = requests_none states.ReloadsOpen names.reload names.config before.requests none.reload prepared.requests in
+    let no_watcher = watcher_none states.FileReads states.LastLines m.LogOpens c names.watch before.watcher none.watched prepared.watcher in
+    let no_text = prepared.text ∙ text_none names.state is_verbose c before.saved none.state in
+    let serves = as_served at no_saved no_line no_store no_requests c how _ _ text outcome leaves in
+    let nothing = silent at no_store no_requests no_watcher c how _ _ text outcome unreported leaves in
+    served_by log log_then sockets sockets_then output warning opens closes stays serves warns
+    (is ∙ ap (λ (x : List ℕ). ((line ++ warning) ++ x) ++ text) no_text ∙ ap (λ (x : List ℕ). ((line ++ warning) ++ []) ++ x) nothing
+    ∙ append-nil ((line ++ warning) ++ []) ∙ append-nil (line ++ warning))
+
+none_of : {A : Type 0} (x : Option A) → is_some x ≡ false → x ≡ None
+none_of None is = refl
+none_of (Some x) is = absurd cc
+
+-- what isn't named by options of a plain run
+plain_parts : (a b c : Bool) → (not a && (not b && not c)) ≡ true → (a ≡ false) × (b ≡ false) × (c ≡ false)
+plain_parts false false false is = (refl, refl, refl)
+plain_parts true b c is = absurd cc
+plain_parts false true c is = absurd cc
+plain_parts false false true is = absurd cc
+
+or_parts : (a b : Bool) → (a || b) ≡ false → (a ≡ false) × (b ≡ false)
+or_parts false b is = (refl, is)
+or_parts true b is = absurd cc
+
+pub plain_is_served : {Log Sockets S Q : Type 0} (m : Machine Log Sockets) (states : StateMachine S Q) (options : RunOptions)
+    (held holds : Option (List ℕ)) (c : Configuration) (line said : List ℕ) (outcome : Result (Unit {0}) ServiceFault) → is_plain options ≡ true
+    → LeavesWithState m states (names_of options) held holds c (service options.turns options.stats) options.verbose line said outcome
+    → LeavesServed m (option_map string_bytes options.log) held holds c options.turns options.verbose line said outcome
+plain_is_served m states options held holds c line said outcome plain leaves =
+    let names = names_of options in
+    let parts = plain_parts (is_some options.state) (is_some options.reload) (is_watched names.watch) plain in
+    let trial = or_parts (is_some names.watch.trial) (is_some names.watch.audit || names.watch.counts) parts.2 in
+    let audit = or_parts (is_some names.watch.audit) names.watch.counts trial.1 in
+    let counts = or_parts (is_some options.stats) (is_some options.metrics) audit.1 in
+    serves_plain m states names held holds c (service options.turns options.stats) options.verbose line said outcome
+    (record {
+      state = ap (option_map string_bytes) (none_of options.state parts.0);
+      metrics = ap (option_map string_bytes) (none_of options.metrics counts.1);
+      reload = ap (option_map string_bytes) (none_of options.reload parts.1);
+      trial = none_of names.watch.trial trial.0;
+      audit = none_of names.watch.audit audit.0;
+      watched = parts.2;
+    }) (none_of options.stats counts.0) leaves
