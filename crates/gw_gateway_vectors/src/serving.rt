@@ -7,7 +7,9 @@ use crate::replays::make_gateway;
 use crate::wire::MemWire;
 use gw_cases::{MemWriter, number, number_or_none, put_word, unfolded};
 use gw_core::{Counts, Gateway, Unguarded};
-use gw_turns::{Pause, ServeState, ServeStop, Served, has_gone_on, report_of, serve, try_report};
+use gw_turns::{
+    Pause, ServeFault, ServeState, ServeStop, Served, has_gone_on, report_of, serve, try_report,
+};
 use gw_wire::Wire;
 use std::alloc::Global;
 use std::io;
@@ -118,6 +120,23 @@ fn report_due(
     Ok(())
 }
 
+/// Reports what was done after a stretch that ended in a fault, or at a tick if a multiple of so many seconds has passed.
+fn report_after(
+    answer: &Result<Pause, ServeFault>,
+    gateway: &Gateway,
+    state: &ServeState,
+    reports: &mut MemWriter,
+    seconds: u64,
+) -> io::Result<()>
+    requires { 0 < seconds }
+{
+    match answer {
+        Ok(Pause::Tick) => report_due(gateway, state, reports, seconds),
+        Ok(_) => Ok(()),
+        Err(_) => report(gateway, state, reports),
+    }
+}
+
 /// Serves so many turns, stretch by stretch, and reports what was done each so many seconds and at the end.
 fn serve_reporting(
     alloc: Global,
@@ -136,23 +155,18 @@ fn serve_reporting(
         if left == 0 {
             break;
         }
-        let pause = match state.serve_to_tick(
+        let answer = state.serve_to_tick(
             alloc,
             gateway,
             &mut edges.wire,
             &mut edges.log,
             &mut Unguarded,
             left,
-        ) {
-            Ok(pause) => pause,
-            Err(fault) => {
-                report(gateway, &state, &mut edges.reports)?;
-                let served = state.served;
-                return Ok(Err(ServeStop { fault, served }));
-            },
-        };
-        if let Pause::Tick = pause {
-            report_due(gateway, &state, &mut edges.reports, seconds)?;
+        );
+        report_after(&answer, gateway, &state, &mut edges.reports, seconds)?;
+        if let Err(fault) = answer {
+            let served = state.served;
+            return Ok(Err(ServeStop { fault, served }));
         }
     }
     report(gateway, &state, &mut edges.reports)?;
