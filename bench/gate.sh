@@ -31,7 +31,7 @@ import sys
 import time
 
 PAUSE = 0.5  # seconds between two looks at the processor times
-LOOKS = 6  # how many of them for each look at the memory, which is dear
+LOOKS = 60  # how many of them for each look at the memory: one looks at every page of processes of gigabytes
 TICKS = os.sysconf("SC_CLK_TCK")
 
 
