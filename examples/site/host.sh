@@ -126,6 +126,7 @@ warned() {
 }
 
 echo "without:"
+in_gateway sysctl -qw net.ipv4.conf.all.rp_filter=0 net.ipv4.conf.port1.rp_filter=0 net.ipv4.conf.port2.rp_filter=0
 in_gateway sysctl -qw net.ipv4.ip_forward=0
 serve
 same "the gateway warns of a machine that doesn't route" "$(warned)" no
@@ -137,6 +138,7 @@ in_gateway sysctl -qw net.ipv4.ip_forward=0
 same "a read by the address of the other port" "$(first read 10.2.0.2)" answered
 same "a read by the broadcast address of the other port" "$(first read 10.2.0.255)" answered
 same "a message to UDP port 53 of a host" "$(heard second 53 first pass 10.2.0.9 53)" heard
+same "a registration in the name of a host of the other subnet is granted" "$(heard second 47808 first forge 10.1.0.2 10.2.0.9)" heard
 same "a message of port 2 to a host of the first subnet" "$(heard first 47809 first pass 10.1.0.5 47809)" heard
 echo "  in a flood of 5,000 a second: $(flooded)"
 sleep 1
@@ -145,9 +147,12 @@ echo "  $(tail -1 "$work/told")"
 echo "with:"
 # What a namespace has of the settings; those of net.core are the machine's.
 in_gateway sysctl -qw net.ipv4.ip_forward=1
-grep -oE '^net\.ipv4\.[a-z_]+ = [0-9]+' "$dist/bacgw.sysctl" > "$work/sysctl"
+grep -oE '^net\.ipv4\.([a-z_]+|conf\.(all|default)\.rp_filter) = [0-9]+' "$dist/bacgw.sysctl" > "$work/sysctl"
 size=$(grep -oE '^-net\.ipv4\.neigh\.\*\.unres_qlen_bytes = [0-9]+' "$dist/bacgw.sysctl" | sed 's/.* //')
-for number in 1 2; do echo "net.ipv4.neigh.port$number.unres_qlen_bytes = $size" >> "$work/sysctl"; done
+for number in 1 2; do
+    echo "net.ipv4.neigh.port$number.unres_qlen_bytes = $size"
+    echo "net.ipv4.conf.port$number.rp_filter = 1"
+done >> "$work/sysctl"
 in_gateway sysctl -qp "$work/sysctl"
 in_gateway nft -f "$dist/bacgw.nft"
 in_gateway nft -f "$dist/bacgw.nft"
@@ -170,6 +175,10 @@ same "a message to 255.255.255.255 is dropped" "$(dropped 'daddr 255.255.255.255
 same "a foreign device of the other subnet" "$(second register 10.1.0.2)" "no answer"
 in_gateway nft add element ip bacgw elsewhere '{ 10.2.0.9 . 10.1.0.2 }'
 same "and once it is in the set" "$(second register 10.1.0.2)" granted
+same "a registration in its name by another interface" "$(heard second 47808 first forge 10.1.0.2 10.2.0.9)" nothing
+in_gateway sysctl -qw net.ipv4.conf.all.rp_filter=0 net.ipv4.conf.port1.rp_filter=0
+same "and by the firewall alone" "$(heard second 47808 first forge 10.1.0.2 10.2.0.9)" nothing
+in_gateway sysctl -qw net.ipv4.conf.all.rp_filter=1 net.ipv4.conf.port1.rp_filter=1
 same "in a flood of 5,000 a second" "$(flooded)" "60 of 60 reads are answered"
 sleep 1
 echo "  $(tail -1 "$work/told")"
