@@ -9,7 +9,8 @@
 # have one of these. Then each point's value, slots and default and the table are read, and each answer must be that of a gateway in
 # memory (`bacgw replay`) after all acknowledged writes. If strace is there, the gateway is then killed at each of the first 60 calls of
 # the system that a kept state takes (openat, write, fsync, rename). If a tmpfs can be mounted, the state is kept on one of 1 MiB that is
-# then filled: a granted write gets no answer, a read does, and once there is room again all that was written outlives a kill. The last
+# then filled: a granted write gets no answer, a read does, and once there is room again all that was written outlives a kill. If strace is
+# there, each fsync then takes two seconds and fails: each read must be answered within three, also while the state is tried. The last
 # line says how many starts there were, how many acknowledged writes, how many were missing, and how many reads were compared and
 # differed; the status is 0 if none was missing, refused or other.
 #
@@ -287,11 +288,11 @@ def told(gateway, line, seconds=5):
     return False
 
 
-def is_so(what, holds):
-    counts["full"] += 1
+def is_so(what, holds, disk="full"):
+    counts[disk] += 1
     if not holds:
         counts["other"] += 1
-        print("full disk, not so:", what, file=sys.stderr)
+        print(disk, "disk, not so:", what, file=sys.stderr)
 
 
 def fill(folder):
@@ -334,6 +335,29 @@ if subprocess.run(["mount", "-t", "tmpfs", "-o", "size=1m", "none", str(folder)]
         subprocess.run(["umount", str(folder)], check=True)
 else:
     print("no tmpfs can be mounted: a full disk isn't tried")
+
+
+def slow(folder):
+    """A state on a disk whose fsync takes two seconds and fails, from the first write on: the start takes two calls."""
+    global state
+    state = folder / "state"
+    front = ["strace", "-f", "-o", "/dev/null", "-e", "trace=fsync", "-e", "inject=fsync:delay_enter=2000000:error=EIO:when=3+"]
+    gateway = start(front)
+    if gateway is None:
+        return
+    is_so("a write gets no answer", not write(1, 1000), "slow")
+    until = time.monotonic() + 40
+    while time.monotonic() < until:
+        is_so("a read is answered", read(1, 3) is not None, "slow")
+        time.sleep(0.5)
+    kill(gateway)
+
+
+counts["slow"] = 0
+if shutil.which("strace"):
+    slow(work)
+else:
+    print("no strace: a slow disk isn't tried")
 print(", ".join(f"{count} {name}" for name, count in counts.items()))
 sys.exit(0 if counts["missing"] == counts["refused"] == counts["other"] == 0 else 1)
 PYTHON

@@ -213,11 +213,22 @@ pub fn watches(alloc: Global, line: &str, out: &mut Vec<u8>) -> io::Result<()> {
     put_turns(Waiting::of(line, 0).watches(alloc)?, line, out)
 }
 
-/// A clock on which 0.3 seconds pass from each look to the next, and which fails at one of them.
+/// A clock on which 0.3 seconds pass from each look to the next, and five more before one of them, and which fails at one of them.
 #[derive(Drop)]
 struct SlowClock {
     looks: u64,
     failing: Option<u64>,
+    jump: Option<u64>,
+}
+
+impl SlowClock {
+    /// How many milliseconds passed at once before a look.
+    fn jumped(&self, look: u64) -> u64 {
+        match self.jump {
+            Some(jump) if look >= jump => 5000,
+            _ => 0,
+        }
+    }
 }
 
 impl Timepiece for SlowClock {
@@ -229,7 +240,8 @@ impl Timepiece for SlowClock {
         if self.failing == Some(look) {
             return Err(ErrorKind::Other.into());
         }
-        Ok(Duration::from_millis(look.wrapping_mul(300)))
+        let passed = look.wrapping_mul(300);
+        Ok(Duration::from_millis(passed.wrapping_add(self.jumped(look))))
     }
 }
 
@@ -261,11 +273,12 @@ impl Waiter for MemWaiter {
 
 /// What comes of two ports in so many receives, where the clock and the waiter fail as the line says,
 /// and how often it was waited, and without time. The looks at the clock are at 0.0, 0.3, 0.6, ..
-/// seconds; a receive looks once, and where nothing waits again.
+/// seconds, from one of them on five seconds later; a receive looks once, and where nothing waits again.
 pub fn seconds(alloc: Global, line: &str, out: &mut Vec<u8>) -> io::Result<()> {
     let clock = SlowClock {
         looks: 0,
         failing: number_behind(line, ' ', "look="),
+        jump: number_behind(line, ' ', "jump="),
     };
     let waiter = MemWaiter {
         waits: 0,

@@ -1,3 +1,5 @@
+mod HoldLemmas
 mod PortLemmas
+mod SpacedLemmas
 mod TimedLemmas
 mod TurnLemmas

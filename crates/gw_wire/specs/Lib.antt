@@ -6,4 +6,5 @@ pub mod SockPair
 pub mod Ports
 pub mod Waking
 pub mod Timed
+pub mod Spaced
 pub mod internal

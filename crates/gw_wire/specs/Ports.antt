@@ -113,6 +113,18 @@ handed_in turn said before = record before {
   failures = before.failures + failed_of said;
 }
 
+-- What the sockets answer, in turn: nothing waits at any; or what the first one at which something does. Ticks that are due stay so.
+pub data Hears {S : Type 0} (looks : S → ℕ) (empty : S → Bool) (Answered : S → S → Answer → List ℕ → Type 0)
+    (before after : Ports S) (buffer : List ℕ) (given : Result Got WireFault) : Type 0 where
+  nothing : length after.pairs ≡ length before.pairs →
+      AllPassed looks empty Answered before.pairs after.pairs (sockets_in_turn before) →
+      after ≡ asked after.pairs before → given ≡ Ok got.Idle →
+      Hears looks empty Answered before after buffer given
+  something : (turn : Turn) (said : Said) → length after.pairs ≡ length before.pairs →
+      IsHeard looks empty Answered before.pairs after.pairs (sockets_in_turn before) turn said buffer →
+      after ≡ handed_in turn said (asked after.pairs before) → given ≡ got_of (turn.place + 1) said →
+      Hears looks empty Answered before after buffer given
+
 -- What comes next: a tick that is due, with no socket asked; nothing; or what a socket answered.
 pub data IsNext {S : Type 0} (looks : S → ℕ) (empty : S → Bool) (Answered : S → S → Answer → List ℕ → Type 0)
     (before after : Ports S) (buffer : List ℕ) (given : Result Got WireFault) : Type 0 where

@@ -1,13 +1,13 @@
 -- How time passes at the ports: in whole seconds, each of which is a tick.
-use Rattle.std.specs.Prelude.{◌≡◌, ◌⊎◌, ℕ, ◌+◌, ◌-◌, ◌*◌, ◌/◌, ◌%◌, ◌^◌, ◌≤◌, ◌<◌, min, Bool, true, false, List, Result, Ok, Err}
+use Rattle.std.specs.Prelude.{◌≡◌, ◌⊎◌, ℕ, ◌+◌, ◌-◌, ◌*◌, ◌/◌, ◌%◌, ◌^◌, ◌≤◌, ◌<◌, ◌||◌, min, Bool, true, false, List, Result, Ok, Err}
 use Rattle.std.specs.Duration.{as_nanos, max_nanos}
 use Rattle.std.specs.List.{list_any}
 use Rattle.gw_wire.specs.declared.wire.Got.{Got}
 use Rattle.gw_wire.specs.declared.wire.Got.TheVariants as got
 use Rattle.gw_wire.specs.declared.wire.WireFault.{WireFault}
-use Rattle.gw_wire.specs.Ports.{IsNext, Ports}
+use Rattle.gw_wire.specs.Ports.{Hears, IsNext, Ports}
 use Rattle.gw_wire.specs.Socket.{Answer}
-use Rattle.gw_wire.specs.Waking.{AreAllWoken, is_awake}
+use Rattle.gw_wire.specs.Waking.{AreAllHolding, AreAllWoken, is_awake, is_tick_held}
 use Rattle.gw_wire.specs.Watch.{HasReceived}
 use Rattle.gw_wire.specs.declared.timed.TimedPorts.{TimedPorts}
 use Rattle.gw_wire.specs.declared.watch.Watch.{Watch}
@@ -41,6 +41,7 @@ pub record IsCounted {S C P : Type 0} (Shows : C → ℕ → Type 0) (before aft
   pub rest : left ≡ second - rest_between (as_nanos before.counted) moment
   pub waiter : after.waiter ≡ before.waiter
   pub unlooked : after.unlooked ≡ before.unlooked
+  pub ticked : after.ticked ≡ before.ticked
 
 -- these ports, and all else as it was
 abbrev pub with_ports : {S C P : Type 0} → Ports (Watch S) → TimedPorts S C P → TimedPorts S C P
@@ -50,16 +51,48 @@ with_ports ports before = record before { ports = ports }
 abbrev pub Following : Type 0 → Type 1
 Following S = Ports (Watch S) → Ports (Watch S) → List ℕ → Got → Type 0
 
--- what comes next of watches where no call fails, by what their sockets say
-abbrev pub WatchesNext : {S : Type 0} → (S → ℕ) → (S → Bool) → (S → S → Answer → List ℕ → Type 0) → Following S
-WatchesNext looks empty Answered before after buffer given =
-    IsNext (λ watch. watch.looks) (λ watch. watch.is_empty) (HasReceived looks empty Answered) before after buffer (Ok given)
-
 -- nothing came
 abbrev pub is_idle : Result Got WireFault → Bool
 is_idle (Ok got.Idle) = true
 is_idle (Ok came) = false
 is_idle (Err fault) = false
+
+-- a tick came
+abbrev pub is_tick : Result Got WireFault → Bool
+is_tick (Ok got.Tick) = true
+is_tick (Ok came) = false
+is_tick (Err fault) = false
+
+-- what comes next of watches, and what they answer, by what their sockets say
+abbrev pub WatchesNext : {S : Type 0} → (S → ℕ) → (S → Bool) → (S → S → Answer → List ℕ → Type 0) → Ports (Watch S) → Ports (Watch S)
+    → List ℕ → Result Got WireFault → Type 0
+WatchesNext looks empty Answered before after buffer given =
+    IsNext (λ watch. watch.looks) (λ watch. watch.is_empty) (HasReceived looks empty Answered) before after buffer given
+
+abbrev pub WatchesHear : {S : Type 0} → (S → ℕ) → (S → Bool) → (S → S → Answer → List ℕ → Type 0) → Ports (Watch S) → Ports (Watch S)
+    → List ℕ → Result Got WireFault → Type 0
+WatchesHear looks empty Answered before after buffer given =
+    Hears (λ watch. watch.looks) (λ watch. watch.is_empty) (HasReceived looks empty Answered) before after buffer given
+
+-- What comes next where sockets may hold a tick that is due. If none is due or held it is what comes of the ports. Else it is what a
+-- socket answers; or if nothing waits at any it is what comes then, which is the tick.
+pub data ComesNext {S : Type 0} (looks : S → ℕ) (empty : S → Bool) (Answered : S → S → Answer → List ℕ → Type 0)
+    (before after : Ports (Watch S)) (buffer : List ℕ) (given : Result Got WireFault) : Type 0 where
+  unheld : is_tick_held before ≡ false → WatchesNext looks empty Answered before after buffer given →
+      ComesNext looks empty Answered before after buffer given
+  before_tick : is_tick_held before ≡ true → WatchesHear looks empty Answered before after buffer given →
+      is_idle given ≡ false → ComesNext looks empty Answered before after buffer given
+  released : (between : Ports (Watch S)) (held : List ℕ) → is_tick_held before ≡ true →
+      WatchesHear looks empty Answered before between held (Ok got.Idle) → WatchesNext looks empty Answered between after buffer given →
+      ComesNext looks empty Answered before after buffer given
+
+-- the same where no call fails
+abbrev pub FollowsNext : {S : Type 0} → (S → ℕ) → (S → Bool) → (S → S → Answer → List ℕ → Type 0) → Following S
+FollowsNext looks empty Answered before after buffer given = ComesNext looks empty Answered before after buffer (Ok given)
+
+-- these ports, once this was handed in, and noted whether it is a tick
+abbrev pub handing : {S C P : Type 0} → Result Got WireFault → Ports (Watch S) → TimedPorts S C P → TimedPorts S C P
+handing given ports before = record before { ports = ports; ticked = is_tick given || before.ticked }
 
 -- It was waited so long at most, and then noted where something may have come.
 pub record HasWaited {S C P : Type 0} (Waited Quiet : P → ℕ → Type 0) (before after : TimedPorts S C P) (most : ℕ)
@@ -69,16 +102,19 @@ pub record HasWaited {S C P : Type 0} (Waited Quiet : P → ℕ → Type 0) (bef
   pub counted : after.counted ≡ before.counted
   pub clock : after.clock ≡ before.clock
   pub unlooked : after.unlooked ≡ 0
+  pub ticked : after.ticked ≡ before.ticked
 
--- Where something may wait at a socket, seven receives pass by, of which nothing changes but their
--- count, and then the waiter reported, without a wait, where more came. Where nothing may wait, that is
--- left to the wait after it.
+-- After a tick was handed in the waiter reported, without a wait, where something came, and each socket at which something may wait
+-- then holds the next tick. Else, where something may wait at a socket, seven receives pass by, of which nothing changes but their
+-- count, and then the waiter reported so. Where nothing may wait, that is left to the wait after it.
 pub data HasLooked {S C P : Type 0} (Waited Quiet : P → ℕ → Type 0) (before after : TimedPorts S C P) : Type 0 where
-  passed : list_any is_awake before.ports.pairs ≡ true → before.unlooked < MOST_UNLOOKED →
+  begins : (woken : TimedPorts S C P) (ports : Ports (Watch S)) → before.ticked ≡ true → HasWaited Waited Quiet before woken 0 →
+      AreAllHolding woken.ports ports → after ≡ record woken { ports = ports; ticked = false } → HasLooked Waited Quiet before after
+  passed : before.ticked ≡ false → list_any is_awake before.ports.pairs ≡ true → before.unlooked < MOST_UNLOOKED →
       after ≡ record before { unlooked = before.unlooked + 1 } → HasLooked Waited Quiet before after
-  looked : list_any is_awake before.ports.pairs ≡ true → MOST_UNLOOKED ≤ before.unlooked →
+  looked : before.ticked ≡ false → list_any is_awake before.ports.pairs ≡ true → MOST_UNLOOKED ≤ before.unlooked →
       HasWaited Waited Quiet before after 0 → HasLooked Waited Quiet before after
-  asleep : list_any is_awake before.ports.pairs ≡ false → after ≡ before → HasLooked Waited Quiet before after
+  asleep : before.ticked ≡ false → list_any is_awake before.ports.pairs ≡ false → after ≡ before → HasLooked Waited Quiet before after
 
 -- It was waited so long at most, then the seconds were counted, and this came next.
 pub record IsReceivedLater {S C P : Type 0} (Shows : C → ℕ → Type 0) (Waited Quiet : P → ℕ → Type 0)
@@ -90,7 +126,7 @@ pub record IsReceivedLater {S C P : Type 0} (Shows : C → ℕ → Type 0) (Wait
   pub waits : HasWaited Waited Quiet before woken most
   pub counts : IsCounted Shows woken counted left
   pub follows : Follows counted.ports after.ports buffer given
-  pub stays : after ≡ with_ports after.ports counted
+  pub stays : after ≡ handing (Ok given) after.ports counted
 
 -- The seconds were counted, it was looked for what came where that was due, and something came next;
 -- or nothing did, and it was waited for as long as is left of the second.
@@ -98,7 +134,7 @@ pub data IsReceived {S C P : Type 0} (Shows : C → ℕ → Type 0) (Waited Quie
     (before after : TimedPorts S C P) (buffer : List ℕ) (given : Got) : Type 0 where
   at_once : (counted looked : TimedPorts S C P) (left : ℕ) → IsCounted Shows before counted left →
       HasLooked Waited Quiet counted looked → Follows looked.ports after.ports buffer given
-      → is_idle (Ok given) ≡ false → after ≡ with_ports after.ports looked →
+      → is_idle (Ok given) ≡ false → after ≡ handing (Ok given) after.ports looked →
       IsReceived Shows Waited Quiet Follows before after buffer given
   later : (counted looked idle : TimedPorts S C P) (left : ℕ) (held : List ℕ) → IsCounted Shows before counted left →
       HasLooked Waited Quiet counted looked → Follows looked.ports idle.ports held got.Idle

@@ -13,11 +13,12 @@ WatchAnswer looks empty Answered true before after answer buffer =
     HasAnswered looks empty Answered before after answer buffer
 WatchAnswer looks empty Answered false before after answer buffer = (after ≡ before) × (answer ≡ Ok None)
 
--- A receive of a watch: its answer, and then it sleeps exactly where nothing came.
+-- A receive of a watch: its answer, and then it sleeps exactly where nothing came, and holds no tick.
 pub record HasReceived {S : Type 0} (looks : S → ℕ) (empty : S → Bool) (Answered : S → S → Answer → List ℕ → Type 0)
     (before after : Watch S) (answer : Answer) (buffer : List ℕ) : Type 0 where
   pub answered : WatchAnswer looks empty Answered before.is_awake before.socket after.socket answer buffer
   pub sleeps : after.is_awake ≡ not (is_nothing answer)
+  pub holds : after.holds_tick ≡ false
 
 -- A send of a watch is that of its socket, and all else of it is as it was.
 pub record HasSent {S : Type 0} (Sent : S → S → BipAddr → List ℕ → Result Unit SockFault → Type 0)
@@ -29,3 +30,7 @@ pub record HasSent {S : Type 0} (Sent : S → S → BipAddr → List ℕ → Res
 abbrev pub woken : {S : Type 0} → Bool → Watch S → Watch S
 woken true watch = record watch { is_awake = true }
 woken false watch = watch
+
+-- where something may wait it holds the next tick, until it is asked
+abbrev pub holding : {S : Type 0} → Watch S → Watch S
+holding watch = record watch { holds_tick = watch.is_awake }

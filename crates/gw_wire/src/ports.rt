@@ -7,7 +7,7 @@ ghost use Rattle.gw_wire.specs.declared.sock_pair.SockPair.{SockPair};
 ghost use Rattle.gw_wire.specs.Wire.{IsHandedIn, Records, failures_of, receive_answer, receive_call, send_call};
 ghost use Rattle.gw_wire.specs.internal.Asking.{AreAsked, AreAskedInTurn, turn_of};
 ghost use Rattle.gw_wire.specs.internal.Lending.{LendsPair};
-ghost use Rattle.gw_wire.specs.Ports.{AtPlace, HasSentOn, HasTried, IsNext, asked, got_of, handed_in, last_number, sockets_in_turn};
+ghost use Rattle.gw_wire.specs.Ports.{AtPlace, HasSentOn, HasTried, Hears, IsNext, asked, got_of, handed_in, last_number, sockets_in_turn};
 ghost use Rattle.gw_wire.specs.Socket.{FitsBuffer, some_answer};
 
 use crate::sock_pair::{Said, SockPair};
@@ -123,6 +123,18 @@ impl<S: Sock> Ports<S> {
             self.ticks -= 1;
             return Ok(Got::Tick);
         }
+        self.hear(buf)
+    }
+
+    /// What the first port in turn answers, or nothing, as [`Ports::next`] where no tick is due. Those that are stay so.
+    #[inline(always)]
+    pub(crate) fn hear(&mut self, buf: &mut [u8; RECEIVE_ROOM]) -> Result<Got, WireFault>
+        requires { self.old.failures < 2 ^ 128 - 1 }
+        ensures heard { Hears S.look_count S.is_empty S.Answered self.old self.new buf.new result }
+        ensures handed_in { IfOk result (IsHandedIn (length self.new.pairs)) }
+        ensures failures { self.new.failures ≡ self.old.failures + failures_of result }
+        ensures count { length self.new.pairs ≡ length self.old.pairs }
+    {
         match self.ask_all(buf) {
             None => Ok(Got::Idle),
             Some(heard) => self.hand_in(heard),

@@ -1,17 +1,17 @@
 //! The ports and a clock: each second that passes is a tick, and where nothing waits it is waited for.
 
-ghost use Rattle.std.specs.Prelude.{◌≡◌, ◌+◌, ◌-◌, ◌*◌, ◌<◌, ◌^◌, ◌∷◌, [], length, min, slice_index_or, true, false, IfOk, OnErr, OnOk, None};
+ghost use Rattle.std.specs.Prelude.{◌≡◌, ◌+◌, ◌-◌, ◌*◌, ◌<◌, ◌^◌, ◌∷◌, ◌||◌, [], length, min, slice_index_or, true, false, IfOk, OnErr, OnOk, None};
 ghost use Rattle.std.specs.Duration.{as_nanos, max_nanos};
 ghost use Rattle.gw_wire.specs.Wire.{IsHandedIn, Records, failures_of, receive_answer, receive_call, send_call};
 ghost use Rattle.gw_wire.specs.Ports.{HasSentOn};
-ghost use Rattle.gw_wire.specs.Timed.{WatchesNext, HasLooked, HasWaited, IsCounted, IsLookedInTime, IsReceived, IsReceivedLater, KeepsCount, is_idle, rest_between, second, seconds_between, with_due, with_ports};
+ghost use Rattle.gw_wire.specs.Timed.{ComesNext, FollowsNext, HasLooked, HasWaited, IsCounted, IsLookedInTime, IsReceived, IsReceivedLater, KeepsCount, handing, is_idle, is_tick, rest_between, second, seconds_between, with_due, with_ports};
 ghost use Rattle.gw_wire.specs.Watch.{HasSent};
 
 use crate::ports::Ports;
 use crate::socket::Sock;
 use crate::timepiece::Timepiece;
 use crate::waiter::Waiter;
-use crate::waking::{is_any_awake, wake_all};
+use crate::waking::{hold_all, is_any_awake, is_tick_held, wake_all};
 use crate::watch::Watch;
 use crate::wire::{Got, RECEIVE_ROOM, Wire, WireFault};
 use gw_addr::BipAddr;
@@ -26,7 +26,8 @@ pub(crate) const MOST_UNLOOKED: u8 = 7;
 /// the last look at the clock, and so many ticks are due. Where nothing waits it waits for a
 /// datagram, up to the next second, and then asks once more. Only sockets are asked at which
 /// something may wait, by what the waiter says. While something may wait already, seven receives go
-/// by before the next asks the waiter, so that what came elsewhere has its turn.
+/// by before the next asks the waiter, so that what came elsewhere has its turn. After a tick is handed in it asks the waiter too,
+/// and hands in the next one only once each socket was asked at which something may have waited then.
 #[derive(Drop)]
 pub struct TimedPorts<S, C, P> {
     /// The sockets of all ports, and the ticks that are due.
@@ -39,6 +40,45 @@ pub struct TimedPorts<S, C, P> {
     pub counted: Duration,
     /// How many receives went by since the waiter last reported where something came.
     pub unlooked: u8,
+    /// Whether a tick was handed in since the waiter last reported so.
+    pub ticked: bool,
+}
+
+/// Whether a tick came.
+fn is_tick(came: &Result<Got, WireFault>) -> bool
+    ensures { result ≡ is_tick came.now }
+{
+    matches!(came, Ok(Got::Tick))
+}
+
+/// Whether nothing came.
+fn is_idle(came: &Result<Got, WireFault>) -> bool
+    ensures { result ≡ is_idle came.now }
+{
+    matches!(came, Ok(Got::Idle))
+}
+
+/// What comes next of ports: a tick that is due, unless a socket holds it; else what a socket answers, or the tick, if nothing waits at
+/// any.
+#[inline(always)]
+fn next_of<S: Sock>(
+    ports: &mut Ports<Watch<S>>,
+    buf: &mut [u8; RECEIVE_ROOM],
+) -> Result<Got, WireFault>
+    requires { ports.old.failures < 2 ^ 128 - 1 }
+    ensures next { ComesNext S.look_count S.is_empty S.Answered ports.old ports.new buf.new result }
+    ensures handed_in { IfOk result (IsHandedIn (length ports.new.pairs)) }
+    ensures failures { ports.new.failures ≡ ports.old.failures + failures_of result }
+    ensures count { length ports.new.pairs ≡ length ports.old.pairs }
+{
+    if is_tick_held(&*ports) {
+        let heard = ports.hear(buf);
+        if is_idle(&heard) {
+            return ports.next(buf);
+        }
+        return heard;
+    }
+    ports.next(buf)
 }
 
 impl<S: Sock, C: Timepiece, P: Waiter> TimedPorts<S, C, P> {
@@ -53,6 +93,7 @@ impl<S: Sock, C: Timepiece, P: Waiter> TimedPorts<S, C, P> {
         ensures waiter { IfOk result (λ timed. timed.waiter ≡ waiter) }
         ensures now { IfOk result (λ timed. C.Shows timed.clock (as_nanos timed.counted)) }
         ensures unlooked { IfOk result (λ timed. timed.unlooked ≡ 0) }
+        ensures ticked { IfOk result (λ timed. timed.ticked ≡ false) }
     {
         let counted = clock.elapsed()?;
         Ok(TimedPorts {
@@ -61,6 +102,7 @@ impl<S: Sock, C: Timepiece, P: Waiter> TimedPorts<S, C, P> {
             waiter,
             counted,
             unlooked: 0,
+            ticked: false,
         })
     }
 
@@ -78,6 +120,7 @@ impl<S: Sock, C: Timepiece, P: Waiter> TimedPorts<S, C, P> {
         ensures clock { self.new.clock ≡ self.old.clock }
         ensures waiter { self.new.waiter ≡ self.old.waiter }
         ensures unlooked { self.new.unlooked ≡ self.old.unlooked }
+        ensures ticked { self.new.ticked ≡ self.old.ticked }
     {
         let passed = now.saturating_sub(self.counted);
         let seconds = passed.as_secs();
@@ -92,6 +135,7 @@ impl<S: Sock, C: Timepiece, P: Waiter> TimedPorts<S, C, P> {
         ensures counts { IfOk result (λ left. IsCounted C.Shows self.old self.new (as_nanos left)) }
         ensures waiter { self.new.waiter ≡ self.old.waiter }
         ensures unlooked { self.new.unlooked ≡ self.old.unlooked }
+        ensures ticked { self.new.ticked ≡ self.old.ticked }
         ensures pairs { self.new.ports.pairs ≡ self.old.ports.pairs }
         ensures count { length self.new.ports.pairs ≡ length self.old.ports.pairs }
         ensures failures { self.new.ports.failures ≡ self.old.ports.failures }
@@ -115,7 +159,22 @@ impl<S: Sock, C: Timepiece, P: Waiter> TimedPorts<S, C, P> {
         Ok(())
     }
 
-    /// Notes at which sockets a datagram may have come, where something may wait already, so that it
+    /// Notes at which sockets a datagram may have come, and has these hold the next tick. It doesn't wait.
+    fn begin_round(&mut self) -> io::Result<()>
+        requires { self.old.ticked ≡ true }
+        ensures looks { OnOk result (HasLooked P.Waited P.Quiet self.old self.new) }
+        ensures unlooked { OnErr result (self.new.unlooked ≡ self.old.unlooked) }
+        ensures pairs { OnErr result (self.new.ports.pairs ≡ self.old.ports.pairs) }
+        ensures count { length self.new.ports.pairs ≡ length self.old.ports.pairs }
+        ensures failures { self.new.ports.failures ≡ self.old.ports.failures }
+    {
+        self.wait(Duration::ZERO)?;
+        hold_all(&mut self.ports);
+        self.ticked = false;
+        Ok(())
+    }
+
+    /// Notes at which sockets a datagram may have come, after a tick, or where something may wait already, so that it
     /// keeps none from its turn; or lets a receive go by, seven of them between two looks. It doesn't
     /// wait.
     fn look(&mut self) -> io::Result<()>
@@ -125,6 +184,9 @@ impl<S: Sock, C: Timepiece, P: Waiter> TimedPorts<S, C, P> {
         ensures count { length self.new.ports.pairs ≡ length self.old.ports.pairs }
         ensures failures { self.new.ports.failures ≡ self.old.ports.failures }
     {
+        if self.ticked {
+            return self.begin_round();
+        }
         if !is_any_awake(&self.ports) {
             return Ok(());
         }
@@ -135,11 +197,26 @@ impl<S: Sock, C: Timepiece, P: Waiter> TimedPorts<S, C, P> {
         self.wait(Duration::ZERO)
     }
 
+    /// What comes next; and notes whether it is a tick.
+    #[inline(always)]
+    fn next(&mut self, buf: &mut [u8; RECEIVE_ROOM]) -> Result<Got, WireFault>
+        requires { self.old.ports.failures < 2 ^ 128 - 1 }
+        ensures next { ComesNext S.look_count S.is_empty S.Answered self.old.ports self.new.ports buf.new result }
+        ensures stays { self.new ≡ handing result self.new.ports self.old }
+        ensures handed_in { IfOk result (IsHandedIn (length self.new.ports.pairs)) }
+        ensures failures { self.new.ports.failures ≡ self.old.ports.failures + failures_of result }
+        ensures count { length self.new.ports.pairs ≡ length self.old.ports.pairs }
+    {
+        let came = next_of(&mut self.ports, buf);
+        self.ticked = is_tick(&came) || self.ticked;
+        came
+    }
+
     /// Waits for a datagram, so long at most, and receives what has come then.
     fn recv_later(&mut self, most: Duration, buf: &mut [u8; RECEIVE_ROOM]) -> Result<Got, WireFault>
         requires { self.old.ports.failures < 2 ^ 128 - 1 }
         ensures later { IfOk result (IsReceivedLater C.Shows P.Waited P.Quiet
-            (WatchesNext S.look_count S.is_empty S.Answered) self.old self.new
+            (FollowsNext S.look_count S.is_empty S.Answered) self.old self.new
             (as_nanos most) buf.new) }
         ensures unlooked { KeepsCount P.Waited self.old self.new }
         ensures count { length self.new.ports.pairs ≡ length self.old.ports.pairs }
@@ -153,7 +230,7 @@ impl<S: Sock, C: Timepiece, P: Waiter> TimedPorts<S, C, P> {
         let Ok(_left) = self.count_seconds() else {
             return Err(self.ports.fail());
         };
-        let given = self.ports.next(buf)?;
+        let given = self.next(buf)?;
         Ok(given)
     }
 
@@ -171,7 +248,7 @@ impl<S: Sock, C: Timepiece, P: Waiter> TimedPorts<S, C, P> {
         ensures buffer { is_idle came ≡ false → buf.new ≡ buf.old }
         ensures later { is_idle came ≡ true →
             IfOk result (IsReceivedLater C.Shows P.Waited P.Quiet
-            (WatchesNext S.look_count S.is_empty S.Answered) self.old self.new
+            (FollowsNext S.look_count S.is_empty S.Answered) self.old self.new
             (as_nanos most) buf.new) }
         ensures unlooked { KeepsCount P.Waited self.old self.new }
         ensures count { length self.new.ports.pairs ≡ length self.old.ports.pairs }
@@ -204,7 +281,7 @@ impl<S: Sock, C: Timepiece, P: Waiter> Wire for TimedPorts<S, C, P> {
     fn recv(&mut self, buf: &mut [u8; RECEIVE_ROOM]) -> Result<Got, WireFault>
         requires { self.old.ports.failures < 2 ^ 128 - 1 }
         ensures received { IfOk result (IsReceived C.Shows P.Waited P.Quiet
-            (WatchesNext S.look_count S.is_empty S.Answered) self.old self.new buf.new) }
+            (FollowsNext S.look_count S.is_empty S.Answered) self.old self.new buf.new) }
         ensures looked { IsLookedInTime P.Waited self.old self.new }
         ensures ports { length self.new.ports.pairs ≡ length self.old.ports.pairs }
         ensures handed_in { IfOk result (IsHandedIn (length self.new.ports.pairs)) }
@@ -219,7 +296,7 @@ impl<S: Sock, C: Timepiece, P: Waiter> Wire for TimedPorts<S, C, P> {
         let Ok(()) = self.look() else {
             return Err(self.ports.fail());
         };
-        let came = self.ports.next(buf);
+        let came = self.next(buf);
         self.recv_behind(came, most, buf)
     }
 

@@ -2,7 +2,7 @@
 
 ghost use Rattle.std.specs.Prelude.{◌≡◌, true, false};
 ghost use Rattle.gw_wire.specs.Socket.{FitsBuffer};
-ghost use Rattle.gw_wire.specs.Watch.{HasReceived, HasSent, WatchAnswer, woken};
+ghost use Rattle.gw_wire.specs.Watch.{HasReceived, HasSent, WatchAnswer, holding, woken};
 
 use crate::socket::{Sock, SockFault};
 use crate::wire::RECEIVE_ROOM;
@@ -16,6 +16,8 @@ pub struct Watch<S> {
     pub socket: S,
     /// Whether something may wait there.
     pub is_awake: bool,
+    /// Whether it holds the next tick, until it is asked.
+    pub holds_tick: bool,
     /// How often the watch was asked for a datagram, counted around at 2^64.
     pub looks: u64,
     /// Whether it answered that nothing waits when it was last asked.
@@ -25,11 +27,12 @@ pub struct Watch<S> {
 impl<S: Sock> Watch<S> {
     /// A watch of a socket at which something may wait. Nobody asked the watch yet.
     pub fn new(socket: S) -> Self
-        ensures { result ≡ record { socket = socket; is_awake = true; looks = 0; is_empty = false } }
+        ensures { result ≡ record { socket = socket; is_awake = true; holds_tick = false; looks = 0; is_empty = false } }
     {
         Watch {
             socket,
             is_awake: true,
+            holds_tick: false,
             looks: 0,
             is_empty: false,
         }
@@ -42,6 +45,13 @@ impl<S: Sock> Watch<S> {
         if has_come {
             self.is_awake = true;
         }
+    }
+
+    /// Has it hold the next tick until it is asked, if something may wait there.
+    pub(crate) fn hold_tick(&mut self)
+        ensures { self.new ≡ holding self.old }
+    {
+        self.holds_tick = self.is_awake;
     }
 
     /// What the socket answers where something may wait there, and else nothing.
@@ -77,6 +87,7 @@ impl<S: Sock> Sock for Watch<S> {
         self.looks = self.looks.wrapping_add(1);
         self.is_empty = matches!(answer, Ok(None));
         self.is_awake = !self.is_empty;
+        self.holds_tick = false;
         answer
     }
 

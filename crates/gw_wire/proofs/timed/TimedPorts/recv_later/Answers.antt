@@ -1,4 +1,5 @@
-use Rattle.std.proofs.Common.{refl, inr, arith}
+use Rattle.std.proofs.Common.{inr, arith, ap, ◌∙◌}
+use Rattle.gw_wire.specs.declared.timed.TimedPorts.{TimedPorts}
 use Rattle.std.specs.Duration.{as_nanos}
 use Rattle.gw_wire.proofs.TimedLemmas.{begun}
 use Rattle.std.proofs.lemmas.Grind.{common_steps}
@@ -10,11 +11,13 @@ returns-in_default-count_seconds-clause-unlooked g c =
 
 pub returns-in_err-given-clause-unlooked : goal.returns-in_err-given-clause-unlooked
 returns-in_err-given-clause-unlooked g c =
-    inr (begun g.P.Waiter.Waited g.P.Waiter.Quiet c.args.self.now c.wait.new.self _ (as_nanos c.args.most) c.in-Ok.ensures.waits c.count_seconds.ensures.unlooked)
+    inr (begun g.P.Waiter.Waited g.P.Waiter.Quiet c.args.self.now c.wait.new.self _ (as_nanos c.args.most) c.in-Ok.ensures.waits
+    (ap (λ (t : TimedPorts _ _ _). t.unlooked) c.in_err-given.ensures.stays ∙ c.count_seconds.ensures.unlooked))
 
 pub returns-clause-unlooked : goal.returns-clause-unlooked
 returns-clause-unlooked g c =
-    inr (begun g.P.Waiter.Waited g.P.Waiter.Quiet c.args.self.now c.wait.new.self _ (as_nanos c.args.most) c.in-Ok.ensures.waits c.count_seconds.ensures.unlooked)
+    inr (begun g.P.Waiter.Waited g.P.Waiter.Quiet c.args.self.now c.wait.new.self _ (as_nanos c.args.most) c.in-Ok.ensures.waits
+    (ap (λ (t : TimedPorts _ _ _). t.unlooked) c.in_ok-given.ensures.stays ∙ c.count_seconds.ensures.unlooked))
 
 pub returns-clause-later : goal.returns-clause-later
 returns-clause-later g c = record {
@@ -24,7 +27,7 @@ returns-clause-later g c = record {
   waits = c.in-Ok.ensures.waits;
   counts = c.in-Ok-count_seconds.ensures.counts;
   follows = c.in_ok-given.ensures.next;
-  stays = refl;
+  stays = c.in_ok-given.ensures.stays;
 }
 
 pub returns-clause-failures : goal.returns-clause-failures
