@@ -1,5 +1,6 @@
 pub mod State
 pub mod Receive
+pub mod Arrivals
 pub mod Reply
 pub mod Asks
 pub mod Denials

@@ -1,5 +1,4 @@
 -- What only private parts and proofs cite.
-pub mod Arrivals
 pub mod Frame
 pub mod Kept
 pub mod Outcome

@@ -1,6 +1,6 @@
 //! The gateway: its state, and what it answers to one event.
 
-ghost use Rattle.std.specs.Prelude.{◌≡◌, ◌+◌, ◌≤◌, ◌<◌, ◌^◌, ◌↔◌, ◌||◌, [], true, length, None, is_some};
+ghost use Rattle.std.specs.Prelude.{◌≡◌, ◌+◌, ◌≤◌, ◌^◌, ◌↔◌, ◌||◌, [], false, true, length, None, is_some};
 ghost use Rattle.std.specs.Prelude.{IsOk, IfOk, OnOk, OnErr, IsErrOf};
 ghost use Rattle.std.specs.Option.{option_map};
 ghost use Rattle.gw_addr.specs.declared.TheConstants.{MAX_PORTS};
@@ -22,11 +22,11 @@ use crate::reporting::{DenialsAlone, Reporting};
 use crate::respond::{network_of, respond};
 use crate::saving::saved_ports;
 use gw_addr::BipAddr;
-use gw_audit::Denials;
 use gw_configuration::Config;
 use gw_device::{Change, Device};
+use gw_frames::bvll::BvllFault;
 use gw_frames::npdu::NpduFault;
-use gw_relay::{Change as RelayChange, Relay, Sends, Turn};
+use gw_relay::{Change as RelayChange, Relay, Turn};
 use gw_rule_index::Policy;
 use gw_rules::RuleList;
 use gw_state::{Origin, Saved, SavedCounts};
@@ -36,7 +36,8 @@ use std::marker::Model;
 /// Where each count of a gateway ends.
 const LAST_COUNT: u64 = 1 << 63;
 
-/// What an event that was taken does, why it was dropped, if it was, and whether it lasts.
+/// What an event that was taken does, why it was dropped, if it was, and whether it lasts. One may be kept from event to
+/// event: what takes an event into it writes all of it.
 #[derive(Drop)]
 pub struct Taken {
     /// What it does.
@@ -45,6 +46,27 @@ pub struct Taken {
     pub drop: Option<DropReason>,
     /// Whether it was granted a table of peers (Annex J.4), or the device makes a write (clause 15.9).
     pub lasts: bool,
+}
+
+impl Taken {
+    /// Of an event that does nothing. It takes no memory.
+    pub fn nothing(alloc: Global) -> Self
+        ensures sends { result.effects.sends ≡ [] }
+        ensures denials { result.effects.denials ≡ [] }
+        ensures drop { result.drop ≡ None }
+        ensures lasts { result.lasts ≡ false }
+    {
+        Taken {
+            effects: Effects::none(alloc),
+            drop: None,
+            lasts: false,
+        }
+    }
+
+    /// The allocator of what it does.
+    pub fn alloc(&self) -> Global {
+        self.effects.sends.alloc()
+    }
 }
 
 /// What an event that was taken does, and what is reported of what it asked.
@@ -56,11 +78,9 @@ pub struct Reported<T> {
     pub asked: T,
 }
 
-/// What is done about a datagram, the changes that are granted, and what is reported of all that was asked.
+/// The changes that a datagram is granted, and what is reported of all that it asked.
 #[derive(Drop)]
 pub struct Outcome<T> {
-    /// What it does.
-    pub taken: Taken,
     /// What the relay commits.
     pub change: Option<RelayChange>,
     /// The write that the device commits.
@@ -118,12 +138,11 @@ impl Model for Gateway {
 
 impl Gateway {
     ghost use Rattle.gw_core.specs.Asks.{asks};
-    ghost use Rattle.gw_core.specs.Denials.{denials_at};
     ghost use Rattle.gw_core.specs.Drops.{drop_at};
-    ghost use Rattle.gw_core.specs.Effects.{NeedsNoMemory, change_at, effects_at, move_at, nothing, passes_end};
+    ghost use Rattle.gw_core.specs.Effects.{NeedsNoMemory, nothing, passes_end};
     ghost use Rattle.gw_core.specs.History.{IsStateAfter, IsStep};
     ghost use Rattle.gw_core.specs.Receive.{origin, receive};
-    ghost use Rattle.gw_core.specs.internal.Arrivals.{event_of};
+    ghost use Rattle.gw_core.specs.Arrivals.{event_of};
     ghost use Rattle.gw_core.specs.internal.Outcome.{IsOutcome};
 
     /// A gateway of this configuration that goes on from these counts. The only fault is want of
@@ -249,18 +268,20 @@ impl Gateway {
         LAST_COUNT - self.counts.denials
     }
 
-    /// What is done about a datagram, and what the asker reports of its asks, while the gateway stays as it is. The
-    /// asker has asked nothing yet. The faults are those of [`Gateway::step`].
+    /// Writes what is done about a datagram into its place, and answers what it changes and what the asker reports of its
+    /// asks, while the gateway stays as it is. The asker has asked nothing yet. The faults are those of
+    /// [`Gateway::step`]; what is in the place is then of no use.
     #[inline(always)]
     pub(crate) fn outcome<A: Reporter>(
         &self,
         alloc: Global,
         arrival: &Arrival<'_>,
         asker: A,
+        taken: &mut Taken,
     ) -> Result<Outcome<A::Asked>, StepFault>
         requires stands { A.StandsFor asker self.now.rules }
         requires begun { A.kept asker ≡ [] }
-        ensures outcome { IfOk result (IsOutcome self.now (event_of arrival.now)) }
+        ensures outcome { IfOk result (IsOutcome self.now (event_of arrival.now) taken.new) }
         ensures asked { let event = event_of arrival.now in
             let due = A.asked (origin (receive self.now event)) self.now.rules (asks self.now event) in
             IfOk result (λ outcome. outcome.asked ≡ due) }
@@ -268,7 +289,8 @@ impl Gateway {
             → passes_end self.now (event_of arrival.now) ≡ true }
         ensures silent { NeedsNoMemory self.now (event_of arrival.now) → IsOk result }
     {
-        let frame = gw_frames::bvll::decode(arrival.octets);
+        let mut frame = Err(BvllFault::Length);
+        gw_frames::bvll::decode_to(arrival.octets, &mut frame);
         let mut npdu = Err(NpduFault::Short);
         read_npdu(&frame, &mut npdu);
         let network = network_of(&self.device);
@@ -289,13 +311,11 @@ impl Gateway {
         let rules = self.policy.rules();
         let denials = denials_of(alloc, rules, self.counts, &received, refusals)?;
         let lasts = is_lasting(&change, &write);
-        let effects = Effects { sends, denials };
+        taken.effects.sends = sends;
+        taken.effects.denials = denials;
+        taken.drop = drop;
+        taken.lasts = lasts;
         Ok(Outcome {
-            taken: Taken {
-                effects,
-                drop,
-                lasts,
-            },
             change,
             write,
             asked,
@@ -368,7 +388,6 @@ impl Gateway {
     /// # Errors
     ///
     /// Those of [`Gateway::step`].
-    #[inline(never)]
     pub fn take<R: Reporting>(
         &mut self,
         alloc: Global,
@@ -390,16 +409,44 @@ impl Gateway {
         ensures silent { NeedsNoMemory self.old (Datagram port from octets.now) → IsOk result }
         ensures err { OnErr result (self.new ≡ self.old) }
     {
-        let now = &*self;
+        let mut taken = Taken::nothing(alloc);
         let arrival = Arrival { port, from, octets };
+        match self.take_to::<R>(alloc, &arrival, &mut taken) {
+            Ok(asked) => Ok(Reported { taken, asked }),
+            Err(fault) => Err(fault),
+        }
+    }
+
+    /// Does what [`Gateway::take`] does, writes it into its place, whatever was there, and answers what is to be reported of
+    /// what the datagram asked.
+    ///
+    /// # Errors
+    ///
+    /// Those of [`Gateway::step`]. What is in the place is then of no use.
+    #[inline(never)]
+    pub fn take_to<R: Reporting>(
+        &mut self,
+        alloc: Global,
+        arrival: &Arrival<'_>,
+        taken: &mut Taken,
+    ) -> Result<R::Asked, StepFault>
+        ensures step { OnOk result (IsStep self.old (event_of arrival.now) taken.new.effects self.new) }
+        ensures drop { OnOk result (taken.new.drop ≡ drop_at self.old (event_of arrival.now)) }
+        ensures lasts { OnOk result (taken.new.lasts ≡ lasts self.old (event_of arrival.now)) }
+        ensures asked { IfOk result (λ asked. asked ≡ R.asked self.old (event_of arrival.now)) }
+        ensures count_end { IsErrOf result StepFault.CountEnd → passes_end self.old (event_of arrival.now) ≡ true }
+        // Memory only where something is asked or sent.
+        ensures silent { NeedsNoMemory self.old (event_of arrival.now) → IsOk result }
+        ensures err { OnErr result (self.new ≡ self.old) }
+    {
+        let now = &*self;
         let Outcome {
-            taken,
             change,
             write,
             asked,
-        } = R::outcome(now, alloc, &arrival)?;
+        } = R::outcome(now, alloc, arrival, taken)?;
         self.move_on(change, write, taken.effects.denials.len() as u64)?;
-        Ok(Reported { taken, asked })
+        Ok(asked)
     }
 
     /// Takes a tick. `CountEnd` where the count of ticks would pass 2^63; then nothing changed.

@@ -32,5 +32,6 @@ pub use gw_audit::{Denial, Denials};
 pub use gw_configuration::{Config, ConfigFault};
 pub use gw_relay::{Batch, Sends};
 pub use gw_script::{Event, script_laws};
+pub use receive::Arrival;
 pub use reporting::{AllAsks, DenialsAlone, Reporting};
-pub use whole_run::{run, take_event};
+pub use whole_run::{run, take_event, take_event_to};

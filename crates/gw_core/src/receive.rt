@@ -138,7 +138,7 @@ pub(crate) fn read_npdu<'a>(
 {
     match frame {
         Ok(frame) => match payload_of(frame) {
-            Some(octets) if octets.len() <= MAX_NPDU => *npdu = gw_frames::npdu::decode(octets),
+            Some(octets) if octets.len() <= MAX_NPDU => { gw_frames::npdu::decode_to(octets, npdu) }
             _ => *npdu = Err(NpduFault::Short),
         },
         Err(_) => *npdu = Err(NpduFault::Short),

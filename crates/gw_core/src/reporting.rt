@@ -4,12 +4,12 @@ ghost use Rattle.std.specs.Prelude.{◌≡◌, true, IsOk, IfOk, IsErrOf};
 ghost use Rattle.gw_script.specs.Event.{Event, Tick};
 ghost use Rattle.gw_core.specs.Effects.{NeedsNoMemory, passes_end};
 ghost use Rattle.gw_core.specs.State.{State};
-ghost use Rattle.gw_core.specs.internal.Arrivals.{event_of};
+ghost use Rattle.gw_core.specs.Arrivals.{event_of};
 ghost use Rattle.gw_core.specs.internal.Outcome.{IsOutcome};
 
 use crate::asked::AllAsked;
 use crate::fault::StepFault;
-use crate::gateway::{Gateway, Outcome};
+use crate::gateway::{Gateway, Outcome, Taken};
 use crate::receive::Arrival;
 use gw_rules::{Authorizer, Recorder};
 use std::alloc::Global;
@@ -27,14 +27,15 @@ pub trait Reporting {
     fn nothing(alloc: Global) -> Self::Asked
         ensures { (w : State) → result ≡ asked w Tick };
 
-    /// What is done about a datagram, and what is reported of it, while the gateway stays as it is. The faults are those
-    /// of [`Gateway::step`].
+    /// Writes what is done about a datagram into its place, and answers what it changes and what is reported of it, while the
+    /// gateway stays as it is. The faults are those of [`Gateway::step`]; what is in the place is then of no use.
     fn outcome(
         gateway: &Gateway,
         alloc: Global,
         arrival: &Arrival<'_>,
+        taken: &mut Taken,
     ) -> Result<Outcome<Self::Asked>, StepFault>
-        ensures outcome { IfOk result (IsOutcome gateway.now (event_of arrival.now)) }
+        ensures outcome { IfOk result (IsOutcome gateway.now (event_of arrival.now) taken.new) }
         ensures asked { let event = event_of arrival.now in
             IfOk result (λ outcome. outcome.asked ≡ asked gateway.now event) }
         ensures count_end { IsErrOf result StepFault.CountEnd
@@ -58,8 +59,10 @@ impl Reporting for DenialsAlone {
         gateway: &Gateway,
         alloc: Global,
         arrival: &Arrival<'_>,
+        taken: &mut Taken,
     ) -> Result<Outcome<()>, StepFault> {
-        gateway.outcome(alloc, arrival, Authorizer::new(alloc, gateway.policy()))
+        let asker = Authorizer::new(alloc, gateway.policy());
+        gateway.outcome(alloc, arrival, asker, taken)
     }
 }
 
@@ -83,7 +86,9 @@ impl Reporting for AllAsks {
         gateway: &Gateway,
         alloc: Global,
         arrival: &Arrival<'_>,
+        taken: &mut Taken,
     ) -> Result<Outcome<AllAsked>, StepFault> {
-        gateway.outcome(alloc, arrival, Recorder::new(alloc, gateway.policy()))
+        let asker = Recorder::new(alloc, gateway.policy());
+        gateway.outcome(alloc, arrival, asker, taken)
     }
 }

@@ -10,13 +10,13 @@ ghost use Rattle.gw_core.specs.History.{HasTaken, StopsAtEnd, next, run_from, st
 use crate::effects::Effects;
 use crate::fault::StepFault;
 use crate::gateway::{Gateway, Reported, Taken};
+use crate::receive::Arrival;
 use crate::reporting::{DenialsAlone, Reporting};
 use gw_script::Event;
 use std::alloc::Global;
 
 /// Takes one event of either kind: what it does, why it was dropped, if it was, whether it lasts, and what is to be
 /// reported of what it asked. The faults are those of [`Gateway::step`] and [`Gateway::tick`]; then nothing changed.
-#[inline(always)]
 pub fn take_event<R: Reporting>(
     alloc: Global,
     gateway: &mut Gateway,
@@ -38,17 +38,47 @@ pub fn take_event<R: Reporting>(
         ¬ (NeedsNoMemory gateway.old (event_view event.now)) }
     ensures err { OnErr result (gateway.new ≡ gateway.old) }
 {
+    let mut taken = Taken::nothing(alloc);
+    match take_event_to::<R>(alloc, gateway, event, &mut taken) {
+        Ok(asked) => Ok(Reported { taken, asked }),
+        Err(fault) => Err(fault),
+    }
+}
+
+/// Takes one event as [`take_event`] does, writes what it does into its place, whatever was there, and answers what is to
+/// be reported of what it asked. What is in the place after a fault is of no use.
+#[inline(always)]
+pub fn take_event_to<R: Reporting>(
+    alloc: Global,
+    gateway: &mut Gateway,
+    event: &Event<'_>,
+    taken: &mut Taken,
+) -> Result<R::Asked, StepFault>
+    ensures given { OnOk result (taken.new.effects ≡ effects_at gateway.old (event_view event.now)) }
+    ensures drop { OnOk result (taken.new.drop ≡ drop_at gateway.old (event_view event.now)) }
+    ensures lasts { OnOk result (taken.new.lasts ≡ lasts gateway.old (event_view event.now)) }
+    ensures asked { IfOk result (λ asked. asked ≡ R.asked gateway.old (event_view event.now)) }
+    ensures moved { OnOk result (gateway.new ≡ next gateway.old (event_view event.now)) }
+    ensures within { IsOk result → passes_end gateway.old (event_view event.now) ≡ false }
+    ensures count_end { IsErrOf result StepFault.CountEnd →
+        passes_end gateway.old (event_view event.now) ≡ true }
+    ensures memory { IsErrOf result StepFault.Memory →
+        ¬ (NeedsNoMemory gateway.old (event_view event.now)) }
+    ensures err { OnErr result (gateway.new ≡ gateway.old) }
+{
     match event {
-        Event::Datagram { port, from, octets } => { gateway.take::<R>(alloc, *port, *from, octets) }
+        Event::Datagram { port, from, octets } => {
+            let arrival = Arrival {
+                port: *port,
+                from: *from,
+                octets,
+            };
+            gateway.take_to::<R>(alloc, &arrival, taken)
+        }
         Event::Tick => {
             gateway.tick()?;
-            let taken = Taken {
-                effects: Effects::none(alloc),
-                drop: None,
-                lasts: false,
-            };
-            let asked = R::nothing(alloc);
-            Ok(Reported { taken, asked })
+            *taken = Taken::nothing(alloc);
+            Ok(R::nothing(alloc))
         }
     }
 }

@@ -87,7 +87,8 @@ impl Relay {
         ensures { let m = message_view message.now in
             result ≡ comes_by_route self.now m (address_view source.now) }
     {
-        let way = self.routes().find(source.network);
+        let mut way = Way::Unknown;
+        self.routes().find_to(source.network, &mut way);
         leads_by(message.here.port.number, message.link(), &way)
     }
 

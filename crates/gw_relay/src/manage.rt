@@ -273,7 +273,8 @@ impl Relay {
         if !turn.asker.authorize(&ask)? {
             return Ok(());
         }
-        let way = self.routes().find(network.get());
+        let mut way = Way::Unknown;
+        self.routes().find_to(network.get(), &mut way);
         self.answer_who_is_router(message, network, &way, &mut turn.sends)
     }
 

@@ -375,7 +375,8 @@ impl Relay {
         if is_local(&message.npdu.payload) {
             return Ok(());
         }
-        let way = self.routes().find(destination.network);
+        let mut way = Way::Unknown;
+        self.routes().find_to(destination.network, &mut way);
         if way == Way::Device {
             return Ok(());
         }

@@ -11,13 +11,13 @@ ghost use Rattle.gw_replay.specs.Shown.{effects_text, event_text};
 use crate::replaying::RunFault;
 use crate::shown::append_effects;
 use gw_core::{
-    AllAsks, Asked, DenialsAlone, Effects, Gateway, StepFault, append_asked, take_event,
+    AllAsks, Asked, DenialsAlone, Effects, Gateway, StepFault, Taken, append_asked, take_event_to,
 };
 use gw_rules::RuleList;
 use gw_script::{Event, SpelledAddr, append_end};
 use std::alloc::{AllocError, Global};
 
-/// How a replay reports an event.
+/// How a replay reports an event. It keeps what an event does from event to event.
 pub(crate) trait EventText {
     ghost use Rattle.gw_replay.specs.Replay.{EventText};
 
@@ -29,7 +29,7 @@ pub(crate) trait EventText {
 
     /// Has the gateway take an event, and makes the event's text.
     fn make_text(
-        &self,
+        &mut self,
         gateway: &mut Gateway,
         event: &Event<'_>,
         sender: &Option<SpelledAddr<'_>>,
@@ -44,15 +44,15 @@ pub(crate) trait EventText {
 }
 
 /// By what it does.
-#[derive(Clone, Copy)]
+#[derive(Drop)]
 pub(crate) struct Plain {
-    pub alloc: Global,
+    pub taken: Taken,
 }
 
 /// By what it asks, and then by what it does.
-#[derive(Clone, Copy)]
+#[derive(Drop)]
 pub(crate) struct Explaining {
-    pub alloc: Global,
+    pub taken: Taken,
 }
 
 /// Has the gateway take a tick, and appends its only line.
@@ -73,10 +73,10 @@ fn append_tick(gateway: &mut Gateway, text: &mut Vec<u8>) -> Result<(), RunFault
     }
 }
 
-/// Has the gateway take a datagram, and appends the lines of what it does.
+/// Has the gateway take a datagram, and appends the lines of what it does, which is written into its place.
 #[inline(always)]
 fn append_step(
-    alloc: Global,
+    taken: &mut Taken,
     gateway: &mut Gateway,
     event: &Event<'_>,
     sender: &Option<SpelledAddr<'_>>,
@@ -90,23 +90,22 @@ fn append_step(
     ensures fault { IfErr result (IsEventFault gateway.old (event_view event.now)) }
     ensures capacity { vec_capacity text.old ≤ vec_capacity text.new }
 {
-    let reported = take_event::<DenialsAlone>(alloc, gateway, event);
-    let effects = match &reported {
-        Ok(reported) => &reported.taken.effects,
+    let alloc = taken.alloc();
+    match take_event_to::<DenialsAlone>(alloc, gateway, event, taken) {
+        Ok(()) => {}
         Err(StepFault::Memory) => return Err(RunFault::Memory),
         Err(StepFault::CountEnd) => return Err(RunFault::CountEnd),
-    };
-    match append_effects(text, effects, sender) {
-        Ok(()) => {}
-        Err(_) => return Err(RunFault::Memory),
     }
-    Ok(())
+    match append_effects(text, &taken.effects, sender) {
+        Ok(()) => Ok(()),
+        Err(_) => Err(RunFault::Memory),
+    }
 }
 
 /// Has the gateway take an event, and appends the lines of what it does.
 #[inline(always)]
 fn append_taken(
-    alloc: Global,
+    taken: &mut Taken,
     gateway: &mut Gateway,
     event: &Event<'_>,
     sender: &Option<SpelledAddr<'_>>,
@@ -121,7 +120,7 @@ fn append_taken(
     ensures capacity { vec_capacity text.old ≤ vec_capacity text.new }
 {
     match event {
-        Event::Datagram { .. } => append_step(alloc, gateway, event, sender, text),
+        Event::Datagram { .. } => append_step(taken, gateway, event, sender, text),
         Event::Tick => append_tick(gateway, text),
     }
 }
@@ -151,19 +150,19 @@ impl EventText for Plain {
     ghost wording = { event_text };
 
     fn alloc(&self) -> Global {
-        self.alloc
+        self.taken.alloc()
     }
 
     #[inline(always)]
     fn make_text(
-        &self,
+        &mut self,
         gateway: &mut Gateway,
         event: &Event<'_>,
         sender: &Option<SpelledAddr<'_>>,
         text: &mut Vec<u8>,
     ) -> Result<(), RunFault> {
         text.clear();
-        append_taken(self.alloc, gateway, event, sender, text)
+        append_taken(&mut self.taken, gateway, event, sender, text)
     }
 }
 
@@ -173,25 +172,25 @@ impl EventText for Explaining {
     ghost wording = { explained_text };
 
     fn alloc(&self) -> Global {
-        self.alloc
+        self.taken.alloc()
     }
 
     fn make_text(
-        &self,
+        &mut self,
         gateway: &mut Gateway,
         event: &Event<'_>,
         sender: &Option<SpelledAddr<'_>>,
         text: &mut Vec<u8>,
     ) -> Result<(), RunFault> {
         text.clear();
-        let reported = match take_event::<AllAsks>(self.alloc, gateway, event) {
-            Ok(reported) => reported,
+        let alloc = self.alloc();
+        let asked = match take_event_to::<AllAsks>(alloc, gateway, event, &mut self.taken) {
+            Ok(asked) => asked,
             Err(StepFault::Memory) => return Err(RunFault::Memory),
             Err(StepFault::CountEnd) => return Err(RunFault::CountEnd),
         };
-        let asked = reported.asked.as_slice();
-        let effects = &reported.taken.effects;
-        match append_explained(text, gateway.rules(), asked, effects, sender) {
+        let asked = asked.as_slice();
+        match append_explained(text, gateway.rules(), asked, &self.taken.effects, sender) {
             Ok(()) => Ok(()),
             Err(_) => Err(RunFault::Memory),
         }

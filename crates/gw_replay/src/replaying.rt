@@ -15,7 +15,7 @@ ghost use Rattle.gw_replay.specs.Flawed.{HasFlaw, IsFirstFlaw};
 
 use crate::event_writer::{EventText, Explaining, Plain};
 use gw_configuration::Config;
-use gw_core::{Counts, Gateway};
+use gw_core::{Counts, Gateway, Taken};
 use gw_script::{
     LineFlaw, LineReader, MAX_DATAGRAM, NextLine, OctetSink, OctetSource, flaw_of, parse_spelled,
     write_whole,
@@ -109,7 +109,8 @@ pub fn replay<R: OctetSource, W: OctetSink>(
     ensures sure_writer { W.NeverFails writer.old → ¬ (IsErrOf result RunFault.Write) }
 {
     let mut flaw = LineFlaw::Form;
-    replay_with(&Plain { alloc }, config, reader, writer, &mut flaw)
+    let taken = Taken::nothing(alloc);
+    replay_with(&mut Plain { taken }, config, reader, writer, &mut flaw)
 }
 
 /// As [`replay`], and before the lines of what an event does there is one for each of its asks, allowed or
@@ -143,14 +144,15 @@ pub fn replay_explaining<R: OctetSource, W: OctetSink>(
         ¬ (IsErrOf result RunFault.Read) }
     ensures sure_writer { W.NeverFails writer.old → ¬ (IsErrOf result RunFault.Write) }
 {
-    replay_with(&Explaining { alloc }, config, reader, writer, flaw)
+    let taken = Taken::nothing(alloc);
+    replay_with(&mut Explaining { taken }, config, reader, writer, flaw)
 }
 
 /// Runs the events of a script through a fresh gateway, and reports each by `event_writer`. It is a function of its own, so
 /// that what calls it takes none of its loop's registers.
 #[inline(never)]
 fn replay_with<T: EventText, R: OctetSource, W: OctetSink>(
-    event_writer: &T,
+    event_writer: &mut T,
     config: Config,
     reader: &mut R,
     writer: &mut W,
@@ -193,7 +195,7 @@ impl ScriptRun {
     /// Replays each line, in order.
     fn replay_script<T: EventText, R: OctetSource, W: OctetSink>(
         &mut self,
-        event_writer: &T,
+        event_writer: &mut T,
         reader: &mut R,
         writer: &mut W,
     ) -> Result<(), RunFault>
@@ -222,7 +224,7 @@ impl ScriptRun {
     /// Replays the line of this number. It answers whether there was one.
     fn replay_line<T: EventText, R: OctetSource, W: OctetSink>(
         &mut self,
-        event_writer: &T,
+        event_writer: &mut T,
         number: u64,
         reader: &mut R,
         writer: &mut W,

@@ -9,7 +9,7 @@ pub returns-in-Err-clause-fault : goal.returns-in-Err-clause-fault
 returns-in-Err-clause-fault c = inl (
   refl,
   λ none.
-      let given = rw c.in-Ok.is at c.take_event-reported.ensures.given in
+      let given = c.in-Ok.ensures.given in
       let len = ap (λ (x : Effects). length (effects_text x)) given
       ∙ few_octets c.args.gateway.now (event_view c.args.event.now) none in
       let refused = c.in-Err.ensures.room (omega (arith, len, c.requires.room none)) in

@@ -4,7 +4,7 @@ use Rattle.gw_core.specs.Asks.{asks_for}
 use Rattle.gw_core.specs.Receive.{receive}
 use Rattle.gw_core.specs.State.{State}
 use Rattle.gw_core.specs.internal.View.{admitted_view}
-use Rattle.gw_core.specs.internal.Arrivals.{event_of}
+use Rattle.gw_core.specs.Arrivals.{event_of}
 use Rattle.gw_core.proofs.AskedLemmas.{reported_as}
 use Rattle.gw_core.proofs.DenialLemmas.{asks_received, counted_for, denials_received, recorded}
 use Rattle.gw_core.proofs.EffectLemmas.{change_received, drop_as, effects_are, effects_received, lasts_as, move_received, passes_end-denials, received_as, sends_received}

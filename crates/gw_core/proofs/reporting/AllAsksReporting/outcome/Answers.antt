@@ -1,6 +1,6 @@
 use Rattle.std.proofs.Common.{◌∙◌}
 use Rattle.std.proofs.lemmas.Result.{IfOk-weaker}
-use Rattle.gw_core.specs.internal.Arrivals.{event_of}
+use Rattle.gw_core.specs.Arrivals.{event_of}
 use Rattle.gw_core.proofs.AskedLemmas.{asked_is}
 use Rattle.gw_core.proofs.reporting.AllAsksReporting.outcome.Goals as goal
 

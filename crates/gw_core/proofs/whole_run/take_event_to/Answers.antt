@@ -5,22 +5,22 @@ use Rattle.gw_core.specs.Drops.{drop_at}
 use Rattle.gw_core.specs.Effects.{effects_at}
 use Rattle.gw_core.specs.Lasting.{lasts}
 use Rattle.gw_core.proofs.EffectLemmas.{drop_at-tick, lasts-tick, nothing_is, effects_at-tick}
-use Rattle.gw_core.proofs.whole_run.take_event.Goals as goal
+use Rattle.gw_core.proofs.whole_run.take_event_to.Goals as goal
 
 pub returns-in_ok-tick-in-Tick-clause-given : goal.returns-in_ok-tick-in-Tick-clause-given
 returns-in_ok-tick-in-Tick-clause-given g c =
-    nothing_is c.none.result c.none.ensures.sends c.none.ensures.denials ∙ sym (effects_at-tick c.args.gateway.now)
+    nothing_is c.nothing.result.effects c.nothing.ensures.sends c.nothing.ensures.denials ∙ sym (effects_at-tick c.args.gateway.now)
     ∙ ap (λ (e : LentEvent). effects_at c.args.gateway.now (event_view e)) (sym c.in-Tick.is)
 
 pub returns-in_ok-tick-in-Tick-clause-drop : goal.returns-in_ok-tick-in-Tick-clause-drop
 returns-in_ok-tick-in-Tick-clause-drop g c =
-    drop_at-tick c.args.gateway.now ∙ ap (λ (e : LentEvent). drop_at c.args.gateway.now (event_view e)) (sym c.in-Tick.is)
+    c.nothing.ensures.drop ∙ drop_at-tick c.args.gateway.now ∙ ap (λ (e : LentEvent). drop_at c.args.gateway.now (event_view e)) (sym c.in-Tick.is)
 
 pub returns-in_ok-tick-in-Tick-clause-lasts : goal.returns-in_ok-tick-in-Tick-clause-lasts
 returns-in_ok-tick-in-Tick-clause-lasts g c =
-    lasts-tick c.args.gateway.now ∙ ap (λ (e : LentEvent). lasts c.args.gateway.now (event_view e)) (sym c.in-Tick.is)
+    c.nothing.ensures.lasts ∙ lasts-tick c.args.gateway.now ∙ ap (λ (e : LentEvent). lasts c.args.gateway.now (event_view e)) (sym c.in-Tick.is)
 
 pub returns-in_ok-tick-in-Tick-clause-asked : goal.returns-in_ok-tick-in-Tick-clause-asked
 returns-in_ok-tick-in-Tick-clause-asked g c =
-    c.nothing-asked.ensures c.args.gateway.now
+    c.nothing-in-Tick.ensures c.args.gateway.now
     ∙ ap (λ (e : LentEvent). g.R.Reporting.asked c.args.gateway.now (event_view e)) (sym c.in-Tick.is)
