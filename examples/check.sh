@@ -555,6 +555,17 @@ status 2
 reload refused: configuration: NotToml: '"$("$program" check --config "$work/changed.toml" 2> /dev/null)"'
 127.3.0.10 810A001801080064010130200C0C0140000219553E91003F'
 
+# What is no request stays where it is, and a request that names another text is refused.
+python3 "$here/loopback.py" requests "$program" "$work/new.toml" "$work/request" > "$work/out" 2>&1
+same 'requests, and what is none' "$(cat "$work/out")" \
+    "a text stays
+two lines stays
+a link stays
+a folder stays
+reload refused: cannot read configuration: it isn't the text that was checked
+reload: 1 rules
+reload: 1 rules"
+
 # A policy on trial and an audit have logs of their own, which go on from run to run; the log is what it is without them.
 sed 's/^format = 1$/format = 3/; $s/$/\naudit = true/' "$work/served.toml" > "$work/audited.toml"
 sed 's/^name = "hide"$/name = "keep"/; s/^instance = \[2\]$/instance = [1]/' "$work/audited.toml" > "$work/trial.toml"

@@ -14,6 +14,9 @@
     loopback.py reload PROGRAM TOOL FILE NEW REQUEST
                                              has a gateway take over another configuration, and then a faulty one, which it refuses;
                                              TOOL is `bacgwctl`
+    loopback.py requests PROGRAM FILE REQUEST
+                                             puts what is no request under the name of REQUEST, and then requests that name another text,
+                                             the one that is there, and none; prints what became of each
     loopback.py noted PROGRAM TOOL FILE LOG REQUEST
                                              lets a read be denied by a gateway whose log has stamps and notes, has it read its
                                              configuration again, renames the log to LOG.1, and lets a read be denied again
@@ -24,6 +27,7 @@
 It prints the answers in hexadecimal and the exit status; what the gateway tells goes to standard error.
 """
 
+import hashlib
 import os
 import re
 import shutil
@@ -150,6 +154,57 @@ def reload(program, tool, file, new, request):
         with open(request + ".answer", encoding="utf-8") as answer:
             print(answer.read(), end="", flush=True)
         read(line, 32, 2, PORT_1)
+    finally:
+        gateway.kill()
+        gateway.wait(timeout=10)
+
+
+def named(text):
+    """A request to read a configuration of this text again, and no other."""
+    return b"reload %d %s\n" % (len(text), hashlib.sha256(text).hexdigest().encode())
+
+
+def put(file, text):
+    """Gives a file this text, whole at once."""
+    with open(file + ".made", "wb") as made:
+        made.write(text)
+    os.replace(file + ".made", file)
+
+
+def asked(request, text):
+    """The answer to a request of this text."""
+    put(request, text)
+    until = time.monotonic() + 5
+    while not os.path.exists(request + ".answer") and time.monotonic() < until:
+        time.sleep(0.05)
+    with open(request + ".answer", "rb") as answer:
+        told = answer.read().decode()
+    os.remove(request + ".answer")
+    return told
+
+
+def requests(program, file, request):
+    """Puts no requests under the name of a request, and then requests."""
+    gateway = start(program, "--config", file, "--reload", request)
+    empty = request + ".empty"
+    open(empty, "wb").close()
+    with open(file, "rb") as text:
+        config = text.read()
+    try:
+        for name, make in (
+            ("a text", lambda: put(request, b"format = 1\n")),
+            ("two lines", lambda: put(request, named(config) + b"\n")),
+            ("a link", lambda: os.symlink(empty, request)),
+            ("a folder", lambda: os.mkdir(request)),
+        ):
+            make()
+            time.sleep(2.2)
+            print(name, "stays" if os.path.lexists(request) else "is gone", flush=True)
+            (os.rmdir if os.path.isdir(request) else os.remove)(request)
+            time.sleep(1.1)
+        print(asked(request, named(b"another text")), end="", flush=True)
+        print(asked(request, named(config)).split(" (")[0], flush=True)
+        print(asked(request, b"").split(" (")[0], flush=True)
     finally:
         gateway.kill()
         gateway.wait(timeout=10)
@@ -309,6 +364,7 @@ def ports(program, file, count):
     "first": first,
     "kept": kept,
     "reload": reload,
+    "requests": requests,
     "noted": noted,
     "watched": watched,
 }[sys.argv[1]](*sys.argv[2:])

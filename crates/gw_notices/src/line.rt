@@ -80,6 +80,9 @@ fn refusal_of_reading(why: Obstacle) -> &'static str
         Obstacle::Absent => "reload refused: cannot read configuration: no such file\n",
         Obstacle::NotPermitted => "reload refused: cannot read configuration: permission denied\n",
         Obstacle::Folder => "reload refused: cannot read configuration: is a directory\n",
+        Obstacle::Changed => {
+            "reload refused: cannot read configuration: it isn't the text that was checked\n"
+        }
         Obstacle::Other => "reload refused: cannot read configuration: it can't be read\n",
     }
 }

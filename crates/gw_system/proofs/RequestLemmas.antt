@@ -1,5 +1,10 @@
 -- What is known of what asks, after a request and after its answer.
-use Rattle.std.proofs.Common.{◌≡◌, ◌∙◌, ℕ, List, [], ◌∷◌, ◌++◌, Option, Result, ap, subst, sym, append_assoc}
+use Rattle.std.proofs.Common.{◌≡◌, ◌∙◌, ℕ, Bool, true, false, nat_eq, if◌then◌else◌, List, [], ◌∷◌, ◌++◌, Option, Some, None, Result, Ok, Err, ap, refl, subst, sym, append_assoc}
+use Rattle.std.specs.Cmp.Lexicographic.{pointwise, same_text}
+use Rattle.std.specs.Prelude.{⊤}
+use Rattle.gw_system.specs.Request.{IsChecked, IsGiven, NamedTextAlone, reload_request}
+use Rattle.gw_system.specs.declared.obstacle.Obstacle.TheVariants as obstacle
+use Rattle.gw_system.specs.declared.reading.ReadFailure.TheVariants as reading
 use Rattle.gw_system.specs.Requests.{Asking, Exchange, GoesOn, GoesOnKnown, IsAsking, asked, known, nobody, silent}
 use Rattle.gw_system.specs.declared.reading.ReadFailure.{ReadFailure}
 
@@ -22,3 +27,36 @@ goes_two (known a) (known b) nobody x y first second = absurd second
 goes_two (known a) (known b) silent x y first second = tt
 goes_two (known a) (known b) (known c) x y first second =
     second ∙ ap (λ (l : List Exchange). l ++ y ∷ []) first ∙ append_assoc a (x ∷ []) (y ∷ [])
+
+-- ---- a request that names a text
+
+-- this text was given
+abbrev gave : List ℕ → Result (Option (List ℕ)) ReadFailure
+gave t = Ok (Some t)
+
+-- the line of what was given is that of the request
+abbrev LineIs : Result (Option (List ℕ)) ReadFailure → (request : List ℕ) → Type 0
+LineIs (Ok (Some t)) request = reload_request t ≡ request
+LineIs (Ok None) request = ⊤
+LineIs (Err failure) request = ⊤
+
+-- what is given, by whether the line is that of the text
+by_line : (request t other : List ℕ) (same : Bool) → same ≡ pointwise nat_eq (reload_request t) request
+    → gave other ≡ (if same then gave t else Err (reading.Unreadable obstacle.Changed))
+    → (gave t ≡ gave other) × (reload_request other ≡ request)
+by_line request t other true same given =
+    let is = sym given in (is, subst (λ (r : Result (Option (List ℕ)) ReadFailure). LineIs r request) is (same_text (reload_request t) request same))
+by_line request t other false same given = absurd cc
+
+checked_alone : (request t other : List ℕ) → IsChecked request t (Ok (Some other))
+    → (gave t ≡ gave other) × (reload_request other ≡ request)
+checked_alone request t other is = by_line request t other (pointwise nat_eq (reload_request t) request) refl is
+
+named_by : (o : ℕ) (request : List ℕ) (read : Result (Option (List ℕ)) ReadFailure) (other : List ℕ)
+    → IsGiven (o ∷ request) read (Ok (Some other)) → (read ≡ Ok (Some other)) × (reload_request other ≡ o ∷ request)
+named_by o request (Ok (Some t)) other is = checked_alone (o ∷ request) t other is
+named_by o request (Ok None) other is = absurd cc
+named_by o request (Err failure) other is = absurd cc
+
+pub named_alone : NamedTextAlone
+named_alone text other read is = named_by _ _ read other is

@@ -1,7 +1,9 @@
+pub mod FileRequests
 pub mod Folder
 pub mod Host
 pub mod Obstacle
 pub mod Opening
 pub mod Waiting
+pub mod Request
 pub mod Requests
 pub mod StampedHost

@@ -8,4 +8,5 @@ abbrev pub obstacle_words : Obstacle → List ℕ
 obstacle_words obstacle.Absent = codes "no such file"
 obstacle_words obstacle.NotPermitted = codes "permission denied"
 obstacle_words obstacle.Folder = codes "is a directory"
+obstacle_words obstacle.Changed = codes "it isn't the text that was checked"
 obstacle_words obstacle.Other = codes "it can't be read"

@@ -1,5 +1,5 @@
 -- What opening a log with stamps and notes gives.
-use Rattle.std.specs.Prelude.{◌≡◌, ◌⊎◌, ℕ, true, false, Bool, List, Option, Some, None, Result, Ok, Err, codes}
+use Rattle.std.specs.Prelude.{◌≡◌, ◌⊎◌, ℕ, true, false, Bool, List, Option, Some, None, Ok, Err, codes}
 use Rattle.std.specs.Io.KnownBytes.{Appends, Keeps}
 use Rattle.gw_log_words.specs.Noted.{held_without_notes, note_line}
 use Rattle.gw_log_words.specs.Stamped.{held_without}

@@ -1,10 +1,10 @@
 //! Files by their names, as requests and their answers use them.
 
-ghost use Rattle.std.specs.Prelude.{◌≡◌, ◌≢◌, [], Some, None, Ok, false, true, List, ℕ, IfOk, OnOk};
+ghost use Rattle.std.specs.Prelude.{◌≡◌, ◌≢◌, Some, None, Ok, false, true, List, ℕ, IfOk, OnOk};
 ghost use Rattle.gw_system.specs.Folder.{Holds, IsTakenAway, Known, octets_of};
 
 use crate::reading::{ReadFailure, read_file};
-use crate::store::{remove_if_there, replace_file, store_fault, write_new};
+use crate::store::{Access, replace_file, store_fault};
 use gw_wire::StoreFault;
 use std::alloc::Global;
 use std::io::ErrorKind;
@@ -25,19 +25,26 @@ pub trait Folder {
         ensures gone { OnOk result (Holds (known self.new name.now) None) }
         ensures others { (other : List ℕ) → other ≢ name.now → known self.new other ≡ known self.old other };
 
-    /// Makes an empty file of this name. What had the name is taken away first.
-    fn make(&mut self, name: &str) -> Result<(), StoreFault>
-        ensures made { OnOk result (Holds (known self.new name.now) (Some [])) }
-        ensures others { (other : List ℕ) → other ≢ name.now → known self.new other ≡ known self.old other };
+    /// Whether a file of this name may be a regular one, and is no link to one.
+    fn is_regular(&self, name: &str) -> bool;
 
     /// The octets of the regular file of this name, or `None` if there is no such file. Faults: `Unreadable` if it
     /// can't be read, is no regular file or has more than so many octets; and `Memory`.
     fn read(&self, alloc: Global, name: &str, most: usize) -> Result<Option<Vec<u8>>, ReadFailure>
         ensures { IfOk result (λ octets. Holds (known self.now name.now) (octets_of octets)) };
 
-    /// Replaces the file of a name whole by these octets, which are written to the file of the other name first.
-    fn replace(&mut self, name: &str, beside: &str, octets: &[u8]) -> Result<(), StoreFault>
-        ensures { OnOk result (Holds (known self.new name.now) (Some octets.now)) };
+    /// Replaces the file of a name whole by these octets, which are written to the file of the other name first. Who may
+    /// read it is by `access`.
+    fn replace(
+        &mut self,
+        name: &str,
+        beside: &str,
+        access: Access,
+        octets: &[u8],
+    ) -> Result<(), StoreFault>
+        ensures made { OnOk result (Holds (known self.new name.now) (Some octets.now)) }
+        ensures others { (other : List ℕ) → other ≢ name.now → other ≢ beside.now →
+            known self.new other ≡ known self.old other };
 }
 
 /// The files of the system, of which contracts know nothing.
@@ -67,10 +74,10 @@ impl<R: Files> Folder for SystemFolder<'_, R> {
         }
     }
 
-    fn make(&mut self, name: &str) -> Result<(), StoreFault> {
-        match write_new(self.rt, name, b"") {
-            Ok(()) => Ok(()),
-            Err(error) => Err(store_fault(&error)),
+    fn is_regular(&self, name: &str) -> bool {
+        match self.rt.symlink_metadata(name) {
+            Ok(metadata) => metadata.is_file(),
+            Err(_) => false,
         }
     }
 
@@ -78,8 +85,14 @@ impl<R: Files> Folder for SystemFolder<'_, R> {
         read_file(self.rt, alloc, name, most)
     }
 
-    fn replace(&mut self, name: &str, beside: &str, octets: &[u8]) -> Result<(), StoreFault> {
-        match replace_file(self.rt, name, beside, octets) {
+    fn replace(
+        &mut self,
+        name: &str,
+        beside: &str,
+        access: Access,
+        octets: &[u8],
+    ) -> Result<(), StoreFault> {
+        match replace_file(self.rt, name, beside, access, octets) {
             Ok(()) => Ok(()),
             Err(error) => Err(store_fault(&error)),
         }

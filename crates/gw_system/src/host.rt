@@ -328,7 +328,7 @@ impl<'a, R: Files + Net + Clock> Host for SystemHost<'a, R> {
     }
 
     fn request_reload(&self, alloc: Global, request: &str) -> Result<AskedFile, StoreFault> {
-        make_request(&mut SystemFolder { rt: self.rt }, alloc, request)
+        make_request(&mut SystemFolder { rt: self.rt }, alloc, request, b"")
     }
 
     fn await_answer(

@@ -15,6 +15,8 @@ pub enum Obstacle {
     NotPermitted,
     /// It is a folder.
     Folder,
+    /// What it holds isn't the text that was checked before.
+    Changed,
     /// Another error of the system, another kind of file, or one that is too long.
     Other,
 }
@@ -45,6 +47,7 @@ pub fn obstacle_words(why: Obstacle) -> &'static str
         Obstacle::Absent => "no such file",
         Obstacle::NotPermitted => "permission denied",
         Obstacle::Folder => "is a directory",
+        Obstacle::Changed => "it isn't the text that was checked",
         Obstacle::Other => "it can't be read",
     }
 }

@@ -5,9 +5,9 @@ ghost use Rattle.std.specs.Prelude.{◌≡◌, ◌++◌, string_bytes, IfOk};
 use crate::host::{MODE, is_link};
 use gw_wire::{Store, StoreFault};
 use std::alloc::{AllocError, Global};
-use std::fs::{File, OpenFile};
+use std::fs::{File, OpenFile, Permissions};
 use std::io::{ErrorKind, Write};
-use std::os::unix::fs::OpenOptionsExt;
+use std::os::unix::fs::{OpenOptionsExt, PermissionsExt};
 use std::rt::Files;
 use std::{fs, io};
 
@@ -54,7 +54,7 @@ pub(crate) fn name_with(alloc: Global, name: &str, ending: &str) -> Result<Strin
 }
 
 /// Takes a file away, if there is one of this name.
-pub(crate) fn remove_if_there<R: Files>(rt: &R, name: &str) -> io::Result<()> {
+fn remove_if_there<R: Files>(rt: &R, name: &str) -> io::Result<()> {
     match rt.remove_file(name) {
         Ok(()) => Ok(()),
         Err(error) => match error.kind() {
@@ -64,17 +64,37 @@ pub(crate) fn remove_if_there<R: Files>(rt: &R, name: &str) -> io::Result<()> {
     }
 }
 
-/// Writes a text to a new file of this name that its owner alone may read, and waits until it is on the disk. What
-/// had the name is taken away first; a link that gets it then isn't followed.
-pub(crate) fn write_new<R: Files>(rt: &R, name: &str, octets: &[u8]) -> io::Result<()> {
+/// Who may read a file that is made. Its owner alone may write it.
+#[derive(Clone, Copy)]
+pub enum Access {
+    /// Its owner alone.
+    Owner,
+    /// Everybody, whatever the process takes from the files that it makes.
+    Everyone,
+}
+
+impl Access {
+    /// The mode of the file.
+    fn mode(self) -> u32 {
+        match self {
+            Access::Owner => MODE,
+            Access::Everyone => 0o644,
+        }
+    }
+}
+
+/// Writes a text to a new file of this name. What had the name is taken away first; a link that gets it then isn't
+/// followed.
+fn write_new<R: Files>(rt: &R, name: &str, access: Access, octets: &[u8]) -> io::Result<R::File> {
     remove_if_there(rt, name)?;
     let mut file = File::options()
         .write(true)
         .create_new(true)
-        .mode(MODE)
+        .mode(access.mode())
         .open(rt, name)?;
+    file.set_permissions(Permissions::from_mode(access.mode()))?;
     file.write_all(octets)?;
-    file.sync_all()
+    Ok(file)
 }
 
 /// Replaces the file of a name by this text, which is written beside it first.
@@ -82,9 +102,10 @@ pub(crate) fn replace_file<R: Files>(
     rt: &R,
     name: &str,
     beside: &str,
+    access: Access,
     octets: &[u8],
 ) -> io::Result<()> {
-    write_new(rt, beside, octets)?;
+    let _written = write_new(rt, beside, access, octets)?;
     rt.rename(beside, name)
 }
 
@@ -111,9 +132,10 @@ impl<'a, R: Files> FileStore<'a, R> {
         })
     }
 
-    /// Replaces the file, and waits until its new name is on the disk.
+    /// Replaces the file by a text that is on the disk before that, and waits until its new name is there too.
     fn settle(&self, octets: &[u8]) -> io::Result<()> {
-        replace_file(self.rt, &self.name, &self.beside, octets)?;
+        write_new(self.rt, &self.beside, Access::Owner, octets)?.sync_all()?;
+        self.rt.rename(&self.beside, &self.name)?;
         self.folder.sync_all()
     }
 }

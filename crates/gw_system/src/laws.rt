@@ -1,0 +1,10 @@
+//! Laws of requests. The functions do nothing: their contracts are the laws.
+
+ghost use Rattle.gw_system.specs.Request.{EmptyTakesAll, NamedTextAlone};
+
+/// A request that names a text has that one alone taken over: no other text is given of the configuration, unless it has the same
+/// length and SHA-256. An empty one has all taken over that was read.
+pub fn only_the_named_text()
+    ensures empty { EmptyTakesAll }
+    ensures named { NamedTextAlone }
+{}
