@@ -11,5 +11,6 @@ pub mod PresenceLaw
 pub mod RangeLaw
 pub mod RegionLaw
 pub mod StepLaw
+pub mod TidyLaw
 pub mod ValueLaw
 pub mod WideningLaw

@@ -7,5 +7,6 @@ pub mod Presence
 pub mod Ranges
 pub mod Regions
 pub mod Steps
+pub mod Tidying
 pub mod Values
 pub mod internal

@@ -15,6 +15,7 @@ mod presence;
 mod ranges;
 mod region;
 mod summary;
+mod tidying;
 mod values;
 mod widening;
 
@@ -23,8 +24,9 @@ pub use comparison::{Comparison, Found};
 pub use deciders::DEFAULT;
 pub use meeting::ask_in;
 pub use merging::merge;
-pub use ranges::{both, united};
+pub use ranges::{both, tidy, united, without};
 pub use region::{Region, lies, part};
 pub use summary::{Summary, summarize, summary_of};
+pub use tidying::{all_tidied, tidied};
 pub use values::Values;
 pub use widening::widen;

@@ -1,12 +1,9 @@
 -- One range in the place of two.
-use Rattle.std.proofs.Common.{◌≡◌, ◌∙◌, sym, ap, refl, ℕ, ◌+◌, ◌≤◌, ◌<◌, Bool, true, false, cond, ◌&&◌, ◌||◌, List, [], ◌∷◌, ◌++◌, arith, nat_le, nat_lt, length, take, get_or}
-use Rattle.std.specs.List.{list_any}
+use Rattle.std.proofs.Common.{◌≡◌, ◌∙◌, sym, ap, refl, ℕ, ◌+◌, ◌≤◌, ◌<◌, Bool, true, false, cond, ◌&&◌, ◌||◌, arith, nat_le, nat_lt}
 use Rattle.std.proofs.lemmas.Bool.{both_ways, false_from_ne_true, leb-false, leb-true, ltb-true, ltb-false}
-use Rattle.std.proofs.lemmas.List.Folds.{list_any-append}
 use Rattle.gw_rules.specs.Range.{holds}
 use Rattle.gw_rules.specs.declared.range.Range.{Range}
 use Rattle.gw_ask_sets.specs.regions.Ranges.{between, greater, lesser}
-use Rattle.gw_ask_sets.proofs.regions_lemmas.Growing.{grown_any}
 use Rattle.gw_ask_sets.proofs.regions_lemmas.RangeLaw.{hold, held, or_none, same}
 
 -- a range whose ends are the wrong way round holds nothing
@@ -102,44 +99,6 @@ both_held n a b oa ob ab ba =
 
 -- ---- lists
 
-or_regroup : (o a b : Bool) → (o || (a || b)) ≡ ((o || a) || b)
+pub or_regroup : (o a b : Bool) → (o || (a || b)) ≡ ((o || a) || b)
 or_regroup true a b = refl
 or_regroup false a b = refl
-
-or_turned : (o a b : Bool) → ((o || b) || a) ≡ ((o || a) || b)
-or_turned true a b = refl
-or_turned false true true = refl
-or_turned false true false = refl
-or_turned false false true = refl
-or_turned false false false = refl
-
-one_more : (n : ℕ) (out : List Range) (r : Range) → list_any (holds n) (out ++ r ∷ []) ≡ (list_any (holds n) out || holds n r)
-one_more n out r = list_any-append (holds n) out (r ∷ []) ∙ ap (λ b. list_any (holds n) out || b) (or_none (holds n r))
-
--- one in the place of two is carried
-pub carried_both : (n : ℕ) (out : List Range) (a b both : Range) → holds n both ≡ (holds n a || holds n b)
-    → (list_any (holds n) out || holds n both) ≡ ((list_any (holds n) out || holds n a) || holds n b)
-carried_both n out a b both e = ap (λ c. list_any (holds n) out || c) e ∙ or_regroup (list_any (holds n) out) (holds n a) (holds n b)
-
--- one is put, and the other one is carried
-pub carried_first : (n : ℕ) (out new : List Range) (a b : Range) → new ≡ out ++ b ∷ []
-    → (list_any (holds n) new || holds n a) ≡ ((list_any (holds n) out || holds n a) || holds n b)
-carried_first n out new a b grown =
-    ap (λ (xs : List Range). list_any (holds n) xs || holds n a) grown
-    ∙ ap (λ c. c || holds n a) (one_more n out b)
-    ∙ or_turned (list_any (holds n) out) (holds n a) (holds n b)
-
-pub carried_second : (n : ℕ) (out new : List Range) (a b : Range) → new ≡ out ++ a ∷ []
-    → (list_any (holds n) new || holds n b) ≡ ((list_any (holds n) out || holds n a) || holds n b)
-carried_second n out new a b grown =
-    ap (λ (xs : List Range). list_any (holds n) xs || holds n b) grown ∙ ap (λ c. c || holds n b) (one_more n out a)
-
--- a list so far with one range more
-pub inserted_step : (n : ℕ) (list : List Range) (place : ℕ) (d : Range) (out new : List Range) (carried rest range : Range) → place < length list
-    → (list_any (holds n) new || holds n rest) ≡ ((list_any (holds n) out || holds n carried) || holds n (get_or list place d))
-    → (list_any (holds n) out || holds n carried) ≡ (list_any (holds n) (take place list) || holds n range)
-    → (list_any (holds n) new || holds n rest) ≡ (list_any (holds n) (take (place + 1) list) || holds n range)
-inserted_step n list place d out new carried rest range within step is =
-    step ∙ ap (λ b. b || holds n (get_or list place d)) is
-    ∙ or_turned (list_any (holds n) (take place list)) (holds n (get_or list place d)) (holds n range)
-    ∙ sym (ap (λ b. b || holds n range) (grown_any (holds n) list place d within))

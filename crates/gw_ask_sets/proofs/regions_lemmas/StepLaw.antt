@@ -1,6 +1,5 @@
 -- What steps of a comparison keep.
-use Rattle.std.proofs.Common.{◌≡◌, ◌∙◌, ◌⊎◌, sym, ap, refl, subst, ℕ, zero, suc, ◌+◌, ◌<◌, true, false, ◌&&◌, ◌||◌, List, [], ◌∷◌, ◌++◌, Some, length, get_or, append_assoc, arith, Bool, inl, inr}
-use Rattle.std.specs.Prelude.{not, slice_get}
+use Rattle.std.proofs.Common.{◌≡◌, ◌∙◌, ◌⊎◌, sym, ap, refl, subst, ℕ, zero, suc, ◌+◌, ◌<◌, true, false, ◌&&◌, ◌||◌, List, [], ◌∷◌, ◌++◌, Some, length, get_or, append_assoc, arith, inl, inr}
 use Rattle.std.specs.List.{AllByRecursion}
 use Rattle.std.proofs.lemmas.List.{append-nil}
 use Rattle.std.proofs.lemmas.List.Elements.{All-from_recursion}
@@ -8,12 +7,11 @@ use Rattle.std.proofs.lemmas.Option.{get_or_from_slice_get, slice_get-get_or}
 use Rattle.gw_rules.specs.declared.field.TheConstants.FieldName.{ALL}
 use Rattle.gw_rules.specs.declared.rule.Rule.{Rule}
 use Rattle.gw_rules.specs.Ask.{Ask}
-use Rattle.gw_rules.specs.RuleList.{allows}
-use Rattle.gw_ask_sets.specs.regions.Comparing.{AreAlike, AreUnlike, IsComparison, differs, unlike}
+use Rattle.gw_ask_sets.specs.regions.Comparing.{IsComparison, differs}
 use Rattle.gw_ask_sets.specs.regions.Regions.{Region, inside, lies, lies_in_one, pieces}
-use Rattle.gw_ask_sets.specs.regions.Steps.{AreSteps, Becomes, IsBeginning, IsCounted, IsDivided, IsReached, IsRuleOf, IsSettled, IsStep, Stage, divides, stage}
+use Rattle.gw_ask_sets.specs.regions.Steps.{AreSteps, IsBeginning, IsCounted, IsDivided, IsReached, IsRuleOf, IsSettled, IsStep, Stage, divides, stage}
 use Rattle.gw_ask_sets.specs.declared.regions.comparison.Found.{Found}
-use Rattle.gw_ask_sets.specs.regions.internal.Looking.{AreDeciding, Divides}
+use Rattle.gw_ask_sets.specs.regions.internal.Looking.{Divides}
 use Rattle.gw_ask_sets.proofs.regions_lemmas.ComparingLaw.{found_unlike, in_parts, left_out}
 use Rattle.gw_ask_sets.proofs.regions_lemmas.RegionLaw.{is_parted}
 

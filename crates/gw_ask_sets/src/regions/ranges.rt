@@ -1,10 +1,11 @@
 //! What two lists of ranges share, and what is left of one outside the other.
-ghost use Rattle.std.specs.Prelude.{◌≡◌, ◌≤◌, ◌+◌, ◌++◌, ◌||◌, ℕ, true, IfOk, IfSome, OnOk};
-ghost use Rattle.std.specs.List.{flat_map, list_any};
+ghost use Rattle.std.specs.Prelude.{◌≡◌, ◌++◌, ◌∷◌, true, IfOk, List, OnOk};
+ghost use Rattle.std.specs.List.{flat_map};
 ghost use Rattle.std.specs.Option.{option_to_list};
-ghost use Rattle.gw_rules.specs.Range.{holds};
+ghost use Rattle.gw_rules.specs.declared.range.Range.{Range as SpecRange};
 ghost use Rattle.gw_ask_sets.specs.regions.Merging.{AreUnited};
 ghost use Rattle.gw_ask_sets.specs.regions.Ranges.{both, first_number, greater, lesser, outside, over, shared, shared_with, under, without, without_one};
+ghost use Rattle.gw_ask_sets.specs.regions.Tidying.{joined, put_all, put_into, reaches, tidy};
 
 use gw_addr::Sequence;
 use gw_rules::Range;
@@ -120,12 +121,8 @@ pub(crate) fn copy(alloc: Global, xs: &[Range]) -> Result<Sequence<Range>, Alloc
     Ok(out)
 }
 
-/// The numbers of the list outside all of these ranges.
-pub(crate) fn without(
-    alloc: Global,
-    xs: &[Range],
-    ys: &[Range],
-) -> Result<Sequence<Range>, AllocError>
+/// The numbers of the list outside all of these ranges. An `Err` if there is no memory.
+pub fn without(alloc: Global, xs: &[Range], ys: &[Range]) -> Result<Sequence<Range>, AllocError>
     ensures { IfOk result (λ list. list ≡ without xs.now ys.now) }
 {
     let mut rest = copy(alloc, xs)?;
@@ -176,16 +173,14 @@ pub(crate) fn same_ranges(a: &[Range], b: &[Range]) -> bool
 
 /// Whether a range begins at the end of another one, right after it, or before that.
 fn reaches(a: &Range, b: &Range) -> bool
-    ensures { result ≡ true → b.now.low ≤ a.now.high + 1 }
+    ensures { result ≡ reaches a.now b.now }
 {
     b.low <= a.high || b.low - 1 == a.high
 }
 
-/// One range in the place of two, if they overlap or one follows right after the other.
-#[tactic(auto, using(crate::proofs::regions_lemmas::JoiningLaw::none_before, crate::proofs::regions_lemmas::JoiningLaw::none_after, crate::proofs::regions_lemmas::JoiningLaw::both_held))]
+/// One range in the place of two, if they overlap or touch, or one of them has no number.
 fn joined(a: &Range, b: &Range) -> Option<Range>
-    ensures { IfSome result (λ range. (number : ℕ) →
-        holds number range ≡ (holds number a.now || holds number b.now)) }
+    ensures { result ≡ joined a.now b.now }
 {
     if a.high < a.low {
         return Some(*b);
@@ -203,11 +198,10 @@ fn joined(a: &Range, b: &Range) -> Option<Range>
 
 /// Puts the lower one of two ranges after the others, and gives back the other one; or one in the place of
 /// both.
-#[tactic(auto, using(crate::proofs::regions_lemmas::JoiningLaw::carried_both, crate::proofs::regions_lemmas::JoiningLaw::carried_first, crate::proofs::regions_lemmas::JoiningLaw::carried_second))]
+#[tactic(auto, using(crate::proofs::regions_lemmas::TidyLaw::lower_joined, crate::proofs::regions_lemmas::TidyLaw::lower_first, crate::proofs::regions_lemmas::TidyLaw::lower_second))]
 fn put_lower(out: &mut Sequence<Range>, a: Range, b: Range) -> Result<Range, AllocError>
-    ensures { IfOk result (λ rest. (number : ℕ) →
-        (list_any (holds number) out.new || holds number rest)
-        ≡ ((list_any (holds number) out.old || holds number a) || holds number b)) }
+    ensures { IfOk result (λ rest. (xs : List SpecRange) →
+        out.new ++ put_into xs rest ≡ out.old ++ put_into (b ∷ xs) a) }
 {
     if let Some(both) = joined(&a, &b) {
         return Ok(both);
@@ -223,8 +217,7 @@ fn put_lower(out: &mut Sequence<Range>, a: Range, b: Range) -> Result<Range, All
 /// The numbers of the list and of a range. A list in order stays so, and ranges that follow one another are
 /// made one.
 fn inserted(alloc: Global, list: &[Range], range: Range) -> Result<Sequence<Range>, AllocError>
-    ensures { IfOk result (λ all. (number : ℕ) →
-        list_any (holds number) all ≡ (list_any (holds number) list.now || holds number range)) }
+    ensures { IfOk result (λ all. all ≡ put_into list.now range) }
 {
     let mut out = Sequence::new(alloc);
     let mut carried = range;
@@ -241,7 +234,7 @@ fn with_all(
     list: Sequence<Range>,
     more: &[Range],
 ) -> Result<Sequence<Range>, AllocError>
-    ensures { IfOk result (λ all. AreUnited all list more.now) }
+    ensures { IfOk result (λ all. all ≡ put_all list more.now) }
 {
     let mut all = list;
     for range in more {
@@ -250,11 +243,17 @@ fn with_all(
     Ok(all)
 }
 
+/// The numbers of a list, in order: no range overlaps or touches another. An `Err` if there is no memory.
+pub fn tidy(alloc: Global, xs: &[Range]) -> Result<Sequence<Range>, AllocError>
+    ensures { IfOk result (λ list. list ≡ tidy xs.now) }
+{
+    with_all(alloc, Sequence::new(alloc), xs)
+}
+
 /// The numbers of both lists, in order, and each range as long as it can be. An `Err` if there is no memory.
 pub fn united(alloc: Global, xs: &[Range], ys: &[Range]) -> Result<Sequence<Range>, AllocError>
     ensures { IfOk result (λ all. AreUnited all xs.now ys.now) }
 {
-    let none = Sequence::new(alloc);
-    let some = with_all(alloc, none, xs)?;
+    let some = tidy(alloc, xs)?;
     with_all(alloc, some, ys)
 }

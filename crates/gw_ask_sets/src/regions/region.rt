@@ -8,6 +8,7 @@ ghost use Rattle.gw_ask_sets.specs.regions.Regions.{IsParted, inside, inside_at,
 ghost use Rattle.gw_ask_sets.specs.regions.Regions.{Region as SpecRegion};
 
 use crate::regions::Values;
+use crate::regions::tidying::tidied;
 use gw_rules::{Ask, FieldName, Fields, Rule};
 use std::alloc::{AllocError, Global};
 
@@ -81,7 +82,8 @@ fn part_at(
 }
 
 /// Parts a region by a rule: what is left of it are the asks that the rule matches, and those that it
-/// doesn't match are put in pieces after those that are there.
+/// doesn't match are put in pieces after those that are there. The rule's ranges are put in order first, so
+/// that lists of ranges stay short.
 pub fn part(
     alloc: Global,
     out: &mut Vec<Region>,
@@ -91,7 +93,8 @@ pub fn part(
     ensures parted { OnOk result ((outer : List SpecRegion) × (out.new.items ≡ out.old.items ++ outer)
         × IsParted rule.now region.old region.new outer) }
 {
-    part_fields(alloc, out, rule, region)?;
+    let tidy = tidied(alloc, rule)?;
+    part_fields(alloc, out, &tidy, region)?;
     Ok(())
 }
 

@@ -9,6 +9,7 @@ use crate::regions::comparison::{Comparison, Found};
 use crate::regions::merging::merge;
 use crate::regions::presence::require_all;
 use crate::regions::region::Region;
+use crate::regions::tidying::all_tidied;
 use crate::regions::widening::widen_all;
 use gw_rules::Rule;
 use std::alloc::{AllocError, Global};
@@ -49,7 +50,7 @@ pub fn summary_of(
 }
 
 /// Compares two policies over the asks of these shapes as [`compare`] does, and sums up what it found
-/// ([`summary_of`]). An `Err` if there is no memory.
+/// ([`summary_of`]). The rules' ranges are put in order first. An `Err` if there is no memory.
 pub fn summarize(
     alloc: Global,
     old: &[Rule],
@@ -61,6 +62,8 @@ pub fn summarize(
     ensures or_none { IfOk result (λ s. OrNoneIsMeant shapes.now s.found.items) }
     ensures steps { IfOk result (λ s. s.steps < steps → s.left.items ≡ []) }
 {
-    let comparison = compare(alloc, old, new, shapes, steps)?;
+    let before = all_tidied(alloc, old)?;
+    let after = all_tidied(alloc, new)?;
+    let comparison = compare(alloc, &before, &after, shapes, steps)?;
     summary_of(alloc, shapes, comparison)
 }

@@ -7,8 +7,9 @@ ghost use Rattle.gw_policy_review.specs.comparison.Comparison.{AppendsComparison
 use crate::comparison::asks::asks_of;
 use crate::comparison::comparison::{Compared, comparison_of, put_whole, summary_of};
 use gw_addr::{keep_whole, put_decimal, put_slice};
-use gw_ask_sets::regions::{Comparison, MAX_STEPS, Policies, Region};
+use gw_ask_sets::regions::{Comparison, MAX_STEPS, Policies, Region, all_tidied};
 use gw_configuration::Config;
+use gw_rules::Rule;
 use std::alloc::{AllocError, Global};
 use std::marker::Model;
 
@@ -19,6 +20,8 @@ use std::marker::Model;
 pub struct Comparing<'a> {
     before: &'a Config,
     after: &'a Config,
+    old_rules: Vec<Rule>,
+    new_rules: Vec<Rule>,
     asks: Vec<Region>,
     comparison: Comparison,
 }
@@ -29,6 +32,8 @@ impl<'a> Drop for Comparing<'a> {
         let Comparing {
             before: _,
             after: _,
+            old_rules: _,
+            new_rules: _,
             asks: _,
             comparison: _,
         } = self;
@@ -37,6 +42,7 @@ impl<'a> Drop for Comparing<'a> {
 
 impl<'a> Model for Comparing<'a> {
     ghost use Rattle.std.specs.Prelude.{◌≡◌};
+    ghost use Rattle.gw_ask_sets.specs.regions.Tidying.{all_tidied};
     ghost use Rattle.gw_policy_review.specs.comparison.Asks.{asks_of};
     ghost use Rattle.gw_policy_review.specs.comparison.Comparing.{Progress};
 
@@ -50,7 +56,9 @@ impl<'a> Model for Comparing<'a> {
       steps = c.comparison.steps;
     } };
 
-    ghost invariant = { λ c. c.asks.items ≡ asks_of c.before.now c.after.now };
+    ghost invariant = { λ c. (c.asks.items ≡ asks_of c.before.now c.after.now)
+        × (c.old_rules.items ≡ all_tidied c.before.now.rules)
+        × (c.new_rules.items ≡ all_tidied c.after.now.rules) };
 }
 
 impl<'a> Comparing<'a> {
@@ -64,9 +72,13 @@ impl<'a> Comparing<'a> {
     {
         let asks = asks_of(alloc, old, new)?;
         let comparison = Comparison::begin(alloc, &asks)?;
+        let old_rules = all_tidied(alloc, old.rules().rules())?;
+        let new_rules = all_tidied(alloc, new.rules().rules())?;
         Ok(Comparing {
             before: old,
             after: new,
+            old_rules,
+            new_rules,
             asks,
             comparison,
         })
@@ -86,8 +98,8 @@ impl<'a> Comparing<'a> {
         let rest = MAX_STEPS.saturating_sub(self.comparison.steps);
         let portion = if steps < rest { steps } else { rest };
         let policies = Policies {
-            old: self.before.rules().rules(),
-            new: self.after.rules().rules(),
+            old: &self.old_rules,
+            new: &self.new_rules,
             shapes: &self.asks,
         };
         self.comparison.go_on(alloc, &policies, portion)
@@ -125,6 +137,8 @@ impl<'a> Comparing<'a> {
         let Comparing {
             before,
             after,
+            old_rules: _,
+            new_rules: _,
             asks,
             comparison,
         } = self;

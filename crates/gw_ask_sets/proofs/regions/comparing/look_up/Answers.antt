@@ -1,4 +1,4 @@
-use Rattle.std.proofs.Common.{◌≡◌, ◌∙◌, ◌&&◌, ◌∷◌, [], List, ap, inl, inr, refl, subst, sym, true}
+use Rattle.std.proofs.Common.{◌≡◌, ◌∙◌, ◌&&◌, ◌∷◌, [], ap, inl, inr, refl, subst, sym, true}
 use Rattle.std.proofs.lemmas.List.{append-nil}
 use Rattle.gw_rules.specs.Ask.{Ask}
 use Rattle.gw_ask_sets.specs.regions.Regions.{Region, lies, lies_in_one}

@@ -1,8 +1,8 @@
-use Rattle.std.proofs.Common.{◌≡◌, ◌∙◌, ◌&&◌, ap, false, sym, true}
+use Rattle.std.proofs.Common.{◌≡◌, ◌∙◌, ◌&&◌, ap, sym}
 use Rattle.std.specs.Prelude.{not}
 use Rattle.std.proofs.lemmas.Result.{IfOk-weaker}
 use Rattle.gw_rules.specs.Ask.{Ask}
-use Rattle.gw_rules.specs.Fields.{value_of, with_value}
+use Rattle.gw_rules.specs.Fields.{with_value}
 use Rattle.gw_ask_sets.specs.regions.Presence.{absence, present}
 use Rattle.gw_ask_sets.specs.regions.Regions.{Region, lies, lies_in_one}
 use Rattle.gw_ask_sets.specs.regions.Values.{is_any}

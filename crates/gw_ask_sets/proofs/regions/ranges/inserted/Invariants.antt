@@ -1,8 +1,6 @@
-use Rattle.std.proofs.Common.{◌≡◌, ◌||◌, ℕ, take}
-use Rattle.std.specs.List.{list_any}
-use Rattle.gw_rules.specs.Range.{holds}
+use Rattle.std.proofs.Common.{◌≡◌, ◌++◌, drop}
+use Rattle.gw_ask_sets.specs.regions.Tidying.{put_into}
 use Rattle.gw_ask_sets.proofs.regions.ranges.inserted.Given as goal
 
 abbrev pub invariant-loop-next : goal.invariant-loop-next
-invariant-loop-next l = (number : ℕ) →
-    (list_any (holds number) l.out || holds number l.carried) ≡ (list_any (holds number) (take l.next-index l.list) || holds number l.fn.range)
+invariant-loop-next l = l.out ++ put_into (drop l.next-index l.list) l.carried ≡ put_into l.list l.fn.range

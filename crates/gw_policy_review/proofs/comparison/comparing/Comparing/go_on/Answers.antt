@@ -1,5 +1,7 @@
-use Rattle.std.proofs.Common.{◌∙◌, subst, sym}
+use Rattle.std.proofs.Common.{◌∙◌, subst, sym, true}
 use Rattle.std.proofs.lemmas.Result.{on_ok_weaker}
+use Rattle.gw_ask_sets.specs.regions.Tidying.{all_tidied}
+use Rattle.gw_ask_sets.proofs.regions_lemmas.TidyLaw.{of_tidied, to_tidied}
 use Rattle.gw_policy_review.specs.comparison.Asks.{asks_of}
 use Rattle.gw_policy_review.specs.comparison.Comparing.{IsUnderWay}
 use Rattle.gw_policy_review.proofs.comparison_lemmas.PortionLaw.{goes_on}
@@ -8,8 +10,15 @@ use Rattle.gw_policy_review.proofs.comparison.comparing.Comparing.go_on.Goals as
 pub returns-clause-is_right : goal.returns-clause-is_right
 returns-clause-is_right c =
     let it = c.self.inside in
+    let asks = asks_of it.before.now it.after.now in
+    let old = it.before.now.rules in
+    let new = it.after.now.rules in
+    let found = it.comparison.found.items in
+    let left = it.comparison.left.items in
+    let more = c.go_on.new.self.found.items in
+    let rest = c.go_on.new.self.left.items in
     on_ok_weaker c.go_on.result
-    (λ goes was. goes_on (asks_of it.before.now it.after.now) c.deref.result.now it.before.now.rules c.rules-2.result.now it.after.now.rules c.rules-4.result.now
-    it.comparison.found.items c.go_on.new.self.found.items it.comparison.left.items c.go_on.new.self.left.items
-    (c.deref.ensures.value ∙ c.self.invariant) (c.rules-2.ensures.rules ∙ c.rules.ensures.rules) (c.rules-4.ensures.rules ∙ c.rules-3.ensures.rules)
-    goes (subst IsUnderWay (sym c.self.view_is) was)) c.go_on.ensures.comparison
+    (λ goes was. of_tidied (λ ask. true) asks old new more rest
+    (goes_on asks c.deref-3.result.now (all_tidied old) c.deref.result.now (all_tidied new) c.deref-2.result.now found more left rest
+    (c.deref-3.ensures.value ∙ c.self.invariant.0) (c.deref.ensures.value ∙ c.self.invariant.1) (c.deref-2.ensures.value ∙ c.self.invariant.2)
+    goes (to_tidied (λ ask. true) asks old new found left (subst IsUnderWay (sym c.self.view_is) was)))) c.go_on.ensures.comparison

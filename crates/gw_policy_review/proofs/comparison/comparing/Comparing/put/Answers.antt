@@ -13,7 +13,7 @@ returns-clause-ok c =
     let new = it.after.now.rules in
     let summary = c.in_ok-summary.summary in
     let written = c.in_ok-written.written in
-    let same = c.deref.ensures.value ∙ c.self.invariant in
+    let same = c.deref.ensures.value ∙ c.self.invariant.0 in
     subst
     (λ (p : Progress). IsUnderWay p → AppendsComparison p.old_one p.new_one c.args.most written.made c.args.out.now.items c.put_whole.new.out.items)
     c.self.view_is
