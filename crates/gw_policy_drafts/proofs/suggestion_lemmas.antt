@@ -1,3 +1,4 @@
+pub mod FrontLaw
 pub mod GivenLaw
 pub mod GroupLaw
 pub mod LinesLaw

@@ -1,5 +1,5 @@
 -- One field apart from the others: ranges joined and cut.
-use Rattle.std.proofs.Common.{◌≡◌, ◌∙◌, sym, ap, refl, subst, ℕ, zero, suc, ◌+◌, ◌<◌, ◌≤◌, Bool, true, false, ◌&&◌, ◌||◌, List, [], ◌∷◌, ◌++◌, append_assoc, arith, drop, get_or, length, take, set, Option, Some, None, ◌==◌}
+use Rattle.std.proofs.Common.{◌≡◌, ◌∙◌, sym, ap, refl, subst, ℕ, zero, suc, ◌+◌, ◌<◌, Bool, true, false, ◌&&◌, ◌||◌, List, [], ◌∷◌, ◌++◌, arith, drop, get_or, length, take, set, Option, Some, None, ◌==◌}
 use Rattle.std.specs.List.{list_all, list_any}
 use Rattle.std.proofs.lemmas.Bool.{eqb-true, false_from_ne_true}
 use Rattle.std.proofs.lemmas.List.{length-append, length-drop, length-take, take-append-drop}
@@ -16,7 +16,7 @@ use Rattle.gw_rules.specs.declared.range.Range.{Range}
 use Rattle.gw_ask_sets.specs.regions.Merging.{AreUnited}
 use Rattle.gw_ask_sets.proofs.regions_lemmas.ComparingLaw.{all_same, every_field}
 use Rattle.gw_ask_sets.proofs.regions_lemmas.MergingLaw.{either}
-use Rattle.gw_ask_sets.proofs.regions_lemmas.RangeLaw.{and_all, and_none, or_none}
+use Rattle.gw_ask_sets.proofs.regions_lemmas.RangeLaw.{and_none, or_none}
 use Rattle.gw_policy_drafts.specs.suggestion.Own.{Group, CoverAlike, admits_but, covered, covers, covers_but}
 
 -- ---- one field

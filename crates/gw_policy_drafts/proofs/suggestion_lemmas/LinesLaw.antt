@@ -1,7 +1,7 @@
 -- The asks of the lines, line by line.
-use Rattle.std.proofs.Common.{◌≡◌, ◌∙◌, sym, ap, refl, subst, ℕ, Bool, true, false, ◌||◌, List, [], ◌∷◌, ◌++◌, append_assoc, Option, Some, None, Ok}
-use Rattle.std.specs.Prelude.{filter, not}
-use Rattle.std.specs.List.{flat_map, list_any}
+use Rattle.std.proofs.Common.{◌≡◌, ◌∙◌, sym, ap, refl, subst, ℕ, true, false, ◌||◌, List, [], ◌∷◌, ◌++◌, append_assoc, Option, Some, None, Ok}
+use Rattle.std.specs.Prelude.{not}
+use Rattle.std.specs.List.{list_any}
 use Rattle.std.specs.Option.{option_to_list}
 use Rattle.std.proofs.lemmas.Grind.{flat_map-append}
 use Rattle.std.proofs.lemmas.List.{append-nil}
@@ -13,7 +13,7 @@ use Rattle.gw_rules.specs.Ask.{Ask}
 use Rattle.gw_rules.specs.RuleList.{allows}
 use Rattle.gw_rules.specs.declared.rule.Rule.{Rule}
 use Rattle.gw_script.specs.Script.{lines_of}
-use Rattle.gw_policy_drafts.specs.suggestion.Given.{AddsAll, denied}
+use Rattle.gw_policy_drafts.specs.suggestion.Given.{denied}
 use Rattle.gw_policy_drafts.specs.suggestion.Lines.{AreSeen, HaveAsks, IsTaken, HasAsk, TakesNext, asks_in, words_of}
 
 told_more : (lines : List (List ℕ)) (shown_asks : List (Option Ask)) (line : List ℕ) (ask : Option Ask) → HaveAsks lines shown_asks → HasAsk line ask

@@ -1,8 +1,8 @@
 -- What is allowed with suggested rules in front.
-use Rattle.std.proofs.Common.{◌≡◌, ◌≢◌, ◌∙◌, sym, ap, refl, subst, ℕ, ◌≤◌, Bool, true, false, ◌&&◌, ◌||◌, List, [], ◌∷◌, ◌++◌, Option, Some, None, nat_le, length, arith, ◌+◌, ◌<◌, get_or, take}
+use Rattle.std.proofs.Common.{◌≡◌, ◌≢◌, ◌∙◌, sym, ap, refl, subst, ℕ, Bool, true, false, cond, ◌&&◌, ◌||◌, List, [], ◌∷◌, ◌++◌, Option, Some, None, nat_le, length, arith, ◌+◌, ◌<◌, get_or, take}
 use Rattle.std.specs.Prelude.{Any, not, if◌then◌else◌, nat_eq, ◌==◌}
 use Rattle.std.specs.List.{Contains, flat_map, list_all, list_any}
-use Rattle.std.specs.Option.{option_eq}
+use Rattle.std.specs.Option.{option_eq, option_map_or}
 use Rattle.std.proofs.lemmas.Bool.{and_parts, and_from, both_ways, eq-eqb, leb-true, le-leb}
 use Rattle.std.proofs.lemmas.List.Folds.{Any-from_list_any, list_any-append, list_any_at, list_any_more}
 use Rattle.gw_rules.specs.Ask.{Ask}
@@ -16,8 +16,8 @@ use Rattle.gw_rules.specs.declared.rule.Rule.{Rule}
 use Rattle.gw_rules.proofs.EachField.{each_field_at, each_field_from}
 use Rattle.gw_ask_sets.specs.regions.Deciding.{decided}
 use Rattle.gw_ask_sets.proofs.regions_lemmas.AllowsLaw.{decided_allows}
-use Rattle.gw_policy_drafts.specs.suggestion.Given.{HaveSame, akin, filled, filled_from, of_both}
-use Rattle.gw_policy_drafts.specs.suggestion.Laws.{AllowsEach, AllowsNoOther, AllowsWhatMatches, FillsNoOther, HasValuesOf}
+use Rattle.gw_policy_drafts.specs.suggestion.Given.{HaveSame, akin, filled, filled_from, is_none, is_open, lacks_for, lacks_property, of_both, taken}
+use Rattle.gw_policy_drafts.specs.suggestion.Laws.{AllowsEach, AllowsNoOther, AllowsWhatMatches, FillsNoOther, HasValuesOf, OpensNothing}
 use Rattle.gw_policy_drafts.specs.suggestion.Own.{Group, covered, covers, is_reading, own_ranges, own_rule, own_service, own_values}
 use Rattle.gw_policy_drafts.proofs.suggestion_lemmas.GroupLaw.{any_pushed}
 use Rattle.gw_policy_drafts.specs.suggestion.Suggestion.{IsSuggestion, matched, matched_own, wanted}
@@ -182,6 +182,90 @@ pub fills_exactly : (test : Ask → Bool) (given : List Ask)
     → list_any test (filled given) ≡ list_any (λ a. list_any (λ b. akin a b && test (of_both a b)) given) given
 fills_exactly test given = fills_part test given given
 
+-- ---- those that have rules
+
+-- one of those passes that have rules: one passes that has one
+any_taken : (test : Ask → Bool) (asks : List Ask)
+    → list_any test (taken asks) ≡ list_any (λ given. not (is_open given) && test given) asks
+any_taken test [] = refl
+any_taken test (ask ∷ asks) = by (not (is_open ask)) (any_taken test asks)
+  where
+    by : (b : Bool) → list_any test (taken asks) ≡ list_any (λ given. not (is_open given) && test given) asks
+        → list_any test (cond b (ask ∷ taken asks) (taken asks))
+        ≡ ((b && test ask) || list_any (λ given. not (is_open given) && test given) asks)
+    by true rest = ap (λ c. test ask || c) rest
+    by false rest = rest
+
+-- one that passes is one that has a rule, and passes
+taken_passes : (test : Ask → Bool) (asks : List Ask) → list_any test (taken asks) ≡ true
+    → Any (λ given. (not (is_open given) ≡ true) × (test given ≡ true)) asks
+taken_passes test asks t =
+    any_weaker (λ given. (not (is_open given) && test given) ≡ true)
+    (λ given. (not (is_open given) ≡ true) × (test given ≡ true)) asks
+    (λ given both. and_parts (not (is_open given)) (test given) both)
+    (Any-from_list_any (λ given. not (is_open given) && test given) asks (sym (any_taken test asks) ∙ t))
+
+-- one of all passes then
+passes_all : (test : Ask → Bool) (asks : List Ask) → list_any test (taken asks) ≡ true → list_any test asks ≡ true
+passes_all test asks t =
+    let any = taken_passes test asks t in
+    list_any_at test asks any.0 any.1 any.2 (ap test any.3 ∙ any.4.1)
+
+kept_value : (a b : Option ℕ) → ((n : ℕ) → a ≡ Some n → b ≡ Some n) → is_none a ≡ false → is_none b ≡ false
+kept_value None b to e = absurd (both_ways true e refl)
+kept_value (Some n) b to e = ap is_none (to n refl)
+
+neither : (a b : Bool) → (a || b) ≡ false → (a ≡ false) × (b ≡ false)
+neither true b e = absurd (both_ways true e refl)
+neither false b e = (refl, e)
+
+-- an ask that has what another one names isn't open if that one isn't
+stays_closed : (given ask : Ask) → ((field : FieldName) (n : ℕ) → field ≢ Service → value_of field given ≡ Some n → value_of field ask ≡ Some n)
+    → is_open given ≡ false → is_open ask ≡ false
+stays_closed given ask to closed = by given.operation refl closed
+  where
+    property : lacks_property given ≡ false → lacks_property ask ≡ false
+    property e =
+        let first = neither (is_none given.object_type) (is_none given.instance || is_none given.property) e in
+        let others = neither (is_none given.instance) (is_none given.property) first.1 in
+        or_from (is_none ask.object_type) (is_none ask.instance || is_none ask.property)
+        (kept_value given.object_type ask.object_type (λ n. to ObjectType n (λ e. cc)) first.0)
+        (or_from (is_none ask.instance) (is_none ask.property)
+        (kept_value given.instance ask.instance (λ n. to Instance n (λ e. cc)) others.0)
+        (kept_value given.property ask.property (λ n. to Property n (λ e. cc)) others.1))
+      where
+        or_from : (a b : Bool) → a ≡ false → b ≡ false → (a || b) ≡ false
+        or_from true b e f = e
+        or_from false b e f = f
+
+    lacks : (n : ℕ) → lacks_for n given ≡ false → lacks_for n ask ≡ false
+    lacks n = at (n == 9) (n == 10)
+      where
+        at : (reads writes : Bool) → (if reads then lacks_property given else if writes then lacks_property given || is_none given.priority else false) ≡ false
+            → (if reads then lacks_property ask else if writes then lacks_property ask || is_none ask.priority else false) ≡ false
+        at true writes e = property e
+        at false true e =
+            let parts = neither (lacks_property given) (is_none given.priority) e in
+            ap (λ b. b || is_none ask.priority) (property parts.0)
+            ∙ kept_value given.priority ask.priority (λ n. to Priority n (λ e. cc)) parts.1
+        at false false e = refl
+
+    by : (operation : Option ℕ) → given.operation ≡ operation → option_map_or (λ n. lacks_for n given) operation true ≡ false → is_open ask ≡ false
+    by None e isnt = absurd (both_ways true isnt refl)
+    by (Some n) e isnt = ap (λ (o : Option ℕ). option_map_or (λ m. lacks_for m ask) o true) (to Operation n (λ s. cc) e) ∙ lacks n isnt
+
+not_open : (b : Bool) → not b ≡ true → b ≡ false
+not_open true e = absurd (both_ways false refl e)
+not_open false e = refl
+
+pub opens_nothing : OpensNothing
+opens_nothing manner asks suggested old ask is t f =
+    let own : Ask → Bool = λ given. matches (own_rule manner.keeps_services given) ask in
+    let there = newly manner.keeps_services (wanted manner asks) suggested old ask is t f in
+    let any = taken_passes own (if manner.fills then filled asks else asks) there in
+    let given = any.1 in
+    stays_closed given ask (has_values manner.keeps_services given ask any.4.1).others (not_open (is_open given) any.4.0)
+
 pub fills_no_other : FillsNoOther
 fills_no_other keeps asks suggested old ask is t f =
     let own : Ask → Bool = λ given. matches (own_rule keeps given) ask in
@@ -192,7 +276,7 @@ fills_no_other keeps asks suggested old ask is t f =
     (λ b both. let parts = and_parts (akin a b) (own (of_both a b)) both in (parts.0, has_values keeps (of_both a b) ask parts.1))
     (Any-from_list_any (λ b. akin a b && own (of_both a b)) asks any))
     (Any-from_list_any (λ a. list_any (λ b. akin a b && own (of_both a b)) asks) asks
-    (sym (fills_exactly own asks) ∙ newly keeps (filled asks) suggested old ask is t f))
+    (sym (fills_exactly own asks) ∙ passes_all own (filled asks) (newly keeps (taken (filled asks)) suggested old ask is t f)))
 
 same_self : (value : Option ℕ) → option_eq nat_eq value value ≡ true
 same_self None = refl
@@ -216,28 +300,33 @@ wanted_passes manner true test asks ask e there t =
 wanted_passes manner false test asks ask e there t = passes_at test asks ask there t
 
 pub allows_each : AllowsEach
-allows_each manner asks suggested old ask is there =
+allows_each manner asks suggested old ask is there has =
     let keeps = manner.keeps_services in
+    let own : Ask → Bool = λ given. matches (own_rule keeps given) ask in
     allows_what_matches keeps (wanted manner asks) suggested old ask is
     ∙ ap (λ b. b || allows old ask)
-    (is.exact ask ∙ wanted_passes manner manner.fills (λ given. matches (own_rule keeps given) ask) asks ask refl there (own_matches keeps ask))
+    (is.exact ask ∙ any_taken own (if manner.fills then filled asks else asks)
+    ∙ wanted_passes manner manner.fills (λ given. not (is_open given) && own given) asks ask refl there
+    (and_from (not (is_open ask)) (own ask) (ap not has) (own_matches keeps ask)))
 
 -- ---- what is wanted
 
 pub wants_more : (manner : Manner) (asks more : List Ask) (rules : List Rule) → manner.fills ≡ true → HaveSame more (filled asks)
-    → IsSuggestion manner.keeps_services more rules → IsSuggestion manner.keeps_services (wanted manner asks) rules
+    → IsSuggestion manner.keeps_services (taken more) rules → IsSuggestion manner.keeps_services (wanted manner asks) rules
 wants_more manner asks more rules e same is =
-    subst (λ (b : Bool). IsSuggestion manner.keeps_services (if b then filled asks else asks) rules) (sym e) (
+    subst (λ (b : Bool). IsSuggestion manner.keeps_services (taken (if b then filled asks else asks)) rules) (sym e) (
     record {
-      exact = λ ask. is.exact ask ∙ same (λ given. matches (own_rule manner.keeps_services given) ask);
+      exact = λ ask. let own : Ask → Bool = λ given. matches (own_rule manner.keeps_services given) ask in
+          is.exact ask ∙ any_taken own more ∙ same (λ given. not (is_open given) && own given)
+          ∙ sym (any_taken own (filled asks));
       allow = is.allow;
     }
     )
 
 pub wants_these : (manner : Manner) (asks : List Ask) (rules : List Rule) → manner.fills ≡ false
-    → IsSuggestion manner.keeps_services asks rules → IsSuggestion manner.keeps_services (wanted manner asks) rules
+    → IsSuggestion manner.keeps_services (taken asks) rules → IsSuggestion manner.keeps_services (wanted manner asks) rules
 wants_these manner asks rules e is =
-    subst (λ (b : Bool). IsSuggestion manner.keeps_services (if b then filled asks else asks) rules) (sym e) is
+    subst (λ (b : Bool). IsSuggestion manner.keeps_services (taken (if b then filled asks else asks)) rules) (sym e) is
 
 -- ---- one rule more
 

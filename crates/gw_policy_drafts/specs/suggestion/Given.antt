@@ -1,7 +1,7 @@
 -- The asks that lines show, which of them are wanted, and what two of the same station have together.
-use Rattle.std.specs.Prelude.{◌≡◌, Bool, true, not, nat_eq, ◌&&◌, ◌||◌, if◌then◌else◌, List, [], ◌∷◌, filter}
+use Rattle.std.specs.Prelude.{◌≡◌, ℕ, Bool, true, false, not, nat_eq, ◌&&◌, ◌||◌, ◌==◌, if◌then◌else◌, List, [], ◌∷◌, Option, filter}
 use Rattle.std.specs.List.{flat_map, list_any}
-use Rattle.std.specs.Option.{option_eq}
+use Rattle.std.specs.Option.{option_eq, option_map_or}
 use Rattle.gw_rules.specs.Ask.{Ask}
 use Rattle.gw_rules.specs.RuleList.{allows}
 use Rattle.gw_rules.specs.declared.rule.Rule.{Rule}
@@ -27,6 +27,30 @@ Has asks ask = (test : Ask → Bool) → test ask ≡ true → list_any test ask
 -- the asks that these rules don't allow
 abbrev pub denied : List Rule → List Ask → List Ask
 denied rules asks = filter (λ ask. not (allows rules ask)) asks
+
+-- ---- asks that don't say what they are for
+
+abbrev pub is_none : Option ℕ → Bool
+is_none value = option_map_or (λ n. false) value true
+
+-- it lacks the type, the instance or the property
+abbrev pub lacks_property : Ask → Bool
+lacks_property ask = is_none ask.object_type || (is_none ask.instance || is_none ask.property)
+
+-- for an operation: a read, 9, or a write, 10, that doesn't name what it is for
+abbrev pub lacks_for : ℕ → Ask → Bool
+lacks_for operation ask =
+    if operation == 9 then lacks_property ask
+    else if operation == 10 then lacks_property ask || is_none ask.priority
+    else false
+
+-- Its own rule would be about each object, each property or each priority: or about each operation.
+abbrev pub is_open : Ask → Bool
+is_open ask = option_map_or (λ operation. lacks_for operation ask) ask.operation true
+
+-- those that have rules
+abbrev pub taken : List Ask → List Ask
+taken asks = filter (λ ask. not (is_open ask)) asks
 
 -- ---- what a station asked for at other times
 

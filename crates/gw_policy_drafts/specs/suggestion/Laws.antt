@@ -1,13 +1,13 @@
 -- What is allowed with suggested rules in front of a policy's.
-use Rattle.std.specs.Prelude.{◌≡◌, ◌≢◌, ◌≤◌, ℕ, Bool, true, false, not, ◌&&◌, ◌||◌, List, ◌++◌, length, Some, Any}
-use Rattle.std.specs.List.{list_any, Contains}
+use Rattle.std.specs.Prelude.{◌≡◌, ◌≢◌, ℕ, Bool, true, false, not, ◌||◌, List, ◌++◌, Some, Any}
+use Rattle.std.specs.List.{Contains}
 use Rattle.gw_rules.specs.Ask.{Ask}
 use Rattle.gw_rules.specs.Fields.{value_of}
 use Rattle.gw_rules.specs.RuleList.{allows}
 use Rattle.gw_rules.specs.declared.field.FieldName.{FieldName}
 use Rattle.gw_rules.specs.declared.field.FieldName.TheVariants.{Service}
 use Rattle.gw_rules.specs.declared.rule.Rule.{Rule}
-use Rattle.gw_policy_drafts.specs.suggestion.Given.{akin, filled, of_both}
+use Rattle.gw_policy_drafts.specs.suggestion.Given.{akin, filled, is_open, of_both, taken}
 use Rattle.gw_policy_drafts.specs.suggestion.Own.{is_reading}
 use Rattle.gw_policy_drafts.specs.suggestion.Suggestion.{IsSuggestion, matched, wanted}
 use Rattle.gw_policy_drafts.specs.declared.suggestion.suggestion.Manner.{Manner}
@@ -23,11 +23,17 @@ abbrev pub AllowsWhatMatches : Type 0
 AllowsWhatMatches = (keeps : Bool) (asks : List Ask) (suggested old : List Rule) (ask : Ask) → IsSuggestion keeps asks suggested
     → allows (suggested ++ old) ask ≡ (matched suggested ask || allows old ask)
 
--- Each ask for which they are made is allowed.
+-- Each given ask is allowed, if it isn't open.
 abbrev pub AllowsEach : Type 0
 AllowsEach = (manner : Manner) (asks : List Ask) (suggested old : List Rule) (ask : Ask)
     → IsSuggestion manner.keeps_services (wanted manner asks) suggested → Contains asks ask
-    → allows (suggested ++ old) ask ≡ true
+    → is_open ask ≡ false → allows (suggested ++ old) ask ≡ true
+
+-- No open ask is newly allowed: a read that is names its object and property, and a write its priority too.
+abbrev pub OpensNothing : Type 0
+OpensNothing = (manner : Manner) (asks : List Ask) (suggested old : List Rule) (ask : Ask)
+    → IsSuggestion manner.keeps_services (wanted manner asks) suggested
+    → allows (suggested ++ old) ask ≡ true → allows old ask ≡ false → is_open ask ≡ false
 
 -- An ask that they newly allow has the values of one for which they are made: no value that wasn't seen, and no two that
 -- weren't seen together.
@@ -39,5 +45,5 @@ AllowsNoOther = (keeps : Bool) (asks : List Ask) (suggested old : List Rule) (as
 -- same station, for the same operation and destination.
 abbrev pub FillsNoOther : Type 0
 FillsNoOther = (keeps : Bool) (asks : List Ask) (suggested old : List Rule) (ask : Ask)
-    → IsSuggestion keeps (filled asks) suggested → allows (suggested ++ old) ask ≡ true → allows old ask ≡ false
+    → IsSuggestion keeps (taken (filled asks)) suggested → allows (suggested ++ old) ask ≡ true → allows old ask ≡ false
     → Any (λ one. Any (λ other. (akin one other ≡ true) × HasValuesOf keeps (of_both one other) ask) asks) asks

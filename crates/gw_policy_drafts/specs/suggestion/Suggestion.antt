@@ -1,5 +1,5 @@
 -- What rules that are suggested let through: exactly what the own rules of the asks do from which they are made.
-use Rattle.std.specs.Prelude.{◌≡◌, ◌⊎◌, ℕ, Bool, true, if◌then◌else◌, List, ◌++◌, Result, Ok, Err}
+use Rattle.std.specs.Prelude.{◌≡◌, ◌⊎◌, ℕ, zero, suc, Bool, true, false, if◌then◌else◌, List, [], ◌∷◌, ◌++◌, length, Result, Ok, Err}
 use Rattle.std.specs.List.{list_all, list_any}
 use Rattle.gw_configuration.specs.Configuration.{Configuration}
 use Rattle.gw_policy_text.specs.Document.{configuration}
@@ -7,7 +7,7 @@ use Rattle.gw_rules.specs.Ask.{Ask}
 use Rattle.gw_rules.specs.Rule.{matches}
 use Rattle.gw_rules.specs.declared.rule.Rule.{Rule}
 use Rattle.gw_script.specs.Script.{lines_of}
-use Rattle.gw_policy_drafts.specs.suggestion.Given.{filled}
+use Rattle.gw_policy_drafts.specs.suggestion.Given.{filled, taken}
 use Rattle.gw_policy_drafts.specs.suggestion.Lines.{AreSeen}
 use Rattle.gw_policy_drafts.specs.suggestion.Own.{own_rule}
 use Rattle.gw_policy_drafts.specs.declared.suggestion.fault.SuggestFault.{SuggestFault}
@@ -28,20 +28,36 @@ pub record IsSuggestion (keeps : Bool) (asks : List Ask) (rules : List Rule) : T
   pub allow : list_all (λ rule. rule.allow) rules ≡ true
 
 -- the asks from which rules are made; if they are to be filled, each object that a station asked for with each property
--- and priority that it asked for
+-- and priority that it asked for; but none that is open
 abbrev pub wanted : Manner → List Ask → List Ask
-wanted manner asks = if manner.fills then filled asks else asks
+wanted manner asks = taken (if manner.fills then filled asks else asks)
 
 -- ---- the text
 
--- The text, put into a configuration's text, is read as the same rules with these in front.
+-- so many, each of them this
+abbrev pub each : {A : Type 0} → ℕ → A → List A
+each zero one = []
+each (suc count) one = one ∷ each count one
+
+-- a configuration is another one with these rules in front of its own: they have no notes, and aren't audited
+pub record HasInFront (old : Configuration) (suggested : List Rule) (c : Configuration) : Type 0 where
+  pub all_rules : c.rules ≡ suggested ++ old.rules
+  pub notes : c.notes ≡ each (length suggested) [] ++ old.notes
+  pub audits : c.audits ≡ each (length suggested) false ++ old.audits
+  pub format : c.format ≡ old.format
+  pub device : c.device ≡ old.device
+  pub ports : c.ports ≡ old.ports
+  pub routes : c.routes ≡ old.routes
+  pub objects : c.objects ≡ old.objects
+
+-- The text, put into a configuration's text, is read as the same with these rules in front.
 pub record IsInFront (old : Configuration) (text : List ℕ) (suggested : List Rule) (added : List ℕ) : Type 0 where
   pub front : List ℕ
   pub rest : List ℕ
   pub parts : text ≡ front ++ rest
   pub configured : Configuration
   pub reads : configuration (front ++ added ++ rest) ≡ Ok configured
-  pub all_rules : configured.rules ≡ suggested ++ old.rules
+  pub all : HasInFront old suggested configured
 
 -- The text is of rules that are suggested for these asks.
 pub record IsAdded (old : Configuration) (text : List ℕ) (manner : Manner) (asks : List Ask) (added : List ℕ) : Type 0 where

@@ -1,10 +1,10 @@
 //! Rules put in front of those of a configuration, in its text.
-ghost use Rattle.std.specs.Prelude.{◌≡◌, ◌≤◌, ◌++◌, length, IfOk, IsTrue, OnOk};
-ghost use Rattle.gw_policy_drafts.specs.suggestion.Suggestion.{IsInFront};
+ghost use Rattle.std.specs.Prelude.{◌≡◌, ◌≤◌, ◌++◌, [], false, length, IfOk, IsTrue, OnOk};
+ghost use Rattle.gw_policy_drafts.specs.suggestion.Suggestion.{HasInFront, IsInFront, each};
 
 use crate::suggestion::fault::SuggestFault;
-use gw_configuration::sameness::are_same;
-use gw_configuration::{Config, ConfigFault};
+use gw_configuration::sameness::{Same, are_same};
+use gw_configuration::{Config, ConfigFault, Text};
 use gw_policy_text::read_config;
 use gw_rules::Rule;
 use std::alloc::{AllocError, Global};
@@ -54,8 +54,83 @@ fn are_both(all: &[Rule], some: &[Rule], others: &[Rule]) -> bool
     are_same(front, some) && are_same(back, others)
 }
 
+/// Whether texts are so many empty ones, and others after them.
+fn are_empty_and(all: &[Text], count: usize, others: &[Text]) -> bool
+    ensures { IsTrue result → all.now ≡ each count [] ++ others.now }
+{
+    if all.len() < count {
+        return false;
+    }
+    let (front, back) = all.split_at(count);
+    are_all_empty(front) && are_same(back, others)
+}
+
+fn is_empty(text: &Text) -> bool
+    ensures { IsTrue result → text.now ≡ [] }
+{
+    text.as_str().is_empty()
+}
+
+fn are_all_empty(texts: &[Text]) -> bool
+    ensures { IsTrue result → texts.now ≡ each (length texts.now) [] }
+{
+    for text in texts {
+        if !is_empty(text) {
+            return false;
+        }
+    }
+    true
+}
+
+/// Whether flags are so many that are false, and others after them.
+fn are_false_and(all: &[bool], count: usize, others: &[bool]) -> bool
+    ensures { IsTrue result → all.now ≡ each count false ++ others.now }
+{
+    if all.len() < count {
+        return false;
+    }
+    let (front, back) = all.split_at(count);
+    are_all_false(front) && are_same(back, others)
+}
+
+fn are_all_false(flags: &[bool]) -> bool
+    ensures { IsTrue result → flags.now ≡ each (length flags.now) false }
+{
+    for flag in flags {
+        if *flag {
+            return false;
+        }
+    }
+    true
+}
+
+/// Whether two configurations are the same but for their rules and sets.
+fn are_same_beside(old: &Config, config: &Config) -> bool
+    ensures format { IsTrue result → config.now.format ≡ old.now.format }
+    ensures device { IsTrue result → config.now.device ≡ old.now.device }
+    ensures ports { IsTrue result → config.now.ports ≡ old.now.ports }
+    ensures routes { IsTrue result → config.now.routes ≡ old.now.routes }
+    ensures objects { IsTrue result → config.now.objects ≡ old.now.objects }
+{
+    config.format().is_same(&old.format())
+        && config.device().is_same(old.device())
+        && are_same(config.ports(), old.ports())
+        && are_same(config.routes(), old.routes())
+        && are_same(config.objects(), old.objects())
+}
+
+/// Whether a configuration is another one with these rules in front of its own, without notes, and not audited.
+fn has_in_front(config: &Config, rules: &[Rule], old: &Config) -> bool
+    ensures { IsTrue result → HasInFront old.now rules.now config.now }
+{
+    are_both(config.rules().rules(), rules, old.rules().rules())
+        && are_empty_and(config.notes(), rules.len(), old.notes())
+        && are_false_and(config.audits(), rules.len(), old.audits())
+        && are_same_beside(old, config)
+}
+
 /// Reads the text of a configuration with a text put in front of its rules. `Unlike` if that isn't read as
-/// the configuration's rules with these in front; `TooManyRules` if it has more than it may have; `Memory`.
+/// the configuration with these rules in front; `TooManyRules` if it has more than it may have; `Memory`.
 pub(crate) fn read_in_front(
     alloc: Global,
     old: &Config,
@@ -68,7 +143,7 @@ pub(crate) fn read_in_front(
     let (front, rest) = text.split_at(place_of_rules(text));
     let all = whole(alloc, front, added, rest)?;
     match read_config(alloc, &all) {
-        Ok(config) if are_both(config.rules().rules(), rules, old.rules().rules()) => Ok(()),
+        Ok(config) if has_in_front(&config, rules, old) => Ok(()),
         Ok(_) => Err(SuggestFault::Unlike),
         Err(ConfigFault::Memory) => Err(SuggestFault::Memory),
         Err(ConfigFault::TooMany) => Err(SuggestFault::TooManyRules),

@@ -1,10 +1,10 @@
 //! The asks that are given, each once.
 ghost use Rattle.std.specs.Prelude.{◌≡◌, ◌∷◌, [], true, if◌then◌else◌, IfOk, IfSome, OnOk};
-ghost use Rattle.gw_policy_drafts.specs.suggestion.Given.{Adds, AddsAll, Has, HaveSame, akin, filled, filled_from, of_both};
+ghost use Rattle.gw_policy_drafts.specs.suggestion.Given.{Adds, AddsAll, Has, HaveSame, akin, filled, filled_from, is_open, lacks_for, lacks_property, of_both};
 
 use crate::suggestion::fault::SuggestFault;
 use crate::suggestion::places::{Places, mixed};
-use gw_rules::{Ask, FieldName, laws};
+use gw_rules::{Ask, FieldName, Operation, laws};
 use std::alloc::{AllocError, Global};
 use std::marker::Model;
 
@@ -114,6 +114,36 @@ impl Given {
         self.counts.push(1)?;
         self.asks.push(*ask)?;
         Ok(())
+    }
+}
+
+/// Whether an ask lacks the type, the instance or the property.
+fn lacks_property(ask: &Ask) -> bool
+    ensures { result ≡ lacks_property ask.now }
+{
+    ask.object_type.is_none() || ask.instance.is_none() || ask.property.is_none()
+}
+
+/// Whether an ask for an operation is a read or a write that doesn't name what it is for.
+fn lacks_for(operation: u64, ask: &Ask) -> bool
+    ensures { result ≡ lacks_for operation ask.now }
+{
+    if operation == Operation::Read.number() {
+        lacks_property(ask)
+    } else if operation == Operation::Write.number() {
+        lacks_property(ask) || ask.priority.is_none()
+    } else {
+        false
+    }
+}
+
+/// Whether the own rule of an ask would be about each object, each property, each priority or each operation.
+pub(crate) fn is_open(ask: &Ask) -> bool
+    ensures { result ≡ is_open ask.now }
+{
+    match ask.operation {
+        Some(operation) => lacks_for(operation, ask),
+        None => true,
     }
 }
 

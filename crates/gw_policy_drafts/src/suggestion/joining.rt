@@ -8,6 +8,9 @@ use crate::suggestion::places::{Places, mixed};
 use gw_rules::FieldName;
 use std::alloc::{AllocError, Global};
 
+/// How many ranges of rules are looked at, in each field, before those that are left stay apart: a few seconds' work.
+const MOST_LOOKS: usize = 65_536;
+
 /// A number made of the ranges for every other field.
 fn number_but(field: FieldName, group: &Group) -> usize {
     let mut number = 0;
@@ -158,14 +161,31 @@ fn fewest(alloc: Global, groups: &[Group]) -> Result<Option<Vec<Group>>, AllocEr
     Ok(best)
 }
 
+/// The fewest that are left so, if so many may be looked at.
+fn fewest_within(
+    alloc: Global,
+    groups: &[Group],
+    looks: usize,
+) -> Result<Option<Vec<Group>>, AllocError>
+    ensures { IfOk result (λ made. IfSome made (λ fewer.
+        CoverAlike groups.now fewer.items × (length fewer.items < length groups.now))) }
+{
+    if looks < groups.len() {
+        return Ok(None);
+    }
+    fewest(alloc, groups)
+}
+
 /// Makes one of those that differ in one field alone, in the field first in which that leaves the fewest,
-/// until there are no such. What they cover stays the same.
+/// until there are no such, or so many were looked at. What they cover stays the same.
 #[tactic(auto, using(crate::proofs::suggestion_lemmas::GroupLaw::alike_trans))]
 pub(crate) fn join_all(alloc: Global, groups: Vec<Group>) -> Result<Vec<Group>, AllocError>
     ensures { IfOk result (λ made. CoverAlike groups.items made.items) }
 {
     let mut all = groups;
-    while let Some(fewer) = fewest(alloc, &all)? {
+    let mut looks = MOST_LOOKS;
+    while let Some(fewer) = fewest_within(alloc, &all, looks)? {
+        looks = looks.saturating_sub(all.len());
         all = fewer;
     }
     Ok(all)

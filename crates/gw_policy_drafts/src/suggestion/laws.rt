@@ -1,7 +1,7 @@
 //! What is allowed with rules that are suggested in front of a policy's. The functions do nothing: their
 //! contracts are the laws.
 ghost use Rattle.std.specs.Prelude.{◌≡◌};
-ghost use Rattle.gw_policy_drafts.specs.suggestion.Laws.{AllowsEach, AllowsNoOther, AllowsWhatMatches, FillsNoOther};
+ghost use Rattle.gw_policy_drafts.specs.suggestion.Laws.{AllowsEach, AllowsNoOther, AllowsWhatMatches, FillsNoOther, OpensNothing};
 
 use crate::suggestion::given::MAX_ASKS;
 
@@ -10,16 +10,18 @@ pub fn in_front()
     ensures { AllowsWhatMatches }
 {}
 
-/// Each ask for which rules are suggested is allowed with them in front.
+/// Each given ask is allowed with the rules in front that are suggested for it, unless it is open.
 pub fn given()
     ensures { AllowsEach }
 {}
 
 /// An ask that they newly allow has in each field the value of one for which they are made: no value that wasn't seen,
 /// and no two that weren't seen together. If they are filled, it has the object of one, and the property and the
-/// priority of another one of the same station, operation and destination.
+/// priority of another one of the same station, operation and destination. It is a read
+/// only if it names its object and property, and a write only if it names its priority too.
 pub fn bounds()
     ensures seen { AllowsNoOther }
+    ensures closed { OpensNothing }
     ensures filled { FillsNoOther }
 {}
 

@@ -6,11 +6,12 @@ ghost use Rattle.gw_script.specs.Known.{OnKnown};
 ghost use Rattle.gw_policy_drafts.specs.suggestion.Own.{covered};
 ghost use Rattle.gw_policy_drafts.specs.suggestion.Suggestion.{IsAdded, IsSuggested, IsSuggestion, LeavesSuggestion, LeavesText};
 ghost use Rattle.gw_policy_drafts.specs.suggestion.Suggestion.{matched_own, wanted};
+ghost use Rattle.gw_policy_drafts.specs.suggestion.Given.{taken};
 
 use crate::suggestion::cutting::cut_all;
 use crate::suggestion::fault::SuggestFault;
 use crate::suggestion::front::read_in_front;
-use crate::suggestion::given::{Given, filled};
+use crate::suggestion::given::{filled, is_open};
 use crate::suggestion::group::{Group, own_ranges};
 use crate::suggestion::joining::join_all;
 use crate::suggestion::reading::{Seen, read_asks};
@@ -71,8 +72,34 @@ pub(crate) fn rules_for(
     Ok(rules)
 }
 
+/// Those of the asks that have rules.
+fn taken(alloc: Global, asks: &[Ask]) -> Result<Vec<Ask>, AllocError>
+    ensures { IfOk result (λ some. some.items ≡ taken asks.now) }
+{
+    let mut some = Vec::new(alloc);
+    for ask in asks {
+        if !is_open(ask) {
+            some.push(*ask)?;
+        }
+    }
+    Ok(some)
+}
+
+/// The rules for those of the asks that have rules.
+fn rules_of_taken(
+    alloc: Global,
+    keeps: bool,
+    asks: &[Ask],
+    old: &[Rule],
+) -> Result<Vec<Rule>, SuggestFault>
+    ensures { IfOk result (λ rules. IsSuggestion keeps (taken asks.now) rules.items) }
+{
+    let some = taken(alloc, asks)?;
+    rules_for(alloc, keeps, some.as_slice(), old)
+}
+
 /// The rules for the asks that are wanted.
-#[tactic(auto, using(crate::proofs::suggestion_lemmas::SuggestLaw::wants_more, crate::proofs::suggestion_lemmas::SuggestLaw::wants_these))]
+#[tactic(auto, using(crate::proofs::suggestion_lemmas::SuggestLaw::wants_these))]
 fn rules_in(
     alloc: Global,
     manner: Manner,
@@ -83,10 +110,10 @@ fn rules_in(
 {
     if manner.fills {
         let more = filled(alloc, asks)?;
-        let rules = rules_for(alloc, manner.keeps_services, more.as_slice(), old)?;
+        let rules = rules_of_taken(alloc, manner.keeps_services, more.as_slice(), old)?;
         return Ok(rules);
     }
-    rules_for(alloc, manner.keeps_services, asks, old)
+    rules_of_taken(alloc, manner.keeps_services, asks, old)
 }
 
 /// The text of the rules for the asks that were seen.
@@ -101,13 +128,7 @@ fn added_for(
 {
     let rules = rules_in(alloc, manner, seen.given.as_slice(), config.rules().rules())?;
     let mut added = Vec::new(alloc);
-    put_text(
-        &mut added,
-        config.format(),
-        rules.as_slice(),
-        &seen.given,
-        seen.unread,
-    )?;
+    put_text(&mut added, config.format(), rules.as_slice(), seen)?;
     read_in_front(alloc, config, text, rules.as_slice(), added.as_slice())?;
     Ok(added)
 }
@@ -146,8 +167,12 @@ fn made<R: OctetSource>(
 /// line feed, which the last may lack. It has at most 4096 octets without it. Other lines are counted, and a comment
 /// at the end says how many there were; those of a replay that show no ask (`send ..`, `ask ..`, `end`) aren't.
 ///
-/// Each rule has a comment that says how many asks it is for. What is written was read back: put into the
-/// text in front of the first rule, it is read as these rules and the configuration's after them.
+/// Each rule has a comment that says how many asks it is for, and one for each field that these lack: any value will do
+/// there. A read that names no object or property, and a write that names none or no priority, has no rule, but a comment at
+/// the end counts them.
+///
+/// What is written was read back: put into the text in front of the first rule, it is read as these rules and the
+/// configuration's after them, with nothing else in it.
 ///
 /// ```text
 /// # 2 asks

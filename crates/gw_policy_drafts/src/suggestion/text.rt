@@ -1,27 +1,52 @@
 //! The text of the rules that are suggested.
 
 use crate::migration::{put_field, put_operation, put_station};
-use crate::suggestion::given::Given;
+use crate::suggestion::given::{Given, is_open};
+use crate::suggestion::reading::Seen;
 use gw_addr::put_decimal;
 use gw_configuration::Format;
-use gw_rules::{Ask, FieldName, Range, Rule};
+use gw_rules::{Ask, FieldName, Operation, Range, Rule};
 use std::alloc::AllocError;
 
-/// The text of the rules: a table for each, with comments; and how many lines show no ask.
+/// The text of the rules: a table for each, with comments; how many asks have none; and how many lines show no ask.
 pub(crate) fn put_text(
     out: &mut Vec<u8>,
     format: Format,
     rules: &[Rule],
-    given: &Given,
-    unread: u64,
+    seen: &Seen,
 ) -> Result<(), AllocError> {
-    if rules.is_empty() {
+    let open = count_open(&seen.given);
+    if rules.is_empty() && open == 0 {
         out.extend_from_slice(b"# no ask is denied: there is nothing to suggest\n")?;
     }
     for rule in rules {
-        put_rule(out, format, rule, given)?;
+        put_rule(out, format, rule, &seen.given)?;
     }
-    put_unread(out, unread)
+    put_open(out, open)?;
+    put_unread(out, seen.unread)
+}
+
+/// How many asks were given that have no rule.
+fn count_open(given: &Given) -> u64 {
+    let mut count = 0u64;
+    for (place, ask) in given.as_slice().iter().enumerate() {
+        if is_open(ask) {
+            count = count.saturating_add(given.count_at(place));
+        }
+    }
+    count
+}
+
+/// Appends a comment on the asks that have no rule, if there are such.
+fn put_open(out: &mut Vec<u8>, open: u64) -> Result<(), AllocError> {
+    if open == 0 {
+        return Ok(());
+    }
+    out.extend_from_slice(b"# ")?;
+    put_counted(out, open, b"read or write", b"reads or writes")?;
+    out.extend_from_slice(
+        b" without an object, a property or a priority: a rule would allow each, so there is none\n",
+    )
 }
 
 /// Appends a comment on the lines that show no ask, if there are such.
@@ -55,7 +80,7 @@ fn put_rule(
     out.extend_from_slice(b"# ")?;
     put_counted(out, asks_of(rule, given), b"ask", b"asks")?;
     out.extend_from_slice(b"\n")?;
-    put_station_note(out, rule)?;
+    put_notes(out, rule)?;
     out.extend_from_slice(b"[[rule]]\nname = \"")?;
     out.extend_from_slice(rule.name.as_str().as_bytes())?;
     out.extend_from_slice(b"\"\nallow = true\n")?;
@@ -78,14 +103,51 @@ fn count_of(rule: &Rule, ask: &Ask, count: u64) -> u64 {
     if rule.matches(ask) { count } else { 0 }
 }
 
-/// Appends a comment if the rule names no station: then it is about the whole network.
-fn put_station_note(out: &mut Vec<u8>, rule: &Rule) -> Result<(), AllocError> {
-    if !rule.ranges(FieldName::SourceKey).is_empty() {
-        return Ok(());
+/// Appends a comment if the rule names no station: then it is about the whole network; and for each other field that the
+/// asks it is for lack.
+fn put_notes(out: &mut Vec<u8>, rule: &Rule) -> Result<(), AllocError> {
+    if rule.ranges(FieldName::SourceKey).is_empty() {
+        out.extend_from_slice(
+            b"# no address of six octets: the station can't be named, so its whole network is allowed\n",
+        )?;
     }
-    out.extend_from_slice(
-        b"# no address of six octets: the station can't be named, so its whole network is allowed\n",
-    )
+    for field in FieldName::ALL.iter() {
+        if rule.ranges(*field).is_empty() && matters(rule, *field) {
+            put_any(out, *field)?;
+        }
+    }
+    Ok(())
+}
+
+fn put_any(out: &mut Vec<u8>, field: FieldName) -> Result<(), AllocError> {
+    out.extend_from_slice(b"# no ")?;
+    out.extend_from_slice(field.key().as_bytes())?;
+    out.extend_from_slice(b": any is allowed\n")
+}
+
+/// Whether a field that a rule doesn't name is worth a comment: its asks lack it, and others of the operation may have it.
+fn matters(rule: &Rule, field: FieldName) -> bool {
+    match field {
+        FieldName::DestinationNetwork => {
+            is_for(rule, Operation::Cast)
+                || is_for(rule, Operation::Route)
+                || is_for(rule, Operation::Read)
+                || is_for(rule, Operation::Write)
+        }
+        FieldName::ObjectType | FieldName::Instance | FieldName::Property => {
+            is_for(rule, Operation::Read) || is_for(rule, Operation::Write)
+        }
+        FieldName::Priority => is_for(rule, Operation::Write),
+        _ => false,
+    }
+}
+
+/// Whether a rule names an operation.
+fn is_for(rule: &Rule, operation: Operation) -> bool {
+    rule.ranges(FieldName::Operation)
+        .as_slice()
+        .iter()
+        .any(|range| range.holds(operation.number()))
 }
 
 /// Appends the line of a field that the rule names.

@@ -1,5 +1,3 @@
-use Rattle.std.proofs.Common.{List, ℕ, subst, sym}
-use Rattle.gw_audit.specs.Entry.{ShowsAsk}
 use Rattle.gw_policy_drafts.proofs.suggestion_lemmas.LinesLaw.{tells_none}
 use Rattle.gw_policy_drafts.proofs.suggestion.reading.ask_in_line.Goals as goal
 
