@@ -1,5 +1,5 @@
 -- What a line of the log shows is the denial whose line it is.
-use Rattle.std.proofs.Common.{◌≡◌, ◌∙◌, ◌-◌, ◌≤◌, ℕ, Bool, true, false, List, [], ◌∷◌, length, take, drop, Option, Some, None, Result, Ok, Err, IfOk, refl, ap, sym, subst, arith}
+use Rattle.std.proofs.Common.{◌≡◌, ◌∙◌, ◌-◌, ◌≤◌, ℕ, Bool, true, false, List, [], ◌∷◌, ◌++◌, length, take, drop, Option, Some, None, Result, Ok, Err, IfOk, codes, refl, ap, sym, subst, arith}
 use Rattle.std.specs.Prelude.{◌==◌, ◌&&◌, if◌then◌else◌, is_some}
 use Rattle.std.specs.Global.{Vec}
 use Rattle.std.proofs.lemmas.List.{length-drop}
@@ -10,23 +10,23 @@ use Rattle.gw_audit.specs.declared.denial.Denial.{Denial}
 use Rattle.gw_audit.specs.declared.entry.Shown.{Shown}
 use Rattle.gw_audit.specs.declared.entry.ShownAsk.{ShownAsk}
 use Rattle.gw_audit.specs.internal.Reading.{denial_of_parts, line_in}
-use Rattle.gw_json.specs.Laws.{DenialsStay}
+use Rattle.gw_json.specs.Laws.{DenialsStay, RecordsAllowed}
 use Rattle.gw_json.specs.Document.{line_of}
 use Rattle.gw_json.specs.Log.{AreFrontMembers, IsDenialIn, IsEntryOf, IsOther, denial_value, shown_value}
-use Rattle.gw_log_words.proofs.LawLemmas.{own_line}
-use Rattle.gw_log_words.specs.Fields.{end_from, fields_of, is_denial}
+use Rattle.gw_log_words.proofs.LawLemmas.{behind_allow, own_line}
+use Rattle.gw_log_words.specs.Fields.{end_from, fields_of, is_denial, says_allow}
 
 -- the object of what a line shows is that of the denial whose line it is
-same_object : (before : List (List ℕ × Json)) (shown : Shown)
-    → line_of (shown_value before shown.number shown.tick shown.ask shown.rule.now) ≡ line_of (denial_value before (denial_of shown))
-same_object before shown =
-    ap (λ (ask : ShownAsk). line_of (shown_value before shown.number shown.tick ask shown.rule.now))
+same_object : (allowed : Bool) (before : List (List ℕ × Json)) (shown : Shown)
+    → line_of (shown_value allowed before shown.number shown.tick shown.ask shown.rule.now) ≡ line_of (denial_value allowed before (denial_of shown))
+same_object allowed before shown =
+    ap (λ (ask : ShownAsk). line_of (shown_value allowed before shown.number shown.tick ask shown.rule.now))
     (sym (shown_again shown.number shown.tick shown.rule.now shown.ask))
 
 pub entry_shown : {E : Type 0} (r : Result (Vec ℕ) E) (front fields : List ℕ) (shown : Shown) → IsLineOf fields (denial_of shown)
     → IsShowable (denial_of shown)
     → IfOk r (λ text. (before : List (List ℕ × Json)) × AreFrontMembers front before
-    × (text.items ≡ line_of (shown_value before shown.number shown.tick shown.ask shown.rule.now)))
+    × (text.items ≡ line_of (shown_value (says_allow front) before shown.number shown.tick shown.ask shown.rule.now)))
     → IfOk r (λ text. IsDenialIn front fields text.items)
 entry_shown (Ok text) front fields shown spelled is made = record {
   denial = denial_of shown;
@@ -34,7 +34,7 @@ entry_shown (Ok text) front fields shown spelled is made = record {
   spelled = spelled;
   before = made.0;
   fronted = made.1;
-  object = made.2 ∙ same_object made.0 shown;
+  object = made.2 ∙ same_object (says_allow front) made.0 shown;
 }
 entry_shown (Err e) front fields shown spelled is made = made
 
@@ -95,22 +95,33 @@ other_made (Err e) line fields is other = other
 
 -- ---- nothing changes for a denial's line
 
-of_parts : (d : Denial) → denial_value [] (denial_of_parts d.number d.tick (shown_ask d) d.rule) ≡ denial_value [] d
-of_parts d = ap (λ (ask : ShownAsk). shown_value [] d.number d.tick ask d.rule) (shown_again d.number d.tick d.rule (shown_ask d))
+of_parts : (allowed : Bool) (front : List (List ℕ × Json)) (d : Denial)
+    → denial_value allowed front (denial_of_parts d.number d.tick (shown_ask d) d.rule) ≡ denial_value allowed front d
+of_parts allowed front d =
+    ap (λ (ask : ShownAsk). shown_value allowed front d.number d.tick ask d.rule) (shown_again d.number d.tick d.rule (shown_ask d))
 
-same_value : (d e : Denial) (line : List ℕ) → IsShowable d → IsLineOf line d → IsShowable e → IsLineOf line e → denial_value [] d ≡ denial_value [] e
-same_value d e line d_is d_line e_is e_line =
+same_value : (allowed : Bool) (front : List (List ℕ × Json)) (d e : Denial) (line : List ℕ) → IsShowable d → IsLineOf line d → IsShowable e → IsLineOf line e
+    → denial_value allowed front d ≡ denial_value allowed front e
+same_value allowed front d e line d_is d_line e_is e_line =
     let parts_d = denial_of_parts d.number d.tick (shown_ask d) d.rule in
     let parts_e = denial_of_parts e.number e.tick (shown_ask e) e.rule in
     let same : parts_d ≡ parts_e = some_same parts_d parts_e (sym (line_again line d d_is d_line) ∙ line_again line e e_is e_line) in
-    sym (of_parts d) ∙ ap (λ (p : Denial). denial_value [] p) same ∙ of_parts e
+    sym (of_parts allowed front d) ∙ ap (λ (p : Denial). denial_value allowed front p) same ∙ of_parts allowed front e
 
 pub denials_stay : DenialsStay
 denials_stay d line text is spelled entry =
     let own = own_line line d is spelled in
     let none : length line - length line ≡ 0 = omega arith in
-    let made = subst (λ (f : Option (List ℕ)). IsEntryOf line f text) own entry in
-    let no_front : made.before ≡ [] = subst (λ (n : ℕ). AreFrontMembers (take n line) made.before) none made.fronted in
+    let found = subst (λ (f : Option (List ℕ)). IsEntryOf line f text) own entry in
+    let made = subst (λ (n : ℕ). IsDenialIn (take n line) line text) none found in
     made.object
-    ∙ ap (λ (rows : List (List ℕ × Json)). line_of (denial_value rows made.denial)) no_front
-    ∙ ap line_of (sym (same_value d made.denial line is spelled made.showable made.spelled))
+    ∙ ap (λ (rows : List (List ℕ × Json)). line_of (denial_value false rows made.denial)) made.fronted
+    ∙ ap line_of (sym (same_value false [] d made.denial line is spelled made.showable made.spelled))
+
+pub records_allowed : RecordsAllowed
+records_allowed d line text is spelled entry =
+    let own = behind_allow line d is spelled in
+    let word : length (codes "allow " ++ line) - length line ≡ 6 = omega arith in
+    let found = subst (λ (f : Option (List ℕ)). IsEntryOf (codes "allow " ++ line) f text) own entry in
+    let made = subst (λ (n : ℕ). IsDenialIn (take n (codes "allow " ++ line)) line text) word found in
+    (made.before, made.fronted, made.object ∙ ap line_of (sym (same_value true made.before d made.denial line is spelled made.showable made.spelled)))

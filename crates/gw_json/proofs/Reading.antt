@@ -1,5 +1,5 @@
 -- The objects of a log and of answers have numbers below 2^64, and aren't deep.
-use Rattle.std.proofs.Common.{◌≡◌, ℕ, ◌^◌, ◌<◌, inl, inr, length, Bool, true, List, [], ◌∷◌, ◌++◌, Option, Some, None, decimal, sym, subst, arith}
+use Rattle.std.proofs.Common.{◌≡◌, ℕ, ◌^◌, ◌<◌, inl, inr, length, Bool, true, false, List, [], ◌∷◌, ◌++◌, Option, Some, None, decimal, sym, subst, arith}
 use Rattle.std.specs.Prelude.{IfSome, codes, is_some, ◌==◌}
 use Rattle.hex.specs.Hex.{encode_upper}
 use Rattle.json.specs.Json.{Json, null, number, string, no_members}
@@ -17,7 +17,7 @@ use Rattle.gw_rules.specs.declared.field.FieldName.TheVariants as fields
 use Rattle.gw_json.specs.Ask.{ask_members, key_or_null, key_value, number_value, operation_value, sender_of, station_of, station_word}
 use Rattle.gw_json.specs.Document.{members_of}
 use Rattle.gw_json.specs.Laws.{AnswersRead, DenialsRead, IsRead, OthersRead, ReadsAs}
-use Rattle.gw_json.specs.Log.{denial_value, front_members, front_octets_members, octets_value, text_value}
+use Rattle.gw_json.specs.Log.{denial_value, front_members, front_octets_members, octets_value, rule_members, text_value}
 use Rattle.gw_json.specs.Why.{answer_value, name_value, note_at, note_value, noted_value, rule_at}
 use Rattle.gw_json.proofs.Documents.{AreShallow, IsShallow, boolean_shallow, chosen_shallow, line_read, member_shallow, none_shallow, null_shallow, number_shallow, object_shallow, or_shallow, string_shallow}
 
@@ -86,21 +86,23 @@ small_denial d is =
       priority = small.fields fields.Priority;
     }
 
-denial_read : (front : List (List ℕ × Json)) (d : Denial) → IsShowable d → AreShallow 0 (members_of front) → IsRead (denial_value front d)
-denial_read front d is are =
-    line_read 1 (denial_value front d) (omega arith)
+denial_read : (allowed : Bool) (front : List (List ℕ × Json)) (d : Denial) → IsShowable d → AreShallow 0 (members_of front)
+    → IsRead (denial_value allowed front d)
+denial_read allowed front d is are =
+    line_read 1 (denial_value allowed front d) (omega arith)
     (object_shallow 0 _ (member_shallow 0 (codes "number") _ _ (number_shallow 0 d.number is.numbers.number)
     (member_shallow 0 (codes "tick") _ _ (number_shallow 0 d.tick is.numbers.tick)
-    (ask_shallow (shown_ask d) ((codes "rule", string d.rule) ∷ front) (small_denial d is) (member_shallow 0 (codes "rule") (string d.rule) _ (string_shallow 0 d.rule) are)))))
+    (ask_shallow (shown_ask d) (rule_members allowed d.rule ++ front) (small_denial d is)
+    (member_shallow 0 (codes "allow") _ _ (boolean_shallow 0 allowed) (member_shallow 0 (codes "rule") (string d.rule) _ (string_shallow 0 d.rule) are))))))
 
 text_shallow : (key text : List ℕ) → AreShallow 0 (members_of ((key, string text) ∷ []))
 text_shallow key text = member_shallow 0 key (string text) no_members (string_shallow 0 text) (none_shallow 0)
 
 pub denials_read : DenialsRead
 denials_read d is = record {
-  alone = denial_read [] d is (none_shallow 0);
-  fronted = λ front. denial_read (front_members front) d is (text_shallow (codes "front") front);
-  by_octets = λ front. denial_read (front_octets_members front) d is (text_shallow (codes "front_octets") (encode_upper front));
+  alone = denial_read false [] d is (none_shallow 0);
+  fronted = λ allowed front. denial_read allowed (front_members front) d is (text_shallow (codes "front") front);
+  by_octets = λ allowed front. denial_read allowed (front_octets_members front) d is (text_shallow (codes "front_octets") (encode_upper front));
 }
 
 -- ---- other lines

@@ -1,5 +1,5 @@
 -- What a reader of JSON (RFC 8259) finds in the lines.
-use Rattle.std.specs.Prelude.{◌≡◌, ℕ, ◌≤◌, ◌<◌, ◌^◌, Bool, List, [], ◌∷◌, ◌++◌, length, All, Option, Some}
+use Rattle.std.specs.Prelude.{◌≡◌, ℕ, ◌≤◌, ◌<◌, ◌^◌, Bool, true, false, List, [], ◌∷◌, ◌++◌, length, All, Option, Some, codes}
 use Rattle.std.specs.List.{AllByRecursion}
 use Rattle.json.specs.Json.{Json, document}
 use Rattle.gw_audit.specs.Entry.{IsLineOf, IsShowable}
@@ -9,7 +9,7 @@ use Rattle.gw_configuration.specs.declared.fault.ConfigFault.{ConfigFault}
 use Rattle.gw_json.specs.Check.{checked_value, fault_value}
 use Rattle.gw_json.specs.Comparison.{found_value, summary_value}
 use Rattle.gw_json.specs.Document.{line_of}
-use Rattle.gw_json.specs.Log.{IsEntryIn, denial_value, front_members, front_octets_members, octets_value, text_value}
+use Rattle.gw_json.specs.Log.{AreFrontMembers, IsEntryIn, denial_value, front_members, front_octets_members, octets_value, text_value}
 use Rattle.gw_json.specs.Why.{IsAnswerIn, answer_value}
 use Rattle.gw_ask_sets.specs.declared.regions.comparison.Found.{Found}
 use Rattle.gw_rules.specs.declared.rule.Rule.{Rule}
@@ -25,18 +25,23 @@ pub record ReadsAs (line : List ℕ) (value : Json) : Type 0 where
 abbrev pub IsRead : Json → Type 0
 IsRead value = ReadsAs (line_of value) value
 
--- each denial's line is read as the object of that denial, also with what is in front of it
+-- each denial's line is read as the object of that denial, also with what is in front of it, and if the ask was allowed
 pub record DenialReads (d : Denial) : Type 0 where
-  pub alone : IsRead (denial_value [] d)
-  pub fronted : (front : List ℕ) → IsRead (denial_value (front_members front) d)
-  pub by_octets : (front : List ℕ) → IsRead (denial_value (front_octets_members front) d)
+  pub alone : IsRead (denial_value false [] d)
+  pub fronted : (is_allowed : Bool) (front : List ℕ) → IsRead (denial_value is_allowed (front_members front) d)
+  pub by_octets : (is_allowed : Bool) (front : List ℕ) → IsRead (denial_value is_allowed (front_octets_members front) d)
 
 abbrev pub DenialsRead : Type 0
 DenialsRead = (d : Denial) → IsShowable d → DenialReads d
 
--- Nothing changes for the line of a denial with nothing in front: its object has what the line shows, and no more.
+-- the object of a denial's line with nothing in front has what the line shows and that it was denied, and no more
 abbrev pub DenialsStay : Type 0
-DenialsStay = (d : Denial) (line text : List ℕ) → IsShowable d → IsLineOf line d → IsEntryIn line text → text ≡ line_of (denial_value [] d)
+DenialsStay = (d : Denial) (line text : List ℕ) → IsShowable d → IsLineOf line d → IsEntryIn line text → text ≡ line_of (denial_value false [] d)
+
+-- the object of a record of an audit says that the ask was allowed
+abbrev pub RecordsAllowed : Type 0
+RecordsAllowed = (d : Denial) (line text : List ℕ) → IsShowable d → IsLineOf line d → IsEntryIn (codes "allow " ++ line) text
+    → (front : List (List ℕ × Json)) × AreFrontMembers (codes "allow ") front × (text ≡ line_of (denial_value true front d))
 
 -- and so is every other line, whatever its octets are
 abbrev pub OthersRead : Type 0

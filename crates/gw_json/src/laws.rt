@@ -1,6 +1,6 @@
 //! Laws of the lines. The functions change nothing and answer nothing: their contracts are the laws.
 
-ghost use Rattle.gw_json.specs.Laws.{AnswersRead, ChecksRead, ComparisonsRead, DenialsRead, DenialsStay, FaultsRead, OthersRead, SummariesRead};
+ghost use Rattle.gw_json.specs.Laws.{AnswersRead, ChecksRead, ComparisonsRead, DenialsRead, DenialsStay, FaultsRead, OthersRead, RecordsAllowed, SummariesRead};
 
 /// A reader of JSON reads each line as the object that it is: nothing that a line of the log, a note or a rule's name has
 /// can end a string or a line, or begin another member. So it is with the lines of a log, of answers, of a comparison and of a
@@ -15,7 +15,9 @@ pub fn reading()
     ensures faults { FaultsRead }
 {}
 
-/// The object of a denial's line with nothing in front is what it was before what is in front was read.
+/// The object of a denial's line with nothing in front has what the line shows and that it was denied, and no more; that of a
+/// record of an audit says that the ask was allowed.
 pub fn log()
-    ensures { DenialsStay }
+    ensures denials { DenialsStay }
+    ensures audit { RecordsAllowed }
 {}

@@ -4,27 +4,27 @@ ghost use Rattle.std.specs.Prelude.{◌≡◌, ◌+◌, ◌*◌, ◌<◌, ◌≤
 ghost use Rattle.gw_script.specs.Known.{OnKnown};
 ghost use Rattle.json.specs.Json.{Json};
 ghost use Rattle.gw_json.specs.Document.{line_of};
-ghost use Rattle.gw_json.specs.Log.{AreFrontMembers, IsDenialIn, IsEntryIn, IsOther, LeavesEntries, place_members, shown_value};
+ghost use Rattle.gw_json.specs.Log.{AreFrontMembers, IsDenialIn, IsEntryIn, IsOther, LeavesEntries, place_members, rule_members, shown_value};
 ghost use Rattle.gw_json.specs.internal.View.{members_view};
-ghost use Rattle.gw_log_words.specs.Fields.{is_denial};
+ghost use Rattle.gw_log_words.specs.Fields.{is_denial, says_allow};
 
 use crate::ask::ask_members;
-use crate::value::{Member, Value, joined, object_line, octets_member, text_member};
+use crate::value::{Member, Value, joined, object_line, octets_member, text_member, text_value};
 use gw_audit::{Shown, read_line};
-use gw_log_words::denial_front;
+use gw_log_words::{denial_front, says_allow};
 use gw_script::{LineTranslator, LinesFault, OctetSink, OctetSource, translate_lines};
 use std::alloc::{AllocError, Global};
 
 /// Writes each line of a log as a JSON object, in order, before it takes up the next line: one that ends in the line of a
-/// denial by what it shows, and by what is in front, such as a stamp; another as a text. What isn't UTF-8 is hexadecimal
-/// digits. The writer isn't flushed.
+/// denial by what it shows, and by what is in front, such as a stamp; another as a text. If the last word in front is `allow`, as
+/// in an audit, the ask was allowed. What isn't UTF-8 is hexadecimal digits. The writer isn't flushed.
 ///
 /// A line ends with a line feed, which the last may lack. It has at most 4096 octets without it: a longer one ends the
 /// writing.
 ///
 /// ```text
-/// {"number":1,"tick":0,"port":1,"source_network":1,"source":"192.168.1.5:47808","operation":"read","destination":100,"service":12,"object_type":5,"instance":2,"property":85,"priority":null,"sender":null,"station":null,"rule":"hide"}
-/// {"number":2,"tick":9,"port":1,"source_network":1,"source":"192.168.1.5:47808","operation":"read","destination":100,"service":12,"object_type":5,"instance":2,"property":85,"priority":null,"sender":null,"station":null,"rule":"hide","front":"2026-11-27T08:00:17Z "}
+/// {"number":1,"tick":0,"port":1,"source_network":1,"source":"192.168.1.5:47808","operation":"read","destination":100,"service":12,"object_type":5,"instance":2,"property":85,"priority":null,"sender":null,"station":null,"allow":false,"rule":"hide"}
+/// {"number":2,"tick":9,"port":1,"source_network":1,"source":"192.168.1.5:47808","operation":"read","destination":100,"service":12,"object_type":5,"instance":2,"property":85,"priority":null,"sender":null,"station":null,"allow":true,"rule":"operators-write","front":"2026-11-27T08:00:17Z allow "}
 /// {"line":"bacgw: write failed"}
 /// {"octets":"FF00"}
 /// ```
@@ -99,10 +99,10 @@ fn denial_in(alloc: Global, front: &[u8], fields: &[u8]) -> Result<Vec<u8>, Allo
 /// The object of a denial with what is in front of its line.
 fn fronted(alloc: Global, front: &[u8], shown: &Shown<'_>) -> Result<Vec<u8>, AllocError>
     ensures { IfOk result (λ text. (before : List (List ℕ × Json)) × AreFrontMembers front.now before
-        × (text.items ≡ line_of (shown_value before shown.now.number shown.now.tick shown.now.ask shown.now.rule.now))) }
+        × (text.items ≡ line_of (shown_value (says_allow front.now) before shown.now.number shown.now.tick shown.now.ask shown.now.rule.now))) }
 {
     let before = front_members(alloc, front)?;
-    denial(alloc, shown, before)
+    denial(alloc, says_allow(front), shown, before)
 }
 
 /// The member of what is in front: none if nothing is.
@@ -119,13 +119,18 @@ fn front_members(alloc: Global, front: &[u8]) -> Result<Vec<Member>, AllocError>
 }
 
 /// The object of a denial, with the member of what is in front of its line at the end.
-fn denial(alloc: Global, shown: &Shown<'_>, before: Vec<Member>) -> Result<Vec<u8>, AllocError>
-    ensures { IfOk result (λ text. text.items ≡ line_of (shown_value (members_view before.entry.items)
+fn denial(
+    alloc: Global,
+    is_allowed: bool,
+    shown: &Shown<'_>,
+    before: Vec<Member>,
+) -> Result<Vec<u8>, AllocError>
+    ensures { IfOk result (λ text. text.items ≡ line_of (shown_value is_allowed (members_view before.entry.items)
         shown.now.number shown.now.tick shown.now.ask shown.now.rule.now)) }
 {
     let place = place_members(alloc, shown.number, shown.tick)?;
     let ask = ask_members(alloc, &shown.ask)?;
-    let rule = text_member(alloc, "rule", shown.rule)?;
+    let rule = rule_members(alloc, is_allowed, shown.rule)?;
     object_line(alloc, joined(joined(place, ask)?, joined(rule, before)?)?)
 }
 
@@ -137,6 +142,14 @@ fn place_members(alloc: Global, number: u64, tick: u64) -> Result<Vec<Member>, A
         ("number", Value::Number(number)),
         ("tick", Value::Number(tick)),
     ]?)
+}
+
+/// What the rule said, and its name.
+fn rule_members(alloc: Global, is_allowed: bool, rule: &str) -> Result<Vec<Member>, AllocError>
+    ensures { IfOk result (λ members. members_view members.items ≡ rule_members is_allowed rule.now) }
+{
+    let name = text_value(alloc, rule)?;
+    Ok(vec![in alloc; ("allow", Value::Boolean(is_allowed)), ("rule", name)]?)
 }
 
 /// The object of a line without own fields.

@@ -50,7 +50,7 @@ module _ (passes : List ℕ → Bool) where
   end_found begins (c ∷ text) word holds = rw (word, holds) refl
 
   -- it doesn't, and what comes after its first octet may
-  goes_on : (begins : Bool) (c : ℕ) (text : List ℕ) → (begins && passes (c ∷ text)) ≡ false
+  pub goes_on : (begins : Bool) (c : ℕ) (text : List ℕ) → (begins && passes (c ∷ text)) ≡ false
       → end_from passes begins (c ∷ text) ≡ end_from passes (c == 32) text
   unfolding end_from
   goes_on begins c text fails = rw fails refl

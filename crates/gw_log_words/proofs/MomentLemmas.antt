@@ -1,5 +1,5 @@
 -- Moments by a clock: one comes so much later, and none past the last year.
-use Rattle.std.proofs.Common.{◌≡◌, ℕ, ◌*◌, ◌++◌, inl, List, [], ◌∷◌, Result, Ok, Err, append_assoc, Option, Some, None, codes, refl, sym, ap, subst, ◌∙◌, arith, ℤ, pos, ◌+ℤ◌, ◌≤ℤ◌, negsuc}
+use Rattle.std.proofs.Common.{◌≡◌, ℕ, ◌*◌, ◌++◌, inl, Bool, List, [], ◌∷◌, Result, Ok, Err, append_assoc, Option, Some, None, codes, refl, sym, ap, subst, ◌∙◌, arith, ℤ, pos, ◌+ℤ◌, ◌≤ℤ◌, negsuc}
 use Rattle.std.specs.Prelude.{OnOk, unsigned_abs}
 use Rattle.std.proofs.lemmas.Int.{by_lt_z}
 use Rattle.jiff_core.specs.Calendar.{IsDate}
@@ -99,19 +99,19 @@ no_clock text read time is has none m translated =
     none m.local.time translated.fraction translated.nanosecond cc
 
 -- the text for a line that shows a denial: the moment of its tick, and its words
-pub tells_shown : {T F : Type 0} (r : Result T F) (start : Option Moment) (line : List ℕ) (shown : Shown) (at : Option Moment) (a b text : List ℕ)
+pub tells_shown : {T F : Type 0} (r : Result T F) (start : Option Moment) (allowed : Bool) (line : List ℕ) (shown : Shown) (at : Option Moment) (a b text : List ℕ)
     → IsLineOf line (denial_of shown) → IsShowable (denial_of shown) → IsMomentOf start shown.tick at → a ≡ [] → b ≡ a ++ front_text at
-    → OnOk r (text ≡ b ++ (words_of shown.ask shown.rule.now ++ 10 ∷ [])) → OnOk r (IsTranslatedAs start line text)
-tells_shown (Ok x) start line shown at a b text spelled is moment none front then = inl (record {
+    → OnOk r (text ≡ b ++ (words_of allowed shown.ask shown.rule.now ++ 10 ∷ [])) → OnOk r (IsTranslatedAs start allowed line text)
+tells_shown (Ok x) start allowed line shown at a b text spelled is moment none front then = inl (record {
   denial = denial_of shown;
   showable = is;
   spelled = spelled;
   translated = record {
     at = at;
     moment = moment;
-    translated = then ∙ ap (λ (t : List ℕ). t ++ (words_of shown.ask shown.rule.now ++ 10 ∷ [])) (front ∙ ap (λ (t : List ℕ). t ++ front_text at) none)
-        ∙ sym (append_assoc (front_text at) (words_of shown.ask shown.rule.now) (10 ∷ []))
-        ∙ ap (λ (ask : ShownAsk). front_text at ++ words_of ask shown.rule.now ++ 10 ∷ []) (sym (shown_again shown.number shown.tick shown.rule.now shown.ask));
+    translated = then ∙ ap (λ (t : List ℕ). t ++ (words_of allowed shown.ask shown.rule.now ++ 10 ∷ [])) (front ∙ ap (λ (t : List ℕ). t ++ front_text at) none)
+        ∙ sym (append_assoc (front_text at) (words_of allowed shown.ask shown.rule.now) (10 ∷ []))
+        ∙ ap (λ (ask : ShownAsk). front_text at ++ words_of allowed ask shown.rule.now ++ 10 ∷ []) (sym (shown_again shown.number shown.tick shown.rule.now shown.ask));
   };
 })
-tells_shown (Err e) start line shown at a b text spelled is moment none front then = then
+tells_shown (Err e) start allowed line shown at a b text spelled is moment none front then = then

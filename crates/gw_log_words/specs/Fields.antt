@@ -1,5 +1,7 @@
 -- A line's own fields, whatever is in front of them.
-use Rattle.std.specs.Prelude.{ℕ, ◌==◌, ◌&&◌, Bool, true, is_some, if◌then◌else◌, List, [], ◌∷◌, Option, Some, None}
+use Rattle.std.specs.Prelude.{ℕ, ◌==◌, ◌&&◌, ◌||◌, Bool, true, nat_eq, is_some, if◌then◌else◌, List, [], ◌∷◌, Option, Some, None, codes}
+use Rattle.std.specs.Cmp.Lexicographic.{pointwise}
+use Rattle.std.specs.List.{ends_with}
 use Rattle.gw_audit.specs.internal.Reading.{line_in, shown_by}
 
 -- a text is the line of a denial, without its line feed
@@ -19,3 +21,8 @@ end_from passes begins (c ∷ text) =
 -- a line's own fields: the longest end that passes the test, of those that begin at the line's start or after a space
 abbrev pub fields_of : (List ℕ → Bool) → List ℕ → Option (List ℕ)
 fields_of passes line = end_from passes true line
+
+-- The last word of what is in front of a line's own fields is `allow`: the line is a record of an ask that was allowed, as an
+-- audit has it. Any other shows a denial.
+abbrev pub says_allow : List ℕ → Bool
+says_allow front = pointwise nat_eq front (codes "allow ") || ends_with nat_eq front (codes " allow ")

@@ -1,5 +1,5 @@
 -- The words that say what a line of the log shows. They are this project's own, the names in them the standard's.
-use Rattle.std.specs.Prelude.{ℕ, ◌==◌, Bool, false, nat_lt, is_some, if◌then◌else◌, List, [], ◌++◌, length, drop, codes}
+use Rattle.std.specs.Prelude.{ℕ, ◌==◌, Bool, false, nat_lt, is_some, if◌then◌else◌, List, [], ◌∷◌, ◌++◌, length, drop, codes}
 use Rattle.std.specs.Prelude.{Option, None}
 use Rattle.std.specs.Fmt.{decimal}
 use Rattle.std.specs.Int.{w64, to_be_bytes}
@@ -20,10 +20,15 @@ use Rattle.gw_codecs.specs.names.Names.{object_type_name, property_name, service
 
 -- ---- who asks
 
+-- one octet in decimal, as users of MS/TP write it, and in hexadecimal, as the log does; others in hexadecimal
+abbrev pub digits_text : List ℕ → List ℕ
+digits_text (octet ∷ []) = decimal octet ++ codes " (0x" ++ two_digits octet ++ codes ")"
+digits_text mac = flat_map two_digits mac
+
 -- a station: six octets as an address of BACnet/IP, others as digits
 abbrev pub station_text : List ℕ → List ℕ
 station_text mac =
-    if length mac == 6 then text_of (address_in mac) else codes "station " ++ flat_map two_digits mac
+    if length mac == 6 then text_of (address_in mac) else codes "station " ++ digits_text mac
 
 -- `<station> on network <net>`
 abbrev pub source_text : Source → List ℕ
@@ -38,11 +43,11 @@ key_name key =
 abbrev pub is_one : ℕ → Option ℕ → Bool
 is_one number value = option_map_or (λ n. n == number) value false
 
--- `<station>, claiming <station> on network <net>,` if the sender isn't the station that it claims to be
+-- `<station>, for <station> on network <net>,` if the sender isn't the station that it claims to be
 abbrev pub claim_text : ℕ → Source → List ℕ
 claim_text sender source =
     if is_one sender (key_of source.mac) then source_text source
-    else key_name sender ++ codes ", claiming " ++ source_text source ++ codes ","
+    else key_name sender ++ codes ", for " ++ source_text source ++ codes ","
 
 -- the sender of a `claim`, 13, alone, since what it is asked for is the claim
 abbrev pub sender_text : ℕ → ShownAsk → List ℕ
@@ -156,10 +161,14 @@ deed_text ask =
 
 -- ---- the whole
 
--- `<station> on network <net> <deed>: denied by <rule>`
-abbrev pub words_of : ShownAsk → List ℕ → List ℕ
-words_of ask rule = asker_text ask ++ codes " " ++ deed_text ask ++ codes ": denied by " ++ rule
+-- what the rule did
+abbrev pub verdict_text : Bool → List ℕ
+verdict_text is_allowed = if is_allowed then codes ": allowed by " else codes ": denied by "
 
--- the words of a denial
-abbrev pub words : Denial → List ℕ
-words d = words_of (shown_ask d) d.rule
+-- `<station> on network <net> <deed>: denied by <rule>`, or `allowed by`
+abbrev pub words_of : Bool → ShownAsk → List ℕ → List ℕ
+words_of is_allowed ask rule = asker_text ask ++ codes " " ++ deed_text ask ++ verdict_text is_allowed ++ rule
+
+-- the words of a denial, or of a record of an ask that was allowed
+abbrev pub words : Bool → Denial → List ℕ
+words is_allowed d = words_of is_allowed (shown_ask d) d.rule

@@ -1,7 +1,7 @@
 //! The place at which a line's own fields begin.
 
 ghost use Rattle.std.specs.Prelude.{◌≡◌, ◌≤◌, true, length, drop, option_map, IfSome};
-ghost use Rattle.gw_log_words.specs.Fields.{fields_of, is_denial, shows_ask};
+ghost use Rattle.gw_log_words.specs.Fields.{fields_of, is_denial, says_allow, shows_ask};
 
 use crate::form::{AskForm, DenialForm, Form};
 
@@ -39,4 +39,12 @@ pub fn denial_front(line: &[u8]) -> Option<usize>
     ensures within { IfSome result (λ at. at ≤ length line.now) }
 {
     front_of(&DenialForm, line)
+}
+
+/// Whether what is in front of a line's own fields ends with the word `allow`, as in a record of an audit: the ask was allowed.
+/// Any other line shows a denial.
+pub fn says_allow(front: &[u8]) -> bool
+    ensures { result ≡ says_allow front.now }
+{
+    front == b"allow ".as_slice() || front.ends_with(b" allow ")
 }

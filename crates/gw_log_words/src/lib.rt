@@ -15,7 +15,7 @@ mod translating;
 mod words;
 
 pub use calendar::{Calendar, SystemCalendar, moment_after};
-pub use fields::{ask_front, denial_front};
+pub use fields::{ask_front, denial_front, says_allow};
 pub use moment::Moment;
 pub use named_log::{NamedFiles, NamedLog};
 pub use noted::{Noted, Place};

@@ -1,11 +1,10 @@
 //! A log written in words, whatever is in front of its lines' own fields.
 
 ghost use Rattle.std.specs.Prelude.{◌≡◌, ◌+◌, ◌*◌, ◌<◌, ◌≤◌, ◌++◌, ◌∷◌, [], ℕ, List, length, take, drop, Some, IsErrOf, OnOk};
-ghost use Rattle.gw_log_words.specs.Translation.{IsTranslatedAs};
 ghost use Rattle.gw_script.specs.Known.{OnKnown};
-ghost use Rattle.gw_log_words.specs.Translating.{IsTranslatedAfterFront, LeavesTranslated};
+ghost use Rattle.gw_log_words.specs.Translating.{IsTranslatedAfterFront, IsTranslatedBehind, LeavesTranslated};
 
-use crate::fields::denial_front;
+use crate::fields::{denial_front, says_allow};
 use crate::moment::Moment;
 use crate::words::translate_line;
 use gw_addr::{put_octet, put_slice};
@@ -13,8 +12,9 @@ use gw_script::{LineTranslator, LinesFault, OctetSink, OctetSource, translate_li
 use std::alloc::{AllocError, Global};
 
 /// Writes each line of a log in words, in order, before it takes up the next line: of a line that ends in that of a denial
-/// what is in front of it, such as a stamp, and then the words of what it shows; another as it is. If it is known when the
-/// log began, the moment of its tick comes before a denial's words, in a year up to 9999. The writer isn't flushed.
+/// what is in front of it, such as a stamp, and then the words of what it shows; another as it is. If the last word in front is
+/// `allow`, as in an audit, the ask was allowed. If it is known when the log began, the moment of its tick comes before the
+/// words, in a year up to 9999. The writer isn't flushed.
 ///
 /// A line ends with a line feed, which the last may lack. It has at most 4096 octets without it: a longer one ends the
 /// writing.
@@ -92,13 +92,25 @@ fn translate_from(
     text: &mut Vec<u8>,
 ) -> Result<(), AllocError>
     requires { at ≤ length line.now }
-    ensures { OnOk result ((translated : List ℕ) × IsTranslatedAs start (drop at line.now) translated
-        × (text.new.items ≡ take at line.now ++ translated)) }
+    ensures { OnOk result (IsTranslatedBehind start (take at line.now) (drop at line.now) text.new.items) }
+{
+    translate_behind(alloc, start, &line[..at], &line[at..], text)
+}
+
+/// Makes the text for own fields and what is in front of them.
+fn translate_behind(
+    alloc: Global,
+    start: Option<Moment>,
+    front: &[u8],
+    fields: &[u8],
+    text: &mut Vec<u8>,
+) -> Result<(), AllocError>
+    ensures { OnOk result (IsTranslatedBehind start front.now fields.now text.new.items) }
 {
     let mut translated = Vec::new(alloc);
-    translate_line(alloc, start, &line[at..], &mut translated)?;
+    translate_line(alloc, start, says_allow(front), fields, &mut translated)?;
     text.clear();
-    put_slice(text, &line[..at])?;
+    put_slice(text, front)?;
     put_slice(text, &translated)
 }
 

@@ -5,7 +5,7 @@ ghost use Rattle.gw_addr.specs.Appending.{IsAppended};
 ghost use Rattle.gw_audit.specs.Line.{field_text};
 ghost use Rattle.gw_log_words.specs.Moment.{IsMomentOf, front_text};
 ghost use Rattle.gw_log_words.specs.Translation.{IsTranslatedAs};
-ghost use Rattle.gw_log_words.specs.Words.{asker_text, by_other_text, by_text, claim_text, deed_of, deed_text, device_name, device_text, foreign_text, goal_text, is_one, key_name, kind_text, name_text, network_name, network_text, object_text, priority_text, property_text, sender_text, service_text, source_text, station_of, station_text, target_text, words_of};
+ghost use Rattle.gw_log_words.specs.Words.{asker_text, by_other_text, by_text, claim_text, deed_of, deed_text, device_name, device_text, digits_text, foreign_text, goal_text, is_one, key_name, kind_text, name_text, network_name, network_text, object_text, priority_text, property_text, sender_text, service_text, source_text, station_of, station_text, target_text, verdict_text, words_of};
 
 use crate::moment::Moment;
 use gw_addr::{BipAddr, Mac, Source, bip_from_slice, put_decimal, put_octet, put_slice};
@@ -30,9 +30,9 @@ const WRITE_PROPERTY: u64 = 15;
 const CLAIM: u64 = 13;
 
 /// Makes the text for a line of a log, with a line feed after it, in the place of what the buffer
-/// holds: the words of the denial whose line it is, or the line itself if no denial has it. The line is
-/// taken without its line feed. If it is known when the log began, the moment of its tick comes before
-/// a denial's words, in a year up to 9999.
+/// holds: the words of the denial whose line it is, or of what was allowed if it is a record of that, or the line itself
+/// if no denial has it. The line is taken without its line feed. If it is known when the log began, the moment of its tick
+/// comes before the words, in a year up to 9999.
 ///
 /// ```text
 /// 192.168.1.5:47808 on network 1 reads 85 present-value of 5,2 binary-value of the device on network 100: denied by hide
@@ -42,16 +42,17 @@ const CLAIM: u64 = 13;
 pub fn translate_line(
     alloc: Global,
     start: Option<Moment>,
+    is_allowed: bool,
     line: &[u8],
     text: &mut Vec<u8>,
 ) -> Result<(), AllocError>
-    ensures { OnOk result (IsTranslatedAs start line.now text.new.items) }
+    ensures { OnOk result (IsTranslatedAs start is_allowed line.now text.new.items) }
 {
     text.clear();
     match read_line(line) {
         Some(shown) => {
             put_front(alloc, text, moment_of(start, shown.tick))?;
-            put_words_line(text, &shown)
+            put_words_line(text, is_allowed, &shown)
         }
         None => put_line(text, line),
     }
@@ -89,22 +90,33 @@ fn put_line(out: &mut Vec<u8>, line: &[u8]) -> Result<(), AllocError>
 }
 
 /// Appends the words of a line, and a line feed.
-fn put_words_line(out: &mut Vec<u8>, shown: &Shown<'_>) -> Result<(), AllocError>
-    ensures { IsAppended (words_of shown.now.ask shown.now.rule.now ++ 10 ∷ []) out.old out.new result }
+fn put_words_line(out: &mut Vec<u8>, is_allowed: bool, shown: &Shown<'_>) -> Result<(), AllocError>
+    ensures { IsAppended (words_of is_allowed shown.now.ask shown.now.rule.now ++ 10 ∷ []) out.old out.new result }
 {
-    put_words(out, shown)?;
+    put_words(out, is_allowed, shown)?;
     put_octet(out, b'\n')
 }
 
 /// Appends the words of what a line shows.
-fn put_words(out: &mut Vec<u8>, shown: &Shown<'_>) -> Result<(), AllocError>
-    ensures { IsAppended (words_of shown.now.ask shown.now.rule.now) out.old out.new result }
+fn put_words(out: &mut Vec<u8>, is_allowed: bool, shown: &Shown<'_>) -> Result<(), AllocError>
+    ensures { IsAppended (words_of is_allowed shown.now.ask shown.now.rule.now) out.old out.new result }
 {
     put_asker(out, &shown.ask)?;
     put_octet(out, b' ')?;
     put_deed(out, &shown.ask)?;
-    put_slice(out, b": denied by ")?;
+    put_verdict(out, is_allowed)?;
     put_text(out, shown.rule)
+}
+
+/// Appends what the rule did.
+fn put_verdict(out: &mut Vec<u8>, is_allowed: bool) -> Result<(), AllocError>
+    ensures { IsAppended (verdict_text is_allowed) out.old out.new result }
+{
+    if is_allowed {
+        put_slice(out, b": allowed by ")
+    } else {
+        put_slice(out, b": denied by ")
+    }
 }
 
 /// Appends a text.
@@ -143,7 +155,7 @@ fn put_claim(out: &mut Vec<u8>, sender: u64, source: &Source) -> Result<(), Allo
         return put_source(out, source);
     }
     put_key_name(out, sender)?;
-    put_slice(out, b", claiming ")?;
+    put_slice(out, b", for ")?;
     put_source(out, source)?;
     put_octet(out, b',')
 }
@@ -177,7 +189,20 @@ fn put_station(out: &mut Vec<u8>, mac: &Mac) -> Result<(), AllocError>
         return address.put_text(out);
     }
     put_slice(out, b"station ")?;
-    mac.put_text(out)
+    put_digits(out, mac)
+}
+
+/// Appends a station that is no address: one octet in decimal and in hexadecimal, others in hexadecimal.
+fn put_digits(out: &mut Vec<u8>, mac: &Mac) -> Result<(), AllocError>
+    ensures { IsAppended (digits_text mac.now) out.old out.new result }
+{
+    let [octet] = mac.as_slice() else {
+        return mac.put_text(out);
+    };
+    put_number(out, b"", u64::from(*octet))?;
+    put_slice(out, b" (0x")?;
+    mac.put_text(out)?;
+    put_octet(out, b')')
 }
 
 /// Appends what is asked for.

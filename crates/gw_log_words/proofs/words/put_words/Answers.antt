@@ -4,7 +4,7 @@ use Rattle.gw_log_words.proofs.words.put_words.Goals as goal
 
 pub returns : goal.returns
 returns c =
-    then_put (then_put (then_put (then_put c.in_ok-put_asker.ensures c.in_ok-put_octet.ensures) c.in_ok-put_deed.ensures) c.in_ok-put_slice.ensures) c.put_text.ensures
+    then_put (then_put (then_put (then_put c.in_ok-put_asker.ensures c.in_ok-put_octet.ensures) c.in_ok-put_deed.ensures) c.in_ok-put_verdict.ensures) c.put_text.ensures
 
 pub returns-in_err-put_asker : goal.returns-in_err-put_asker
 returns-in_err-put_asker c = refused (cut _ (cut _ (cut _ (cut _ c.in_err-put_asker.ensures)))) c.from_residual.ensures.0
@@ -15,5 +15,5 @@ returns-in_err-put_octet c = refused (cut _ (cut _ (cut _ (then_put c.in_ok-put_
 pub returns-in_err-put_deed : goal.returns-in_err-put_deed
 returns-in_err-put_deed c = refused (cut _ (cut _ (then_put (then_put c.in_ok-put_asker.ensures c.in_ok-put_octet.ensures) c.in_err-put_deed.ensures))) c.from_residual-in_err-put_deed.ensures.0
 
-pub returns-in_err-put_slice : goal.returns-in_err-put_slice
-returns-in_err-put_slice c = refused (cut _ (then_put (then_put (then_put c.in_ok-put_asker.ensures c.in_ok-put_octet.ensures) c.in_ok-put_deed.ensures) c.in_err-put_slice.ensures)) c.from_residual-in_err-put_slice.ensures.0
+pub returns-in_err-put_verdict : goal.returns-in_err-put_verdict
+returns-in_err-put_verdict c = refused (cut _ (then_put (then_put (then_put c.in_ok-put_asker.ensures c.in_ok-put_octet.ensures) c.in_ok-put_deed.ensures) c.in_err-put_verdict.ensures)) c.from_residual-in_err-put_verdict.ensures.0
