@@ -2,8 +2,10 @@
 use Rattle.std.proofs.Common.{◌≡◌, sym, refl, subst, ℕ, Bool, true, false, List, [], ◌∷◌, ◌++◌, Option, Some, None, Result, Ok, Err}
 use Rattle.std.specs.Prelude.{not, if◌then◌else◌, IfSome}
 use Rattle.std.specs.List.{AllByRecursion, Contains, list_all}
+use Rattle.std.specs.Option.{option_map_or}
 use Rattle.gw_addr.specs.declared.bip.BipAddr.{BipAddr}
 use Rattle.gw_addr.specs.declared.station.Source.{Source}
+use Rattle.gw_addr.specs.Address.{big_endian, octets_of}
 use Rattle.gw_addr.specs.Station.{key_of}
 use Rattle.gw_frames.specs.declared.bvll.fault.BvllFault.{BvllFault}
 use Rattle.gw_frames.specs.bvll.Bvll.{Message as Frame}
@@ -16,12 +18,16 @@ use Rattle.gw_objects.specs.Objects.{Database}
 use Rattle.gw_relay.specs.Cast.{accepts, is_unregistered}
 use Rattle.gw_relay.specs.Claim.{claimed, link_source}
 use Rattle.gw_relay.specs.Entry.{admits, claim_ask, claim_asks, enter_ask, enter_asks, entry_asks, is_stranger, speaks_for_others}
+use Rattle.gw_relay.specs.Asks.{link_ask, link_asks, management_of}
 use Rattle.gw_relay.specs.Laws.{AreFrom}
 use Rattle.gw_relay.specs.State.{Relay, port_at}
+use Rattle.gw_relay.specs.declared.port.Port.{Port}
 use Rattle.gw_relay.specs.declared.port.PortState.{PortState}
 use Rattle.gw_core.proofs.EntryLemmas.{entry_is_unasked}
 use Rattle.gw_relay.proofs.Claims.{broadcasts_carry_their_claim, network_messages_carry_their_claim, routing_carries_the_claim, table_asks_read_nothing}
 use Rattle.gw_rules.specs.Ask.{Ask, IsFor, IsFrom}
+use Rattle.gw_rules.specs.declared.format.Format.{Format}
+use Rattle.gw_rules.specs.declared.operation.Operation.{Operation}
 use Rattle.gw_rules.specs.declared.operation.Operation.TheVariants as operations
 use Rattle.gw_rules.specs.Format.{names_stations}
 use Rattle.gw_rules.specs.RuleList.{allows}
@@ -30,7 +36,7 @@ use Rattle.gw_rules.proofs.EachAsk.{each_both, each_weaker, none_allowed}
 use Rattle.gw_script.specs.Event.{Event, Datagram, Tick}
 use Rattle.gw_codecs.specs.tags.Object.{Object}
 use Rattle.gw_core.specs.Asks.{apdu_asks, asks, asks_for, cast_asks_for, first_asks_for, manage_asks_for, message_asks, route_asks_for}
-use Rattle.gw_core_laws.specs.NoLeak.{AreBlind, AsksCarryTheirClaim, AsksToReadOn, IsOf, WritesAreHidden, by_claim, by_entry, claim, state_before}
+use Rattle.gw_core_laws.specs.NoLeak.{AreBlind, AreTheirs, AsksCarryTheirClaim, AsksHaveTheirOrigin, AsksToReadOn, IsOf, WritesAreHidden, by_claim, by_entry, claim, state_before}
 use Rattle.gw_core.specs.Marked.{kept}
 use Rattle.gw_relay.specs.Message.{Message, message_of}
 use Rattle.gw_core.specs.Receive.{Received, admit, barred, comes_in, dropped, managed, unregistered, manages, message, npdu_of, payload_of, receive, receive_datagram, receive_frame, receive_npdu, receive_on}
@@ -42,7 +48,7 @@ use Rattle.gw_core_laws.proofs.WriteLemmas.{writes_are_unread}
 -- ---- the claim of a message
 
 -- a message has its link source and its claim of its frame and its NPDU
-record IsClaimed (m : Message) : Type 0 where
+record IsSpoken (m : Message) : Type 0 where
   link : m.link ≡ link_source m.from m.frame
   claim : m.claim ≡ claimed m.here.port.network (link_source m.from m.frame) m.npdu
 
@@ -50,10 +56,10 @@ abbrev IfMessage : Received → Type 0
 IfMessage dropped = Unit {0}
 IfMessage (managed on from frame) = Unit {0}
 IfMessage (unregistered m) = Unit {0}
-IfMessage (barred m) = Unit {0}
-IfMessage (message m) = IsClaimed m
+IfMessage (barred m) = IsSpoken m
+IfMessage (message m) = IsSpoken m
 
-message_if : (b : Bool) (m : Message) → IsClaimed m → IfMessage (if b then unregistered m else message m)
+message_if : (b : Bool) (m : Message) → IsSpoken m → IfMessage (if b then unregistered m else message m)
 message_if true m is = tt
 message_if false m is = is
 
@@ -112,12 +118,12 @@ message_admitted : (rules : List Rule) (relay : Relay) (received : Received) →
 message_admitted rules relay dropped is = tt
 message_admitted rules relay (managed on from frame) is = tt
 message_admitted rules relay (unregistered m) is = tt
-message_admitted rules relay (barred m) is = tt
+message_admitted rules relay (barred m) is = is
 message_admitted rules relay (message m) is = by (admits rules relay m)
   where
     by : (b : Bool) → IfMessage (if b then message m else barred m)
     by true = is
-    by false = tt
+    by false = is
 
 message_at : (w : State) (e : Event) → IfMessage (receive w e)
 unfolding receive
@@ -133,7 +139,7 @@ from_apdu rules d context None = tt
 from_apdu rules d context (Some octets) = asks_have_their_source rules d context octets
 
 -- what holds of each ask of each part holds of each ask
-each_part : (P : Ask → Type 0) (rules : List Rule) (relay : Relay) (d : Database) (m : Message)
+pub each_part : (P : Ask → Type 0) (rules : List Rule) (relay : Relay) (d : Database) (m : Message)
     → AllByRecursion P (entry_asks rules relay m) → AllByRecursion P (cast_asks_for relay (message m))
     → AllByRecursion P (route_asks_for relay (message m)) → AllByRecursion P (manage_asks_for relay (message m))
     → AllByRecursion P (message_asks rules relay.format d m) → AllByRecursion P (asks_for rules relay d (message m))
@@ -185,7 +191,7 @@ from_message rules relay d m off =
     let each = IsFrom m.claim.net (key_of m.claim.mac) in
     each_claimed each rules relay d m (λ ask is. is) (subst (AllByRecursion each) (sym (entry_is_unasked rules relay m off)) tt)
 
-claimed_so : (w : State) (e : Event) (m : Message) → receive w e ≡ message m → IsClaimed m
+claimed_so : (w : State) (e : Event) (m : Message) → receive w e ≡ message m → IsSpoken m
 claimed_so w e m is = subst IfMessage is (message_at w e)
 
 pub asks_carry_their_claim : AsksCarryTheirClaim
@@ -198,6 +204,32 @@ asks_carry_their_claim w e m is =
       λ off. subst (λ (received : Received). AreFrom m.claim (asks_for w.rules w.relay w.device received)) (sym is)
           (from_message w.rules w.relay w.device m off),
     )
+
+-- the ask of a frame that manages a table
+table_from : (format : Format) (port : Port) (from : BipAddr) (frame : Frame) (operation : Option Operation)
+    → AllByRecursion (IsFrom port.network (Some (big_endian (octets_of from))))
+    (option_map_or (λ operation. link_ask format port from frame operation ∷ []) operation [])
+table_from format port from frame None = tt
+table_from format port from frame (Some operation) = (record { source_network = refl; source_key = refl }, tt)
+
+theirs : (rules : List Rule) (relay : Relay) (d : Database) (received : Received) → IfMessage received
+    → AreTheirs received (asks_for rules relay d received)
+theirs rules relay d dropped is = refl
+theirs rules relay d (unregistered m) is = refl
+theirs rules relay d (managed on from frame) is =
+    subst (AllByRecursion (IsFrom on.port.network (Some (big_endian (octets_of from)))))
+    (sym (four_none (link_asks relay.format on.port from frame))) (table_from relay.format on.port from frame (management_of frame))
+theirs rules relay d (barred m) is = (
+  is.claim,
+  subst (AllByRecursion (IsOf m)) (sym (four_none (entry_asks rules relay m)))
+      (entered_by (IsOf m) rules relay m (by_entry refl (record { source_network = refl; source_key = refl }))
+      (by_claim (record { source_network = refl; source_key = refl }))),
+)
+theirs rules relay d (message m) is = (is.claim, of_message rules relay d m)
+
+pub asks_have_their_origin : AsksHaveTheirOrigin
+unfolding asks
+asks_have_their_origin w e = theirs w.rules w.relay w.device (receive w e) (message_at w e)
 
 -- ---- who is blind
 

@@ -1,5 +1,5 @@
 -- Each step extends a history, and what is configured stays.
-use Rattle.std.proofs.Common.{◌≡◌, ◌-◌, List, [], ◌∷◌, refl, ap, ◌∙◌}
+use Rattle.std.proofs.Common.{◌≡◌, List, [], ◌∷◌, refl, ap, ◌∙◌}
 use Rattle.gw_objects.specs.Objects.{Database, database_of}
 use Rattle.gw_objects.specs.Write.{Write}
 use Rattle.gw_core.specs.Effects.{effects_at}

@@ -63,7 +63,7 @@ all_admitted rules relay (unregistered m) off = refl
 all_admitted rules relay (barred m) off = refl
 all_admitted rules relay (message m) off = ap (λ (b : Bool). if b then message m else barred m) (taken rules relay m off)
 
-received_so : (w : State) (e : Event) → names_stations w.relay.format ≡ false → receive w e ≡ received_before w e
+pub received_so : (w : State) (e : Event) → names_stations w.relay.format ≡ false → receive w e ≡ received_before w e
 unfolding receive
 received_so w (Datagram port from octets) off = all_admitted w.rules w.relay _ off
 received_so w Tick off = refl
@@ -184,7 +184,7 @@ next_with routing w e off same =
 
 -- ---- the format stays
 
-one_move : (m : Option Move) (relay : Relay) → (moved m relay).format ≡ relay.format
+pub one_move : (m : Option Move) (relay : Relay) → (moved m relay).format ≡ relay.format
 one_move None relay = refl
 one_move (Some (move.Commit change)) relay = refl
 one_move (Some move.Tick) relay = refl
@@ -376,7 +376,7 @@ asks_under : (format : Format) (w : State) (e : Event) → asks_by before_two (u
 asks_under format w (Datagram port from octets) = refl
 asks_under format w Tick = refl
 
-moved_under : (m : Option Move) (relay : Relay) (format : Format)
+pub moved_under : (m : Option Move) (relay : Relay) (format : Format)
     → moved m (record relay { format = format }) ≡ record (moved m relay) { format = format }
 moved_under None relay format = refl
 moved_under (Some (move.Commit change)) relay format = refl

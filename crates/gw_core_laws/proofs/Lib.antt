@@ -10,6 +10,11 @@ pub mod RelayAskLemmas
 pub mod WriteLemmas
 pub mod BlindLemmas
 pub mod FormatLemmas
+pub mod UnstationedLemmas
+pub mod DeviceAlikeLemmas
+pub mod RelayAlikeLemmas
+pub mod FormatThreeLemmas
+pub mod SenderLemmas
 pub mod RefusedLemmas
 pub mod StationLemmas
 pub mod ExampleRuns

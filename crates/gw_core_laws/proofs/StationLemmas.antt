@@ -16,7 +16,7 @@ use Rattle.gw_rules.specs.Format.{names_stations}
 use Rattle.gw_rules.specs.RuleList.{allows}
 use Rattle.gw_rules.specs.declared.format.Format.{Format}
 use Rattle.gw_rules.specs.declared.rule.Rule.{Rule}
-use Rattle.gw_rules.proofs.EachAsk.{none_front}
+use Rattle.gw_rules.proofs.EachAsk.{each_front}
 use Rattle.gw_script.specs.Event.{Event, Datagram, Tick}
 use Rattle.gw_core.specs.Asks.{asks, asks_for, cast_asks_for, manage_asks_for, message_asks, route_asks_for}
 use Rattle.gw_core.specs.Denials.{denials_for}
@@ -111,29 +111,33 @@ kept_out w e m is out =
       device = device_stays w e m barred_so;
     }
 
--- ---- what isn't allowed of the asks of an event isn't of those before it is taken
+-- ---- what holds of the asks of an event holds of those before it is taken
 
-front_of : (Such : Ask → Type 0) (w : State) (m : Message) → NoneAllowed Such w.rules (asks_for w.rules w.relay w.device (message m))
-    → NoneAllowed Such w.rules (entry_asks w.rules w.relay m)
-front_of Such w m none =
+front_of : (P : Ask → Type 0) (w : State) (m : Message) → AllByRecursion P (asks_for w.rules w.relay w.device (message m))
+    → AllByRecursion P (entry_asks w.rules w.relay m)
+front_of P w m all =
     let a = entry_asks w.rules w.relay m in
     let b = cast_asks_for w.relay (message m) in
     let c = route_asks_for w.relay (message m) in
     let e = manage_asks_for w.relay (message m) in
-    let front = none_front Such w.rules in
-    front a b (front (a ++ b) c (front (a ++ b ++ c) e (front (a ++ b ++ c ++ e) (message_asks w.rules w.relay.format w.device m) none)))
+    let front = each_front P in
+    front a b (front (a ++ b) c (front (a ++ b ++ c) e (front (a ++ b ++ c ++ e) (message_asks w.rules w.relay.format w.device m) all)))
+
+pub entry_each : (P : Ask → Type 0) (w : State) (e : Event) (m : Message) → received_before w e ≡ message m → AllByRecursion P (asks w e)
+    → AllByRecursion P (entry_asks w.rules w.relay m)
+unfolding asks
+entry_each P w e m is all =
+    by (admits w.rules w.relay m)
+    (subst (λ (r : Received). AllByRecursion P (asks_for w.rules w.relay w.device r)) (received_of w e m is) all)
+  where
+    by : (b : Bool) → AllByRecursion P (asks_for w.rules w.relay w.device (if b then message m else barred m))
+        → AllByRecursion P (entry_asks w.rules w.relay m)
+    by true all = front_of P w m all
+    by false all = subst (AllByRecursion P) (four_none (entry_asks w.rules w.relay m)) all
 
 entry_none : (Such : Ask → Type 0) (w : State) (e : Event) (m : Message) → received_before w e ≡ message m → NoneAllowed Such w.rules (asks w e)
     → NoneAllowed Such w.rules (entry_asks w.rules w.relay m)
-unfolding asks
-entry_none Such w e m is none =
-    by (admits w.rules w.relay m)
-    (subst (λ (r : Received). NoneAllowed Such w.rules (asks_for w.rules w.relay w.device r)) (received_of w e m is) none)
-  where
-    by : (b : Bool) → NoneAllowed Such w.rules (asks_for w.rules w.relay w.device (if b then message m else barred m))
-        → NoneAllowed Such w.rules (entry_asks w.rules w.relay m)
-    by true none = front_of Such w m none
-    by false none = subst (NoneAllowed Such w.rules) (four_none (entry_asks w.rules w.relay m)) none
+entry_none Such w e m is none = entry_each (λ ask. Such ask → allows w.rules ask ≡ false) w e m is none
 
 -- ---- the laws
 

@@ -3,6 +3,7 @@ pub mod Setting
 pub mod FormatTwo
 pub mod FormatOne
 pub mod Laws
+pub mod FormatThree
 pub mod NoLeak
 pub mod Examples
 pub mod Refused

@@ -4,7 +4,7 @@ use Rattle.std.specs.Prelude.{slice_get}
 use Rattle.std.specs.List.{AllByRecursion, Contains}
 use Rattle.std.specs.Option.{option_map, option_and_then}
 use Rattle.gw_addr.specs.declared.station.Source.{Source}
-use Rattle.gw_addr.specs.Address.{octets_of}
+use Rattle.gw_addr.specs.Address.{big_endian, octets_of}
 use Rattle.gw_addr.specs.Station.{key_of}
 use Rattle.gw_audit.specs.declared.denial.Denial.{Denial}
 use Rattle.gw_device.specs.Laws.{AsksToRead, object_written}
@@ -110,6 +110,10 @@ claim (message m) = Some m.claim
 
 -- ---- the laws
 
+-- a message claims what its NPDU and its frame say
+abbrev pub IsClaimed : Message → Type 0
+IsClaimed m = m.claim ≡ claimed m.here.port.network (link_source m.from m.frame) m.npdu
+
 -- an ask is of the source that the message claims, or is one to enter, of the link source
 pub data IsOf (m : Message) (ask : Ask) : Type 0 where
   by_claim : IsFrom m.claim.net (key_of m.claim.mac) ask → IsOf m ask
@@ -120,9 +124,23 @@ pub data IsOf (m : Message) (ask : Ask) : Type 0 where
 abbrev pub AsksCarryTheirClaim : Type 0
 AsksCarryTheirClaim =
     (w : State) (e : Event) (m : Message) → receive w e ≡ message m →
-    (m.claim ≡ claimed m.here.port.network (link_source m.from m.frame) m.npdu)
-    × AllByRecursion (IsOf m) (asks w e)
+    IsClaimed m × AllByRecursion (IsOf m) (asks w e)
     × (names_stations w.relay.format ≡ false → AreFrom m.claim (asks w e))
+
+-- whose the asks of what is received are
+abbrev pub AreTheirs : Received → List Ask → Type 0
+AreTheirs dropped asked = asked ≡ []
+AreTheirs (unregistered m) asked = asked ≡ []
+AreTheirs (managed on from frame) asked =
+    AllByRecursion (IsFrom on.port.network (Some (big_endian (octets_of from)))) asked
+AreTheirs (barred m) asked = IsClaimed m × AllByRecursion (IsOf m) asked
+AreTheirs (message m) asked = IsClaimed m × AllByRecursion (IsOf m) asked
+
+-- The same of whatever is received. A frame that manages a table asks for its sender alone, as a node of the port's
+-- network. A message that is kept out asks for whom it claims to come from, or to enter for the link source, as one that
+-- is taken does. A sender who isn't registered asks nothing, and nor does what is dropped.
+abbrev pub AsksHaveTheirOrigin : Type 0
+AsksHaveTheirOrigin = (w : State) (e : Event) → AreTheirs (receive w e) (asks w e)
 
 -- Where all that is left out are writes of an object, an event is seen to do the same if it claims to come from one of
 -- those that may not read the object, whatever it asks.

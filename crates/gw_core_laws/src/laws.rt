@@ -9,7 +9,10 @@ ghost use Rattle.gw_core_laws.specs.Examples.{LocalReadIsUnheard, ReadIsAnswered
 ghost use Rattle.gw_core_laws.specs.Examples.{RoutedReadIsAnswered, UnknownNetworkIsSought, UnknownObjectIsNamed};
 ghost use Rattle.gw_core_laws.specs.Examples.{WhoIsIsAnswered, WriteIsSeen, WrongLengthsAreDropped};
 ghost use Rattle.gw_core_laws.specs.Reasons.{DropsHaveReasons};
-ghost use Rattle.gw_core_laws.specs.NoLeak.{AsksCarryTheirClaim, QuietIsUnseen, WritesAreHidden, WritesAreUnread};
+ghost use Rattle.gw_core_laws.specs.FormatThree.{AsksNameTheirSender, AsksNameTheirStation};
+ghost use Rattle.gw_core_laws.specs.FormatThree.{FormatThreeIsAsTwo, FormatThreeRunsAsTwo};
+ghost use Rattle.gw_core_laws.specs.NoLeak.{AsksCarryTheirClaim, AsksHaveTheirOrigin, QuietIsUnseen};
+ghost use Rattle.gw_core_laws.specs.NoLeak.{WritesAreHidden, WritesAreUnread};
 ghost use Rattle.gw_core_laws.specs.Laws.{ActsLeaveTheTables, AllowedTrafficIsSent, ConfigurationStays};
 ghost use Rattle.gw_core_laws.specs.Laws.{DeniedAsksAreLogged, DeniedBroadcastsAreKept};
 ghost use Rattle.gw_core_laws.specs.Laws.{DeniedReadsAreRefused, DeniedWritesAreRefused, DenialsAreCounted};
@@ -76,13 +79,20 @@ pub fn refusals()
 
 /// What the format of a policy changes. Under a configuration of the first format every list of events asks and does
 /// what a definition without formats says, and leaves its state; under the first or the second, what a definition
-/// without the third says; and no event changes the format of the configuration.
+/// without the third says; and no event changes the format of the configuration. Under the third, if no port has stations
+/// and no rule names a sender or a station, every event whose asks to claim are allowed, and that is no broadcast of a
+/// request that reads or writes properties, does what it does under the second, but for the sender and the station of
+/// each ask: the sender is that of the datagram, the station the one for which the message is bound.
 pub fn formats()
     ensures first { FormatOneIsAsBefore }
     ensures runs { FormatOneRunsAsBefore }
     ensures unread { FormatWasUnread }
     ensures second { FormatTwoIsAsBefore }
     ensures second_runs { FormatTwoRunsAsBefore }
+    ensures third { FormatThreeIsAsTwo }
+    ensures third_runs { FormatThreeRunsAsTwo }
+    ensures senders { AsksNameTheirSender }
+    ensures stations { AsksNameTheirStation }
     ensures stays { FormatStays }
 {}
 
@@ -138,10 +148,12 @@ pub fn worked_examples()
 /// What peers don't learn of one another. A write of an object that the policy hides from a source leaves nothing for
 /// that source to see, and nothing in any event that reads the object by no allowed ask. And a
 /// datagram that is allowed no change leaves nothing at all. What is seen of an event are its sends, and its denials but
-/// for their numbers.
+/// for their numbers. Whatever is received, each of its asks is of whom it claims to come from, or, to enter, of the link
+/// source.
 pub fn no_leak()
     ensures hidden { WritesAreHidden }
     ensures unread { WritesAreUnread }
     ensures quiet { QuietIsUnseen }
     ensures claims { AsksCarryTheirClaim }
+    ensures origins { AsksHaveTheirOrigin }
 {}

@@ -1,6 +1,6 @@
 use Rattle.gw_core_laws.proofs.QuietLemmas.{quiet_is_unseen}
 use Rattle.gw_core_laws.proofs.WriteLemmas.{writes_are_unread}
-use Rattle.gw_core_laws.proofs.BlindLemmas.{asks_carry_their_claim, writes_are_hidden}
+use Rattle.gw_core_laws.proofs.BlindLemmas.{asks_carry_their_claim, asks_have_their_origin, writes_are_hidden}
 use Rattle.gw_core_laws.proofs.laws.no_leak.Goals as goal
 
 pub returns-clause-hidden : goal.returns-clause-hidden
@@ -14,3 +14,6 @@ returns-clause-quiet c = quiet_is_unseen
 
 pub returns-clause-claims : goal.returns-clause-claims
 returns-clause-claims c = asks_carry_their_claim
+
+pub returns-clause-origins : goal.returns-clause-origins
+returns-clause-origins c = asks_have_their_origin
