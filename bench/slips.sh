@@ -2,18 +2,22 @@
 # Tries the wrong bodies that the gate leaves out, crates/*/slips/*.edit: the check must refuse each.
 #
 #     bench/slips.sh [CRATE...]      # those that weren't tried on these sources, of every crate by default
+#     bench/slips.sh CRATE/SLIP...   # these
+#     bench/slips.sh --changed       # the same of the crates whose sources, or one of whose slips, changed since they were tried
 #     bench/slips.sh --anew          # all, also those that were tried on these sources
 #     bench/slips.sh --count         # tries nothing: says how many were refused by what, and which weren't tried on these sources
-#     JOBS=2 bench/slips.sh          # so many crates side by side; else one for each two processors
+#     bench/slips.sh --minutes 20    # ends after so many minutes; the next run goes on from there
+#     bench/slips.sh --jobs 2        # so many crates side by side; else JOBS or RT_JOBS says how many, else one for each two processors
 #     LOGS=FOLDER bench/slips.sh     # keeps what each check said
 #
 # bench/slips.tsv has a line for each slip that was tried: its crate and name, what refused it, the goal, and the checksum of the crate's
-# sources and the slip. So the slips of a crate are tried again once its sources change.
+# sources and the slip. So the slips of a crate are tried again once its sources change. The line is written as soon as its slip has been
+# tried, so a run that is interrupted, or ends for want of time, loses the check under way alone.
 #
 # A slip has the form of the gate's own edits in must-fail/. Where it lies in one function, it is written into a copy of that function
 # under another name, with its contract and its proof, so that one check of the crate tries them all: the function itself stays, and
-# with it its callers' proofs. A slip elsewhere (in a constant, a type, a trait's method, several functions), and one whose copy is
-# proved, is tried in its place, a check each. All is done on a copy of the crate, over what `rt check` has kept in out/.
+# with it its callers' proofs. A slip elsewhere (in a constant, a type, a trait's method, a function of a cycle, several functions), and
+# one whose copy is proved, is tried in its place, a check each. All is done on a copy of the crate, over what `rt check` has kept in out/.
 #
 # An answer of a hand-written proof that misfits a slip is left out, and the check run again, so that the search meets the goal. Beside
 # it the function as it is gets a copy whose proof lacks the same answers. For each slip a line says what refused it:
@@ -24,18 +28,22 @@
 #     case     what a program of cases prints, of a slip that gives up as a want of memory would, which every contract allows. Its file
 #              names that program in a line `case: CRATE`; the program is tried unproved
 #
-# Last comes how many were refused by each, and how many weren't. The status is 0 where all were refused.
+# Last comes how many were refused by each, how many weren't, and how many the time didn't suffice for. The status is 0 where all that
+# were tried were refused.
 #
 # It wants python3 and rt on the path, and as much free disk as the crates' out/ that are tried side by side.
 set -euo pipefail
 
 top=$(cd "$(dirname "$0")/.." && pwd)
 cd "$top"
-exec python3 - "$top" "${JOBS:-$((($(nproc) + 1) / 2))}" "${LOGS:-}" "$@" <<'PYTHON'
+exec python3 - "$top" "${JOBS:-${RT_JOBS:-$((($(nproc) + 1) / 2))}}" "${LOGS:-}" "$@" <<'PYTHON'
+import argparse
 import fcntl
 import hashlib
+import os
 import re
 import shutil
+import signal
 import subprocess
 import sys
 import tempfile
@@ -45,9 +53,20 @@ from collections import Counter
 from concurrent.futures import ThreadPoolExecutor
 from pathlib import Path
 
-top, jobs, logs = Path(sys.argv[1]), int(sys.argv[2]), sys.argv[3]
-options = {it for it in sys.argv[4:] if it.startswith("--")}
-crates = [it for it in sys.argv[4:] if it not in options] or sorted({it.parent.parent.name for it in top.glob("crates/*/slips/*.edit")})
+top, logs = Path(sys.argv[1]), sys.argv[3]
+words = argparse.ArgumentParser(prog="bench/slips.sh", allow_abbrev=False)
+words.add_argument("chosen", nargs="*", metavar="CRATE[/SLIP]")
+for option in ["--changed", "--anew", "--count"]:
+    words.add_argument(option, action="store_true")
+words.add_argument("--minutes", type=float)
+words.add_argument("--jobs", type=int, default=int(sys.argv[2]))
+options = words.parse_intermixed_args(sys.argv[4:])
+named = {(name, slip) for name, _, slip in (it.partition("/") for it in options.chosen) if slip}
+for name, slip in [*named, *((it, "") for it in options.chosen if "/" not in it)]:
+    if not (top / "crates" / name / "slips" / f"{slip}.edit" if slip else top / "crates" / name).exists():
+        words.error(f"there is no {name}{'/' + slip if slip else ''}")
+begin = time.time()
+crates = sorted({it.partition("/")[0] for it in options.chosen} or {it.parent.parent.name for it in top.glob("crates/*/slips/*.edit")})
 PARTS = ["src", "specs", "proofs"]
 TURNS = 6
 RECORD = top / "bench" / "slips.tsv"
@@ -102,17 +121,30 @@ class Record:
                 self.rows.pop((crate, slip), None)
             there = {key: row for key, row in self.rows.items() if (top / "crates" / key[0] / "slips" / f"{key[1]}.edit").exists()}
             lines = ["\t".join([*key, *row]) + "\n" for key, row in sorted(there.items())]
-            RECORD.write_text("".join(lines), encoding="utf-8")
+            # The file is the old one or the new one, also if the run is interrupted here.
+            new = RECORD.with_suffix(".new")
+            new.write_text("".join(lines), encoding="utf-8")
+            os.replace(new, RECORD)
 
 
 record = Record()
 
 
 def slips_of(name):
-    return [it.stem for it in sorted((top / "crates" / name / "slips").glob("*.edit"))]
+    """The slips of a crate, or those of it that are named."""
+    them = [it.stem for it in sorted((top / "crates" / name / "slips").glob("*.edit"))]
+    return [it for it in them if (name, it) in named or not any(crate == name for crate, _ in named)]
 
 
-if "--count" in options:
+def wanted_of(name):
+    """The slips of a crate that are to be tried."""
+    return [slip for slip in slips_of(name) if options.anew or named or record.verdict(name, slip) is None]
+
+
+if options.changed:
+    # A crate changed if one of its slips has a line that is of other sources, or of another text of the slip.
+    crates = [name for name in crates if any((name, slip) in record.rows and record.verdict(name, slip) is None for slip in slips_of(name))]
+if options.count:
     total = Counter(record.verdict(name, slip) for name in crates for slip in slips_of(name))
     for name in crates:
         untried = [slip for slip in slips_of(name) if record.verdict(name, slip) is None]
@@ -120,8 +152,7 @@ if "--count" in options:
             print(f"not tried on these sources: {len(untried)} of {name}: {', '.join(untried)}")
     print(", ".join(f"{total[kind]} refused by a {kind}" for kind in REFUSED) + f", {total[None]} not tried on these sources")
     sys.exit(0 if not total[None] else 1)
-if "--anew" not in options:
-    crates = [name for name in crates if any(record.verdict(name, slip) is None for slip in slips_of(name))]
+crates = [name for name in crates if wanted_of(name)]
 
 
 class Function:
@@ -178,7 +209,7 @@ def write_slip(pairs, crate):
 
 
 def function_at(file, text, place):
-    """The function whose text has this place, or None."""
+    """The function whose text has this place, or None; also for a function of a cycle, of which there can be no copy."""
     lines = text.split("\n")
     starts = [0]
     for line in lines:
@@ -198,6 +229,8 @@ def function_at(file, text, place):
     first = head
     while first > 0 and lines[first - 1].strip().startswith("#["):
         first -= 1
+    if any(it.strip().startswith("#[cycle(") for it in lines[first:head]):
+        return None
     owner = ""
     if indent:
         above = head
@@ -311,14 +344,73 @@ def misfits(said, crate):
     return found
 
 
+class Ended(Exception):
+    """The run ends before all is tried: its time is over, or it is interrupted."""
+
+
+class Runs:
+    """The commands that run now. Each has a process group of its own, which ends with the run."""
+
+    def __init__(self):
+        self.lock = threading.Lock()
+        self.there = set()
+        self.over = False
+
+    def run(self, command, **how):
+        """The status and the output of a command."""
+        if self.is_over():
+            raise Ended
+        with self.lock:
+            done = subprocess.Popen(command, start_new_session=True, **how)
+            self.there.add(done)
+        if self.over:
+            self.kill(done)
+        try:
+            said, more = done.communicate(timeout=None if options.minutes is None else self.left())
+        except subprocess.TimeoutExpired:
+            self.kill(done)
+            done.communicate()
+            raise Ended from None
+        finally:
+            with self.lock:
+                self.there.discard(done)
+        if self.over:
+            raise Ended
+        return done.returncode, said, more
+
+    def left(self):
+        """How many seconds are left of the run."""
+        return begin + 60 * options.minutes - time.time()
+
+    def is_over(self):
+        return self.over or (options.minutes is not None and self.left() <= 0)
+
+    def kill(self, done):
+        try:
+            os.killpg(done.pid, signal.SIGKILL)
+        except ProcessLookupError:
+            pass
+
+    def end(self, *_):
+        """Ends all that runs, and lets nothing begin."""
+        self.over = True
+        for done in list(self.there):
+            self.kill(done)
+
+
+runs = Runs()
+for number in (signal.SIGINT, signal.SIGTERM, signal.SIGHUP):
+    signal.signal(number, runs.end)
+
+
 def check(crate, count, label):
-    begin = time.time()
-    done = subprocess.run(["rt", "check", "--jobs", str(count)], cwd=crate, stdin=subprocess.DEVNULL,
-                          stdout=subprocess.PIPE, stderr=subprocess.STDOUT, text=True, errors="replace")
+    started = time.time()
+    status, said, _ = runs.run(["rt", "check", "--jobs", str(count)], cwd=crate, stdin=subprocess.DEVNULL,
+                               stdout=subprocess.PIPE, stderr=subprocess.STDOUT, text=True, errors="replace")
     if logs:
         Path(logs).mkdir(parents=True, exist_ok=True)
-        (Path(logs) / f"{crate.name}_{label}.log").write_text(f"{time.time() - begin:.0f} s\n{done.stdout}", encoding="utf-8")
-    return done.returncode, done.stdout
+        (Path(logs) / f"{crate.name}_{label}.log").write_text(f"{time.time() - started:.0f} s\n{said}", encoding="utf-8")
+    return status, said
 
 
 def is_verdict(status, said):
@@ -358,8 +450,7 @@ class Trial:
 
     def __init__(self, name, crate):
         self.name, self.crate = name, crate
-        wanted = [it for it in slips_of(name) if "--anew" in options or record.verdict(name, it) is None]
-        self.slips = {it: read_slip(top / "crates" / name / "slips" / f"{it}.edit") for it in wanted}
+        self.slips = {it: read_slip(top / "crates" / name / "slips" / f"{it}.edit") for it in wanted_of(name)}
         self.found = {}
         self.checks = 0
 
@@ -378,29 +469,49 @@ class Trial:
         restore(self.name, self.crate)
         write_copies(copies + [copy.control() for copy in copies if copy.left_out], self.crate, self.slips)
 
-    def try_copies(self):
-        """Tries each slip that lies in a function in a copy of that; what is left is to be tried in its place."""
+    def try_all(self):
+        """Tries each slip that lies in a function in a copy of that, and the others, and what is left of those, in their place."""
         copies = []
         for number, (slip, pairs) in enumerate(self.slips.items()):
             home = home_of(pairs, self.crate)
             if home:
                 copies.append(Copy(home, f"{home.name}_slip{number}", slip))
-        for _ in range(TURNS):
+        self.try_copies(copies)
+        for slip in self.slips:
+            if slip not in self.found:
+                self.try_in_place(slip)
+
+    def try_copies(self, copies):
+        """Tries copies in checks of all of them, until of each it is known what refuses it, or that it is to be tried in its place."""
+        for turn in range(TURNS + 1):
             if not copies:
                 return
             self.write(copies)
             status, said = self.check()
             if not is_verdict(status, said):
-                copies = [copy for copy in copies if not self.is_unread(copy, said)] if ": error" in said else []
-                continue
-            if not self.leave_out(copies, said):
-                break
-        else:
-            self.write(copies)
-            status, said = self.check()
-        if is_verdict(status, said):
-            for copy in copies:
+                self.try_readable(copies, said)
+                return
+            copies = self.tell_known(copies, said, turn == TURNS)
+
+    def tell_known(self, copies, said, last):
+        """Says what refuses each copy, but for those that need another check, which it gives: some of their answers misfit."""
+        again = []
+        for copy in copies:
+            if not last and self.leave_out(copy, said):
+                again.append(copy)
+            else:
                 self.tell_copy(copy, said)
+        return again
+
+    def try_readable(self, copies, said):
+        """After a check that came to no verdict: tries the copies that it can read, or the halves if it doesn't say which it can't."""
+        left = [copy for copy in copies if not self.is_unread(copy, said)]
+        half = len(copies) // 2
+        if len(left) < len(copies):
+            self.try_copies(left)
+        elif half:
+            self.try_copies(copies[:half])
+            self.try_copies(copies[half:])
 
     def is_unread(self, copy, said):
         """Whether an error is at the text of a copy."""
@@ -412,15 +523,13 @@ class Trial:
                 return True
         return False
 
-    def leave_out(self, copies, said):
-        """Notes the answers that misfit copies which nothing else refuses; whether there were any."""
-        wrong, some = misfits(said, self.crate), False
-        for copy in copies:
-            if judged(said, copy.name)[0] == "proof":
-                new = {(path.name, name) for path, name in wrong if copy.name in path.parts} - copy.left_out
-                copy.left_out |= new
-                some = some or bool(new)
-        return some
+    def leave_out(self, copy, said):
+        """Notes the answers that misfit a copy which nothing else refuses; whether there were any."""
+        if judged(said, copy.name)[0] != "proof":
+            return False
+        new = {(path.name, name) for path, name in misfits(said, self.crate) if copy.name in path.parts} - copy.left_out
+        copy.left_out |= new
+        return bool(new)
 
     def tell_copy(self, copy, said):
         verdict, goals = judged(said, copy.name)
@@ -470,11 +579,11 @@ class Trial:
             return self.tell(slip, "NOT REFUSED", "the check proves it")
         folder = self.crate.parent / program
         with open(folder / "stdin", "rb") as given:
-            done = subprocess.run(["rt", "try", "--seconds", "1000"], cwd=folder, stdin=given, capture_output=True)
-        if b"run=ended status=0" not in done.stderr:
+            _, said, more = runs.run(["rt", "try", "--seconds", "1000"], cwd=folder, stdin=given, stdout=subprocess.PIPE, stderr=subprocess.PIPE)
+        if b"run=ended status=0" not in more:
             return self.tell(slip, "NOT TRIED", f"{program} gave no answer")
         wanted = (folder / "stdout").read_bytes().splitlines()
-        rows = [row for row, both in enumerate(zip(wanted, done.stdout.splitlines()), 1) if both[0] != both[1]]
+        rows = [row for row, both in enumerate(zip(wanted, said.splitlines()), 1) if both[0] != both[1]]
         if not rows:
             return self.tell(slip, "NOT REFUSED", f"the check proves it, and {program} prints what it should")
         return self.tell(slip, "case", f"{program}: line {rows[0]} of its output differs")
@@ -485,36 +594,41 @@ class Trial:
             leave_out(self.crate / path, name)
 
 
+def copy_crates(name, room):
+    """Copies the repository's crates: this one whole, the others by links to their files."""
+    (room / "crates").mkdir()
+    for part in ["crates.txt", "HANDLES"]:
+        shutil.copy(top / part, room)
+    for it in (top / "crates").iterdir():
+        # Links want the folder for temporary files on the same disk.
+        how = ["cp", "-a", "--reflink=auto"] if it.name == name else ["cp", "-al"]
+        if runs.run([*how, it, room / "crates"], stderr=subprocess.DEVNULL)[0] != 0:
+            shutil.rmtree(room / "crates" / it.name, ignore_errors=True)
+            runs.run(["cp", "-a", it, room / "crates"])
+
+
 def try_crate(name):
-    """How many of a crate's slips were refused by what, and how many not."""
+    """How many of a crate's slips were refused by what, how many not, and how many are left."""
+    wanted = wanted_of(name)
     with tempfile.TemporaryDirectory() as folder:
-        room = Path(folder)
-        (room / "crates").mkdir()
-        for part in ["crates.txt", "HANDLES"]:
-            shutil.copy(top / part, room)
-        for it in (top / "crates").iterdir():
-            # The others stay as they are: their files are linked, where the folder for temporary files is on the same disk.
-            how = ["cp", "-a", "--reflink=auto"] if it.name == name else ["cp", "-al"]
-            if subprocess.run([*how, it, room / "crates"], stderr=subprocess.DEVNULL).returncode != 0:
-                shutil.rmtree(room / "crates" / it.name, ignore_errors=True)
-                subprocess.run(["cp", "-a", it, room / "crates"], check=True)
-        trial = Trial(name, room / "crates" / name)
-        status, said = trial.check(2)
-        if status != 0:
-            print(f"NOT TRIED: {name} isn't proved itself: {short(said)}", flush=True)
-            return Counter({"NOT TRIED": len(trial.slips)})
-        trial.try_copies()
-        for slip in trial.slips:
-            if slip not in trial.found:
-                trial.try_in_place(slip)
-        return Counter(trial.found.values())
+        trial = Trial(name, Path(folder) / "crates" / name)
+        try:
+            copy_crates(name, Path(folder))
+            status, said = trial.check(2)
+            if status != 0:
+                print(f"NOT TRIED: {name} isn't proved itself: {short(said)}", flush=True)
+                return Counter({"NOT TRIED": len(wanted)})
+            trial.try_all()
+        except Ended:
+            pass
+        return Counter(trial.found.values()) + Counter({"left": len(wanted) - len(trial.found)})
 
 
-begin = time.time()
-with ThreadPoolExecutor(jobs) as room:
+with ThreadPoolExecutor(max(1, options.jobs)) as room:
     total = sum(room.map(try_crate, crates), Counter())
-refused = {kind: total.pop(kind, 0) for kind in REFUSED}
+refused, left = {kind: total.pop(kind, 0) for kind in REFUSED}, total.pop("left", 0)
 said = ", ".join(f"{count} by a {kind}" for kind, count in refused.items())
-print(f"{sum(refused.values())} refused ({said}), {sum(total.values())} not; {(time.time() - begin) / 60:.0f} minutes")
-sys.exit(0 if not total else 1)
+over = f"; {left} not tried yet" if left else ""
+print(f"{sum(refused.values())} refused ({said}), {sum(total.values())} not{over}; {(time.time() - begin) / 60:.0f} minutes")
+sys.exit(0 if not total and not runs.over else 1)
 PYTHON
