@@ -1,7 +1,10 @@
 -- What a gateway is configured with.
-use Rattle.std.specs.Prelude.{ℕ, Bool, ◌&&◌, ◌||◌, ◌==◌, not, nat_le, if◌then◌else◌, List, length}
+use Rattle.std.specs.Prelude.{ℕ, Bool, true, ◌&&◌, ◌||◌, ◌==◌, not, is_some, nat_eq, nat_le, if◌then◌else◌, List, length}
+use Rattle.std.specs.Cmp.Lexicographic.{pointwise}
 use Rattle.std.specs.List.{list_all}
+use Rattle.std.specs.Option.{option_map_or}
 use Rattle.gw_addr.specs.declared.TheConstants.{MAX_PORTS}
+use Rattle.gw_addr.specs.declared.bip.BipAddr.{BipAddr}
 use Rattle.gw_rules.specs.declared.format.Format.{Format}
 use Rattle.gw_rules.specs.declared.format.Format.TheVariants as formats
 use Rattle.gw_rules.specs.declared.rule.Rule.{Rule}
@@ -15,10 +18,11 @@ use Rattle.gw_configuration.specs.declared.port.Port.{Port}
 use Rattle.gw_configuration.specs.declared.route.Route.{Route}
 use Rattle.gw_configuration.specs.declared.set.Set.{Set}
 
--- what contracts see of a configuration: for each rule in order there is one note, empty if it has none, and one audit:
+-- what contracts see of a configuration, `announce` being whether it announces networks: for each rule in order there is one note, empty if it has none, and one audit:
 -- whether what it allows is written too
 pub record Configuration : Type 0 where
   pub format : Format
+  pub announce : Bool
   pub device : Device
   pub ports : List Port
   pub routes : List Route
@@ -60,18 +64,43 @@ abbrev pub keeps_rules : Format → List Rule → List (List ℕ) → List Bool 
 keeps_rules format rules notes audits =
     (length notes == length rules) && ((length audits == length rules) && list_all (is_configurable format) rules)
 
--- what a configuration of format 1 or 2 doesn't have: stations of a port, sets, notes, audits, and more than four ranges
--- for a field of a rule
+-- ---- a port beside another broadcast manager
+
+-- two addresses have the same six octets
+abbrev pub is_same_address : BipAddr → BipAddr → Bool
+is_same_address a b = pointwise nat_eq a.ip b.ip && nat_eq a.udp b.udp
+
+-- a broadcast manager beside a port: it has neither the port's own address nor its broadcast address, and the port has no
+-- peers
+abbrev pub is_beside : Port → BipAddr → Bool
+is_beside port manager =
+    not (is_same_address manager port.address)
+    && (not (is_same_address manager port.broadcast) && (length port.peers == 0))
+
+-- a port that is the manager of its subnet, or has another one beside it
+abbrev pub is_managed : Port → Bool
+is_managed port = option_map_or (is_beside port) port.bbmd true
+
+-- ---- the whole
+
+-- what a port of a configuration of format 1 or 2 doesn't have: stations, and another broadcast manager
+abbrev pub is_plain_port : Port → Bool
+is_plain_port port = (length port.stations == 0) && not (is_some port.bbmd)
+
+-- what a configuration of format 1 or 2 doesn't have: stations of a port and another broadcast manager of its subnet, sets,
+-- notes, audits, and more than four ranges for a field of a rule
 abbrev pub is_plain : List Port → List Rule → List (List ℕ) → List Bool → List Set → Bool
 is_plain ports rules notes audits sets =
-    list_all (λ port. length port.stations == 0) ports
+    list_all is_plain_port ports
     && (has_short_fields rules
     && (list_all (λ note. length note == 0) notes && (list_all not audits && (length sets == 0))))
 
--- these, names that aren't empty, and in formats 1 and 2 nothing that they don't have
+-- these, names that aren't empty, ports that are managed, and in formats 1 and 2 nothing that they don't have, which
+-- announce nothing
 abbrev pub keeps_limits : Configuration → Bool
 keeps_limits c =
     keeps_counts c
     && (are_named c.device c.objects
+    && (list_all is_managed c.ports
     && (keeps_rules c.format c.rules c.notes c.audits
-    && (names_stations c.format || is_plain c.ports c.rules c.notes c.audits c.sets)))
+    && (names_stations c.format || (not c.announce && is_plain c.ports c.rules c.notes c.audits c.sets)))))

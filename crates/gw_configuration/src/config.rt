@@ -1,9 +1,9 @@
 //! What a gateway is configured with.
-ghost use Rattle.std.specs.Prelude.{◌≡◌, ◌≤◌, ◌||◌, ◌++◌, ◌∷◌, [], length, map, IfOk, IsFalse, IsTrue};
+ghost use Rattle.std.specs.Prelude.{◌≡◌, ◌≤◌, ◌||◌, ◌&&◌, ◌++◌, ◌∷◌, [], length, map, not, IfOk, IsFalse, IsTrue};
 ghost use Rattle.std.specs.List.{list_all};
 ghost use Rattle.gw_addr.specs.declared.TheConstants.{MAX_PORTS};
 ghost use Rattle.gw_rules.specs.Format.{names_stations};
-ghost use Rattle.gw_configuration.specs.Configuration.{is_by, is_configurable, is_named, is_plain};
+ghost use Rattle.gw_configuration.specs.Configuration.{is_by, is_configurable, is_managed, is_named, is_plain};
 ghost use Rattle.gw_configuration.specs.Duplicates.{has_duplicates, unique};
 ghost use Rattle.gw_configuration.specs.Reading.{Finds};
 
@@ -55,12 +55,20 @@ impl Config {
     /// The format of the policy.
     pub fn format(&self) -> Format
         ensures format { result ≡ self.now.format }
-        // In formats 1 and 2 no port has stations, there is no set, no note and no audit, and no rule has
-        // more than four ranges for a field.
-        ensures plain { IsTrue (names_stations self.now.format
-            || is_plain self.now.ports self.now.rules self.now.notes self.now.audits self.now.sets) }
+        // In formats 1 and 2 nothing is announced, no port has stations or another broadcast manager, there is no
+        // set, no note and no audit, and no rule has more than four ranges for a field.
+        ensures plain { IsTrue (names_stations self.now.format || (not self.now.announce
+            && is_plain self.now.ports self.now.rules self.now.notes self.now.audits self.now.sets)) }
     {
         self.parts.format()
+    }
+
+    /// Whether it announces networks: at the start those that each port leads to, and each that is learned
+    /// (clauses 6.6.2 and 6.6.3.3). In formats 1 and 2 it doesn't.
+    pub fn announces(&self) -> bool
+        ensures { result ≡ self.now.announce }
+    {
+        self.parts.announces()
     }
 
     /// The gateway's own device, which has a name.
@@ -78,6 +86,8 @@ impl Config {
         ensures ports { result.now ≡ self.now.ports }
         ensures some { 1 ≤ length self.now.ports }
         ensures most { length self.now.ports ≤ MAX_PORTS }
+        // Each is the broadcast manager of its subnet or has another one beside it.
+        ensures managed { IsTrue (list_all is_managed self.now.ports) }
         // No network, address, identifier or name appears twice in the whole configuration.
         ensures once { IsFalse (has_duplicates self.now) }
     {

@@ -22,6 +22,7 @@ mod shape;
 mod stations;
 mod subnet;
 mod text;
+mod top;
 
 pub use config::Config;
 pub use device::Device;
@@ -41,3 +42,4 @@ pub use shape::{Names, Scalar, Shape};
 pub use stations::{MAX_STATIONS, Stations};
 pub use subnet::Subnet;
 pub use text::{MAX_TEXT, Text};
+pub use top::TopValues;

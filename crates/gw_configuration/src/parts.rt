@@ -5,9 +5,9 @@ ghost use Rattle.gw_addr.specs.declared.TheConstants.{MAX_PORTS};
 ghost use Rattle.gw_rules.specs.Format.{names_stations};
 ghost use Rattle.gw_rules.specs.Rule.{has_few_ranges};
 ghost use Rattle.gw_rules.specs.RuleList.{keeps_counts as has_short_fields};
-ghost use Rattle.gw_configuration.specs.Configuration.{Configuration, are_named, is_by, is_configurable, is_named, is_plain, keeps_limits, keeps_rules};
+ghost use Rattle.gw_configuration.specs.Configuration.{Configuration, are_named, is_by, is_configurable, is_managed, is_named, is_plain, is_plain_port, keeps_limits, keeps_rules};
 
-use crate::{Device, Object, Policing, Port, Route, Set, Text};
+use crate::{Device, Object, Policing, Port, Route, Set, Text, TopValues};
 use gw_addr::{MAX_PORTS, Sequence};
 use gw_rules::{FieldName, Format, MAX_RANGES, Rule, RuleList, RuleName};
 use std::marker::Model;
@@ -19,7 +19,7 @@ pub const MAX_OBJECTS: usize = 256;
 
 /// The parts of a configuration, each in the order of its text. Contracts see them.
 pub struct Parts {
-    format: Format,
+    top: TopValues,
     device: Device,
     ports: Sequence<Port>,
     routes: Sequence<Route>,
@@ -31,7 +31,7 @@ pub struct Parts {
 impl Drop for Parts {
     fn drop(self) {
         let Parts {
-            format: _,
+            top: _,
             device: _,
             ports: _,
             routes: _,
@@ -42,16 +42,17 @@ impl Drop for Parts {
 }
 
 impl Model for Parts {
-    ghost use Rattle.std.specs.Prelude.{◌≡◌, ◌≤◌, ◌||◌, length, IsTrue};
+    ghost use Rattle.std.specs.Prelude.{◌≡◌, ◌≤◌, ◌||◌, ◌&&◌, length, not, IsTrue};
     ghost use Rattle.std.specs.List.{list_all};
     ghost use Rattle.gw_rules.specs.Format.{names_stations};
     ghost use Rattle.gw_addr.specs.declared.TheConstants.{MAX_PORTS};
-    ghost use Rattle.gw_configuration.specs.Configuration.{Configuration, are_named, is_by, is_plain, keeps_rules};
+    ghost use Rattle.gw_configuration.specs.Configuration.{Configuration, are_named, is_by, is_managed, is_plain, keeps_rules};
 
     ghost Value = { Configuration };
 
     ghost view = { λ c. record {
-      format = c.format;
+      format = c.top.format;
+      announce = c.top.announce;
       device = c.device;
       ports = c.ports;
       routes = c.routes;
@@ -64,19 +65,22 @@ impl Model for Parts {
 
     ghost invariant = { λ c. (1 ≤ length c.ports) × ((length c.ports ≤ MAX_PORTS) × ((length c.routes ≤ 512)
         × ((length c.objects ≤ 256) × (IsTrue (list_all (is_by (length c.ports)) c.routes)
-        × (IsTrue (are_named c.device c.objects) × (IsTrue (keeps_rules c.format c.policy.rules c.policy.notes c.policy.audits)
-        × IsTrue (names_stations c.format
-        || is_plain c.ports c.policy.rules c.policy.notes c.policy.audits c.policy.sets))))))) };
+        × (IsTrue (are_named c.device c.objects) × (IsTrue (list_all is_managed c.ports)
+        × (IsTrue (keeps_rules c.top.format c.policy.rules c.policy.notes c.policy.audits)
+        × IsTrue (names_stations c.top.format
+        || (not c.top.announce
+        && is_plain c.ports c.policy.rules c.policy.notes c.policy.audits c.policy.sets))))))))) };
 }
 
 impl Parts {
     /// These parts, or `None` if a limit isn't kept: there is no port or more than 8, there are more
     /// than 512 routes or 256 objects, a route is by a port that isn't there, the device or an object has
-    /// an empty name, there isn't a note or an audit for each rule, or a rule is named `default` or names
-    /// what its field can't have; or if the format is 1 or 2, and a port has stations, there is a set, a note
-    /// that isn't empty or a rule that is audited, or a rule has more than four ranges for a field.
+    /// an empty name, a port isn't managed, there isn't a note or an audit for each rule, or a rule is named
+    /// `default` or names what its field can't have; or if the format is 1 or 2, and networks are announced, a port
+    /// has stations or another broadcast manager, there is a set, a note that isn't empty or a rule that is audited,
+    /// or a rule has more than four ranges for a field.
     pub fn new(
-        format: Format,
+        top: TopValues,
         device: Device,
         ports: Sequence<Port>,
         routes: Sequence<Route>,
@@ -84,7 +88,8 @@ impl Parts {
         policy: Policing,
     ) -> Option<Self>
         ensures { let parts : Configuration = record {
-          format = format;
+          format = top.format;
+          announce = top.announce;
           device = device;
           ports = ports;
           routes = routes;
@@ -102,11 +107,13 @@ impl Parts {
         if few
             && are_by(ports.len(), routes.as_slice())
             && are_named(&device, objects.as_slice())
-            && keeps_rules(format, &policy)
-            && (format.names_stations() || is_plain(ports.as_slice(), &policy))
+            && are_managed(ports.as_slice())
+            && keeps_rules(top.format, &policy)
+            && (top.format.names_stations()
+                || (!top.announce && is_plain(ports.as_slice(), &policy)))
         {
             Some(Parts {
-                format,
+                top,
                 device,
                 ports,
                 routes,
@@ -121,12 +128,19 @@ impl Parts {
     /// The format of the policy.
     pub fn format(&self) -> Format
         ensures format { result ≡ self.now.format }
-        // In formats 1 and 2 no port has stations, there is no set, no note and no audit, and no rule has
-        // more than four ranges for a field.
-        ensures plain { IsTrue (names_stations self.now.format
-            || is_plain self.now.ports self.now.rules self.now.notes self.now.audits self.now.sets) }
+        // In formats 1 and 2 nothing is announced, no port has stations or another broadcast manager, there is no
+        // set, no note and no audit, and no rule has more than four ranges for a field.
+        ensures plain { IsTrue (names_stations self.now.format || (not self.now.announce
+            && is_plain self.now.ports self.now.rules self.now.notes self.now.audits self.now.sets)) }
     {
-        self.format
+        self.top.format
+    }
+
+    /// Whether it announces networks.
+    pub fn announces(&self) -> bool
+        ensures { result ≡ self.now.announce }
+    {
+        self.top.announce
     }
 
     /// The gateway's own device, which has a name.
@@ -142,6 +156,7 @@ impl Parts {
         ensures ports { result.now ≡ self.now.ports }
         ensures some { 1 ≤ length self.now.ports }
         ensures most { length self.now.ports ≤ MAX_PORTS }
+        ensures managed { IsTrue (list_all is_managed self.now.ports) }
     {
         self.ports.as_slice()
     }
@@ -200,7 +215,7 @@ impl Parts {
         ensures { result ≡ self.rules }
     {
         let Parts {
-            format: _,
+            top: _,
             device: _,
             ports: _,
             routes: _,
@@ -216,6 +231,13 @@ fn are_by(ports: usize, routes: &[Route]) -> bool
     ensures { result ≡ list_all (is_by ports) routes.now }
 {
     routes.iter().all(|route| 1 <= route.port && usize::from(route.port) <= ports)
+}
+
+/// Whether each port is managed.
+fn are_managed(ports: &[Port]) -> bool
+    ensures { result ≡ list_all is_managed ports.now }
+{
+    ports.iter().all(|port| port.is_managed())
 }
 
 /// Whether the device and each object have a name.
@@ -255,17 +277,17 @@ fn are_configurable(format: Format, rules: &[Rule]) -> bool
 fn is_plain(ports: &[Port], policy: &Policing) -> bool
     ensures { result ≡ is_plain ports.now policy.now.rules policy.now.notes policy.now.audits policy.now.sets }
 {
-    name_no_stations(ports)
+    are_plain(ports)
         && have_short_fields(&policy.rules)
         && are_empty(policy.notes.as_slice())
         && audit_nothing(policy.audits.as_slice())
         && policy.sets.is_empty()
 }
 
-fn name_no_stations(ports: &[Port]) -> bool
-    ensures { result ≡ list_all (λ port. length port.stations == 0) ports.now }
+fn are_plain(ports: &[Port]) -> bool
+    ensures { result ≡ list_all is_plain_port ports.now }
 {
-    ports.iter().all(|port| port.stations.as_slice().is_empty())
+    ports.iter().all(|port| port.stations.as_slice().is_empty() && port.bbmd.is_none())
 }
 
 fn are_empty(notes: &[Text]) -> bool

@@ -1,5 +1,6 @@
 //! The ports of a gateway.
 ghost use Rattle.std.specs.Prelude.{◌≡◌, ◌≤◌, Some, None, length, nat_le, if◌then◌else◌};
+ghost use Rattle.gw_configuration.specs.Configuration.{is_beside, is_managed};
 
 use crate::Stations;
 use gw_addr::{BdtEntry, BipAddr, NetNum, Sequence};
@@ -18,6 +19,9 @@ pub struct Port {
     pub broadcast: BipAddr,
     /// The stations of the network. If there is none, any address may be one.
     pub stations: Stations,
+    /// The broadcast manager of its subnet, where that isn't the port itself. Then the port has no peers and
+    /// no foreign devices: it distributes nothing, and hears a Forwarded-NPDU from this address alone.
+    pub bbmd: Option<BipAddr>,
     /// The broadcast managers of the other subnets with which it starts, at most 64 of which no two
     /// have one address (Annex J.4).
     pub peers: Peers,
@@ -31,8 +35,28 @@ impl Drop for Port {
             address: _,
             broadcast: _,
             stations: _,
+            bbmd: _,
             peers: _,
         } = self;
+    }
+}
+
+impl Port {
+    /// Whether the port is the broadcast manager of its subnet, or has another one beside it: one that has neither the
+    /// port's own address nor its broadcast address, while the port has no peers.
+    pub fn is_managed(&self) -> bool
+        ensures { result ≡ is_managed self.now }
+    {
+        match self.bbmd {
+            Some(manager) => self.is_beside(manager),
+            None => true,
+        }
+    }
+
+    fn is_beside(&self, manager: BipAddr) -> bool
+        ensures { result ≡ is_beside self.now manager }
+    {
+        manager != self.address && manager != self.broadcast && self.peers.as_slice().is_empty()
     }
 }
 

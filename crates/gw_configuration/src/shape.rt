@@ -32,6 +32,9 @@ pub enum Scalar {
     Boolean,
     /// An address, `a.b.c.d:port`.
     Address,
+    /// The broadcast manager beside a port: an address `a.b.c.d:port` that is neither the port's own nor its
+    /// broadcast address, at a port that has no peers.
+    Manager,
     /// A mask, `a.b.c.d`.
     Mask,
     /// A table.

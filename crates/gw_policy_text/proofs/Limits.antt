@@ -10,8 +10,8 @@ use Rattle.gw_rules.specs.Format.{names_stations}
 use Rattle.gw_rules.specs.RuleList.{keeps_counts as has_short_fields}
 use Rattle.gw_configuration.specs.declared.port.Port.{Port}
 use Rattle.gw_configuration.specs.declared.set.Set.{Set}
-use Rattle.gw_configuration.specs.Configuration.{Configuration, are_named, is_by, is_configurable, is_plain, keeps_counts, keeps_limits, keeps_rules}
-use Rattle.gw_policy_text.specs.Parts.{has_no_stations}
+use Rattle.gw_configuration.specs.Configuration.{Configuration, are_named, is_by, is_configurable, is_managed, is_plain, is_plain_port, keeps_counts, keeps_limits, keeps_rules}
+use Rattle.gw_policy_text.specs.Parts.{is_plain_in}
 use Rattle.gw_policy_text.specs.Policy.{has_no_audit, has_no_note}
 
 -- one more that passes a test, as a loop adds it
@@ -49,20 +49,22 @@ plain_policy format rules notes audits sets short none unaudited no_sets =
     (each_or (names_stations format) (λ note. length note == 0) notes none)
     (both_or (names_stations format) (list_all not audits) (length sets == 0) (each_or (names_stations format) not audits unaudited) no_sets))
 
--- and in the ports
-pub plain_parts : (format : Format) (ports : List Port) (rules : List Rule) (notes : List (List ℕ)) (audits : List Bool) (sets : List Set)
-    → list_all (has_no_stations format) ports ≡ true
-    → (names_stations format || is_plain [] rules notes audits sets) ≡ true → (names_stations format || is_plain ports rules notes audits sets) ≡ true
-plain_parts format ports rules notes audits sets none policy =
-    both_or (names_stations format) (list_all (λ port. length port.stations == 0) ports) (is_plain [] rules notes audits sets)
-    (each_or (names_stations format) (λ port. length port.stations == 0) ports none) policy
+-- and in the ports and the top table
+pub plain_parts : (format : Format) (announce : Bool) (ports : List Port) (rules : List Rule) (notes : List (List ℕ)) (audits : List Bool) (sets : List Set)
+    → (names_stations format || not announce) ≡ true → list_all (is_plain_in format) ports ≡ true
+    → (names_stations format || is_plain [] rules notes audits sets) ≡ true → (names_stations format || (not announce && is_plain ports rules notes audits sets)) ≡ true
+plain_parts format announce ports rules notes audits sets silent none policy =
+    both_or (names_stations format) (not announce) (is_plain ports rules notes audits sets) silent
+    (both_or (names_stations format) (list_all is_plain_port ports) (is_plain [] rules notes audits sets)
+    (each_or (names_stations format) is_plain_port ports none) policy)
 
-limits_kept : (c : Configuration) → keeps_counts c ≡ true → are_named c.device c.objects ≡ true → keeps_rules c.format c.rules c.notes c.audits ≡ true
-    → (names_stations c.format || is_plain c.ports c.rules c.notes c.audits c.sets) ≡ true → keeps_limits c ≡ true
-limits_kept c counts named rules plain = rw (counts, named, rules, plain) refl
+limits_kept : (c : Configuration) → keeps_counts c ≡ true → are_named c.device c.objects ≡ true → list_all is_managed c.ports ≡ true
+    → keeps_rules c.format c.rules c.notes c.audits ≡ true
+    → (names_stations c.format || (not c.announce && is_plain c.ports c.rules c.notes c.audits c.sets)) ≡ true → keeps_limits c ≡ true
+limits_kept c counts named managed rules plain = rw (counts, named, managed, rules, plain) refl
 
 -- so they are made
 pub within_limits : (c : Configuration) (made : Option Configuration) → made ≡ (if keeps_limits c then Some c else None) → keeps_counts c ≡ true
-    → are_named c.device c.objects ≡ true → keeps_rules c.format c.rules c.notes c.audits ≡ true
-    → (names_stations c.format || is_plain c.ports c.rules c.notes c.audits c.sets) ≡ true → made ≡ Some c
-within_limits c made is counts named rules plain = is ∙ ap (λ b. if b then Some c else None) (limits_kept c counts named rules plain)
+    → are_named c.device c.objects ≡ true → list_all is_managed c.ports ≡ true → keeps_rules c.format c.rules c.notes c.audits ≡ true
+    → (names_stations c.format || (not c.announce && is_plain c.ports c.rules c.notes c.audits c.sets)) ≡ true → made ≡ Some c
+within_limits c made is counts named managed rules plain = is ∙ ap (λ b. if b then Some c else None) (limits_kept c counts named managed rules plain)

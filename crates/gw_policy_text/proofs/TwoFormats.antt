@@ -27,7 +27,7 @@ use Rattle.gw_policy_text.specs.keys.Range.{is_kind, is_missing, is_range, is_to
 use Rattle.gw_policy_text.specs.keys.Tables.{common_top_fields, format_in, format_read, may, needs, number, tables, top_fields}
 use Rattle.gw_policy_text.specs.keys.Value.{list_in, natural_within, number_in, reading}
 use Rattle.gw_policy_text.specs.Document.{configuration_of, document, located_configuration, parts_of, parts_of_format}
-use Rattle.gw_policy_text.specs.Parts.{each_at, list_at, number_at, port_in, ports_at}
+use Rattle.gw_policy_text.specs.Parts.{announce_at, each_at, list_at, number_at, port_in, ports_at}
 use Rattle.gw_policy_text.specs.Policy.{Policy, audit_in, crowd, note_in, policy_at, policy_of, rule_in, rule_of, rules_behind}
 use Rattle.gw_policy_text.specs.TwoFormats as two
 use Rattle.gw_policy_text.proofs.EachAt.{regroup, with_front}
@@ -129,8 +129,11 @@ same_ports : (format : Format) → names_stations format ≡ false → (top : Me
 same_ports format other top =
     bind_same (whole (list_at 1 MAX_PORTS (codes "port") top)) _ _ (λ vs. each_at_same (port_in format) two.port_in (same_port format other) 0 vs)
 
+silent : (format : Format) → names_stations format ≡ false → (top : Members) → announce_at format (codes "announce") top ≡ Ok false
+silent format other top = rw other refl
+
 same_parts : (format : Format) → names_stations format ≡ false → (top : Members) → parts_of_format format top ≡ two.parts_of_format format top
-same_parts format other top = rw (same_ports format other top, same_policy format other top) refl
+same_parts format other top = rw (silent format other top, same_ports format other top, same_policy format other top) refl
 
 -- the format
 

@@ -13,12 +13,13 @@ use Rattle.gw_configuration.specs.Duplicates.{unique}
 use Rattle.gw_configuration.specs.Located.{Find, Read, of_text, unless, whole, without_place}
 use Rattle.gw_policy_text.specs.keys.Field.{located_in}
 use Rattle.gw_policy_text.specs.keys.Tables.{format_in, top_fields}
-use Rattle.gw_policy_text.specs.Parts.{device_at, format_at, objects_at, ports_at, routes_at}
+use Rattle.gw_policy_text.specs.Parts.{announce_at, device_at, format_at, objects_at, ports_at, routes_at}
 use Rattle.gw_policy_text.specs.Policy.{policy_at}
 
 -- the tables in their order, after the format
 abbrev pub parts_of_format : Format → Members → Find Configuration
 parts_of_format format top = do
+  announce ← whole (announce_at format (codes "announce") top)
   device ← device_at (codes "device") top
   ports ← ports_at format (codes "port") top
   routes ← routes_at (length ports) (codes "route") top
@@ -26,6 +27,7 @@ parts_of_format format top = do
   policy ← policy_at format top
   Ok (record {
     format = format;
+    announce = announce;
     device = device;
     ports = ports;
     routes = routes;

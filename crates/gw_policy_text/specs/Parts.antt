@@ -1,5 +1,5 @@
 -- How what a gateway is configured with is read from the tables of its text.
-use Rattle.std.specs.Prelude.{ℕ, ◌+◌, ℤ, List, [], ◌∷◌, length, Bool, codes, ◌==◌, ◌||◌, nat_lt}
+use Rattle.std.specs.Prelude.{ℕ, ◌+◌, ℤ, List, [], ◌∷◌, length, Bool, false, codes, ◌==◌, ◌||◌, nat_lt}
 use Rattle.std.specs.Prelude.{if◌then◌else◌, Option, Some, None, Ok, Err}
 use Rattle.std.specs.Option.{ok_or, option_map}
 use Rattle.toml.specs.Data.{Data, Members, get_member}
@@ -22,7 +22,9 @@ use Rattle.gw_configuration.specs.declared.object.ObjectValue.{ObjectValue}
 use Rattle.gw_configuration.specs.declared.object.ObjectValue.TheVariants as values
 use Rattle.gw_configuration.specs.declared.port.Port.{Port}
 use Rattle.gw_configuration.specs.declared.route.Route.{Route}
-use Rattle.gw_configuration.specs.Configuration.{format_of}
+use Rattle.gw_configuration.specs.declared.shape.Scalar.TheVariants.{Manager}
+use Rattle.gw_configuration.specs.declared.shape.Shape.TheVariants.{One}
+use Rattle.gw_configuration.specs.Configuration.{format_of, is_managed, is_plain_port}
 use Rattle.gw_configuration.specs.Located.{Find, Located, Read, unless, whole}
 use Rattle.gw_configuration.specs.States.{States}
 use Rattle.gw_configuration.specs.Subnet.{Subnet}
@@ -31,7 +33,7 @@ use Rattle.gw_policy_text.specs.keys.Field.{at_field, field_fault, located_in}
 use Rattle.gw_policy_text.specs.keys.Items.{each}
 use Rattle.gw_policy_text.specs.keys.Tables.{device_fields, object_fields, peer_fields, port_fields, route_fields}
 use Rattle.gw_policy_text.specs.keys.Tables.{type_field}
-use Rattle.gw_policy_text.specs.keys.Value.{address_in, kind_in, list_in, mask_in, number_in}
+use Rattle.gw_policy_text.specs.keys.Value.{address_in, boolean_in, kind_in, list_in, mask_in, number_in}
 use Rattle.gw_policy_text.specs.keys.Value.{signed_in, subnet_in, table_in, text_in}
 
 -- the value at a key
@@ -134,9 +136,30 @@ abbrev pub stations_at : Format → List ℕ → Members → Read (List Subnet)
 stations_at format key table =
     if names_stations format then (list_at 0 16 key table >>= each subnet_in) else Ok []
 
--- no port of format 1 or 2 has any
-abbrev pub has_no_stations : Format → Port → Bool
-has_no_stations format port = names_stations format || (length port.stations == 0)
+-- the address of the broadcast manager beside it, if it has one, in format 3
+abbrev pub manager_or : Option Data → Read (Option BipAddr)
+manager_or None = Ok None
+manager_or (Some value) = address_in value >>= λ address. Ok (Some address)
+
+abbrev pub manager_at : Format → List ℕ → Members → Read (Option BipAddr)
+manager_at format key table = if names_stations format then manager_or (get_member key table) else Ok None
+
+-- no port of format 1 or 2 has stations, or a manager beside it
+abbrev pub is_plain_in : Format → Port → Bool
+is_plain_in format port = names_stations format || is_plain_port port
+
+-- what is read of a port whose manager is beside it; else that key is out of range
+abbrev pub misplaced : ℕ → Located
+misplaced port = record {
+  fault = Range;
+  place = places.Port port;
+  key = codes "bbmd";
+  item = None;
+  wanted = Some (One Manager);
+}
+
+abbrev pub managed : ℕ → Port → Find Port
+managed port read = if is_managed read then Ok read else Err (misplaced port)
 
 abbrev pub port_parts : Format → ℕ → Members → Find Port
 port_parts format port table = do
@@ -144,8 +167,16 @@ port_parts format port table = do
   address ← whole (address_at (codes "address") table)
   broadcast ← whole (address_at (codes "broadcast") table)
   stations ← whole (stations_at format (codes "stations") table)
+  bbmd ← whole (manager_at format (codes "bbmd") table)
   peers ← peers_at port (codes "peer") table
-  Ok (record { network = network; address = address; broadcast = broadcast; stations = stations; peers = peers })
+  managed port (record {
+    network = network;
+    address = address;
+    broadcast = broadcast;
+    stations = stations;
+    bbmd = bbmd;
+    peers = peers;
+  })
 
 abbrev pub port_of : Format → ℕ → Members → Find Port
 port_of format port table =
@@ -261,6 +292,18 @@ object_in object value = whole (table_in value) >>= object_of object
 
 abbrev pub format_at : List ℕ → Members → Read Format
 format_at key table = number_at 1 3 key table >>= λ number. Ok (format_of number)
+
+-- true or false, which may be missing: then it is false
+abbrev pub boolean_or : Option Data → Read Bool
+boolean_or None = Ok false
+boolean_or (Some value) = boolean_in value
+
+abbrev pub optional_boolean : List ℕ → Members → Read Bool
+optional_boolean key table = boolean_or (get_member key table)
+
+-- whether networks are announced, which formats 1 and 2 don't
+abbrev pub announce_at : Format → List ℕ → Members → Read Bool
+announce_at format key table = if names_stations format then optional_boolean key table else Ok false
 
 abbrev pub device_at : List ℕ → Members → Find Device
 device_at key table = whole (at key table >>= table_in) >>= device_of

@@ -27,7 +27,7 @@ use Rattle.gw_policy_text.specs.keys.Items.{each, ranges_in, set_name_in}
 use Rattle.gw_policy_text.specs.keys.Range.{range_in}
 use Rattle.gw_policy_text.specs.keys.Tables.{rule_fields, scalar_of, set_fields}
 use Rattle.gw_policy_text.specs.keys.Value.{boolean_in, rule_name_in, table_in}
-use Rattle.gw_policy_text.specs.Parts.{at, each_at, list_at, list_or, optional_text, within}
+use Rattle.gw_policy_text.specs.Parts.{at, each_at, list_at, list_or, optional_boolean, optional_text, within}
 
 -- sets
 
@@ -168,13 +168,6 @@ abbrev pub has_no_note : Format → List ℕ → Bool
 has_no_note format note = names_stations format || (length note == 0)
 
 -- whether what a rule allows is written too: false if the key isn't there, and in format 1 or 2
-abbrev pub boolean_or : Option Data → Read Bool
-boolean_or None = Ok false
-boolean_or (Some value) = boolean_in value
-
-abbrev pub optional_boolean : List ℕ → Members → Read Bool
-optional_boolean key table = boolean_or (get_member key table)
-
 abbrev pub audit_in : Format → Data → Read Bool
 audit_in format value = if names_stations format then (table_in value >>= optional_boolean (codes "audit")) else Ok false
 

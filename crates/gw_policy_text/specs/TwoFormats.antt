@@ -1,5 +1,5 @@
--- Texts as they are read where there are formats 1 and 2 alone: no port has stations, and there are no sets, no notes and
--- no audits.
+-- Texts as they are read where there are formats 1 and 2 alone: no port has stations or another broadcast manager, nothing
+-- is announced, and there are no sets, no notes and no audits.
 use Rattle.std.specs.Prelude.{◌≡◌, ℕ, Bool, false, not, nat_lt, if◌then◌else◌, List, [], ◌∷◌, length, map, codes, None, Ok, Err}
 use Rattle.toml.specs.Data.{Data, Members}
 use Rattle.gw_addr.specs.Reading.{◌>>=◌}
@@ -48,7 +48,7 @@ port_parts port table = do
   address ← whole (address_at (codes "address") table)
   broadcast ← whole (address_at (codes "broadcast") table)
   peers ← peers_at port (codes "peer") table
-  Ok (record { network = network; address = address; broadcast = broadcast; stations = []; peers = peers })
+  Ok (record { network = network; address = address; broadcast = broadcast; stations = []; bbmd = None; peers = peers })
 
 abbrev pub port_in : ℕ → Data → Find Port
 port_in port value =
@@ -132,6 +132,7 @@ parts_of_format format top = do
   policy ← policy_at format top
   Ok (record {
     format = format;
+    announce = false;
     device = device;
     ports = ports;
     routes = routes;

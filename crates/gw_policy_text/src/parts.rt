@@ -1,21 +1,24 @@
 //! What the parts of a configuration are read to, before the check for what appears twice.
-ghost use Rattle.std.specs.Prelude.{◌≡◌, ◌≤◌, codes, length, IfOk, IsTrue};
+ghost use Rattle.std.specs.Prelude.{◌≡◌, ◌≤◌, ◌||◌, codes, length, not, IfOk, IsTrue};
 ghost use Rattle.std.specs.List.{list_all};
 ghost use Rattle.toml.specs.View.{table_view};
+ghost use Rattle.gw_addr.specs.Reading as plain;
 ghost use Rattle.gw_addr.specs.declared.TheConstants.{MAX_PORTS};
 ghost use Rattle.gw_policy_text.specs.Document.{parts_of, parts_of_format};
-ghost use Rattle.gw_policy_text.specs.Parts.{device_at, has_no_stations, objects_at, ports_at, routes_at};
-ghost use Rattle.gw_configuration.specs.Configuration.{is_by, is_named};
+ghost use Rattle.gw_policy_text.specs.Parts.{announce_at, device_at, is_plain_in, objects_at, ports_at, routes_at};
+ghost use Rattle.gw_configuration.specs.Configuration.{is_by, is_managed, is_named};
 ghost use Rattle.gw_configuration.specs.Reading.{Finds, Gives};
+ghost use Rattle.gw_rules.specs.Format.{names_stations};
 
 use crate::format::format_at;
 use crate::keys::value;
 use crate::policy::policy_at;
-use crate::reading::{at, list_at};
+use crate::reading::{at, list_at, optional_boolean};
 use crate::{device, objects, port, route};
 use gw_addr::{MAX_PORTS, Sequence};
 use gw_configuration::{
     ConfigFault, Device, Format, Located, MAX_OBJECTS, MAX_ROUTES, Object, Parts, Port, Route,
+    TopValues,
 };
 use std::alloc::Global;
 use toml::Table;
@@ -31,12 +34,26 @@ pub(crate) fn parts<'a>(alloc: Global, top: &'a Table) -> Result<Parts, Located<
 fn parts_of_format<'a>(alloc: Global, format: Format, top: &'a Table) -> Result<Parts, Located<'a>>
     ensures { Finds (λ c. c) result (parts_of_format format (table_view top.now)) }
 {
+    let announce = announce_at(format, top)?;
     let device = device_at(alloc, top)?;
     let ports = ports_at(alloc, format, top)?;
     let routes = routes_at(alloc, ports.len() as u8, top)?;
     let objects = objects_at(alloc, top)?;
     let policy = policy_at(alloc, format, top)?;
-    Ok(Parts::new(format, device, ports, routes, objects, policy).ok_or(ConfigFault::Range)?)
+    let values = TopValues { format, announce };
+    Ok(Parts::new(values, device, ports, routes, objects, policy).ok_or(ConfigFault::Range)?)
+}
+
+/// Whether networks are announced, in format 3.
+fn announce_at(format: Format, top: &Table) -> Result<bool, ConfigFault>
+    ensures announce { plain.Gives (λ a. a) result (announce_at format (codes "announce") (table_view top.now)) }
+    ensures plain { IfOk result (λ a. IsTrue (names_stations format || not a)) }
+{
+    if format.names_stations() {
+        optional_boolean("announce", top)
+    } else {
+        Ok(false)
+    }
 }
 
 fn device_at<'a>(alloc: Global, top: &'a Table) -> Result<Device, Located<'a>>
@@ -54,7 +71,8 @@ fn ports_at<'a>(
     ensures ports { Finds (λ ps. ps) result (ports_at format (codes "port") (table_view top.now)) }
     ensures some { IfOk result (λ ps. 1 ≤ length ps) }
     ensures most { IfOk result (λ ps. length ps ≤ MAX_PORTS) }
-    ensures plain { IfOk result (λ ps. IsTrue (list_all (has_no_stations format) ps)) }
+    ensures managed { IfOk result (λ ps. IsTrue (list_all is_managed ps)) }
+    ensures plain { IfOk result (λ ps. IsTrue (list_all (is_plain_in format) ps)) }
 {
     port::ports(alloc, format, list_at(1, MAX_PORTS, "port", top)?)
 }

@@ -9,10 +9,10 @@ ghost use Rattle.gw_configuration.specs.Configuration.{is_plain, keeps_rules};
 ghost use Rattle.gw_rules.specs.declared.format.Format.TheVariants as formats;
 ghost use Rattle.gw_configuration.specs.Reading.{Finds, Gives};
 ghost use Rattle.gw_policy_text.specs.keys.Items.{each};
-ghost use Rattle.gw_policy_text.specs.Policy.{audit_in, has_no_audit, has_no_note, note_in, optional_boolean, policy_at, policy_of, set_tables};
+ghost use Rattle.gw_policy_text.specs.Policy.{audit_in, has_no_audit, has_no_note, note_in, policy_at, policy_of, set_tables};
 
-use crate::keys::value::{boolean, member, table};
-use crate::reading::{any_list, list_at, optional_text};
+use crate::keys::value::table;
+use crate::reading::{any_list, list_at, optional_boolean, optional_text};
 use crate::rules::rules;
 use crate::sets::sets;
 use gw_addr::Sequence;
@@ -137,15 +137,5 @@ fn audit(format: Format, value: &Value) -> Result<bool, ConfigFault>
         optional_boolean("audit", table(value)?)
     } else {
         Ok(false)
-    }
-}
-
-/// The boolean at a key, false if it isn't there. `Kind`.
-fn optional_boolean(key: &str, table: &Table) -> Result<bool, ConfigFault>
-    ensures { plain.Gives (λ b. b) result (optional_boolean key.now (table_view table.now)) }
-{
-    match member(table, key) {
-        Some(value) => boolean(value),
-        None => Ok(false),
     }
 }

@@ -3,7 +3,7 @@ ghost use Rattle.std.specs.Prelude.{◌≡◌, ◌≤◌, [], length, map, IfOk}
 ghost use Rattle.gw_addr.specs.Reading as plain;
 ghost use Rattle.toml.specs.Data.{get_member};
 ghost use Rattle.toml.specs.View.{table_view, view};
-ghost use Rattle.gw_policy_text.specs.Parts.{address_at, at, list_at, list_or, mask_at, number_at, optional_text, text_at};
+ghost use Rattle.gw_policy_text.specs.Parts.{address_at, at, list_at, list_or, mask_at, number_at, optional_boolean, optional_text, text_at};
 ghost use Rattle.gw_configuration.specs.Reading.{Gives, NamesFault};
 
 use crate::keys::value::{self, member, string};
@@ -116,6 +116,16 @@ pub(crate) fn optional_text(
             None => Err(ConfigFault::Kind),
         },
         None => Text::new(alloc, 0, default),
+    }
+}
+
+/// The boolean at a key, false if it isn't there. `Kind`.
+pub(crate) fn optional_boolean(key: &str, table: &Table) -> Result<bool, ConfigFault>
+    ensures { plain.Gives (λ b. b) result (optional_boolean key.now (table_view table.now)) }
+{
+    match member(table, key) {
+        Some(value) => value::boolean(value),
+        None => Ok(false),
     }
 }
 

@@ -2,7 +2,7 @@
 ghost use Rattle.std.specs.Prelude.{◌≡◌, IsTrue};
 
 use crate::{Device, Object, ObjectValue, Port, Route, Subnet, Text, laws};
-use gw_addr::BdtEntry;
+use gw_addr::{BdtEntry, BipAddr};
 use gw_rules::{FieldName, Format, Range, Rule};
 
 /// What can be compared.
@@ -83,7 +83,19 @@ impl Same for Port {
             && self.address.is_same(other.address)
             && self.broadcast.is_same(other.broadcast)
             && are_same(self.stations.as_slice(), other.stations.as_slice())
+            && is_same_manager(self.bbmd, other.bbmd)
             && are_same(self.peers.as_slice(), other.peers.as_slice())
+    }
+}
+
+/// Whether two ports have the same broadcast manager beside them, or neither has one.
+fn is_same_manager(manager: Option<BipAddr>, other: Option<BipAddr>) -> bool
+    ensures { IsTrue result → manager ≡ other }
+{
+    match (manager, other) {
+        (Some(address), Some(other)) => address.is_same(other),
+        (None, None) => true,
+        _ => false,
     }
 }
 

@@ -25,8 +25,8 @@ use Rattle.gw_policy_text.specs.keys.Laws.{HasEleven, IsBefore, KnowsNoOther, Na
 use Rattle.gw_policy_text.specs.keys.Value.{is_of_format, list_in}
 
 pub knows_no_other : (format : Format) → IsBefore format → KnowsNoOther format
-knows_no_other One e = record { set = refl; stations = refl; sender = refl; station = refl; note = refl; audit = refl }
-knows_no_other Two e = record { set = refl; stations = refl; sender = refl; station = refl; note = refl; audit = refl }
+knows_no_other One e = record { set = refl; announce = refl; bbmd = refl; stations = refl; sender = refl; station = refl; note = refl; audit = refl }
+knows_no_other Two e = record { set = refl; announce = refl; bbmd = refl; stations = refl; sender = refl; station = refl; note = refl; audit = refl }
 knows_no_other Three e = absurd cc
 
 -- fields whose items name no sets

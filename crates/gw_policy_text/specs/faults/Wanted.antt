@@ -19,7 +19,7 @@ use Rattle.gw_configuration.specs.declared.fault.ConfigFault.{ConfigFault}
 use Rattle.gw_configuration.specs.declared.fault.ConfigFault.TheVariants.{UnknownKey, Kind, TooMany, Duplicate}
 use Rattle.gw_configuration.specs.declared.shape.Scalar.{Scalar}
 use Rattle.gw_configuration.specs.declared.shape.Scalar.TheVariants.{Number, Signed, ObjectType, Text, RuleName}
-use Rattle.gw_configuration.specs.declared.shape.Scalar.TheVariants.{Operation, Boolean, Address, Mask, Table}
+use Rattle.gw_configuration.specs.declared.shape.Scalar.TheVariants.{Operation, Boolean, Address, Manager, Mask, Table}
 use Rattle.gw_configuration.specs.declared.shape.Scalar.TheVariants.{Named, Stations, Subnet, Item}
 use Rattle.gw_configuration.specs.declared.shape.Names.{Names}
 use Rattle.gw_configuration.specs.declared.shape.Shape.{Shape}
@@ -49,6 +49,7 @@ kind_words (Text least) = codes "a text in quotes"
 kind_words RuleName = codes "a text in quotes"
 kind_words (Operation format) = codes "a text in quotes"
 kind_words Address = codes "an address in quotes"
+kind_words Manager = codes "an address in quotes"
 kind_words Mask = codes "a mask in quotes"
 kind_words Boolean = codes "true or false"
 kind_words Table = codes "a table"
@@ -72,6 +73,12 @@ number_words low high = if nat_lt high low then codes "one of the states" else b
 abbrev pub length_range_words : ℕ → List ℕ
 length_range_words least = codes "a text of " ++ bounds_words least 255 ++ codes " octets"
 
+-- the broadcast manager beside a port
+abbrev pub manager_words : List ℕ
+manager_words =
+    codes
+    "an address and its UDP port, as 10.0.1.3:47808, other than the port's own and its broadcast address, at a port without peers"
+
 -- what has no bounds of its own
 abbrev pub fixed_words : Scalar → List ℕ
 fixed_words (Number low high) = []
@@ -82,6 +89,7 @@ fixed_words (Text least) = []
 fixed_words RuleName = codes "1 to 32 of a to z, 0 to 9 and -, and not default"
 fixed_words (Operation format) = operations_words format
 fixed_words Address = codes "an address and its UDP port, as 10.0.1.255:47808"
+fixed_words Manager = manager_words
 fixed_words Mask = codes "a mask as 255.255.255.0"
 fixed_words Boolean = codes "true or false"
 fixed_words Table = codes "a table"

@@ -11,7 +11,7 @@ use Rattle.gw_configuration.specs.declared.fault.ConfigFault.TheVariants.{Unknow
 use Rattle.gw_configuration.specs.declared.located.Place.{Place}
 use Rattle.gw_configuration.specs.declared.shape.Scalar.{Scalar}
 use Rattle.gw_configuration.specs.declared.shape.Scalar.TheVariants.{Number, Signed, ObjectType, Text, RuleName}
-use Rattle.gw_configuration.specs.declared.shape.Scalar.TheVariants.{Operation, Boolean, Address, Mask, Table}
+use Rattle.gw_configuration.specs.declared.shape.Scalar.TheVariants.{Operation, Boolean, Address, Manager, Mask, Table}
 use Rattle.gw_configuration.specs.declared.shape.Scalar.TheVariants.{Named, Stations, Subnet, Item}
 use Rattle.gw_configuration.specs.declared.shape.Shape.{Shape}
 use Rattle.gw_configuration.specs.declared.shape.Shape.TheVariants.{One, List as Listing, Ranges, Items}
@@ -34,6 +34,7 @@ scalar_fault RuleName value = result_err (rule_name_in value)
 scalar_fault (Operation format) value = result_err (operation_in format value)
 scalar_fault Boolean value = result_err (boolean_in value)
 scalar_fault Address value = result_err (address_in value)
+scalar_fault Manager value = result_err (address_in value)
 scalar_fault Mask value = result_err (mask_in value)
 scalar_fault Table value = result_err (table_in value)
 scalar_fault (Named names) value = result_err (named_in names value)

@@ -22,6 +22,8 @@ IsBefore format = IsFalse (names_stations format)
 -- then the keys of format 3 are unknown
 pub record KnowsNoOther (format : Format) : Type 0 where
   pub set : IsFalse (is_key (top_fields format) (codes "set"))
+  pub announce : IsFalse (is_key (top_fields format) (codes "announce"))
+  pub bbmd : IsFalse (is_key (port_fields format) (codes "bbmd"))
   pub stations : IsFalse (is_key (port_fields format) (codes "stations"))
   pub sender : IsFalse (is_key (rule_fields format) (codes "sender"))
   pub station : IsFalse (is_key (rule_fields format) (codes "station"))

@@ -19,7 +19,7 @@ use Rattle.gw_configuration.specs.declared.fault.ConfigFault.TheVariants.{Kind}
 use Rattle.gw_configuration.specs.declared.shape.Names.TheVariants.{Services, ObjectTypes, Properties}
 use Rattle.gw_configuration.specs.declared.shape.Scalar.{Scalar}
 use Rattle.gw_configuration.specs.declared.shape.Scalar.TheVariants.{Number, Signed, ObjectType, Text, RuleName}
-use Rattle.gw_configuration.specs.declared.shape.Scalar.TheVariants.{Operation, Boolean, Address, Mask, Table}
+use Rattle.gw_configuration.specs.declared.shape.Scalar.TheVariants.{Operation, Boolean, Address, Manager, Mask, Table}
 use Rattle.gw_configuration.specs.declared.shape.Scalar.TheVariants.{Named, Stations, Subnet, Item}
 use Rattle.gw_configuration.specs.declared.shape.Shape.{Shape}
 use Rattle.gw_configuration.specs.declared.shape.Shape.TheVariants.{One, List as Listing, Ranges, Items}
@@ -67,9 +67,10 @@ common_top_fields =
     ∷ may (codes "rule") (tables 0 512)
     ∷ []
 
--- and format 3 alone: sets, of which there may be as many as a text has octets
+-- and format 3 alone: sets, of which there may be as many as a text has octets, and whether networks are announced
 abbrev pub top_fields : Format → List Field
-top_fields formats.Three = common_top_fields ++ may (codes "set") (tables 0 1048576) ∷ []
+top_fields formats.Three =
+    common_top_fields ++ may (codes "set") (tables 0 1048576) ∷ may (codes "announce") (One Boolean) ∷ []
 top_fields _ = common_top_fields
 
 -- the format by which a text's keys are judged: 3 exactly if its `format` is the whole number 3
@@ -103,9 +104,13 @@ common_port_fields =
     ∷ may (codes "peer") (tables 0 64)
     ∷ []
 
--- format 3 alone: the subnets of the port's stations
+-- the broadcast manager beside a port
+abbrev pub manager_field : Field
+manager_field = may (codes "bbmd") (One Manager)
+
+-- format 3 alone: the subnets of the port's stations, and the broadcast manager beside it
 abbrev pub port_fields : Format → List Field
-port_fields formats.Three = common_port_fields ++ may (codes "stations") (Listing Subnet 1 16) ∷ []
+port_fields formats.Three = common_port_fields ++ may (codes "stations") (Listing Subnet 1 16) ∷ manager_field ∷ []
 port_fields _ = common_port_fields
 
 abbrev pub peer_fields : List Field

@@ -79,7 +79,7 @@ fn put_keys_of_top(line: &mut Vec<u8>, format: Format) -> Result<(), AllocError>
     ensures { OnOk result (line.new.items ≡ line.old.items ++ keys_words (spec.top_fields format)) }
 {
     match format {
-        Format::Three => put_keys_of(line, &tables::top_fields_with_sets()),
+        Format::Three => put_keys_of(line, &tables::long_top_fields()),
         Format::One | Format::Two => put_keys_of(line, &tables::top_fields()),
     }
 }
@@ -88,7 +88,7 @@ fn put_keys_of_port(line: &mut Vec<u8>, format: Format) -> Result<(), AllocError
     ensures { OnOk result (line.new.items ≡ line.old.items ++ keys_words (spec.port_fields format)) }
 {
     match format {
-        Format::Three => put_keys_of(line, &tables::port_fields_with_stations()),
+        Format::Three => put_keys_of(line, &tables::long_port_fields()),
         Format::One | Format::Two => put_keys_of(line, &tables::port_fields()),
     }
 }

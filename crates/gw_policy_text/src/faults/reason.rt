@@ -31,6 +31,9 @@ const ADDRESS_BITS: u8 = 32;
 /// The types of objects, each by its number.
 const TYPES: &str =
     "5 Binary Value, 19 Multi-state Value, 40 CharacterString Value, 45 Integer Value, 48 Positive Integer Value";
+/// The broadcast manager beside a port.
+const MANAGER: &str =
+    "an address and its UDP port, as 10.0.1.3:47808, other than the port's own and its broadcast address, at a port without peers";
 /// The operations, each by its name.
 const OPERATIONS: &str =
     "cast, route, register, delete, read-table, write-table, learn, network, read, write, list";
@@ -577,7 +580,7 @@ fn kind_words(of: Scalar) -> &'static str
     match of {
         Scalar::Number { .. } | Scalar::Signed | Scalar::ObjectType => "a whole number",
         Scalar::Text { .. } | Scalar::RuleName | Scalar::Operation(_) => "a text in quotes",
-        Scalar::Address => "an address in quotes",
+        Scalar::Address | Scalar::Manager => "an address in quotes",
         Scalar::Mask => "a mask in quotes",
         Scalar::Boolean => "true or false",
         Scalar::Table => "a table",
@@ -601,6 +604,7 @@ fn put_range(line: &mut Vec<u8>, of: Scalar) -> Result<(), AllocError>
         | Scalar::RuleName
         | Scalar::Operation(_)
         | Scalar::Address
+        | Scalar::Manager
         | Scalar::Mask
         | Scalar::Boolean
         | Scalar::Table
@@ -631,6 +635,7 @@ fn fixed_words(of: Scalar) -> &'static str
         Scalar::Operation(Format::Three) => LONG_OPERATIONS,
         Scalar::Operation(_) => OPERATIONS,
         Scalar::Address => "an address and its UDP port, as 10.0.1.255:47808",
+        Scalar::Manager => MANAGER,
         Scalar::Mask => "a mask as 255.255.255.0",
         Scalar::Boolean => "true or false",
         Scalar::Table => "a table",

@@ -130,7 +130,7 @@ fn scalar_fault(scalar: Scalar, value: &Value) -> Option<ConfigFault>
         Scalar::RuleName => value::rule_name(value).err(),
         Scalar::Operation(format) => value::operation(format, value).err(),
         Scalar::Boolean => value::boolean(value).err(),
-        Scalar::Address => value::address(value).err(),
+        Scalar::Address | Scalar::Manager => value::address(value).err(),
         Scalar::Mask => value::mask(value).err(),
         Scalar::Table => value::table(value).err(),
         Scalar::Named(names) => items::named(names, value).err(),

@@ -55,6 +55,12 @@ const NAME: Shape = Shape::One(Scalar::Text { least: 1 });
 
 const ADDRESS: Shape = Shape::One(Scalar::Address);
 
+/// The key of the broadcast manager beside a port.
+pub const MANAGER_KEY: &str = "bbmd";
+
+/// The broadcast manager beside a port.
+pub const MANAGER: Shape = Shape::One(Scalar::Manager);
+
 /// The format by which the keys of a text are judged: 3 exactly if its `format` is the whole number 3.
 pub fn format_of(top: &Table) -> Format
     ensures { result ≡ spec.format_in (table_view top.now) }
@@ -91,7 +97,7 @@ pub fn top_located<'a>(format: Format, table: &'a Table) -> Option<Located<'a>>
         located_in places.Top (spec.top_fields format) (table_view table.now) }
 {
     match format {
-        Format::Three => located_in(Place::Top, &top_fields_with_sets(), table),
+        Format::Three => located_in(Place::Top, &long_top_fields(), table),
         Format::One | Format::Two => located_in(Place::Top, &top_fields(), table),
     }
 }
@@ -111,7 +117,7 @@ pub fn top_fields() -> [Field; 6]
 }
 
 /// The fields of the top table in format 3.
-pub fn top_fields_with_sets() -> [Field; 7]
+pub fn long_top_fields() -> [Field; 8]
     ensures { result ≡ spec.top_fields Format.Three }
 {
     [
@@ -122,6 +128,7 @@ pub fn top_fields_with_sets() -> [Field; 7]
         Field::may("object", tables(0, MAX_OBJECTS)),
         Field::may("rule", tables(0, MAX_RULES)),
         Field::may("set", tables(0, MAX_SETS)),
+        Field::may("announce", Shape::One(Scalar::Boolean)),
     ]
 }
 
@@ -160,13 +167,13 @@ pub fn port_located<'a>(format: Format, port: usize, table: &'a Table) -> Option
         located_in (places.Port port) (spec.port_fields format) (table_view table.now) }
 {
     match format {
-        Format::Three => located_in(Place::Port(port), &port_fields_with_stations(), table),
+        Format::Three => located_in(Place::Port(port), &long_port_fields(), table),
         Format::One | Format::Two => located_in(Place::Port(port), &port_fields(), table),
     }
 }
 
 /// The fields of a port in format 3.
-pub fn port_fields_with_stations() -> [Field; 5]
+pub fn long_port_fields() -> [Field; 6]
     ensures { result ≡ spec.port_fields Format.Three }
 {
     [
@@ -182,6 +189,7 @@ pub fn port_fields_with_stations() -> [Field; 5]
                 most: MAX_STATIONS,
             },
         ),
+        Field::may(MANAGER_KEY, MANAGER),
     ]
 }
 

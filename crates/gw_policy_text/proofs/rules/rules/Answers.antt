@@ -1,7 +1,7 @@
-use Rattle.std.proofs.Common.{◌≡◌, ◌++◌, ◌∷◌, [], Option, None, ap, arith, length-append, sym, ◌∙◌}
+use Rattle.std.proofs.Common.{◌≡◌, ◌++◌, ◌∷◌, [], None, ap, arith, length-append, sym, ◌∙◌}
 use Rattle.std.specs.Option.{option_map}
 use Rattle.gw_configuration.specs.Configuration.{is_configurable}
-use Rattle.gw_configuration.specs.Located.{Located, located_view}
+use Rattle.gw_configuration.specs.Located.{located_view}
 use Rattle.gw_policy_text.specs.Policy.{crowd}
 use Rattle.gw_policy_text.proofs.Behind.{goes_on_behind}
 use Rattle.gw_policy_text.proofs.Limits.{all_more}

@@ -1,4 +1,4 @@
-use Rattle.std.proofs.Common.{rules, ◌≡◌, ◌≢◌, ◌++◌, ℕ, List, map, refl}
+use Rattle.std.proofs.Common.{rules, ◌≡◌, ◌≢◌, ◌++◌, ℕ, List, refl}
 use Rattle.toml.specs.View.{table_view}
 use Rattle.gw_configuration.specs.declared.fault.ConfigFault.TheVariants.{Memory}
 use Rattle.gw_configuration.specs.Shown.{shown}

@@ -1,4 +1,4 @@
-use Rattle.std.proofs.Common.{rules, ◌≡◌, ◌++◌, ℕ, List, map, codes, None}
+use Rattle.std.proofs.Common.{rules, ◌≡◌, ◌++◌, ℕ, List, codes, None}
 use Rattle.gw_configuration.specs.Located.{Located, of_text}
 use Rattle.gw_configuration.specs.Shown.{shown}
 use Rattle.gw_policy_text.specs.faults.Explanation.{IsTextWanted}

@@ -1,4 +1,4 @@
-use Rattle.std.proofs.Common.{◌≡◌, ◌∙◌, ap, arith}
+use Rattle.std.proofs.Common.{◌∙◌, ap, arith}
 use Rattle.gw_policy_text.specs.faults.Near.{nearest}
 use Rattle.gw_policy_text.proofs.faults.near.nearest.Goals as goal
 

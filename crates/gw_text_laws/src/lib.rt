@@ -1,0 +1,4 @@
+//! Laws of the text of a configuration: what the keys of a later day leave as it was.
+#![tactic(auto)]
+
+pub mod laws;
