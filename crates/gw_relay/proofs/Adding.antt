@@ -8,6 +8,9 @@ use Rattle.gw_rules.specs.declared.verdict.Verdict.{Verdict}
 use Rattle.gw_relay.specs.Response.{Response}
 use Rattle.gw_relay.specs.Sends.{Sending}
 use Rattle.gw_relay.specs.Turn.{IsWalked}
+use Rattle.std.specs.Prelude.{Result, Ok, Err, OnOk}
+use Rattle.gw_relay.specs.Steps.{Step, taken}
+use Rattle.gw_relay.specs.internal.Taken.{AreTaken}
 use Rattle.gw_relay.specs.declared.change.Change.{Change}
 use Rattle.gw_relay.specs.declared.turn.Turn.{Turn}
 
@@ -32,3 +35,18 @@ none_walked kept kept_of nothing rules due turn sends asks change = record {
   verdicts = none_kept kept kept_of nothing rules turn.asker due.asks asks;
   change = or_none turn.change ∙ ap (λ (x : Option Change). option_or turn.change x) (sym change);
 }
+
+-- steps that were taken are the walk of what they answer
+pub taken_walked : {A : Type 0} (kept : A → List Verdict) (kept_of : List Rule → List Ask → List Verdict)
+    (rules : List Rule) (steps : List Step) (due : Response) (old new : Turn A) → due ≡ taken rules steps
+    → AreTaken kept kept_of rules steps old new → IsWalked kept kept_of rules due old new
+taken_walked kept kept_of rules steps due old new e t = record {
+  sends = t.sends ∙ ap (λ (r : Response). old.sends ++ r.sends) (sym e);
+  verdicts = t.verdicts ∙ ap (λ (r : Response). kept old.asker ++ kept_of rules r.asks) (sym e);
+  change = t.change ∙ or_none old.change ∙ ap (λ (r : Response). option_or old.change r.change) (sym e);
+}
+
+-- what follows where there is a value
+pub on_ok : {T E : Type 0} (r : Result T E) {P Q : Type 0} → (P → Q) → OnOk r P → OnOk r Q
+on_ok (Ok x) f p = f p
+on_ok (Err e) f p = tt

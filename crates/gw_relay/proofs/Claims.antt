@@ -1,10 +1,12 @@
 -- What changes a table or a route, and whose asks a message raises.
-use Rattle.std.proofs.Common.{◌≡◌, ap, refl, subst, ℕ, Bool, true, false, List, [], ◌∷◌, ◌++◌, map, Option, Some, None, Result, Ok, Err}
+use Rattle.std.proofs.Common.{◌≡◌, ap, refl, subst, sym, ℕ, Bool, true, false, List, [], ◌∷◌, ◌++◌, map, Option, Some, None, Result, Ok, Err}
 use Rattle.std.specs.Prelude.{◌&&◌, ◌||◌, ◌==◌, is_some, if◌then◌else◌}
 use Rattle.std.specs.Int.{w16, from_be_bytes}
 use Rattle.std.specs.Option.{option_map, option_map_or}
 use Rattle.gw_addr.specs.declared.station.Source.{Source}
 use Rattle.gw_addr.specs.Station.{key_of, network_of}
+use Rattle.gw_addr.specs.declared.bip.BipAddr.{BipAddr}
+use Rattle.gw_frames.specs.bvll.Bvll.{Message as Frame}
 use Rattle.gw_frames.specs.bvll.Bvll as bvll
 use Rattle.gw_codecs.specs.apdu.Apdu.{Fields as Apdu}
 use Rattle.gw_codecs.specs.apdu.Reading.{apdu_at}
@@ -26,41 +28,48 @@ use Rattle.gw_codecs.specs.tags.Object.{Object}
 use Rattle.gw_tables.specs.routes.Table.{way}
 use Rattle.gw_tables.specs.declared.routes.route.Way.{Way}
 use Rattle.gw_tables.specs.declared.routes.route.Way.TheVariants as ways
-use Rattle.gw_rules.specs.Allowed.{NoneAllowed}
+use Rattle.std.specs.List.{AllByRecursion}
+use Rattle.gw_rules.specs.Operation.{changes}
+use Rattle.gw_rules.specs.Allowed.{NoChangeAllowed, NoneAllowed}
 use Rattle.gw_rules.specs.Ask.{Ask, IsFor, IsFrom}
 use Rattle.gw_rules.specs.Format.{names_stations}
 use Rattle.gw_rules.specs.RuleList.{allows}
 use Rattle.gw_rules.specs.declared.operation.Operation.{Operation}
 use Rattle.gw_rules.specs.declared.operation.Operation.TheVariants as operations
 use Rattle.gw_rules.specs.declared.rule.Rule.{Rule}
-use Rattle.gw_relay.specs.Asks.{bound_for, link_ask}
-use Rattle.gw_relay.specs.Cast.{carried_asks, cast_ask, cast_asks, goes_on, is_broadcast}
+use Rattle.gw_relay.specs.Asks.{bound_for, link_ask, link_asks, management_of}
+use Rattle.gw_relay.specs.Cast.{carried_asks, cast_ask, cast_asks, goes_on, is_carried}
 use Rattle.gw_relay.specs.Laws.{AreFrom, BroadcastsCarryTheirClaim, NetworkMessagesCarryTheirClaim, RoutesAreKept, RoutingCarriesTheClaim, TableAsksReadNothing, TablesAreKept}
 use Rattle.gw_relay.specs.Link.{link_change}
 use Rattle.gw_relay.specs.Manage.{is_i_am_router, is_what_is_network_number, is_who_is_router, keep_allowed, learn_ask, learn_steps, manage_asks, named_networks, question_of, question_steps}
 use Rattle.gw_relay.specs.Message.{Message}
 use Rattle.gw_relay.specs.Named.{apdu_asks, forward_asks, header_asks, multi_asks, named_ask, named_asks, payload_asks, read_asks, reference_ask, request_asks, unnamed_ask, write_asks}
 use Rattle.gw_relay.specs.Route.{copy, is_local, leaves, others, route_ask, steps_by}
-use Rattle.gw_relay.specs.State.{Commit, Relay, after, moved}
+use Rattle.gw_relay.specs.State.{Commit, Relay, after, is_manager, moved}
 use Rattle.gw_relay.specs.Steps.{Step, asks_of}
 use Rattle.gw_relay.specs.declared.change.Change.{Change}
 use Rattle.gw_relay.specs.declared.change.Change.TheVariants.{Learnings}
 use Rattle.gw_relay.specs.declared.port.PortState.{PortState}
+use Rattle.gw_relay.proofs.Asking.{link_asked, link_changed, misplaced_change}
 use Rattle.gw_relay.proofs.Learning.{learned_asks}
 
 -- ---- the tables of a port
 
+-- a frame that manages a table changes none if its ask is denied
+kept_by : (rules : List Rule) (format : Format) (on : PortState) (from : BipAddr) (frame : Frame) (op : Operation) → management_of frame ≡ Some op
+    → (b : Bool) → is_manager on.port ≡ b → changes op ≡ true → NoChangeAllowed rules (link_asks format on.port from frame)
+    → link_change rules format on from frame ≡ None
+kept_by rules format on from frame op managed false e c h = misplaced_change rules format on from frame op managed e
+kept_by rules format on from frame op managed true e c h =
+    let denied : allows rules (link_ask format on.port from frame op) ≡ false =
+    (subst (NoChangeAllowed rules) (link_asked format on from frame op managed e) h op c).0 refl in
+    link_changed rules format on from frame op false managed e (sym denied)
+
 pub tables_are_kept : TablesAreKept
 unfolding link_change
-tables_are_kept rules format on from (bvll.write_bdt entries) h =
-    let denied : allows rules (link_ask format on.port from (bvll.write_bdt entries) operations.WriteTable) ≡ false = (h operations.WriteTable refl).0 refl in
-    rw denied refl
-tables_are_kept rules format on from (bvll.register time_to_live) h =
-    let denied : allows rules (link_ask format on.port from (bvll.register time_to_live) operations.Register) ≡ false = (h operations.Register refl).0 refl in
-    rw denied refl
-tables_are_kept rules format on from (bvll.delete address) h =
-    let denied : allows rules (link_ask format on.port from (bvll.delete address) operations.Delete) ≡ false = (h operations.Delete refl).0 refl in
-    rw denied refl
+tables_are_kept rules format on from (bvll.write_bdt entries) h = kept_by rules format on from (bvll.write_bdt entries) operations.WriteTable refl (is_manager on.port) refl refl h
+tables_are_kept rules format on from (bvll.register time_to_live) h = kept_by rules format on from (bvll.register time_to_live) operations.Register refl (is_manager on.port) refl refl h
+tables_are_kept rules format on from (bvll.delete address) h = kept_by rules format on from (bvll.delete address) operations.Delete refl (is_manager on.port) refl refl h
 tables_are_kept rules format on from bvll.read_bdt h = none_either _
   where
     none_either : (b : Bool) → ◌≡◌ {A = Option Change} (if b then None else None) None
@@ -79,13 +88,22 @@ tables_are_kept rules format on from (bvll.distribute npdu) h = refl
 tables_are_kept rules format on from (bvll.original_unicast npdu) h = refl
 tables_are_kept rules format on from (bvll.original_broadcast npdu) h = refl
 
+one_if : (b : Bool) (ask : Ask) → (IsFor operations.Read ask → ⊥) → AllByRecursion (λ ask. IsFor operations.Read ask → ⊥) (if b then ask ∷ [] else [])
+one_if true ask h = (h, tt)
+one_if false ask h = tt
+
 -- and no ask about one is to read a property
 pub table_asks_read_nothing : TableAsksReadNothing
-table_asks_read_nothing format port from (bvll.write_bdt entries) = (λ e. absurd cc, tt)
-table_asks_read_nothing format port from (bvll.register time_to_live) = (λ e. absurd cc, tt)
-table_asks_read_nothing format port from (bvll.delete address) = (λ e. absurd cc, tt)
-table_asks_read_nothing format port from bvll.read_bdt = (λ e. absurd cc, tt)
-table_asks_read_nothing format port from bvll.read_fdt = (λ e. absurd cc, tt)
+table_asks_read_nothing format port from (bvll.write_bdt entries) =
+    one_if (is_manager port) (link_ask format port from (bvll.write_bdt entries) operations.WriteTable) (λ e. absurd cc)
+table_asks_read_nothing format port from (bvll.register time_to_live) =
+    one_if (is_manager port) (link_ask format port from (bvll.register time_to_live) operations.Register) (λ e. absurd cc)
+table_asks_read_nothing format port from (bvll.delete address) =
+    one_if (is_manager port) (link_ask format port from (bvll.delete address) operations.Delete) (λ e. absurd cc)
+table_asks_read_nothing format port from bvll.read_bdt =
+    one_if (is_manager port) (link_ask format port from bvll.read_bdt operations.ReadTable) (λ e. absurd cc)
+table_asks_read_nothing format port from bvll.read_fdt =
+    one_if (is_manager port) (link_ask format port from bvll.read_fdt operations.ReadTable) (λ e. absurd cc)
 table_asks_read_nothing format port from (bvll.result_code code) = tt
 table_asks_read_nothing format port from (bvll.read_bdt_ack entries) = tt
 table_asks_read_nothing format port from (bvll.forwarded originator npdu) = tt
@@ -96,7 +114,7 @@ table_asks_read_nothing format port from (bvll.original_broadcast npdu) = tt
 
 -- ---- the routes
 
-none_learned : (rules : List Rule) (format : Format) (m : Message) (networks : List ℕ)
+pub none_learned : (rules : List Rule) (format : Format) (m : Message) (networks : List ℕ)
     → NoneAllowed (IsFor operations.Learn) rules (map (learn_ask format m) networks) → keep_allowed rules format m networks ≡ []
 none_learned rules format m [] h = refl
 none_learned rules format m (n ∷ networks) h =
@@ -202,7 +220,7 @@ pub broadcasts_carry_their_claim : BroadcastsCarryTheirClaim
 unfolding cast_asks
 broadcasts_carry_their_claim format m =
     let is = said m.claim (cast_ask format m) refl refl in
-    asks_if m.claim (goes_on m.here m.from m.frame && is_broadcast m.frame) (cast_ask format m ∷ carried_asks format m) []
+    asks_if m.claim (goes_on m.here m.from m.frame && is_carried m.here m.frame) (cast_ask format m ∷ carried_asks format m) []
     (is, asks_if m.claim (names_stations format) _ [] (from_behind m.claim format (cast_ask format m) m.npdu.payload is) tt) tt
 
 -- a message's asks for one way

@@ -21,14 +21,14 @@ use Rattle.gw_rules.specs.declared.format.Format.TheVariants.{One, Two, Three}
 use Rattle.gw_rules.specs.declared.operation.Operation.TheVariants.{Route}
 use Rattle.gw_rules.specs.declared.rule.Rule.{Rule}
 use Rattle.gw_rules.specs.declared.service.Service.TheVariants.{BvllFunction}
-use Rattle.gw_relay.specs.Asks.{bound_for, deleted_station, link_asks, management_of, sender_of}
-use Rattle.gw_relay.specs.Cast.{cast_asks, cast_sends}
-use Rattle.gw_relay.specs.FormatTwo.{delivered_before, link_asks_before, manage_response_before, message_ask_before, questions_before, steps_before}
+use Rattle.gw_relay.specs.Asks.{bound_for, deleted_station, management_of, sender_of}
+use Rattle.gw_relay.specs.FormatTwo.{cast_response_before, delivered_before, link_asks_before, manage_response_before, message_ask_before, questions_before, steps_before}
 use Rattle.gw_relay.specs.Laws.{BroadcastsAreAsBefore, NetworkMessagesAreAsBefore, RoutingIsAsBefore, TablesAreAsBefore}
-use Rattle.gw_relay.specs.Link.{answer_to, change_of, granted, is_granted, link_answer, link_change, refused}
-use Rattle.gw_relay.specs.Manage.{is_i_am_router, is_what_is_network_number, is_who_is_router, learn_steps, manage_change, manage_response, number_step, question_steps}
+use Rattle.gw_relay.specs.Link.{answer_to, change_of, granted, is_granted, refused}
+use Rattle.gw_relay.specs.Manage.{is_i_am_router, is_what_is_network_number, is_who_is_router, learn_steps, manage_change, number_step, question_steps}
 use Rattle.gw_relay.specs.Message.{Message}
 use Rattle.gw_relay.specs.Named.{forward_asks}
+use Rattle.gw_relay.specs.Plain.{plain_cast_response, plain_link_asks, plain_manage_response}
 use Rattle.gw_relay.specs.Response.{Response}
 use Rattle.gw_relay.specs.Route.{delivered, is_local, last_hop, leaves, steps_by}
 use Rattle.gw_relay.specs.Sends.{Sending}
@@ -36,6 +36,7 @@ use Rattle.gw_relay.specs.State.{Relay, port_at}
 use Rattle.gw_relay.specs.Steps.{Step, asks_of, sends_of, taken}
 use Rattle.gw_relay.specs.declared.port.Port.{Port}
 use Rattle.gw_relay.specs.declared.port.PortState.{PortState}
+use Rattle.gw_relay.proofs.PlainLemmas.{plain_broadcasts, plain_network_messages, plain_tables}
 
 -- ---- tables of a port
 
@@ -69,7 +70,7 @@ no_sender : (format : Format) (from : BipAddr) → names_stations format ≡ fal
 no_sender format from e = rw e refl
 
 link_asks_as_before : (format : Format) (port : Port) (from : BipAddr) (frame : Frame) → names_stations format ≡ false
-    → link_asks format port from frame ≡ link_asks_before port from frame
+    → plain_link_asks format port from frame ≡ link_asks_before port from frame
 unfolding asks_of_stations
 link_asks_as_before format port from frame e =
     ap (λ (sender : Option ℕ). asks_of_stations port from frame sender (deleted_station format frame)) (no_sender format from e)
@@ -85,16 +86,20 @@ answered rules state from frame asks = record {
 }
 
 pub tables_are_as_before : TablesAreAsBefore
-unfolding answered link_answer link_change
-tables_are_as_before rules format on from frame e = ap (answered rules on from frame) (link_asks_as_before format on.port from frame e)
+unfolding answered
+tables_are_as_before rules format on from frame e manager =
+    plain_tables rules format on from frame manager ∙ ap (answered rules on from frame) (link_asks_as_before format on.port from frame e)
 
 -- ---- broadcasts
 
+plain_as_before : (rules : List Rule) (format : Format) (m : Message) → names_stations format ≡ false
+    → plain_cast_response rules format m ≡ cast_response_before rules m
+plain_as_before rules One m e = refl
+plain_as_before rules Two m e = refl
+plain_as_before rules Three m e = cc
+
 pub broadcasts_are_as_before : BroadcastsAreAsBefore
-unfolding cast_asks cast_sends
-broadcasts_are_as_before rules One m e = refl
-broadcasts_are_as_before rules Two m e = refl
-broadcasts_are_as_before rules Three m e = cc
+broadcasts_are_as_before rules format m e manager = plain_broadcasts rules format m manager ∙ plain_as_before rules format m e
 
 -- ---- routing
 
@@ -184,7 +189,7 @@ managed format rules relay m questions =
     }
 
 managed_as_before : (format : Format) (rules : List Rule) (relay : Relay) (m : Message) → names_stations format ≡ false
-    → manage_response rules (with_format format relay) m ≡ manage_response_before rules (with_format format relay) m
+    → plain_manage_response rules (with_format format relay) m ≡ manage_response_before rules (with_format format relay) m
 unfolding with_format managed
 managed_as_before One rules relay m e =
     ap (managed One rules relay m) (questions_as_before One relay m (payload_octets m.npdu.payload) e)
@@ -194,4 +199,5 @@ managed_as_before Three rules relay m e = cc
 
 pub network_messages_are_as_before : NetworkMessagesAreAsBefore
 unfolding with_format
-network_messages_are_as_before rules relay m e = managed_as_before relay.format rules relay m e
+network_messages_are_as_before rules relay m e announced =
+    plain_network_messages rules relay m announced ∙ managed_as_before relay.format rules relay m e

@@ -7,7 +7,7 @@ use Rattle.gw_tables.specs.bdt_fdt.History.{Act, Register, Delete, order_after, 
 use Rattle.gw_tables.specs.bdt_fdt.Registrations.{Registrations, contains, has_room, no_registration, with_registration, without}
 use Rattle.gw_tables.proofs.bdt_fdt_lemmas.Order.{table_deleted, table_later, table_registered}
 use Rattle.gw_relay.specs.History.{Acts, acts_after, acts_later, all_after, link_after, with_act}
-use Rattle.gw_relay.specs.Initial.{port_state}
+use Rattle.gw_relay.specs.Initial.{first_peers, port_state}
 use Rattle.gw_relay.specs.Laws.{ChangesExtendHistories, ConfiguredLinksStand, TicksExtendHistories}
 use Rattle.gw_relay.specs.State.{changed_at, changed_of, deleted, port_later, ports_after, registered}
 use Rattle.gw_relay.specs.declared.change.Change.{Change}
@@ -100,5 +100,5 @@ none_registered = refl
 pub configured_stand : ConfiguredLinksStand
 configured_stand number [] = refl
 configured_stand number (p ∷ ports) =
-    ap₂ (λ (fdt : Registrations) (states : List PortState). record { port = (port_state number p).port; stations = p.stations; bdt = p.peers; fdt = fdt } ∷ states)
+    ap₂ (λ (fdt : Registrations) (states : List PortState). record { port = (port_state number p).port; stations = p.stations; bdt = first_peers p; fdt = fdt } ∷ states)
     none_registered (configured_stand (number + 1) ports)

@@ -14,5 +14,8 @@ pub mod WayLemmas
 pub mod Claims
 pub mod NamedLemmas
 pub mod Entering
+pub mod AnnouncementLemmas
+pub mod PlainLemmas
 pub mod FormatLemmas
 pub mod Delivery
+pub mod NeighbourLemmas

@@ -1,10 +1,10 @@
 -- The tables of all states see the same ticks.
 use Rattle.std.proofs.Common.{◌≡◌, ◌∙◌, ap, refl, ℕ, zero, suc, ◌+◌, ◌-◌, Bool, true, false, List, [], ◌∷◌, map}
-use Rattle.std.specs.Prelude.{◌==◌, if◌then◌else◌}
+use Rattle.std.specs.Prelude.{◌==◌, if◌then◌else◌, is_some}
 use Rattle.std.specs.List.{AllByRecursion}
 use Rattle.gw_addr.specs.declared.bip.BipAddr.{BipAddr}
 use Rattle.gw_addr.specs.declared.entry.BdtEntry.{BdtEntry}
-use Rattle.gw_tables.specs.bdt_fdt.Registrations.{Registrations, contains, has_room, with_registration, without}
+use Rattle.gw_tables.specs.bdt_fdt.Registrations.{Registrations, contains, emptied, has_room, with_registration, without}
 use Rattle.gw_configuration.specs.declared.port.Port.{Port as ConfiguredPort}
 use Rattle.gw_tables.specs.declared.bdt_fdt.tables.PortTables.{PortTables}
 use Rattle.gw_relay.specs.Initial.{port_states_from, port_states_with}
@@ -22,7 +22,12 @@ pub with_alike : (ticks number : ℕ) (ports : List ConfiguredPort) (tables : Li
     → AllByRecursion (λ t. t.fdt.ticks ≡ ticks) tables → AreAlike ticks (port_states_with number ports tables)
 with_alike ticks number [] tables alike = tt
 with_alike ticks number (p ∷ ports) [] alike = tt
-with_alike ticks number (p ∷ ports) (t ∷ tables) alike = (alike.0, with_alike ticks (number + 1) ports tables alike.1)
+with_alike ticks number (p ∷ ports) (t ∷ tables) alike =
+    (by (is_some p.bbmd) ∙ alike.0, with_alike ticks (number + 1) ports tables alike.1)
+  where
+    by : (b : Bool) → (if b then emptied t.fdt else t.fdt).ticks ≡ t.fdt.ticks
+    by true = refl
+    by false = refl
 
 pub later_alike : (ticks : ℕ) (states : List PortState) → AreAlike ticks states → AreAlike (ticks + 1) (map port_later states)
 later_alike ticks [] alike = tt

@@ -17,6 +17,7 @@ use Rattle.gw_rules.specs.declared.operation.Operation.{Operation}
 use Rattle.gw_rules.specs.declared.operation.Operation.TheVariants as operations
 use Rattle.gw_rules.specs.declared.service.Service.TheVariants.{BvllFunction, NetworkMessage}
 use Rattle.gw_relay.specs.Message.{Message}
+use Rattle.gw_relay.specs.State.{is_manager}
 use Rattle.gw_relay.specs.declared.port.Port.{Port}
 
 -- ---- the stations of a message, which asks have where the format names stations
@@ -63,9 +64,11 @@ link_ask format port from frame operation = record (ask_of operation) {
   station = deleted_station format frame;
 }
 
+-- one ask, unless another broadcast manager is beside the port: then the port has no tables
 abbrev pub link_asks : Format → Port → BipAddr → Frame → List Ask
 link_asks format port from frame =
-    option_map_or (λ operation. link_ask format port from frame operation ∷ []) (management_of frame) []
+    option_map_or (λ operation. if is_manager port then link_ask format port from frame operation ∷ [] else [])
+    (management_of frame) []
 
 -- ---- a message that is passed on (Annex J.4, J.5; clause 6.5)
 

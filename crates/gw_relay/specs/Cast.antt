@@ -6,6 +6,7 @@ use Rattle.std.specs.Int.{w8, bit_not}
 use Rattle.std.specs.Int.RustNames.{bit_or}
 use Rattle.std.specs.List.{list_all, list_any}
 use Rattle.std.specs.Map.{keys_of}
+use Rattle.std.specs.Option.{option_map_or}
 use Rattle.gw_addr.specs.declared.bip.BipAddr.{BipAddr}
 use Rattle.gw_addr.specs.declared.entry.BdtEntry.{BdtEntry}
 use Rattle.gw_tables.specs.bdt_fdt.Peers.{all_ones, is_of, own_mask, peers}
@@ -25,6 +26,7 @@ use Rattle.gw_relay.specs.Message.{Message}
 use Rattle.gw_relay.specs.Named.{named_asks}
 use Rattle.gw_relay.specs.Response.{Response}
 use Rattle.gw_relay.specs.Sends.{Sending, sent}
+use Rattle.gw_relay.specs.State.{is_manager}
 use Rattle.gw_relay.specs.declared.port.PortState.{PortState}
 
 -- ---- whom a port's broadcasts go to
@@ -79,17 +81,22 @@ passed_on from other = other
 
 -- ---- whether it is distributed
 
--- A Forwarded-NPDU is heard from a peer alone, and not if the port itself is its originator
+-- who may forward broadcasts to a port: its peers, or the broadcast manager beside it alone (ours)
+abbrev pub is_forwarder : PortState → BipAddr → Bool
+is_forwarder state from =
+    option_map_or (same from) state.port.bbmd (list_any (is_of from) (peers state.port.address state.bdt))
+
+-- A Forwarded-NPDU is heard from such a one, and not if the port itself is its originator
 -- (ours). Any other frame is heard.
 abbrev pub accepts : PortState → BipAddr → Frame → Bool
 accepts state from (forwarded originator npdu) =
-    not (same originator state.port.address)
-    && list_any (is_of from) (peers state.port.address state.bdt)
+    not (same originator state.port.address) && is_forwarder state from
 accepts state from other = true
 
--- Distribute-Broadcast-To-Network is for registered foreign devices (Annex J.5).
+-- Distribute-Broadcast-To-Network is for registered foreign devices (Annex J.5), and nobody is registered where
+-- another broadcast manager is beside the port.
 abbrev pub is_unregistered : PortState → BipAddr → Frame → Bool
-is_unregistered state from (distribute npdu) = not (contains state.fdt from)
+is_unregistered state from (distribute npdu) = not (is_manager state.port && contains state.fdt from)
 is_unregistered state from other = false
 
 -- whether a frame goes on to the network layer
@@ -103,6 +110,10 @@ is_broadcast (distribute npdu) = true
 is_broadcast (original_broadcast npdu) = true
 is_broadcast other = false
 
+-- a broadcast that is to be distributed: by a port that is the broadcast manager of its subnet
+abbrev pub is_carried : PortState → Frame → Bool
+is_carried state frame = is_manager state.port && is_broadcast frame
+
 -- the ask of a broadcast
 abbrev pub cast_ask : Format → Message → Ask
 cast_ask format m = passing_ask format Cast m (bound_for m.npdu)
@@ -115,17 +126,20 @@ carried_asks format m =
 
 unfoldable pub cast_asks : Format → Message → List Ask
 cast_asks format m =
-    if goes_on m.here m.from m.frame && is_broadcast m.frame
+    if goes_on m.here m.from m.frame && is_carried m.here m.frame
     then cast_ask format m ∷ carried_asks format m else []
 
--- The sends of a broadcast: one message to all its targets if the policy allows all its asks. A
--- Distribute-Broadcast-To-Network of an unregistered sender, or that is denied, is refused by its code.
+-- The sends of a broadcast: one message to all its targets if the policy allows all its asks, and none from a port
+-- with another broadcast manager beside it. A Distribute-Broadcast-To-Network of an unregistered sender, or that is
+-- denied, is refused by its code.
 unfoldable pub cast_sends : List Rule → Format → Message → List Sending
 cast_sends rules format m =
     if not (accepts m.here m.from m.frame) then []
     else if is_unregistered m.here m.from m.frame || not (list_all (allows rules) (cast_asks format m))
     then map (answer_to m.here.port m.from) (refused m.frame)
-    else sent m.here.port.number (targets m.here m.from m.frame) (passed_on m.from m.frame)
+    else if is_manager m.here.port
+    then sent m.here.port.number (targets m.here m.from m.frame) (passed_on m.from m.frame)
+    else []
 
 -- what distribution answers
 abbrev pub cast_response : List Rule → Format → Message → Response

@@ -23,12 +23,13 @@ use Rattle.gw_rules.specs.declared.operation.Operation.TheVariants.{Cast, Route,
 use Rattle.gw_rules.specs.declared.rule.Rule.{Rule}
 use Rattle.gw_rules.specs.declared.service.Service.TheVariants.{BvllFunction}
 use Rattle.gw_relay.specs.Asks.{bound_for, management_of, service_of}
-use Rattle.gw_relay.specs.Cast.{accepts, goes_on, is_broadcast, is_unregistered, passed_on, targets}
+use Rattle.gw_relay.specs.Cast.{is_broadcast, passed_on, targets}
 use Rattle.gw_relay.specs.Link.{answer_to, change_of, granted, is_granted, refused}
 use Rattle.gw_relay.specs.Manage.{answer_who_is_router, i_am_router, is_i_am_router, is_what_is_network_number}
 use Rattle.gw_relay.specs.Manage.{is_who_is_router, named_networks, network_number_is}
 use Rattle.gw_relay.specs.Message.{Message}
 use Rattle.gw_relay.specs.Named.{forward_asks}
+use Rattle.gw_relay.specs.Plain.{plain_accepts, plain_goes_on, plain_is_unregistered}
 use Rattle.gw_relay.specs.Response.{Response}
 use Rattle.gw_relay.specs.Route.{copy_to_port, forward, is_local, last_hop, leaves, others}
 use Rattle.gw_relay.specs.Sends.{Sending, sent}
@@ -79,13 +80,13 @@ message_ask_before operation m destination = record (ask_of operation) {
 
 abbrev pub cast_asks_before : Message → List Ask
 cast_asks_before m =
-    if goes_on m.here m.from m.frame && is_broadcast m.frame
+    if plain_goes_on m.here m.from m.frame && is_broadcast m.frame
     then message_ask_before Cast m (bound_for m.npdu) ∷ [] else []
 
 abbrev pub cast_sends_before : List Rule → Message → List Sending
 cast_sends_before rules m =
-    if not (accepts m.here m.from m.frame) then []
-    else if is_unregistered m.here m.from m.frame || not (list_all (allows rules) (cast_asks_before m))
+    if not (plain_accepts m.here m.from m.frame) then []
+    else if plain_is_unregistered m.here m.from m.frame || not (list_all (allows rules) (cast_asks_before m))
     then map (answer_to m.here.port m.from) (refused m.frame)
     else sent m.here.port.number (targets m.here m.from m.frame) (passed_on m.from m.frame)
 

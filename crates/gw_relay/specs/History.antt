@@ -11,7 +11,7 @@ use Rattle.gw_configuration.specs.declared.port.Port.{Port as ConfiguredPort}
 use Rattle.gw_tables.specs.routes.History.{history_with}
 use Rattle.gw_tables.specs.routes.History.{History as Learned}
 use Rattle.gw_tables.specs.routes.Table.{Table, route_by}
-use Rattle.gw_relay.specs.Initial.{port_of}
+use Rattle.gw_relay.specs.Initial.{first_peers, port_of}
 use Rattle.gw_relay.specs.State.{Move, Commit, changed_of}
 use Rattle.gw_relay.specs.State.{Tick as Later}
 use Rattle.gw_relay.specs.declared.change.Change.{Change}
@@ -51,7 +51,7 @@ ports_from number (p ∷ ports) = port_of number p ∷ ports_from (number + 1) p
 
 -- before any event
 abbrev pub initial_acts : ConfiguredPort → Acts
-initial_acts p = record { stations = p.stations; entries = p.peers; history = [] }
+initial_acts p = record { stations = p.stations; entries = first_peers p; history = [] }
 
 -- one act more, if it is granted
 abbrev pub with_act : Bool → Act → Acts → Acts

@@ -1,6 +1,7 @@
 -- A relay as it is configured.
-use Rattle.std.specs.Prelude.{ℕ, ◌+◌, List, [], ◌∷◌, ◌++◌, map}
-use Rattle.gw_tables.specs.bdt_fdt.Registrations.{no_registration}
+use Rattle.std.specs.Prelude.{ℕ, ◌+◌, if◌then◌else◌, List, [], ◌∷◌, ◌++◌, map, is_some}
+use Rattle.gw_addr.specs.declared.entry.BdtEntry.{BdtEntry}
+use Rattle.gw_tables.specs.bdt_fdt.Registrations.{emptied, no_registration}
 use Rattle.gw_tables.specs.declared.bdt_fdt.tables.PortTables.{PortTables}
 use Rattle.gw_configuration.specs.Configuration.{Configuration}
 use Rattle.gw_configuration.specs.declared.port.Port.{Port as ConfiguredPort}
@@ -18,14 +19,19 @@ port_of number p = record {
   network = p.network;
   address = p.address;
   broadcast = p.broadcast;
+  bbmd = p.bbmd;
 }
+
+-- the peers that a port starts with; it has none where another broadcast manager is beside it
+abbrev pub first_peers : ConfiguredPort → List BdtEntry
+first_peers p = if is_some p.bbmd then [] else p.peers
 
 -- a port with the peers that it starts with, where nobody is registered
 abbrev pub port_state : ℕ → ConfiguredPort → PortState
 port_state number p = record {
   port = port_of number p;
   stations = p.stations;
-  bdt = p.peers;
+  bdt = first_peers p;
   fdt = no_registration;
 }
 
@@ -46,6 +52,7 @@ routed_of r = (r.network, route_by r.port r.next)
 abbrev pub initial : Configuration → Relay
 initial c = record {
   format = c.format;
+  announce = c.announce;
   ports = port_states_from 1 c.ports;
   routes = table_of (direct_of c) (map routed_of c.routes) [];
   ticks = 0;
@@ -53,13 +60,13 @@ initial c = record {
 
 -- ---- a relay that goes on
 
--- a port of this number with tables that it had
+-- a port of this number with tables that it had; where another broadcast manager is beside it they are empty
 abbrev pub port_state_with : ℕ → ConfiguredPort → PortTables → PortState
 port_state_with number p t = record {
   port = port_of number p;
   stations = p.stations;
-  bdt = t.bdt;
-  fdt = t.fdt;
+  bdt = if is_some p.bbmd then [] else t.bdt;
+  fdt = if is_some p.bbmd then emptied t.fdt else t.fdt;
 }
 
 -- the ports with their numbers, counted on from one, each with the tables at its place
@@ -73,6 +80,7 @@ port_states_with number (p ∷ ports) (t ∷ tables) = port_state_with number p 
 abbrev pub resumed : Configuration → List PortTables → Routed → ℕ → Relay
 resumed c tables learned ticks = record {
   format = c.format;
+  announce = c.announce;
   ports = port_states_with 1 c.ports tables;
   routes = learned_by (table_of (direct_of c) (map routed_of c.routes) []) learned;
   ticks = ticks;

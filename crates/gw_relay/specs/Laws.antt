@@ -34,7 +34,7 @@ use Rattle.gw_relay.specs.Manage.{manage_asks, manage_change, manage_response}
 use Rattle.gw_relay.specs.Message.{Message}
 use Rattle.gw_relay.specs.Route.{reject, route_asks, route_response, route_sends}
 use Rattle.gw_relay.specs.Sends.{Sending}
-use Rattle.gw_relay.specs.State.{Commit, Relay, port_later, ports_after, moved}
+use Rattle.gw_relay.specs.State.{Commit, Relay, is_manager, port_later, ports_after, moved}
 use Rattle.gw_relay.specs.Stations.{belongs}
 use Rattle.gw_relay.specs.Steps.{unicast}
 use Rattle.gw_relay.specs.declared.change.Change.{Change}
@@ -179,17 +179,18 @@ NothingIsDeliveredOutside =
 
 -- ---- the first two formats
 
--- Where the format names no stations, every part is as it was before there was such a format, and nothing is asked
--- before a message is taken.
+-- Where the format names no stations, and so no port has another broadcast manager beside it and nothing is announced,
+-- every part is as it was before there was such a format, and nothing is asked before a message is taken.
 abbrev pub TablesAreAsBefore : Type 0
 TablesAreAsBefore =
     (rules : List Rule) (format : Format) (on : PortState) (from : BipAddr) (frame : Frame) →
-    names_stations format ≡ false →
+    names_stations format ≡ false → is_manager on.port ≡ true →
     link_response rules format on from frame ≡ link_response_before rules on from frame
 
 abbrev pub BroadcastsAreAsBefore : Type 0
 BroadcastsAreAsBefore =
     (rules : List Rule) (format : Format) (m : Message) → names_stations format ≡ false →
+    is_manager m.here.port ≡ true →
     cast_response rules format m ≡ cast_response_before rules m
 
 abbrev pub RoutingIsAsBefore : Type 0
@@ -200,6 +201,7 @@ RoutingIsAsBefore =
 abbrev pub NetworkMessagesAreAsBefore : Type 0
 NetworkMessagesAreAsBefore =
     (rules : List Rule) (relay : Relay) (m : Message) → names_stations relay.format ≡ false →
+    relay.announce ≡ false →
     manage_response rules relay m ≡ manage_response_before rules relay m
 
 abbrev pub EntryIsUnasked : Type 0

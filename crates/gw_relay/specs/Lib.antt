@@ -14,7 +14,10 @@ pub mod Cast
 pub mod Steps
 pub mod Route
 pub mod Manage
+pub mod Announcement
 pub mod Entry
+pub mod Plain
 pub mod FormatTwo
+pub mod Neighbours
 pub mod Laws
 pub mod internal

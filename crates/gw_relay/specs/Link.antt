@@ -1,6 +1,6 @@
 -- The frames that read or change a table of their port, and the answer to each (Annex J.2.1 to
 -- J.2.9, J.4, J.5).
-use Rattle.std.specs.Prelude.{Bool, true, not, ◌&&◌, ◌||◌, if◌then◌else◌, List, [], ◌∷◌, map, Option, Some, None}
+use Rattle.std.specs.Prelude.{Bool, true, not, ◌&&◌, ◌||◌, if◌then◌else◌, List, [], ◌∷◌, map, is_some, Option, Some, None}
 use Rattle.std.specs.List.{list_all}
 use Rattle.std.specs.Option.{option_map_or}
 use Rattle.gw_addr.specs.declared.bip.BipAddr.{BipAddr}
@@ -12,9 +12,10 @@ use Rattle.gw_frames.specs.bvll.Bvll.{Message as Frame}
 use Rattle.gw_rules.specs.RuleList.{allows}
 use Rattle.gw_rules.specs.declared.format.Format.{Format}
 use Rattle.gw_rules.specs.declared.rule.Rule.{Rule}
-use Rattle.gw_relay.specs.Asks.{link_asks}
+use Rattle.gw_relay.specs.Asks.{link_asks, management_of}
 use Rattle.gw_relay.specs.Response.{Response}
 use Rattle.gw_relay.specs.Sends.{Sending, sending}
+use Rattle.gw_relay.specs.State.{is_manager}
 use Rattle.gw_relay.specs.declared.change.Change.{Change}
 use Rattle.gw_relay.specs.declared.change.Change.TheVariants.{Entries, Registration, Deletion}
 use Rattle.gw_relay.specs.declared.port.PortState.{PortState}
@@ -48,10 +49,15 @@ change_of port from (register time_to_live) = Some (Registration port.number fro
 change_of port from (delete address) = Some (Deletion port.number address)
 change_of port from other = None
 
--- it is had if the policy allows it and it can be had
+-- a frame is for a table, and comes on a port that has none: another broadcast manager is beside it (ours)
+abbrev pub is_misplaced : Port → Frame → Bool
+is_misplaced port frame = is_some (management_of frame) && not (is_manager port)
+
+-- it is had if the port has the table, the policy allows it and it can be had
 abbrev pub link_grants : List Rule → Format → PortState → BipAddr → Frame → Bool
 link_grants rules format state from frame =
-    list_all (allows rules) (link_asks format state.port from frame) && is_granted state from frame
+    not (is_misplaced state.port frame)
+    && (list_all (allows rules) (link_asks format state.port from frame) && is_granted state from frame)
 
 -- an answer, which goes to the sender
 abbrev pub answer_to : Port → BipAddr → Frame → Sending

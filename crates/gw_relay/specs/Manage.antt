@@ -10,7 +10,7 @@ use Rattle.gw_frames.specs.declared.npdu.kind.MessageKind.TheVariants.{IAmRouter
 use Rattle.gw_frames.specs.declared.npdu.kind.MessageKind.TheVariants.{WhatIsNetworkNumber, WhoIsRouterToNetwork}
 use Rattle.gw_frames.specs.npdu.Npdu.{Address, Fields, payload_octets}
 use Rattle.gw_frames.specs.npdu.Numbers.{every_network}
-use Rattle.gw_tables.specs.routes.Table.{reachable_from, way}
+use Rattle.gw_tables.specs.routes.Table.{new_networks, reachable_from, route_by, way}
 use Rattle.gw_tables.specs.declared.routes.route.Way.{Way}
 use Rattle.gw_tables.specs.declared.routes.route.Way.TheVariants.{Port, Device, Router, Everywhere, Unknown}
 use Rattle.gw_rules.specs.Ask.{Ask}
@@ -26,6 +26,7 @@ use Rattle.gw_relay.specs.Sends.{Sending}
 use Rattle.gw_relay.specs.State.{Relay}
 use Rattle.gw_relay.specs.Steps.{Step, asks_of, broadcast, sends_of, step}
 use Rattle.gw_relay.specs.declared.change.Change.{Change}
+use Rattle.gw_relay.specs.declared.port.PortState.{PortState}
 use Rattle.gw_relay.specs.declared.change.Change.TheVariants.{Learnings}
 
 -- ---- networks in the octets of a message, each two octets (6.4.1, 6.4.2)
@@ -157,13 +158,32 @@ manage_steps relay m = if is_i_am_router m.npdu then learn_steps relay.format m 
 abbrev pub manage_asks : Relay → Message → List Ask
 manage_asks relay m = asks_of (manage_steps relay m)
 
--- its sends
-abbrev pub manage_sends : List Rule → Relay → Message → List Sending
-manage_sends rules relay m = sends_of rules (manage_steps relay m)
-
 -- the networks that the policy lets be learned
 abbrev pub keep_allowed : List Rule → Format → Message → List ℕ → List ℕ
 keep_allowed rules format m networks = filter (λ n. allows rules (learn_ask format m n)) networks
+
+-- ---- what is announced of it onward (6.6.3.3)
+
+-- the networks that the table of routes learns of it for the first time
+abbrev pub first_learned : List Rule → Relay → Message → List ℕ
+first_learned rules relay m =
+    new_networks relay.routes (keep_allowed rules relay.format m (named_networks m)) (route_by m.here.port.number m.link)
+
+-- networks are announced on each port but that of a number; if there is none nothing is sent
+abbrev pub announced_but : ℕ → List PortState → List ℕ → List Sending
+announced_but number ports networks =
+    if length networks == 0 then [] else flat_map (broadcast (i_am_router networks)) (others number ports)
+
+-- Where networks are announced, those that are learned for the first time are, on each other port. One that moves to
+-- another port or router isn't (ours): two gateways between two networks would pass it on without end.
+unfoldable pub onward_sends : List Rule → Relay → Message → List Sending
+onward_sends rules relay m =
+    if relay.announce && is_i_am_router m.npdu
+    then announced_but m.here.port.number relay.ports (first_learned rules relay m) else []
+
+-- its sends
+abbrev pub manage_sends : List Rule → Relay → Message → List Sending
+manage_sends rules relay m = sends_of rules (manage_steps relay m) ++ onward_sends rules relay m
 
 -- its change: they are reached by the port, and the link source is the next router
 abbrev pub manage_change : List Rule → Relay → Message → Option Change

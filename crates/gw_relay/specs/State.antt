@@ -1,7 +1,7 @@
--- What a relay keeps between two events: the format of the policy, each port with its two tables, the
--- routes, and the ticks.
+-- What a relay keeps between two events: the format of the policy, whether networks are announced, each port with its
+-- two tables, the routes, and the ticks.
 use Rattle.std.specs.Prelude.{ℕ, zero, suc, ◌+◌, ◌-◌, ◌==◌, Bool, true, false, if◌then◌else◌, List, [], ◌∷◌, map}
-use Rattle.std.specs.Prelude.{slice_get, Option, Some, None}
+use Rattle.std.specs.Prelude.{slice_get, not, is_some, Option, Some, None}
 use Rattle.std.specs.Option.{option_map_or}
 use Rattle.gw_addr.specs.declared.bip.BipAddr.{BipAddr}
 use Rattle.gw_tables.specs.bdt_fdt.Registrations.{Registrations, contains, has_room, with_registration, with_tick, without}
@@ -9,13 +9,19 @@ use Rattle.gw_tables.specs.routes.Table.{Table, route_by, with_each}
 use Rattle.gw_rules.specs.declared.format.Format.{Format}
 use Rattle.gw_relay.specs.declared.change.Change.{Change}
 use Rattle.gw_relay.specs.declared.change.Change.TheVariants.{Entries, Registration, Deletion, Learnings}
+use Rattle.gw_relay.specs.declared.port.Port.{Port}
 use Rattle.gw_relay.specs.declared.port.PortState.{PortState}
 
 pub record Relay : Type 0 where
   pub format : Format
+  pub announce : Bool
   pub ports : List PortState
   pub routes : Table
   pub ticks : ℕ
+
+-- a port is the broadcast manager of its subnet: no other one is beside it
+abbrev pub is_manager : Port → Bool
+is_manager port = not (is_some port.bbmd)
 
 -- the state of the port of a number, counted from 1
 abbrev pub port_at : List PortState → ℕ → Option PortState

@@ -9,7 +9,7 @@ ghost use Rattle.gw_frames.specs.bvll.Bvll.{forwarded};
 ghost use Rattle.gw_frames.specs.bvll.Bvll.{view as frame_view};
 ghost use Rattle.gw_rules.specs.declared.rule.Rule.{Rule};
 ghost use Rattle.gw_relay.specs.Cast.{cast_asks, cast_response, devices, devices_but, directed, goes_on};
-ghost use Rattle.gw_relay.specs.Cast.{is_broadcast, accepts, is_unregistered, managers, passed_on, spread, subnet};
+ghost use Rattle.gw_relay.specs.Cast.{is_broadcast, is_carried, is_forwarder, accepts, is_unregistered, managers, passed_on, spread, subnet};
 ghost use Rattle.gw_relay.specs.Cast.{targets};
 ghost use Rattle.gw_relay.specs.Link.{answer_to, refused};
 ghost use Rattle.gw_relay.specs.Message.{message_view};
@@ -78,16 +78,26 @@ fn no_targets(alloc: Global, count: usize) -> Result<Vec<BipAddr>, AllocError>
 }
 
 impl PortState {
-    /// Whether a frame is heard: a Forwarded-NPDU is from a peer alone, and not if the port
-    /// itself is its originator (Annex J.4).
+    /// Whether a frame is heard: a Forwarded-NPDU is from a peer alone, or from the broadcast manager beside the port
+    /// alone if there is one, and not if the port itself is its originator (Annex J.4).
     pub fn accepts(&self, from: BipAddr, frame: &Bvll<'_>) -> bool
         ensures { result ≡ accepts self.now from (frame_view frame.now) }
     {
         match frame {
             Bvll::Forwarded { originator, .. } => {
-                *originator != self.port.address && self.is_peer(from)
+                *originator != self.port.address && self.is_forwarder(from)
             }
             _ => true,
+        }
+    }
+
+    /// Whether an address may forward broadcasts to the port: that of a peer, or of the broadcast manager beside it.
+    fn is_forwarder(&self, address: BipAddr) -> bool
+        ensures { result ≡ is_forwarder self.now address }
+    {
+        match self.port.bbmd {
+            Some(manager) => address == manager,
+            None => self.is_peer(address),
         }
     }
 
@@ -105,12 +115,12 @@ impl PortState {
     }
 
     /// Whether a frame is a Distribute-Broadcast-To-Network of someone who isn't registered (Annex
-    /// J.5).
+    /// J.5), as nobody is where another broadcast manager is beside the port.
     pub fn is_unregistered(&self, from: BipAddr, frame: &Bvll<'_>) -> bool
         ensures { result ≡ is_unregistered self.now from (frame_view frame.now) }
     {
         match frame {
-            Bvll::Distribute(_) => !self.fdt.contains(from),
+            Bvll::Distribute(_) => !(self.port.is_manager() && self.fdt.contains(from)),
             _ => false,
         }
     }
@@ -120,6 +130,13 @@ impl PortState {
         ensures { result ≡ goes_on self.now from (frame_view frame.now) }
     {
         self.accepts(from, frame) && !self.is_unregistered(from, frame)
+    }
+
+    /// Whether a frame is a broadcast that is to be distributed.
+    fn is_carried(&self, frame: &Bvll<'_>) -> bool
+        ensures { result ≡ is_carried self.now (frame_view frame.now) }
+    {
+        self.port.is_manager() && is_broadcast(frame)
     }
 
     /// Adds the sends of a broadcast that was judged.
@@ -306,7 +323,8 @@ impl PortState {
 
 impl Relay {
     /// Distributes the broadcast that brought a message (Annex J.4, J.5): if the policy allows it,
-    /// one message goes to all peers and foreign devices that are due. What that gives is added to
+    /// one message goes to all peers and foreign devices that are due; where another broadcast manager is beside the
+    /// port, nothing is asked and nothing is distributed. What that gives is added to
     /// the turn. It answers whether the message goes on to the network layer: to routing, network
     /// messages and the device. It changes nothing. The only fault is want of memory, and then a part
     /// may be added.
@@ -357,7 +375,7 @@ impl Relay {
         ensures unasked { cast_asks self.now.format (message_view message.now) ≡ [] →
             turn.new ≡ turn.old }
     {
-        if !is_broadcast(message.frame) {
+        if !message.here.is_carried(message.frame) {
             return Ok(());
         }
         let is_allowed = self.authorize_cast(&mut turn.asker, message)?;

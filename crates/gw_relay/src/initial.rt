@@ -1,9 +1,10 @@
 //! A relay as it is configured, and one that goes on.
 
-ghost use Rattle.std.specs.Prelude.{◌≡◌, ◌≤◌, [], length, map, IsFalse, IfOk};
+ghost use Rattle.std.specs.Prelude.{◌≡◌, ◌≤◌, [], length, map, is_some, if◌then◌else◌, IsFalse, IfOk};
 ghost use Rattle.std.specs.List.{AllByRecursion};
 ghost use Rattle.gw_addr.specs.declared.TheConstants.{MAX_PORTS};
 ghost use Rattle.gw_tables.specs.bdt_fdt.Peers.{has_twice};
+ghost use Rattle.gw_tables.specs.bdt_fdt.Registrations.{emptied};
 ghost use Rattle.gw_tables.specs.routes.Table.{table_of};
 ghost use Rattle.gw_relay.specs.Initial.{direct_of, port_state, port_state_with, port_states_from, port_states_with, routed_of};
 
@@ -59,7 +60,19 @@ pub(crate) fn port_states_with(
     Ok(states)
 }
 
-/// A port of this number with these tables.
+/// The tables that a port goes on with: empty ones where another broadcast manager is beside it.
+fn tables_for(alloc: Global, port: &ConfiguredPort, tables: PortTables) -> PortTables
+    ensures bdt { result.bdt ≡ (if is_some port.now.bbmd then [] else tables.bdt) }
+    ensures fdt { result.fdt ≡ (if is_some port.now.bbmd then emptied tables.fdt else tables.fdt) }
+{
+    if port.bbmd.is_some() {
+        tables.emptied(alloc)
+    } else {
+        tables
+    }
+}
+
+/// A port of this number with these tables, or empty ones where another broadcast manager is beside it.
 fn port_state_with(
     alloc: Global,
     number: u8,
@@ -69,13 +82,14 @@ fn port_state_with(
     ensures { IfOk result (λ state. state ≡ port_state_with number port.now tables) }
 {
     let stations = port.stations.copy(alloc)?;
-    let (bdt, fdt) = tables.into_parts();
+    let (bdt, fdt) = tables_for(alloc, port, tables).into_parts();
     Ok(PortState {
         port: Port {
             number,
             network: port.network,
             address: port.address,
             broadcast: port.broadcast,
+            bbmd: port.bbmd,
         },
         stations,
         bdt,

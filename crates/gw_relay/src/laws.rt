@@ -10,6 +10,11 @@ ghost use Rattle.gw_relay.specs.Laws.{OwnStationsEnterUnasked, RoutersEnterUnask
 ghost use Rattle.gw_relay.specs.Laws.{RoutingCarriesTheClaim, RoutingIsAsBefore, SenderIsLeftOut};
 ghost use Rattle.gw_relay.specs.Laws.{StrangersAreKeptOut, TableAsksReadNothing, TablesAreAsBefore, TablesAreKept};
 ghost use Rattle.gw_relay.specs.Laws.{TicksExtendHistories};
+ghost use Rattle.gw_relay.specs.Neighbours.{AnnouncementsEnd, AreBareAtFirst, AreBareResumed, BareBroadcasts, EachIsAnnouncedOnce};
+ghost use Rattle.gw_relay.specs.Neighbours.{LearningStaysBare, NoTablesBeside, NothingIsDistributedBeside};
+ghost use Rattle.gw_relay.specs.Neighbours.{NothingLearnedNothingSent, OnwardIsFirstLearned, OnwardIsGranted};
+ghost use Rattle.gw_relay.specs.Neighbours.{OnwardLeavesThePort, PlainBroadcasts, PlainNetworkMessages, PlainTables};
+ghost use Rattle.gw_relay.specs.Neighbours.{TablesStayBare, TicksStayBare};
 
 /// The ports' tables are those of the last granted entries, and of the granted registrations and
 /// deletions and the ticks: so they begin, and each change and each tick extends that.
@@ -70,4 +75,38 @@ pub fn formats()
     ensures routing { RoutingIsAsBefore }
     ensures network_messages { NetworkMessagesAreAsBefore }
     ensures entry { EntryIsUnasked }
+{}
+
+/// Without another broadcast manager beside a port, and where nothing is announced, the relay asks and does what it did
+/// before a port could have one, and before networks were announced.
+pub fn plain()
+    ensures tables { PlainTables }
+    ensures broadcasts { PlainBroadcasts }
+    ensures network_messages { PlainNetworkMessages }
+{}
+
+/// A port beside another broadcast manager has no tables and distributes nothing: frames for its tables are refused
+/// without an ask, whatever is granted it has no peer and no foreign device, and a broadcast by the gateway on it goes to
+/// its subnet alone.
+pub fn beside_managers()
+    ensures tables { NoTablesBeside }
+    ensures broadcasts { NothingIsDistributedBeside }
+    ensures first { AreBareAtFirst }
+    ensures resumed { AreBareResumed }
+    ensures granted { TablesStayBare }
+    ensures learned { LearningStaysBare }
+    ensures ticks { TicksStayBare }
+    ensures spread { BareBroadcasts }
+{}
+
+/// What is announced onward: on each port but that of the message, networks that an ask to learn was granted for and that
+/// the table didn't know, and nothing if there is none. So announcements end in a plant of any shape: each gateway announces
+/// a network onward once, however often it hears of it.
+pub fn announcements()
+    ensures elsewhere { OnwardLeavesThePort }
+    ensures granted { OnwardIsGranted }
+    ensures nothing { NothingLearnedNothingSent }
+    ensures learned { OnwardIsFirstLearned }
+    ensures end { AnnouncementsEnd }
+    ensures once { EachIsAnnouncedOnce }
 {}

@@ -5,6 +5,7 @@
 //! asks, and at most one [`Change`]. It changes nothing then; [`Relay::commit`] makes the change whole.
 #![tactic(auto)]
 
+mod announcement;
 mod ask;
 mod cast;
 mod change;

@@ -1,6 +1,6 @@
 //! The frames that read or change a table of their port (Annex J.2, J.4, J.5).
 
-ghost use Rattle.std.specs.Prelude.{◌≡◌, ◌||◌, ◌++◌, ◌∷◌, [], List, not, map, IfOk, IsOk, OnErr, OnOk, if◌then◌else◌, Some, None};
+ghost use Rattle.std.specs.Prelude.{◌≡◌, ◌||◌, ◌++◌, ◌∷◌, [], false, List, not, map, IfOk, IsOk, OnErr, OnOk, if◌then◌else◌, Some, None};
 ghost use Rattle.gw_addr.specs.Entry.{bdt_entry};
 ghost use Rattle.gw_tables.specs.bdt_fdt.Peers.{are_too_many, has_twice};
 ghost use Rattle.gw_tables.specs.bdt_fdt.Registrations.{contains, has_room};
@@ -8,7 +8,7 @@ ghost use Rattle.gw_frames.specs.bvll.Bvll.{view};
 ghost use Rattle.gw_frames.specs.bvll.Entries.{lent};
 ghost use Rattle.gw_rules.specs.declared.rule.Rule.{Rule};
 ghost use Rattle.gw_relay.specs.Asks.{link_asks};
-ghost use Rattle.gw_relay.specs.Link.{answer_to, change_of, granted, is_granted, link_response, refused};
+ghost use Rattle.gw_relay.specs.Link.{answer_to, change_of, granted, is_granted, is_misplaced, link_response, refused};
 ghost use Rattle.gw_relay.specs.Turn.{IsWalked};
 ghost use Rattle.gw_relay.specs.Sends.{sending};
 ghost use Rattle.gw_relay.specs.internal.Grants.{granted_change};
@@ -38,9 +38,10 @@ enum Grant {
 
 impl Relay {
     /// Answers a frame that reads or changes a table of the port that it came on (Annex J.2, J.4,
-    /// J.5): the policy is asked once, and the answer goes to the sender. A frame of another kind
-    /// asks nothing and gets no answer. What that gives is added to the turn. It changes nothing. The
-    /// only fault is want of memory, and then a part may be added; what asks nothing wants none.
+    /// J.5): the policy is asked once, and the answer goes to the sender. Where another broadcast manager is beside the
+    /// port, it is refused without an ask. A frame of another kind asks nothing and gets no answer. What that gives is
+    /// added to the turn. It changes nothing. The only fault is want of memory, and then a part may be added; what asks
+    /// nothing and isn't refused so wants none.
     pub fn link<A: Asker>(
         &self,
         message: &TableMessage<'_>,
@@ -53,14 +54,20 @@ impl Relay {
         ensures stays { (rules : List Rule) → A.StandsFor turn.old.asker rules →
             A.StandsFor turn.new.asker rules }
         ensures silent { let m = message.now in
-            link_asks self.now.format m.here.now.port m.from (view m.frame.now) ≡ [] → IsOk result }
+            link_asks self.now.format m.here.now.port m.from (view m.frame.now) ≡ [] →
+            is_misplaced m.here.now.port (view m.frame.now) ≡ false → IsOk result }
         ensures unasked { let m = message.now in
-            link_asks self.now.format m.here.now.port m.from (view m.frame.now) ≡ [] → turn.new ≡ turn.old }
+            link_asks self.now.format m.here.now.port m.from (view m.frame.now) ≡ [] →
+            is_misplaced m.here.now.port (view m.frame.now) ≡ false → turn.new ≡ turn.old }
     {
         let (here, from, frame) = (message.here, message.from, message.frame);
         let Some(operation) = management_of(frame) else {
             return Ok(());
         };
+        if !here.port.is_manager() {
+            here.add_refusal(from, frame, &mut turn.sends)?;
+            return Ok(());
+        }
         let ask = link_ask(self.format(), &here.port, from, frame, operation);
         let is_allowed = turn.asker.authorize(&ask)?;
         let change = here.add_table_answer(from, frame, is_allowed, &mut turn.sends)?;

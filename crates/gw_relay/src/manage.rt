@@ -4,7 +4,7 @@
 ghost use Rattle.std.specs.Prelude.{◌≡◌, ◌++◌, ◌∷◌, [], List, map, nat_le, true, false, None, IfOk, IsOk, OnErr, OnOk};
 ghost use Rattle.gw_frames.specs.npdu.Npdu.{view as npdu_view};
 ghost use Rattle.gw_rules.specs.declared.rule.Rule.{Rule};
-ghost use Rattle.gw_relay.specs.Manage.{answer_steps, answer_who_is_router, are_networks, is_for_all, is_i_am_router};
+ghost use Rattle.gw_relay.specs.Manage.{announced_but, answer_steps, answer_who_is_router, are_networks, is_for_all, is_i_am_router};
 ghost use Rattle.gw_relay.specs.Manage.{is_what_is_network_number, is_who_is_router, i_am_router, keep_allowed};
 ghost use Rattle.gw_relay.specs.Manage.{learn_ask, manage_asks, manage_response, network_number_is, network_octets};
 ghost use Rattle.gw_relay.specs.Manage.{networks_in, number_step, question_of, question_of_all, question_steps};
@@ -12,7 +12,7 @@ ghost use Rattle.gw_relay.specs.Message.{message_view};
 ghost use Rattle.gw_relay.specs.Turn.{IsWalked};
 ghost use Rattle.gw_relay.specs.Route.{made};
 ghost use Rattle.gw_relay.specs.Steps.{asks_of, broadcast};
-ghost use Rattle.gw_relay.specs.internal.Serving.{learn_response};
+ghost use Rattle.gw_relay.specs.internal.Serving.{learn_response, onward_of};
 ghost use Rattle.gw_relay.specs.internal.Taken.{AreTaken};
 ghost use Rattle.gw_frames.specs.npdu.Kind.{kind_number};
 
@@ -22,6 +22,7 @@ use crate::npdu::{is_kind, message_of};
 use crate::outgoing::Outgoing;
 use crate::port::PortState;
 use crate::relay::Relay;
+use crate::route::add_on_others;
 use crate::sends::Sends;
 use crate::turn::Turn;
 use gw_addr::{NetNum, Sequence, put_number};
@@ -113,7 +114,11 @@ impl PortState {
     }
 
     /// Broadcasts an I-Am-Router-To-Network for these networks (clause 6.4.2).
-    fn add_i_am_router(&self, networks: &[NetNum], sends: &mut Sends) -> Result<(), AllocError>
+    pub(crate) fn add_i_am_router(
+        &self,
+        networks: &[NetNum],
+        sends: &mut Sends,
+    ) -> Result<(), AllocError>
         ensures { let sent = broadcast (i_am_router networks.now) self.now in
             OnOk result (sends.new ≡ sends.old ++ sent) }
     {
@@ -192,29 +197,68 @@ impl Message<'_> {
         }
         self.keep_allowed(format, rest, networks, asker)
     }
+}
 
-    /// Asks for each network that a router names, and keeps those to be committed that may be learned.
-    fn learn<A: Asker>(&self, format: Format, turn: &mut Turn<A>) -> Result<(), AllocError>
-        requires { is_i_am_router (message_view self.now).npdu ≡ true }
+impl Relay {
+    /// Announces networks that may be learned of a message on each other port, if networks are announced: those that are
+    /// learned for the first time (clause 6.6.3.3).
+    fn add_onward(
+        &self,
+        message: &Message<'_>,
+        networks: &[NetNum],
+        sends: &mut Sends,
+    ) -> Result<(), AllocError>
+        ensures { let sent = onward_of self.now (message_view message.now) networks.now in
+            OnOk result (sends.new ≡ sends.old ++ sent) }
+    {
+        if !self.announces() {
+            return Ok(());
+        }
+        let learned = self.routes().new_networks(sends.alloc(), networks)?;
+        self.add_announced(message.here.port.number, learned.as_slice(), sends)
+    }
+
+    /// Announces networks on each port but that of this number. If there is none nothing is sent.
+    fn add_announced(
+        &self,
+        number: u8,
+        networks: &[NetNum],
+        sends: &mut Sends,
+    ) -> Result<(), AllocError>
+        ensures { let sent = announced_but number self.now.ports networks.now in
+            OnOk result (sends.new ≡ sends.old ++ sent) }
+    {
+        if networks.is_empty() {
+            return Ok(());
+        }
+        let mut octets = Vec::new(sends.alloc());
+        put_networks(networks, &mut octets)?;
+        let announced = message_of(MessageKind::IAmRouterToNetwork, octets.as_slice());
+        add_on_others(self.ports(), number, &announced, sends)
+    }
+
+    /// Asks for each network that a router names, and keeps those to be committed that may be learned. Those that are
+    /// new are announced onward.
+    fn learn<A: Asker>(&self, message: &Message<'_>, turn: &mut Turn<A>) -> Result<(), AllocError>
+        requires { is_i_am_router (message_view message.now).npdu ≡ true }
         ensures turn { (rules : List Rule) → A.StandsFor turn.old.asker rules →
-            let due = learn_response rules format (message_view self.now) in
+            let due = learn_response rules self.now (message_view message.now) in
             OnOk result (IsWalked A.kept A.kept_of rules due turn.old turn.new) }
         ensures stays { (rules : List Rule) → A.StandsFor turn.old.asker rules →
             A.StandsFor turn.new.asker rules }
     {
         let mut networks = Sequence::new(turn.alloc());
-        let octets = self.npdu.payload.octets();
-        self.keep_allowed(format, octets, &mut networks, &mut turn.asker)?;
+        let octets = message.npdu.payload.octets();
+        message.keep_allowed(self.format(), octets, &mut networks, &mut turn.asker)?;
+        self.add_onward(message, networks.as_slice(), &mut turn.sends)?;
         turn.set_change(Some(Change::Learnings {
-            port: self.here.port.number,
-            next: self.link(),
+            port: message.here.port.number,
+            next: message.link(),
             networks,
         }));
         Ok(())
     }
-}
 
-impl Relay {
     /// Passes a question for a network on to the other ports' routers, with who asked.
     fn forward_who_is_router(
         &self,
@@ -356,7 +400,7 @@ impl Relay {
 
     /// Answers a network layer message (clause 6.4): a Who-Is-Router-To-Network and a
     /// What-Is-Network-Number get an answer, and of an I-Am-Router-To-Network each network that the
-    /// policy allows is to be learned. What that gives is added to the turn. It changes nothing. The
+    /// policy allows is to be learned, and announced onward if it is new. What that gives is added to the turn. It changes nothing. The
     /// only fault is want of memory, and then a part may be added; what asks nothing wants none.
     pub fn manage<A: Asker>(
         &self,
@@ -372,7 +416,7 @@ impl Relay {
         ensures unasked { manage_asks self.now (message_view message.now) ≡ [] → turn.new ≡ turn.old }
     {
         if is_i_am_router(message.npdu) {
-            return message.learn(self.format(), turn);
+            return self.learn(message, turn);
         }
         self.add_by_type(message, turn)
     }

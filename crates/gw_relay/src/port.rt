@@ -2,7 +2,7 @@
 
 ghost use Rattle.std.specs.Prelude.{◌≡◌};
 ghost use Rattle.std.specs.Option.{option_map};
-ghost use Rattle.gw_relay.specs.State.{port_at};
+ghost use Rattle.gw_relay.specs.State.{is_manager, port_at};
 
 use gw_addr::{BipAddr, NetNum};
 use gw_configuration::Stations;
@@ -19,6 +19,18 @@ pub struct Port {
     pub address: BipAddr,
     /// Where a broadcast on its subnet goes.
     pub broadcast: BipAddr,
+    /// The broadcast manager of its subnet, where that isn't the port itself.
+    pub bbmd: Option<BipAddr>,
+}
+
+impl Port {
+    /// Whether it is the broadcast manager of its subnet: no other one is beside it.
+    #[inline(always)]
+    pub fn is_manager(&self) -> bool
+        ensures { result ≡ is_manager self.now }
+    {
+        self.bbmd.is_none()
+    }
 }
 
 /// A port with the tables of its broadcast manager (Annex J.4, J.5).

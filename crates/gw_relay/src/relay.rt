@@ -23,9 +23,11 @@ use std::alloc::{AllocError, Global};
 use std::marker::Model;
 
 /// The ports of a gateway with their tables, the routes, and the format of its policy. Contracts see
-/// the format, the ports in order with their tables, the table of routes, and how many ticks have passed.
+/// the format, whether networks are announced, the ports in order with their tables, the table of routes, and how many
+/// ticks have passed.
 pub struct Relay {
     format: Format,
+    announces: bool,
     ports: Vec<PortState>,
     routes: Routes,
     ticks: u64,
@@ -36,6 +38,7 @@ impl Drop for Relay {
     fn drop(self) {
         let Relay {
             format: _,
+            announces: _,
             ports: _,
             routes: _,
             ticks: _,
@@ -51,6 +54,7 @@ impl Model for Relay {
 
     ghost view = { λ r. record {
       format = r.format;
+      announce = r.announces;
       ports = r.ports.items;
       routes = r.routes;
       ticks = r.ticks;
@@ -61,7 +65,7 @@ impl Model for Relay {
 
 impl Relay {
     /// A relay of this configuration, before any event: each port has the peers that it is
-    /// configured with, nobody is registered, and no route is learned. The only fault is want of
+    /// configured with, and none where another broadcast manager is beside it; nobody is registered, and no route is learned. The only fault is want of
     /// memory.
     pub fn new(alloc: Global, config: &Config) -> Result<Self, AllocError>
         ensures initial { IfOk result (λ relay. relay ≡ initial config.now) }
@@ -75,6 +79,7 @@ impl Relay {
         let routes = routes_of(alloc, config)?;
         Ok(Relay {
             format: config.format(),
+            announces: config.announces(),
             ports,
             routes,
             ticks: 0,
@@ -82,7 +87,7 @@ impl Relay {
     }
 
     /// A relay of this configuration that goes on: each port, in order, has the tables at its place,
-    /// which have seen so many ticks, and the routes are learned, each unless its network is direct
+    /// which have seen so many ticks, and empty ones where another broadcast manager is beside it; and the routes are learned, each unless its network is direct
     /// or configured, or the table is full. The only fault is want of memory.
     pub fn resume(
         alloc: Global,
@@ -101,6 +106,7 @@ impl Relay {
         routes.learn_by(learned)?;
         Ok(Relay {
             format: config.format(),
+            announces: config.announces(),
             ports,
             routes,
             ticks,
@@ -119,6 +125,13 @@ impl Relay {
         ensures { result ≡ self.now.format }
     {
         self.format
+    }
+
+    /// Whether networks are announced.
+    pub fn announces(&self) -> bool
+        ensures { result ≡ self.now.announce }
+    {
+        self.announces
     }
 
     /// The table of routes.

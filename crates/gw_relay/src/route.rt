@@ -160,7 +160,7 @@ impl Message<'_> {
 }
 
 /// Adds a message that the gateway makes as a broadcast on each port but that of this number.
-fn add_on_others(
+pub(crate) fn add_on_others(
     ports: &[PortState],
     number: u8,
     npdu: &Npdu<'_>,

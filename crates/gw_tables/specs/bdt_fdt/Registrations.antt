@@ -32,6 +32,10 @@ pub record Registrations : Type 0 where
 abbrev pub no_registration : Registrations
 no_registration = record { ticks = 0; rows = [] }
 
+-- the table once nobody is registered any more
+abbrev pub emptied : Registrations → Registrations
+emptied t = record t { rows = [] }
+
 -- an address is registered
 abbrev pub contains : Registrations → BipAddr → Bool
 contains t address = is_some (lookup (same address) t.rows)

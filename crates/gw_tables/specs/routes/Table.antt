@@ -4,7 +4,7 @@ use Rattle.std.specs.Prelude.{ℕ, ◌+◌, ◌-◌, ◌≤◌, ◌<◌, Bool, t
 use Rattle.std.specs.Prelude.{nat_lt, if◌then◌else◌, List, [], ◌∷◌, ◌++◌, length, map, filter, take, drop, position}
 use Rattle.std.specs.Prelude.{Option, is_some}
 use Rattle.std.specs.List.{list_any}
-use Rattle.std.specs.Map.{lookup}
+use Rattle.std.specs.Map.{keys_of, lookup}
 use Rattle.std.specs.Option.{option_map_or}
 use Rattle.gw_addr.specs.declared.bip.BipAddr.{BipAddr}
 use Rattle.gw_addr.specs.Station.{network_of}
@@ -134,6 +134,11 @@ with_granted t net route = if grants t net then with_learned t net route else t
 abbrev pub with_each : Table → List ℕ → Route → Table
 with_each t [] route = t
 with_each t (net ∷ nets) route = with_each (with_granted t net route) nets route
+
+-- the networks of a list that are learned for the first time once all of it was learned by one route: those that the
+-- table has after the ones that it had
+abbrev pub new_networks : Table → List ℕ → Route → List ℕ
+new_networks t nets route = keys_of (drop (length t.learned) (with_each t nets route).learned)
 
 -- the table once each network of a list was learned by its own route, one after the other, each if
 -- that is granted

@@ -6,7 +6,7 @@ ghost use Rattle.std.specs.Map.{keys_of};
 ghost use Rattle.std.specs.Iterator.{YieldsFirstRef, item_count};
 ghost use Rattle.gw_tables.specs.bdt_fdt.internal.Leases.{AreKept, lease_kept, table_at};
 ghost use Rattle.gw_tables.specs.bdt_fdt.internal.Iterators.{addresses_left};
-ghost use Rattle.gw_tables.specs.bdt_fdt.Registrations.{contains, has_room, no_registration, same, shown};
+ghost use Rattle.gw_tables.specs.bdt_fdt.Registrations.{contains, emptied, has_room, no_registration, same, shown};
 ghost use Rattle.gw_tables.specs.bdt_fdt.Registrations.{with_registration, with_tick, without};
 ghost use Rattle.gw_tables.specs.bdt_fdt.Kept.{are_restorable, kept, restored};
 ghost use Rattle.gw_tables.specs.bdt_fdt.History.{Delete, History, IsStateAfter, Register, Tick};
@@ -57,6 +57,16 @@ impl Fdt {
         Fdt {
             leases: Leases::new(alloc),
             ticks: 0,
+        }
+    }
+
+    /// The table once nobody is registered any more. It takes no memory.
+    pub fn emptied(self, alloc: Global) -> Self
+        ensures { result ≡ emptied self }
+    {
+        Fdt {
+            leases: Leases::new(alloc),
+            ticks: self.ticks,
         }
     }
 

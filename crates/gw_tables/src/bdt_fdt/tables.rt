@@ -1,8 +1,10 @@
 //! The two tables of a broadcast manager.
-ghost use Rattle.std.specs.Prelude.{◌≡◌};
+ghost use Rattle.std.specs.Prelude.{◌≡◌, []};
+ghost use Rattle.gw_tables.specs.bdt_fdt.Registrations.{emptied};
 
 use crate::bdt_fdt::bdt::Bdt;
 use crate::bdt_fdt::fdt::Fdt;
+use std::alloc::Global;
 
 /// The two tables of the broadcast manager of a port (Annex J.4, J.5).
 pub struct PortTables {
@@ -26,5 +28,17 @@ impl PortTables {
     {
         let PortTables { bdt, fdt } = self;
         (bdt, fdt)
+    }
+
+    /// The two tables without an entry: no peers, and nobody registered. They take no memory.
+    pub fn emptied(self, alloc: Global) -> PortTables
+        ensures bdt { result.bdt ≡ [] }
+        ensures fdt { result.fdt ≡ emptied self.fdt }
+    {
+        let (_, fdt) = self.into_parts();
+        PortTables {
+            bdt: Bdt::from_vec(Vec::new(alloc)).unwrap(),
+            fdt: fdt.emptied(alloc),
+        }
     }
 }

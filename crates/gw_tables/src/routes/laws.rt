@@ -2,7 +2,8 @@
 //! nothing: their contracts are the laws.
 ghost use Rattle.std.specs.Prelude.{◌≡◌};
 ghost use Rattle.gw_tables.specs.routes.Laws.{EachIsLearnedOnce, NamedAreLearned, PlacesAreKept};
-ghost use Rattle.gw_tables.specs.routes.Laws.{FixedWaysStay, LastLearningHolds};
+ghost use Rattle.gw_tables.specs.routes.Laws.{EachIsNewOnce, FixedWaysStay, LastLearningHolds};
+ghost use Rattle.gw_tables.specs.routes.Laws.{NewNetworksAreNamed, NewNetworksGoLast, NewNetworksWereUnknown};
 
 use crate::routes::{EVERYWHERE, MAX_ROUTES};
 
@@ -24,4 +25,13 @@ pub fn learned_networks()
 /// A learned route never takes the place of a direct network or of a configured route.
 pub fn fixed_ways()
     ensures { FixedWaysStay }
+{}
+
+/// What a table learns for the first time goes after what it had: networks of the list that it didn't know, each
+/// once.
+pub fn new_networks()
+    ensures last { NewNetworksGoLast }
+    ensures once { EachIsNewOnce }
+    ensures unknown { NewNetworksWereUnknown }
+    ensures named { NewNetworksAreNamed }
 {}

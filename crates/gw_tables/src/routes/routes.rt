@@ -3,12 +3,15 @@ ghost use Rattle.std.specs.Prelude.{◌≡◌, ◌+◌, ◌-◌, ◌≤◌, ◌<
 ghost use Rattle.std.specs.Prelude.{[], ℕ, List, length, count_by, position};
 ghost use Rattle.std.specs.Prelude.{true, false, is_some, nat_eq};
 ghost use Rattle.std.specs.Prelude.{IsTrue, IsOk, IfOk, OnOk, OnErr, IfSome, IsErrOf};
+ghost use Rattle.std.specs.List.{list_any};
 ghost use Rattle.std.specs.Map.{keys_of};
 ghost use Rattle.std.specs.Option.{option_or};
 ghost use Rattle.indexmap.specs.IndexMap.{get, spare, insert_entry, insert_all};
 ghost use Rattle.gw_tables.specs.routes.internal.Fixed.{IsWithinLimit, has_fixed, places, table_with};
+ghost use Rattle.gw_tables.specs.routes.internal.News.{is_found};
 ghost use Rattle.gw_tables.specs.routes.Table.{are_distinct, direct_but, routed_but};
 ghost use Rattle.gw_tables.specs.routes.Table.{grants, growth, has_room, is_fixed, is_full_for, is_new};
+ghost use Rattle.gw_tables.specs.declared.routes.route.Route.{Route};
 ghost use Rattle.gw_tables.specs.routes.Table.{learned_by, route_by, routes_held, with_each, with_granted, with_learned};
 
 use crate::routes::fault::LearnFault;
@@ -49,7 +52,7 @@ impl Model for Routes {
 }
 
 impl Routes {
-    ghost use Rattle.gw_tables.specs.routes.Table.{IsWayOf, Routed, reachable_from, way};
+    ghost use Rattle.gw_tables.specs.routes.Table.{IsWayOf, Routed, new_networks, reachable_from, way};
     ghost use Rattle.gw_tables.specs.routes.History.{History, IsStateAfter, history_by, history_with};
 
     /// A table of these direct networks, which are the ports' in order of ports and then the
@@ -183,6 +186,27 @@ impl Routes {
         self.fixed
             .learn_each(&mut self.learned, nets, Route { port, next });
         Ok(())
+    }
+
+    /// The networks of one I-Am-Router-To-Network that [`Routes::learn_all`] would learn for the first time, whatever
+    /// their router, in their order and each once. The only fault is want of memory for the list.
+    pub fn new_networks(&self, alloc: Global, nets: &[NetNum]) -> Result<Vec<NetNum>, AllocError>
+        ensures { (route : Route) → IfOk result (λ new. new.items ≡ new_networks self.now nets.now route) }
+    {
+        let mut found = Vec::new(alloc);
+        for net in nets {
+            if self.is_found(&found, *net) {
+                found.push(*net)?;
+            }
+        }
+        Ok(found)
+    }
+
+    /// Whether a network would be learned for the first time, after these that were found.
+    fn is_found(&self, found: &[NetNum], net: NetNum) -> bool
+        ensures { result ≡ is_found self.now found.now net }
+    {
+        found.len() < self.room() && self.fixed.is_new(&self.learned, net) && !is_among(found, net)
     }
 
     /// Learns each network by its own route, in order, as learned routes that were kept. One that is
@@ -373,6 +397,13 @@ fn in_order(
         map.insert(*net, *route)?;
     }
     Ok(map)
+}
+
+/// Whether a network is in a list.
+fn is_among(nets: &[NetNum], net: NetNum) -> bool
+    ensures { result ≡ list_any (nat_eq net) nets.now }
+{
+    nets.iter().any(|held| net == *held)
 }
 
 /// The place of a network in a list.
