@@ -268,3 +268,26 @@ alike_by (m ∷ moves) relay alike = alike_moved (Some m) (moved_by moves relay)
 pub ports_alike : (c : Configuration) (k : Counts) (h : List Event)
     → AreAlike (state_after c k h).relay.ticks (state_after c k h).relay.ports
 ports_alike c k h = alike_by (acts_of c k h).moves (initial c) (initial_alike 1 c.ports)
+
+-- whether networks are announced is as it is configured, whatever comes
+announce_moved : (m : Option Move) (relay : Relay) → (moved m relay).announce ≡ relay.announce
+announce_moved None relay = refl
+announce_moved (Some (move.Commit change)) relay = refl
+announce_moved (Some move.Tick) relay = refl
+
+announce_by : (moves : List Move) (relay : Relay) → (moved_by moves relay).announce ≡ relay.announce
+unfolding moved_by
+announce_by [] relay = refl
+announce_by (m ∷ moves) relay = announce_moved (Some m) (moved_by moves relay) ∙ announce_by moves relay
+
+pub announce_after : (c : Configuration) (k : Counts) (h : List Event) → (state_after c k h).relay.announce ≡ c.announce
+announce_after c k h = announce_by (acts_of c k h).moves (initial c)
+
+pub announce_next : (w : State) (e : Event) → (next w e).relay.announce ≡ w.relay.announce
+unfolding next
+announce_next w e = announce_moved (move_at w e) w.relay
+
+pub announce_stays : (w : State) (l : List Event) → (state_from w l).relay.announce ≡ w.relay.announce
+unfolding state_from
+announce_stays w [] = refl
+announce_stays w (e ∷ l) = announce_stays (next w e) l ∙ announce_next w e

@@ -1,5 +1,5 @@
 -- Where nothing is asked and nothing is sent, nothing is answered.
-use Rattle.std.proofs.Common.{◌≡◌, ℕ, ◌+◌, ◌≤◌, Bool, true, false, List, [], ◌∷◌, ◌++◌, length, length-append, Option, Some, None, Result, Ok, Err, refl, sym, ap, subst, ◌∙◌, arith}
+use Rattle.std.proofs.Common.{◌≡◌, ℕ, ◌+◌, ◌≤◌, Bool, true, false, not, ◌&&◌, map, List, [], ◌∷◌, ◌++◌, length, length-append, Option, Some, None, Result, Ok, Err, refl, sym, ap, subst, ◌∙◌, arith}
 use Rattle.std.specs.Prelude.{nat_le, is_some, ◌==◌, if◌then◌else◌}
 use Rattle.std.specs.Option.{option_map}
 use Rattle.std.proofs.lemmas.Bool.Decides.{nat_tests}
@@ -38,14 +38,19 @@ use Rattle.gw_device.specs.WhoHas.{object_response, sought_object, who_has_respo
 use Rattle.gw_device.specs.WhoIs.{is_within, who_is_response}
 use Rattle.gw_device.specs.Write.{write_response}
 use Rattle.gw_addr.specs.declared.bip.BipAddr.{BipAddr}
+use Rattle.gw_frames.specs.bvll.Bvll.{Message as Frame}
 use Rattle.gw_frames.specs.bvll.Bvll as bvll
+use Rattle.gw_rules.specs.declared.operation.Operation.{Operation}
+use Rattle.gw_relay.specs.Asks.{link_asks, management_of}
+use Rattle.gw_relay.specs.Link.{answer_to, is_misplaced, link_answer, refused}
+use Rattle.gw_relay.specs.declared.port.PortState.{PortState}
 use Rattle.gw_relay.specs.Sends.{sending}
-use Rattle.gw_relay.specs.State.{Relay}
+use Rattle.gw_relay.specs.State.{Relay, is_manager}
 use Rattle.gw_relay.specs.Steps.{npdu_octets, unicast}
-use Rattle.gw_relay.proofs.Asking.{unasked_change}
+use Rattle.gw_relay.proofs.Asking.{misplaced_answer, unasked_change}
 use Rattle.gw_relay.proofs.Learning.{unasked_learning}
 use Rattle.gw_core.specs.Asks.{apdu_asks, asks, asks_for, cast_asks_for, first_asks_for, manage_asks_for, message_asks, route_asks_for}
-use Rattle.gw_core.specs.Effects.{answer_sends, apdu_change, change_for, message_sends, relay_change_for, sends}
+use Rattle.gw_core.specs.Effects.{answer_sends, apdu_change, change_for, first_sends_for, message_sends, relay_change_for, sends, sends_for}
 use Rattle.gw_relay.specs.Message.{Message}
 use Rattle.gw_core.specs.Receive.{Received, barred, dropped, managed, unregistered, message}
 use Rattle.gw_core.specs.Reply.{apdu_for, context_of, reply_npdu, reply_sends, max_reply_apdu}
@@ -273,3 +278,38 @@ unchanged rules relay d (message m) none =
     let parts = five_empty (first_asks_for rules relay (message m)) (cast_asks_for relay (message m)) (route_asks_for relay (message m))
     (manage_asks_for relay (message m)) (message_asks rules relay.format d m) none in
     unasked_learning rules relay m parts.3
+
+-- ---- a frame for a table that the port doesn't have is refused, and so isn't silent
+
+refused_loud : (on : PortState) (from : BipAddr) (frame : Frame) (op : Operation) → management_of frame ≡ Some op
+    → map (answer_to on.port from) (refused frame) ≡ [] → ⊥
+refused_loud on from (bvll.result_code code) op is none = absurd cc
+refused_loud on from (bvll.write_bdt entries) op is none = absurd cc
+refused_loud on from bvll.read_bdt op is none = absurd cc
+refused_loud on from (bvll.read_bdt_ack entries) op is none = absurd cc
+refused_loud on from (bvll.forwarded originator octets) op is none = absurd cc
+refused_loud on from (bvll.register time_to_live) op is none = absurd cc
+refused_loud on from bvll.read_fdt op is none = absurd cc
+refused_loud on from (bvll.read_fdt_ack entries) op is none = absurd cc
+refused_loud on from (bvll.delete address) op is none = absurd cc
+refused_loud on from (bvll.distribute octets) op is none = absurd cc
+refused_loud on from (bvll.original_unicast octets) op is none = absurd cc
+refused_loud on from (bvll.original_broadcast octets) op is none = absurd cc
+
+placed_by : (rules : List Rule) (format : Format) (on : PortState) (from : BipAddr) (frame : Frame) (op : Option Operation)
+    → management_of frame ≡ op → (b : Bool) → is_manager on.port ≡ b → link_answer rules format on from frame ≡ []
+    → (is_some op && not b) ≡ false
+placed_by rules format on from frame None is b e none = refl
+placed_by rules format on from frame (Some op) is true e none = refl
+placed_by rules format on from frame (Some op) is false e none =
+    absurd (refused_loud on from frame op is (sym (misplaced_answer rules format on from frame op is e) ∙ none))
+
+-- what asks and sends nothing of such a frame was for a table of the port
+pub placed_silent : (rules : List Rule) (relay : Relay) (d : Database) (on : PortState) (from : BipAddr) (frame : Frame)
+    → asks_for rules relay d (managed on from frame) ≡ [] → sends_for rules relay d (managed on from frame) ≡ []
+    → (link_asks relay.format on.port from frame ≡ []) × (is_misplaced on.port frame ≡ false)
+placed_silent rules relay d on from frame asks sends = (
+  (five_empty (first_asks_for rules relay (managed on from frame)) [] [] [] [] asks).0,
+  placed_by rules relay.format on from frame (management_of frame) refl (is_manager on.port) refl
+      (five_empty (first_sends_for rules relay (managed on from frame)) [] [] [] [] sends).0,
+)

@@ -9,6 +9,6 @@ pub enum DropReason {
     Malformed,
     /// It names a source on a network of the gateway's own.
     OwnNetwork,
-    /// It is forwarded, and not by a peer (Annex J.4.5).
+    /// It is forwarded, and not by a peer (Annex J.4.5), nor by the broadcast manager beside the port.
     NoPeer,
 }

@@ -5,6 +5,7 @@ ghost use Rattle.std.specs.Prelude.{IsOk, IfOk, OnOk, OnErr, IsErrOf};
 ghost use Rattle.std.specs.Option.{option_map};
 ghost use Rattle.gw_addr.specs.declared.TheConstants.{MAX_PORTS};
 ghost use Rattle.gw_device.specs.Response.{HasPlace};
+ghost use Rattle.gw_relay.specs.Announcement.{announcement_at, announcements};
 ghost use Rattle.gw_relay.specs.State.{Commit, moved};
 ghost use Rattle.gw_core.specs.Effects.{changed};
 ghost use Rattle.gw_core.specs.Lasting.{lasting_move, lasts};
@@ -26,7 +27,7 @@ use gw_configuration::Config;
 use gw_device::{Change, Device};
 use gw_frames::bvll::BvllFault;
 use gw_frames::npdu::NpduFault;
-use gw_relay::{Change as RelayChange, Relay, Turn};
+use gw_relay::{Change as RelayChange, Relay, Sends, Turn};
 use gw_rule_index::Policy;
 use gw_rules::RuleList;
 use gw_state::{Origin, Saved, SavedCounts};
@@ -245,6 +246,32 @@ impl Gateway {
         ensures few { length self.now.relay.ports ≤ MAX_PORTS }
     {
         &self.relay
+    }
+
+    /// Whether networks are announced.
+    pub fn announces(&self) -> bool
+        ensures { result ≡ self.now.relay.announce }
+    {
+        self.relay.announces()
+    }
+
+    /// What is announced on the port of this number, from 1, where networks are announced: an I-Am-Router-To-Network
+    /// for those that lie another way than by the port (clause 6.6.2). It asks nothing and changes nothing. The only
+    /// fault is want of memory; where nothing is announced none is wanted.
+    pub fn announce(&self, alloc: Global, port: u8) -> Result<Sends, AllocError>
+        ensures sends { IfOk result (λ sends. sends ≡ announcement_at self.now.relay port) }
+        ensures silent { self.now.relay.announce ≡ false → IsOk result }
+    {
+        self.relay.announce(alloc, port)
+    }
+
+    /// What is announced on each port, in order of ports. The only fault is want of memory; where nothing is announced
+    /// none is wanted.
+    pub fn announcements(&self, alloc: Global) -> Result<Sends, AllocError>
+        ensures sends { IfOk result (λ sends. sends ≡ announcements self.now.relay) }
+        ensures silent { self.now.relay.announce ≡ false → IsOk result }
+    {
+        self.relay.announce_all(alloc)
     }
 
     /// The rules of its policy, in order.

@@ -20,7 +20,7 @@ use Rattle.gw_relay.specs.Claim.{claimed, link_source}
 use Rattle.gw_relay.specs.Entry.{admits, claim_ask, claim_asks, enter_ask, enter_asks, entry_asks, is_stranger, speaks_for_others}
 use Rattle.gw_relay.specs.Asks.{link_ask, link_asks, management_of}
 use Rattle.gw_relay.specs.Laws.{AreFrom}
-use Rattle.gw_relay.specs.State.{Relay, port_at}
+use Rattle.gw_relay.specs.State.{Relay, is_manager, port_at}
 use Rattle.gw_relay.specs.declared.port.Port.{Port}
 use Rattle.gw_relay.specs.declared.port.PortState.{PortState}
 use Rattle.gw_core.proofs.EntryLemmas.{entry_is_unasked}
@@ -208,9 +208,13 @@ asks_carry_their_claim w e m is =
 -- the ask of a frame that manages a table
 table_from : (format : Format) (port : Port) (from : BipAddr) (frame : Frame) (operation : Option Operation)
     → AllByRecursion (IsFrom port.network (Some (big_endian (octets_of from))))
-    (option_map_or (λ operation. link_ask format port from frame operation ∷ []) operation [])
+    (option_map_or (λ operation. if is_manager port then link_ask format port from frame operation ∷ [] else []) operation [])
 table_from format port from frame None = tt
-table_from format port from frame (Some operation) = (record { source_network = refl; source_key = refl }, tt)
+table_from format port from frame (Some operation) = by (is_manager port)
+  where
+    by : (b : Bool) → AllByRecursion (IsFrom port.network (Some (big_endian (octets_of from)))) (if b then link_ask format port from frame operation ∷ [] else [])
+    by true = (record { source_network = refl; source_key = refl }, tt)
+    by false = tt
 
 theirs : (rules : List Rule) (relay : Relay) (d : Database) (received : Received) → IfMessage received
     → AreTheirs received (asks_for rules relay d received)

@@ -10,6 +10,7 @@ use Rattle.gw_codecs.specs.services.MultiReading.{references_at}
 use Rattle.gw_codecs.specs.tags.Walk.{closing_at}
 use Rattle.gw_core.specs.Asks.{asks}
 use Rattle.gw_core.specs.Denials.{denials_at}
+use Rattle.gw_relay.specs.Manage.{onward_sends}
 use Rattle.gw_relay.specs.Cast.{cast_asks, cast_sends, spread}
 use Rattle.gw_relay.specs.Link.{link_answer, link_change}
 use Rattle.gw_relay.specs.State.{moved_by}
@@ -35,7 +36,7 @@ steps = tt
 
 -- all that is passed on runs through
 unfoldable passes : ⊤
-unfolding cast_asks cast_sends spread link_answer link_change
+unfolding cast_asks cast_sends spread link_answer link_change onward_sends
 passes = tt
 
 pub read_is_answered : ReadIsAnswered

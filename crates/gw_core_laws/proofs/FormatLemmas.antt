@@ -25,6 +25,7 @@ use Rattle.gw_relay.specs.Initial.{initial}
 use Rattle.gw_relay.specs.Link.{answer_to, link_response, refused}
 use Rattle.gw_relay.specs.Message.{Message}
 use Rattle.gw_relay.specs.Named.{named_asks}
+use Rattle.gw_relay.specs.Plain.{is_plain}
 use Rattle.gw_relay.specs.Response.{Response}
 use Rattle.gw_relay.specs.Route.{copy_to_port, is_local, leaves, others}
 use Rattle.gw_relay.specs.Sends.{Sending}
@@ -48,6 +49,7 @@ use Rattle.gw_core.proofs.EffectLemmas.{effects_are}
 use Rattle.gw_core.proofs.EntryLemmas.{entry_is_unasked}
 use Rattle.gw_core.proofs.HistoryLemmas.{run_from-after, state_from-after}
 use Rattle.gw_core.proofs.RespondLemmas.{four_none, three_none}
+use Rattle.gw_core_laws.proofs.ManagerLemmas.{OnManager, none_announced, plain_after, plain_move, received_on_managers}
 use Rattle.gw_script.specs.Event.{Event, Datagram, Tick}
 
 -- ---- nobody is kept out
@@ -81,47 +83,47 @@ same_context format network m off = ap (λ (s : Option ℕ). record (context_bef
 five : {A : Type 0} (a b c d e v w x y z : List A) → a ≡ v → b ≡ w → c ≡ x → d ≡ y → e ≡ z → a ++ b ++ c ++ d ++ e ≡ v ++ w ++ x ++ y ++ z
 five a b c d e v w x y z e1 e2 e3 e4 e5 = rw (e1, e2, e3, e4, e5) refl
 
-asked : (w : State) (received : Received) → names_stations w.relay.format ≡ false
+asked : (w : State) (received : Received) → names_stations w.relay.format ≡ false → OnManager received → w.relay.announce ≡ false
     → asks_for w.rules w.relay w.device received ≡ asks_with (before_three.asks w.relay) w received
-asked w dropped off = refl
-asked w (managed on from frame) off =
+asked w dropped off manager quiet = refl
+asked w (managed on from frame) off manager quiet =
     four_none (link_response w.rules w.relay.format on from frame).asks
-    ∙ ap (λ (r : Response). r.asks) (tables_are_as_before w.rules w.relay.format on from frame off)
-asked w (unregistered m) off = refl
-asked w (barred m) off = four_none (entry_asks w.rules w.relay m) ∙ entry_is_unasked w.rules w.relay m off
-asked w (message m) off =
+    ∙ ap (λ (r : Response). r.asks) (tables_are_as_before w.rules w.relay.format on from frame off manager)
+asked w (unregistered m) off manager quiet = refl
+asked w (barred m) off manager quiet = four_none (entry_asks w.rules w.relay m) ∙ entry_is_unasked w.rules w.relay m off
+asked w (message m) off manager quiet =
     let network = device_network w.device in
     five _ _ _ _ _ [] _ _ _ _ (entry_is_unasked w.rules w.relay m off)
-    (ap (λ (r : Response). r.asks) (broadcasts_are_as_before w.rules w.relay.format m off))
+    (ap (λ (r : Response). r.asks) (broadcasts_are_as_before w.rules w.relay.format m off manager))
     (ap (λ (r : Response). r.asks) (routing_is_as_before [] w.relay m off))
-    (ap (λ (r : Response). r.asks) (network_messages_are_as_before w.rules w.relay m off))
+    (ap (λ (r : Response). r.asks) (network_messages_are_as_before w.rules w.relay m off quiet))
     (ap (λ (x : Context). apdu_asks w.rules w.device x (apdu_for network m.npdu)) (same_context w.relay.format network m off))
 
-sent : (w : State) (received : Received) → names_stations w.relay.format ≡ false
+sent : (w : State) (received : Received) → names_stations w.relay.format ≡ false → OnManager received → w.relay.announce ≡ false
     → sends_for w.rules w.relay w.device received ≡ sends_with (before_three.sends w.rules w.relay) w received
-sent w dropped off = refl
-sent w (managed on from frame) off =
+sent w dropped off manager quiet = refl
+sent w (managed on from frame) off manager quiet =
     four_none (link_response w.rules w.relay.format on from frame).sends
-    ∙ ap (λ (r : Response). r.sends) (tables_are_as_before w.rules w.relay.format on from frame off)
-sent w (unregistered m) off =
+    ∙ ap (λ (r : Response). r.sends) (tables_are_as_before w.rules w.relay.format on from frame off manager)
+sent w (unregistered m) off manager quiet =
     three_none (cast_response w.rules w.relay.format m).sends
-    ∙ ap (λ (r : Response). r.sends) (broadcasts_are_as_before w.rules w.relay.format m off)
-sent w (barred m) off = four_none _ ∙ ap (λ (b : Bool). if b then [] else map (answer_to m.here.port m.from) (refused m.frame)) (taken w.rules w.relay m off)
-sent w (message m) off =
+    ∙ ap (λ (r : Response). r.sends) (broadcasts_are_as_before w.rules w.relay.format m off manager)
+sent w (barred m) off manager quiet = four_none _ ∙ ap (λ (b : Bool). if b then [] else map (answer_to m.here.port m.from) (refused m.frame)) (taken w.rules w.relay m off)
+sent w (message m) off manager quiet =
     let network = device_network w.device in
     five [] _ _ _ _ [] _ _ _ _ refl
-    (ap (λ (r : Response). r.sends) (broadcasts_are_as_before w.rules w.relay.format m off))
+    (ap (λ (r : Response). r.sends) (broadcasts_are_as_before w.rules w.relay.format m off manager))
     (ap (λ (r : Response). r.sends) (routing_is_as_before w.rules w.relay m off))
-    (ap (λ (r : Response). r.sends) (network_messages_are_as_before w.rules w.relay m off))
+    (ap (λ (r : Response). r.sends) (network_messages_are_as_before w.rules w.relay m off quiet))
     (ap (λ (x : Context). answer_sends network m (apdu_answer w.rules w.device x (apdu_for network m.npdu))) (same_context w.relay.format network m off))
 
-relay_changed : (w : State) (received : Received) → names_stations w.relay.format ≡ false
+relay_changed : (w : State) (received : Received) → names_stations w.relay.format ≡ false → OnManager received → w.relay.announce ≡ false
     → relay_change_for w.rules w.relay received ≡ relay_change_before w received
-relay_changed w dropped off = refl
-relay_changed w (managed on from frame) off = ap (λ (r : Response). r.change) (tables_are_as_before w.rules w.relay.format on from frame off)
-relay_changed w (unregistered m) off = refl
-relay_changed w (barred m) off = refl
-relay_changed w (message m) off = ap (λ (r : Response). r.change) (network_messages_are_as_before w.rules w.relay m off)
+relay_changed w dropped off manager quiet = refl
+relay_changed w (managed on from frame) off manager quiet = ap (λ (r : Response). r.change) (tables_are_as_before w.rules w.relay.format on from frame off manager)
+relay_changed w (unregistered m) off manager quiet = refl
+relay_changed w (barred m) off manager quiet = refl
+relay_changed w (message m) off manager quiet = ap (λ (r : Response). r.change) (network_messages_are_as_before w.rules w.relay m off quiet)
 
 device_changed : (w : State) (received : Received) → names_stations w.relay.format ≡ false
     → change_for w.rules w.relay.format w.device received ≡ write_before w received
@@ -135,10 +137,10 @@ device_changed w (message m) off =
 
 -- ---- an event, before the third format
 
-asks_alike : (w : State) (e : Event) → names_stations w.relay.format ≡ false → asks w e ≡ asks_by before_three w e
+asks_alike : (w : State) (e : Event) → names_stations w.relay.format ≡ false → is_plain w.relay ≡ true → asks w e ≡ asks_by before_three w e
 unfolding asks
-asks_alike w e off =
-    ap (asks_for w.rules w.relay w.device) (received_so w e off) ∙ asked w (received_before w e) off
+asks_alike w e off plain =
+    ap (asks_for w.rules w.relay w.device) (received_so w e off) ∙ asked w (received_before w e) off (received_on_managers w e plain) (none_announced w.relay plain)
 
 effects_with : State → Received → List Sending → List Ask → Effects
 effects_with w received sends asked = record {
@@ -148,10 +150,11 @@ effects_with w received sends asked = record {
 
 pub format_two_is_as_before : FormatTwoIsAsBefore
 unfolding effects_at effects_with
-format_two_is_as_before w e off =
+format_two_is_as_before w e off plain =
     let before = received_before w e in
     ap (λ (r : Received). effects_with w r (sends_for w.rules w.relay w.device r) (asks_for w.rules w.relay w.device r)) (received_so w e off)
-    ∙ ap₂ (λ (s : List Sending) (a : List Ask). effects_with w before s a) (sent w before off) (asked w before off)
+    ∙ ap₂ (λ (s : List Sending) (a : List Ask). effects_with w before s a) (sent w before off (received_on_managers w e plain) (none_announced w.relay plain))
+    (asked w before off (received_on_managers w e plain) (none_announced w.relay plain))
 
 -- the next state with this number of the last denial
 abbrev numbered : State → Event → Option Move → Option Write → ℕ → State
@@ -162,24 +165,24 @@ numbered w e move write denials = record w {
   denials = denials;
 }
 
-moves_alike : (w : State) (e : Event) → names_stations w.relay.format ≡ false → move_at w e ≡ move_before w e
+moves_alike : (w : State) (e : Event) → names_stations w.relay.format ≡ false → is_plain w.relay ≡ true → move_at w e ≡ move_before w e
 unfolding move_at
-moves_alike w (Datagram port from octets) off =
+moves_alike w (Datagram port from octets) off plain =
     let e = Datagram port from octets in
     ap (λ (r : Received). option_map move.Commit (relay_change_for w.rules w.relay r)) (received_so w e off)
-    ∙ ap (option_map move.Commit) (relay_changed w (received_before w e) off)
-moves_alike w Tick off = refl
+    ∙ ap (option_map move.Commit) (relay_changed w (received_before w e) off (received_on_managers w e plain) (none_announced w.relay plain))
+moves_alike w Tick off plain = refl
 
 writes_alike : (w : State) (e : Event) → names_stations w.relay.format ≡ false → change_at w e ≡ write_before w (received_before w e)
 unfolding change_at
 writes_alike w e off =
     ap (change_for w.rules w.relay.format w.device) (received_so w e off) ∙ device_changed w (received_before w e) off
 
-next_with : (routing : Routing) (w : State) (e : Event) → names_stations w.relay.format ≡ false → effects_at w e ≡ effects_by routing w e
+next_with : (routing : Routing) (w : State) (e : Event) → names_stations w.relay.format ≡ false → is_plain w.relay ≡ true → effects_at w e ≡ effects_by routing w e
     → next w e ≡ next_by routing w e
 unfolding next effects_at denials_at
-next_with routing w e off same =
-    ap₂ (λ (m : Option Move) (g : Option Write). numbered w e m g (w.denials + length (denials_at w e))) (moves_alike w e off) (writes_alike w e off)
+next_with routing w e off plain same =
+    ap₂ (λ (m : Option Move) (g : Option Write). numbered w e m g (w.denials + length (denials_at w e))) (moves_alike w e off plain) (writes_alike w e off)
     ∙ ap (λ (x : Effects). numbered w e (move_before w e) (write_before w (received_before w e)) (w.denials + length x.denials)) same
 
 -- ---- the format stays
@@ -233,23 +236,26 @@ module _ (P : State → Type 0) (routing : Routing) (alike : (w : State) (e : Ev
 stays_by : (routing : Routing) (w : State) (e : Event) → (next_by routing w e).relay.format ≡ w.relay.format
 stays_by routing w e = one_move (move_before w e) w.relay
 
+plain_by : (routing : Routing) (w : State) (e : Event) → is_plain (next_by routing w e).relay ≡ is_plain w.relay
+plain_by routing w e = plain_move (move_before w e) w.relay
+
 NamesNone : State → Type 0
-NamesNone w = names_stations w.relay.format ≡ false
+NamesNone w = (names_stations w.relay.format ≡ false) × (is_plain w.relay ≡ true)
 
 two_alike : (w : State) (e : Event) → NamesNone w → IsAlike NamesNone before_three w e
 unfolding NamesNone
-two_alike w e off = record {
-  asked = asks_alike w e off;
-  effects = format_two_is_as_before w e off;
-  next = next_with before_three w e off (format_two_is_as_before w e off);
-  stays = ap names_stations (stays_by before_three w e) ∙ off;
+two_alike w e is = record {
+  asked = asks_alike w e is.0 is.1;
+  effects = format_two_is_as_before w e is.0 is.1;
+  next = next_with before_three w e is.0 is.1 (format_two_is_as_before w e is.0 is.1);
+  stays = (ap names_stations (stays_by before_three w e) ∙ is.0, plain_by before_three w e ∙ is.1);
 }
 
 pub format_two_runs_as_before : FormatTwoRunsAsBefore
 unfolding NamesNone
-format_two_runs_as_before c k l off =
+format_two_runs_as_before c k l off plain =
     let fresh = state_after c k [] in
-    let none : names_stations fresh.relay.format ≡ false = ap names_stations (format_stays c k []) ∙ off in (
+    let none : NamesNone fresh = (ap names_stations (format_stays c k []) ∙ off, plain_after c k [] ∙ plain) in (
       asked_alike NamesNone before_three two_alike fresh l none,
       sym (run_from-after c k [] l) ∙ run_alike NamesNone before_three two_alike fresh l none,
       sym (state_from-after c k [] l) ∙ left_alike NamesNone before_three two_alike fresh l none,
@@ -341,26 +347,26 @@ effects_of_one w e is =
     (ap (λ (asks : List Ask). denials_of w.rules (w.denials + 1) w.ticks (origin (received_before w e)) (denied_of w.rules asks)) (asks_of_one w e is))
 
 pub format_one_is_as_before : FormatOneIsAsBefore
-format_one_is_as_before w e is = format_two_is_as_before w e (one_names_none w.relay.format is) ∙ effects_of_one w e is
+format_one_is_as_before w e is plain = format_two_is_as_before w e (one_names_none w.relay.format is) plain ∙ effects_of_one w e is
 
 IsOfOne : State → Type 0
-IsOfOne w = w.relay.format ≡ One
+IsOfOne w = (w.relay.format ≡ One) × (is_plain w.relay ≡ true)
 
 one_alike : (w : State) (e : Event) → IsOfOne w → IsAlike IsOfOne before_two w e
 unfolding IsOfOne
 one_alike w e is =
-    let off = one_names_none w.relay.format is in record {
-      asked = asks_alike w e off ∙ asks_of_one w e is;
-      effects = format_one_is_as_before w e is;
-      next = next_with before_two w e off (format_one_is_as_before w e is);
-      stays = stays_by before_two w e ∙ is;
+    let off = one_names_none w.relay.format is.0 in record {
+      asked = asks_alike w e off is.1 ∙ asks_of_one w e is.0;
+      effects = format_one_is_as_before w e is.0 is.1;
+      next = next_with before_two w e off is.1 (format_one_is_as_before w e is.0 is.1);
+      stays = (stays_by before_two w e ∙ is.0, plain_by before_two w e ∙ is.1);
     }
 
 pub format_one_runs_as_before : FormatOneRunsAsBefore
 unfolding IsOfOne
-format_one_runs_as_before c k l is =
+format_one_runs_as_before c k l is plain =
     let fresh = state_after c k [] in
-    let one : fresh.relay.format ≡ One = format_stays c k [] ∙ is in (
+    let one : IsOfOne fresh = (format_stays c k [] ∙ is, plain_after c k [] ∙ plain) in (
       asked_alike IsOfOne before_two one_alike fresh l one,
       sym (run_from-after c k [] l) ∙ run_alike IsOfOne before_two one_alike fresh l one,
       sym (state_from-after c k [] l) ∙ left_alike IsOfOne before_two one_alike fresh l one,

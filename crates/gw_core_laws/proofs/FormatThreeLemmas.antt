@@ -57,7 +57,7 @@ use Rattle.gw_core_laws.specs.FormatTwo.{asked_from, received_before}
 use Rattle.gw_core_laws.specs.Laws.{under}
 use Rattle.gw_core_laws.proofs.DeviceAlikeLemmas.{device_alike}
 use Rattle.gw_core_laws.proofs.FormatLemmas.{moved_under, one_move, received_so}
-use Rattle.gw_core_laws.proofs.RelayAlikeLemmas.{HasNone, cast_asks_alike, cast_sends_alike, claims_alone, link_answer_alike, link_asks_alike, link_change_alike, manage_change_alike, manage_steps_alike, port_open, relay_three, relay_two, route_steps_alike, steps_asked, steps_sent, strange_sends_alike}
+use Rattle.gw_core_laws.proofs.RelayAlikeLemmas.{HasNone, cast_asks_alike, cast_sends_alike, claims_alone, link_answer_alike, link_asks_alike, link_change_alike, manage_change_alike, manage_steps_alike, onward_alike, port_open, relay_three, relay_two, route_steps_alike, steps_asked, steps_sent, strange_sends_alike}
 use Rattle.gw_core_laws.proofs.StationLemmas.{entry_each}
 use Rattle.gw_core_laws.proofs.UnstationedLemmas.{denials_alike}
 
@@ -267,7 +267,9 @@ module _ (w : State) (none : NameNoStation w.rules) (all : HaveNoStations w.rela
   sent_alike (message m) fine quiet =
       four _ _ _ _ _ _ _ _ (cast_sends_alike w.rules none m quiet)
       (steps_sent w.rules none (route_steps (relay_three w.relay) m) ∙ ap (sends_of w.rules) (route_steps_alike w.relay m all))
+      (ap₂ (λ (x y : List Sending). x ++ y)
       (steps_sent w.rules none (manage_steps (relay_three w.relay) m) ∙ ap (sends_of w.rules) (manage_steps_alike w.relay m))
+      (onward_alike w.rules none w.relay m))
       (served_sends w.rules none w.device m (apdu_for (device_network w.device) m.npdu))
 
   relay_changed : (r : Received) → Fine r

@@ -9,7 +9,12 @@ pub mod DeviceAskLemmas
 pub mod RelayAskLemmas
 pub mod WriteLemmas
 pub mod BlindLemmas
+pub mod ManagerLemmas
 pub mod FormatLemmas
+pub mod PlainLemmas
+pub mod BareLemmas
+pub mod OwnLemmas
+pub mod EchoLemmas
 pub mod UnstationedLemmas
 pub mod DeviceAlikeLemmas
 pub mod RelayAlikeLemmas
@@ -19,3 +24,6 @@ pub mod RefusedLemmas
 pub mod StationLemmas
 pub mod ExampleRuns
 pub mod Whence
+pub mod DeviceDecisionLemmas
+pub mod RelayDecisionLemmas
+pub mod DecisionLemmas

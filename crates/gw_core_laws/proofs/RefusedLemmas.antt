@@ -1,5 +1,5 @@
 -- What is answered where the policy denies.
-use Rattle.std.proofs.Common.{◌≡◌, ◌∙◌, sym, ap, ap₂, refl, subst, append_assoc, add-one, ℕ, zero, suc, ◌<◌, arith, Bool, true, false, List, [], ◌∷◌, ◌++◌, length, take, drop, Option, Some, None, Result, Ok, Err}
+use Rattle.std.proofs.Common.{◌≡◌, ◌∙◌, true≢false, sym, ap, ap₂, refl, subst, append_assoc, add-one, ℕ, zero, suc, ◌<◌, arith, Bool, true, false, List, [], ◌∷◌, ◌++◌, length, take, drop, Option, Some, None, Result, Ok, Err}
 use Rattle.std.specs.Prelude.{◌==◌, ◌&&◌, if◌then◌else◌, is_some, slice_get}
 use Rattle.std.specs.List.{AllByRecursion, Contains, flat_map, list_all, slice_index_or}
 use Rattle.std.specs.Option.{option_map}
@@ -30,7 +30,7 @@ use Rattle.gw_relay.specs.Entry.{entry_asks}
 use Rattle.gw_relay.specs.Link.{link_answer, link_change}
 use Rattle.gw_relay.specs.Message.{Message}
 use Rattle.gw_relay.specs.Sends.{Sending, sending}
-use Rattle.gw_relay.specs.State.{Commit, Relay, moved}
+use Rattle.gw_relay.specs.State.{Commit, Relay, is_manager, moved}
 use Rattle.gw_relay.specs.declared.change.Change.{Change}
 use Rattle.gw_relay.specs.declared.port.PortState.{PortState}
 use Rattle.gw_rules.specs.Ask.{Ask, IsFor}
@@ -52,6 +52,7 @@ use Rattle.gw_core.specs.History.{next}
 use Rattle.gw_core.specs.Receive.{Received, barred, dropped, managed, message, receive, unregistered}
 use Rattle.gw_core_laws.specs.Refused.{DeniedListingsAreSilent, DeniedManagementIsRefused, DeniedMembersAreRefused, DeniedPropertiesAreRefused, OthersAreAnswered, RepliesAreTheirParts, access_error, ask_for, negative, parts, refused_part}
 use Rattle.gw_core.specs.Reply.{apdu_for, context_of}
+use Rattle.gw_relay.proofs.NeighbourLemmas.{no_tables_beside}
 use Rattle.gw_core.specs.State.{device_network}
 use Rattle.gw_core_laws.proofs.DeviceAskLemmas.{each_service}
 use Rattle.gw_core_laws.proofs.RelayAskLemmas.{Else, IsElse, cast_is_else, entry_is_else, messages_are_else, routing_is_else}
@@ -275,23 +276,48 @@ one_denied rules a denied = by (allows rules a) denied
     by true is = absurd cc
     by false is = refl
 
+-- a port that has this broadcast manager beside it, if there is one
+beside : Option BipAddr → PortState → PortState
+beside bbmd on = record on { port = record on.port { bbmd = bbmd } }
+
+managed_by : (rules : List Rule) (relay : Relay) (d : Database) (on : PortState) (from : BipAddr) (frame : Frame)
+    → list_all (allows rules) (asks_for rules relay d (managed (beside None on) from frame)) ≡ false
+    → (sends_for rules relay d (managed (beside None on) from frame) ≡ sending on.port.number (negative frame) from ∷ [])
+    × (relay_change_for rules relay (managed (beside None on) from frame) ≡ None)
+unfolding link_answer link_change beside
+managed_by rules relay d on from (bvll.write_bdt entries) denied = rw denied (refl, refl)
+managed_by rules relay d on from bvll.read_bdt denied = rw denied (refl, refl)
+managed_by rules relay d on from (bvll.register time_to_live) denied = rw denied (refl, refl)
+managed_by rules relay d on from bvll.read_fdt denied = rw denied (refl, refl)
+managed_by rules relay d on from (bvll.delete address) denied = rw denied (refl, refl)
+managed_by rules relay d on from (bvll.result_code code) denied = absurd cc
+managed_by rules relay d on from (bvll.read_bdt_ack entries) denied = absurd cc
+managed_by rules relay d on from (bvll.forwarded originator npdu) denied = absurd cc
+managed_by rules relay d on from (bvll.read_fdt_ack entries) denied = absurd cc
+managed_by rules relay d on from (bvll.distribute npdu) denied = absurd cc
+managed_by rules relay d on from (bvll.original_unicast npdu) denied = absurd cc
+managed_by rules relay d on from (bvll.original_broadcast npdu) denied = absurd cc
+
+unmanaged : (manager : BipAddr) (on : PortState) → is_manager (beside (Some manager) on).port ≡ false
+unfolding beside
+unmanaged manager on = refl
+
+-- a frame that is denied was asked for, so the port has tables
+managed_beside : (bbmd : Option BipAddr) (rules : List Rule) (relay : Relay) (d : Database) (on : PortState) (from : BipAddr) (frame : Frame)
+    → list_all (allows rules) (asks_for rules relay d (managed (beside bbmd on) from frame)) ≡ false
+    → (sends_for rules relay d (managed (beside bbmd on) from frame) ≡ sending on.port.number (negative frame) from ∷ [])
+    × (relay_change_for rules relay (managed (beside bbmd on) from frame) ≡ None)
+managed_beside None rules relay d on from frame denied = managed_by rules relay d on from frame denied
+managed_beside (Some manager) rules relay d on from frame denied =
+    let none = (no_tables_beside rules relay.format (beside (Some manager) on) from frame (unmanaged manager on)).asks in
+    absurd (true≢false (sym (ap (λ (asks : List Ask). list_all (allows rules) (asks ++ [] ++ [] ++ [] ++ [])) none) ∙ denied))
+
 managed_refused : (rules : List Rule) (relay : Relay) (d : Database) (on : PortState) (from : BipAddr) (frame : Frame)
     → list_all (allows rules) (asks_for rules relay d (managed on from frame)) ≡ false
     → (sends_for rules relay d (managed on from frame) ≡ sending on.port.number (negative frame) from ∷ [])
     × (relay_change_for rules relay (managed on from frame) ≡ None)
-unfolding link_answer link_change
-managed_refused rules relay d on from (bvll.write_bdt entries) denied = rw denied (refl, refl)
-managed_refused rules relay d on from bvll.read_bdt denied = rw denied (refl, refl)
-managed_refused rules relay d on from (bvll.register time_to_live) denied = rw denied (refl, refl)
-managed_refused rules relay d on from bvll.read_fdt denied = rw denied (refl, refl)
-managed_refused rules relay d on from (bvll.delete address) denied = rw denied (refl, refl)
-managed_refused rules relay d on from (bvll.result_code code) denied = absurd cc
-managed_refused rules relay d on from (bvll.read_bdt_ack entries) denied = absurd cc
-managed_refused rules relay d on from (bvll.forwarded originator npdu) denied = absurd cc
-managed_refused rules relay d on from (bvll.read_fdt_ack entries) denied = absurd cc
-managed_refused rules relay d on from (bvll.distribute npdu) denied = absurd cc
-managed_refused rules relay d on from (bvll.original_unicast npdu) denied = absurd cc
-managed_refused rules relay d on from (bvll.original_broadcast npdu) denied = absurd cc
+unfolding beside
+managed_refused rules relay d on from frame denied = managed_beside on.port.bbmd rules relay d on from frame denied
 
 pub denied_management_is_refused : DeniedManagementIsRefused
 unfolding effects_at next move_at change_at asks receive

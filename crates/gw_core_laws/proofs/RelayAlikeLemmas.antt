@@ -35,15 +35,16 @@ use Rattle.gw_rules.specs.declared.format.Format.TheVariants.{Two, Three}
 use Rattle.gw_rules.specs.declared.operation.Operation.{Operation}
 use Rattle.gw_rules.specs.declared.rule.Rule.{Rule}
 use Rattle.gw_relay.specs.Asks.{bound_for, deleted_station, link_ask, link_asks, management_of}
-use Rattle.gw_relay.specs.Cast.{accepts, cast_ask, cast_asks, cast_sends, carried_asks, goes_on, is_broadcast, is_unregistered, passed_on, targets}
+use Rattle.gw_relay.specs.Cast.{accepts, cast_ask, cast_asks, cast_sends, carried_asks, goes_on, is_broadcast, is_carried, is_unregistered, passed_on, targets}
 use Rattle.gw_relay.specs.Entry.{claim_asks, enter_ask, enters, entry_asks, is_stranger}
-use Rattle.gw_relay.specs.Link.{answer_to, change_of, granted, is_granted, link_answer, link_change, refused}
-use Rattle.gw_relay.specs.Manage.{answer_steps, answer_who_is_router, is_i_am_router, is_what_is_network_number, is_who_is_router, keep_allowed, learn_ask, learn_steps, manage_change, manage_steps, named_networks, network_ask, number_step, question_of, question_steps}
+use Rattle.gw_relay.specs.Link.{answer_to, change_of, granted, is_granted, is_misplaced, link_answer, link_change, refused}
+use Rattle.gw_tables.specs.routes.Table.{new_networks, route_by}
+use Rattle.gw_relay.specs.Manage.{announced_but, onward_sends, answer_steps, answer_who_is_router, is_i_am_router, is_what_is_network_number, is_who_is_router, keep_allowed, learn_ask, learn_steps, manage_change, manage_steps, named_networks, network_ask, number_step, question_of, question_steps}
 use Rattle.gw_relay.specs.Message.{Message}
 use Rattle.gw_relay.specs.Named.{apdu_asks, body_asks, forward_asks, header_asks, multi_asks, payload_asks, read_asks, reference_ask, segment_asks, write_asks}
 use Rattle.gw_relay.specs.Route.{copy, copy_to_port, delivered, forward, is_local, last_hop, leaves, on_way, others, route_ask, route_steps, steps_by}
 use Rattle.gw_relay.specs.Sends.{Sending, sent}
-use Rattle.gw_relay.specs.State.{Relay, port_at}
+use Rattle.gw_relay.specs.State.{Relay, is_manager, port_at}
 use Rattle.gw_relay.specs.Stations.{belongs, is_station}
 use Rattle.gw_relay.specs.Steps.{Step, asks_of, broadcast, sends_of, step, unicast}
 use Rattle.gw_relay.specs.declared.change.Change.TheVariants.{Learnings}
@@ -190,12 +191,17 @@ none_deleted (bvll.original_unicast npdu) = refl
 none_deleted (bvll.original_broadcast npdu) = refl
 
 link_by : (port : Port) (from : BipAddr) (frame : Frame) (operation : Option Operation)
-    → map unstationed (option_map_or (λ operation. link_ask Three port from frame operation ∷ []) operation [])
-    ≡ option_map_or (λ operation. link_ask Two port from frame operation ∷ []) operation []
+    → map unstationed (option_map_or (λ operation. if is_manager port then link_ask Three port from frame operation ∷ [] else []) operation [])
+    ≡ option_map_or (λ operation. if is_manager port then link_ask Two port from frame operation ∷ [] else []) operation []
 link_by port from frame None = refl
-link_by port from frame (Some operation) =
-    ap (λ (station : Option ℕ). record (unstationed (link_ask Three port from frame operation)) { station = station } ∷ [])
-    (sym (none_deleted frame))
+link_by port from frame (Some operation) = by (is_manager port)
+  where
+    by : (b : Bool) → map unstationed (if b then link_ask Three port from frame operation ∷ [] else [])
+        ≡ (if b then link_ask Two port from frame operation ∷ [] else [])
+    by true =
+        ap (λ (station : Option ℕ). record (unstationed (link_ask Three port from frame operation)) { station = station } ∷ [])
+        (sym (none_deleted frame))
+    by false = refl
 
 pub link_asks_alike : (port : Port) (from : BipAddr) (frame : Frame)
     → map unstationed (link_asks Three port from frame) ≡ link_asks Two port from frame
@@ -211,10 +217,16 @@ cast_by m true true e =
 cast_by m true false e = refl
 cast_by m false wide e = refl
 
+narrower : (a b c : Bool) → (b && c) ≡ false → ((a && b) && c) ≡ false
+narrower true b c e = e
+narrower false b c e = refl
+
 pub cast_asks_alike : (m : Message) → (is_broadcast m.frame && is_property_request m.npdu.payload) ≡ false
     → map unstationed (cast_asks Three m) ≡ cast_asks Two m
 unfolding cast_asks
-cast_asks_alike m e = cast_by m (goes_on m.here m.from m.frame) (is_broadcast m.frame) e
+cast_asks_alike m e =
+    cast_by m (goes_on m.here m.from m.frame) (is_carried m.here m.frame)
+    (narrower (is_manager m.here.port) (is_broadcast m.frame) (is_property_request m.npdu.payload) e)
 
 -- a sender who isn't registered is refused whatever is asked
 strange_by : (heard : Bool) (a b : Bool) (x y : List Sending)
@@ -375,14 +387,14 @@ module _ (rules : List Rule) (none : NameNoStation rules) where
       → link_answer rules Three on from frame ≡ link_answer rules Two on from frame
   unfolding link_answer
   link_answer_alike on from frame =
-      ap (λ (b : Bool). map (answer_to on.port from) (if b && is_granted on from frame then granted on frame else refused frame))
+      ap (λ (b : Bool). map (answer_to on.port from) (if not (is_misplaced on.port frame) && (b && is_granted on from frame) then granted on frame else refused frame))
       (table_allowed on from frame)
 
   pub link_change_alike : (on : PortState) (from : BipAddr) (frame : Frame)
       → link_change rules Three on from frame ≡ link_change rules Two on from frame
   unfolding link_change
   link_change_alike on from frame =
-      ap (λ (b : Bool). if b && is_granted on from frame then change_of on.port from frame else None) (table_allowed on from frame)
+      ap (λ (b : Bool). if not (is_misplaced on.port frame) && (b && is_granted on from frame) then change_of on.port from frame else None) (table_allowed on from frame)
 
   pub cast_sends_alike : (m : Message) → (is_broadcast m.frame && is_property_request m.npdu.payload) ≡ false
       → cast_sends rules Three m ≡ cast_sends rules Two m
@@ -391,7 +403,9 @@ module _ (rules : List Rule) (none : NameNoStation rules) where
       ap (λ (b : Bool). if not (accepts m.here m.from m.frame) then []
       else if is_unregistered m.here m.from m.frame || not b
       then map (answer_to m.here.port m.from) (refused m.frame)
-      else sent m.here.port.number (targets m.here m.from m.frame) (passed_on m.from m.frame))
+      else if is_manager m.here.port
+      then sent m.here.port.number (targets m.here m.from m.frame) (passed_on m.from m.frame)
+      else [])
       (all_alike rules none (cast_asks Three m) ∙ ap (list_all (allows rules)) (cast_asks_alike m e))
 
   pub strange_sends_alike : (m : Message) → is_unregistered m.here m.from m.frame ≡ true → cast_sends rules Three m ≡ cast_sends rules Two m
@@ -399,7 +413,7 @@ module _ (rules : List Rule) (none : NameNoStation rules) where
   strange_sends_alike m strange =
       let heard = accepts m.here m.from m.frame in
       let x = map (answer_to m.here.port m.from) (refused m.frame) in
-      let y = sent m.here.port.number (targets m.here m.from m.frame) (passed_on m.from m.frame) in
+      let y = if is_manager m.here.port then sent m.here.port.number (targets m.here m.from m.frame) (passed_on m.from m.frame) else [] in
       let a = list_all (allows rules) (cast_asks Three m) in
       let b = list_all (allows rules) (cast_asks Two m) in
       ap (λ (s : Bool). if not heard then [] else if s || not a then x else y) strange
@@ -415,6 +429,13 @@ module _ (rules : List Rule) (none : NameNoStation rules) where
   kept_alike m [] = refl
   kept_alike m (n ∷ networks) =
       ap₂ (λ (b : Bool) (l : List ℕ). cond b (n ∷ l) l) (allowed_alike rules none (learn_ask Three m n)) (kept_alike m networks)
+
+  pub onward_alike : (relay : Relay) (m : Message) → onward_sends rules (relay_three relay) m ≡ onward_sends rules (relay_two relay) m
+  unfolding onward_sends
+  onward_alike relay m =
+      ap (λ (l : List ℕ). if relay.announce && is_i_am_router m.npdu
+      then announced_but m.here.port.number relay.ports (new_networks relay.routes l (route_by m.here.port.number m.link)) else [])
+      (kept_alike m (named_networks m))
 
   pub manage_change_alike : (relay : Relay) (m : Message) → manage_change rules (relay_three relay) m ≡ manage_change rules (relay_two relay) m
   manage_change_alike relay m =

@@ -15,7 +15,7 @@ use Rattle.gw_rules.specs.declared.format.Format.{Format}
 use Rattle.gw_rules.specs.declared.format.Format.TheVariants.{One, Two, Three}
 use Rattle.gw_frames.specs.npdu.Npdu.{Destination, Payload, apdu, message, payload_octets}
 use Rattle.gw_relay.specs.Asks.{bound_for}
-use Rattle.gw_relay.specs.Cast.{cast_ask, cast_asks, goes_on, is_broadcast}
+use Rattle.gw_relay.specs.Cast.{cast_ask, cast_asks, goes_on, is_carried}
 use Rattle.gw_relay.specs.Entry.{claim_asks, enter_asks, entry_asks, is_stranger, speaks_for_others}
 use Rattle.gw_relay.specs.Manage.{is_i_am_router, is_what_is_network_number, is_who_is_router, learn_ask, learn_steps, manage_asks, named_networks, question_of, question_steps}
 use Rattle.gw_relay.specs.Message.{Message}
@@ -111,7 +111,7 @@ else_behind Three route payload = else_payload route payload
 pub cast_is_else : (format : Format) (m : Message) → Else (cast_asks format m)
 unfolding cast_asks
 cast_is_else format m =
-    else_if (goes_on m.here m.from m.frame && is_broadcast m.frame) _ []
+    else_if (goes_on m.here m.from m.frame && is_carried m.here m.frame) _ []
     (λ e. absurd cc, else_if (names_stations format) _ [] (else_behind format (cast_ask format m) m.npdu.payload) tt) tt
 
 -- ---- who enters and who claims

@@ -27,13 +27,13 @@ use Rattle.gw_frames.specs.bvll.Reading.{bvll_at}
 use Rattle.gw_frames.specs.npdu.Npdu.{Destination, Fields, Payload, apdu, message, payload_octets}
 use Rattle.gw_objects.specs.Objects.{Database}
 use Rattle.gw_relay.specs.Asks.{bound_for, deleted_station, link_ask, link_asks, management_of, sender_of, station_of}
-use Rattle.gw_relay.specs.Cast.{accepts, cast_ask, cast_asks, goes_on, is_broadcast, is_unregistered}
+use Rattle.gw_relay.specs.Cast.{accepts, cast_ask, cast_asks, goes_on, is_carried, is_unregistered}
 use Rattle.gw_relay.specs.Entry.{admits, claim_asks, enter_asks, entry_asks, is_stranger, speaks_for_others}
 use Rattle.gw_relay.specs.Manage.{is_i_am_router, is_what_is_network_number, is_who_is_router, learn_ask, learn_steps, manage_asks, named_networks, question_of, question_steps}
 use Rattle.gw_relay.specs.Message.{Message, message_of}
 use Rattle.gw_relay.specs.Named.{apdu_asks, forward_asks, header_asks, multi_asks, named_asks, payload_asks, read_asks, reference_ask, request_asks, write_asks}
 use Rattle.gw_relay.specs.Route.{copy, is_local, leaves, others, route_ask, route_asks, steps_by}
-use Rattle.gw_relay.specs.State.{Relay, port_at}
+use Rattle.gw_relay.specs.State.{Relay, is_manager, port_at}
 use Rattle.gw_relay.specs.Steps.{Step, asks_of}
 use Rattle.gw_relay.specs.declared.port.Port.{Port}
 use Rattle.gw_relay.specs.declared.port.PortState.{PortState}
@@ -129,7 +129,7 @@ sent_behind s t Three route is payload = sent_payload s t route is payload
 cast_is_sent : (format : Format) (m : Message) → Sent (sender_of format m.from) (station_of format m.npdu) (cast_asks format m)
 unfolding cast_asks
 cast_is_sent format m =
-    sent_if (sender_of format m.from) (station_of format m.npdu) (goes_on m.here m.from m.frame && is_broadcast m.frame) _ []
+    sent_if (sender_of format m.from) (station_of format m.npdu) (goes_on m.here m.from m.frame && is_carried m.here m.frame) _ []
     ((refl, refl), sent_if (sender_of format m.from) (station_of format m.npdu) (names_stations format) _ [] (sent_behind (sender_of format m.from) (station_of format m.npdu) format (cast_ask format m) (refl, refl) m.npdu.payload) tt) tt
 
 -- ---- who enters and who claims
@@ -202,9 +202,10 @@ messages_are_sent relay m =
 -- ---- tables of a port, and the device
 
 sent_table : (format : Format) (port : Port) (from : BipAddr) (frame : Frame) (operation : Option Operation)
-    → Sent (sender_of format from) (deleted_station format frame) (option_map_or (λ operation. link_ask format port from frame operation ∷ []) operation [])
+    → Sent (sender_of format from) (deleted_station format frame) (option_map_or (λ operation. if is_manager port then link_ask format port from frame operation ∷ [] else []) operation [])
 sent_table format port from frame None = tt
-sent_table format port from frame (Some operation) = ((refl, refl), tt)
+sent_table format port from frame (Some operation) =
+    sent_if (sender_of format from) (deleted_station format frame) (is_manager port) (link_ask format port from frame operation ∷ []) [] ((refl, refl), tt) tt
 
 sent_served : (rules : List Rule) (d : Database) (context : Context) (octets : Option (List ℕ)) → Sent context.sender None (apdu_asks_of rules d context octets)
 sent_served rules d context None = tt

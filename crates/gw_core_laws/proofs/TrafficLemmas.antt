@@ -3,7 +3,7 @@ use Rattle.std.proofs.Common.{◌≡◌, ap, refl, Bool, true, false, List, [], 
 use Rattle.std.specs.Prelude.{filter, if◌then◌else◌, ◌||◌}
 use Rattle.std.specs.List.{flat_map, list_all}
 use Rattle.gw_relay.specs.Cast.{cast_sends, is_unregistered}
-use Rattle.gw_relay.specs.Manage.{manage_steps}
+use Rattle.gw_relay.specs.Manage.{manage_steps, onward_sends}
 use Rattle.gw_relay.specs.Route.{route_steps}
 use Rattle.gw_relay.specs.Sends.{Sending}
 use Rattle.gw_relay.specs.Steps.{Step, sends_of}
@@ -25,7 +25,7 @@ pub allowed_traffic_is_sent : AllowedTrafficIsSent
 allowed_traffic_is_sent rules relay m = (
   allowed_sent rules (route_steps relay m),
   refl,
-  allowed_sent rules (manage_steps relay m),
+  ap (λ (sends : List Sending). sends ++ onward_sends rules relay m) (allowed_sent rules (manage_steps relay m)),
   refl,
 )
 

@@ -16,6 +16,7 @@ use Rattle.gw_objects.specs.Laws.{AgreeBut, standing}
 use Rattle.gw_objects.specs.Objects.{Database, Slots, place_of}
 use Rattle.gw_objects.specs.Write.{Write}
 use Rattle.gw_objects.proofs.Others.{agree_put, agree_written, differ}
+use Rattle.gw_relay.specs.Announcement.{announcements}
 use Rattle.gw_relay.specs.Manage.{manage_change}
 use Rattle.gw_relay.specs.Sends.{Sending}
 use Rattle.gw_relay.specs.State.{Commit, Relay, moved}
@@ -32,7 +33,7 @@ use Rattle.gw_core.specs.Asks.{apdu_asks, asks, asks_for, cast_asks_for, first_a
 use Rattle.gw_core.specs.Denials.{denials_at, denials_of}
 use Rattle.gw_core.specs.Effects.{answer_sends, apdu_answer, apdu_change, cast_sends_for, change_at, change_for, changed, effects_at, effects_for, manage_sends_for, message_change, move_at, relay_change_for, route_sends_for, sends_for}
 use Rattle.gw_core.specs.History.{next, run_from, state_after, state_from}
-use Rattle.gw_core_laws.specs.NoLeak.{AsksToReadOn, IsWriteOf, NoReadAllowedOn, WritesAreUnread, object_of, seen, unnumbered}
+use Rattle.gw_core_laws.specs.NoLeak.{AnnouncementsAreUnread, AsksToReadOn, IsWriteOf, NoReadAllowedOn, WritesAreUnread, object_of, seen, unnumbered}
 use Rattle.gw_core.specs.Marked.{kept}
 use Rattle.gw_relay.specs.Message.{Message}
 use Rattle.gw_core.specs.Receive.{Received, barred, dropped, managed, unregistered, message, origin, receive}
@@ -318,3 +319,26 @@ writes_are_unread c k o marks l out place e there none =
   where
     same_event : (e d : Event) → Some e ≡ Some d → e ≡ d
     same_event e d is = cc
+
+-- ---- what is announced after the lists
+
+nothing_left : (o : Object) (w : State) (l : List Event) → LeavesOutFrom (IsWriteOf o) w [] l
+nothing_left o w [] = tt
+nothing_left o w (e ∷ l) = tt
+
+-- a write of the object leaves the relay, and so the two lists leave the same
+relays_alike : (o : Object) (w v : State) (marks : List Bool) (l : List Event) → Alike o w v → LeavesOutFrom (IsWriteOf o) w marks l
+    → (state_from v (kept marks l)).relay ≡ (state_from w l).relay
+unfolding state_from
+relays_alike o w v marks [] a out = ap (λ (x : State). x.relay) a.is
+relays_alike o w v [] (e ∷ l) a out = relays_alike o (next w e) (next v e) [] l (alike_next o w v e a) (nothing_left o (next w e) l)
+relays_alike o w v (false ∷ marks) (e ∷ l) a out = relays_alike o (next w e) (next v e) marks l (alike_next o w v e a) out
+relays_alike o w v (true ∷ marks) (e ∷ l) a out = relays_alike o (next w e) v marks l (alike_left o w v e out.0 a) out.1
+
+pub announcements_are_unread : AnnouncementsAreUnread
+announcements_are_unread c k o marks l out =
+    let w = state_after c k [] in
+    ap announcements
+    (ap (λ (x : State). x.relay) (sym (state_from-after c k [] (kept marks l)))
+    ∙ relays_alike o w w marks l (alike_self o w) (left_from (IsWriteOf o) c k [] marks l out)
+    ∙ ap (λ (x : State). x.relay) (state_from-after c k [] l))

@@ -1,11 +1,13 @@
 -- Laws over the definitions of the headline: what the folds of a history say in plain words.
-use Rattle.std.specs.Prelude.{◌≡◌, Some, None, ℕ, zero, suc, ◌+◌, Bool, true, false, List, [], ◌∷◌, length, map, filter, not}
+use Rattle.std.specs.Prelude.{◌≡◌, Some, None, ℕ, zero, suc, ◌+◌, Bool, true, false, List, [], ◌∷◌, ◌++◌, length, map, filter, not}
 use Rattle.std.specs.Prelude.{replicate, count_by}
 use Rattle.std.specs.List.{AllByRecursion, flat_map, list_all}
 use Rattle.gw_addr.specs.declared.bip.BipAddr.{BipAddr}
 use Rattle.gw_relay.specs.Cast.{accepts}
 use Rattle.gw_relay.specs.Link.{answer_to, refused}
-use Rattle.gw_relay.specs.Manage.{manage_steps}
+use Rattle.gw_relay.specs.Manage.{manage_steps, onward_sends}
+use Rattle.gw_relay.specs.Initial.{initial}
+use Rattle.gw_relay.specs.Plain.{is_plain}
 use Rattle.gw_relay.specs.Route.{route_steps}
 use Rattle.gw_relay.specs.State.{Relay, later}
 use Rattle.gw_relay.specs.Steps.{Step}
@@ -13,7 +15,7 @@ use Rattle.gw_core.specs.declared.effects.Effects.{Effects}
 use Rattle.gw_core.specs.declared.event.Counts.{Counts}
 use Rattle.gw_script.specs.Event.{Event}
 use Rattle.gw_script.specs.Event.{Datagram, Tick}
-use Rattle.gw_configuration.specs.Configuration.{Configuration}
+use Rattle.gw_configuration.specs.Configuration.{Configuration, keeps_limits}
 use Rattle.gw_rules.specs.declared.format.Format.{Format}
 use Rattle.gw_rules.specs.declared.format.Format.TheVariants.{One, Three}
 use Rattle.gw_core.specs.History.{log, RoutesStand, TablesStand, WritesStand, learnings, port_acts, writes, state_after, run, history_after, IsStep, IsStateAfter, effects, run_after, run_from, state_from, next}
@@ -147,14 +149,14 @@ abbrev pub is_allowed : List Rule → Step → Bool
 is_allowed rules step = list_all (allows rules) step.asks
 
 -- What is routed, and answered to network layer messages, are the sends of exactly those steps whose asks the
--- policy all allows, in order; and the asks are those of all steps.
+-- policy all allows, in order, and after the answers what is announced onward; and the asks are those of all steps.
 abbrev pub AllowedTrafficIsSent : Type 0
 AllowedTrafficIsSent = (rules : List Rule) (relay : Relay) (m : Message) →
     (route_sends_for rules relay (message m)
     ≡ flat_map (λ s. s.sends) (filter (is_allowed rules) (route_steps relay m)))
     × (route_asks_for relay (message m) ≡ flat_map (λ s. s.asks) (route_steps relay m))
     × (manage_sends_for rules relay (message m)
-    ≡ flat_map (λ s. s.sends) (filter (is_allowed rules) (manage_steps relay m)))
+    ≡ flat_map (λ s. s.sends) (filter (is_allowed rules) (manage_steps relay m)) ++ onward_sends rules relay m)
     × (manage_asks_for relay (message m) ≡ flat_map (λ s. s.asks) (manage_steps relay m))
 
 -- A broadcast that the policy denies is distributed to nobody: a Distribute-Broadcast gets its refusal, and any
@@ -203,14 +205,20 @@ ConfigurationStays = (c : Configuration) (k : Counts) (h : List Event) →
 
 -- ---- the formats of a policy
 
--- In a state of the first format an event does what it did before there was a second (FormatOne.antt).
+-- A configuration of the first or the second format that is within its limits has no port with another broadcast manager
+-- beside it, and announces nothing.
+abbrev pub FirstFormatsArePlain : Type 0
+FirstFormatsArePlain =
+    (c : Configuration) → names_stations c.format ≡ false → keeps_limits c ≡ true → is_plain (initial c) ≡ true
+
+-- In such a state of the first format an event does what it did before there was a second (FormatOne.antt).
 abbrev pub FormatOneIsAsBefore : Type 0
-FormatOneIsAsBefore = (w : State) (e : Event) → w.relay.format ≡ One → effects_at w e ≡ effects_by before_two w e
+FormatOneIsAsBefore = (w : State) (e : Event) → w.relay.format ≡ One → is_plain w.relay ≡ true → effects_at w e ≡ effects_by before_two w e
 
 -- Under a configuration of the first format every list of events asks and does what it did before there was a second,
 -- and leaves the state that it left.
 abbrev pub FormatOneRunsAsBefore : Type 0
-FormatOneRunsAsBefore = (c : Configuration) (k : Counts) (l : List Event) → c.format ≡ One →
+FormatOneRunsAsBefore = (c : Configuration) (k : Counts) (l : List Event) → c.format ≡ One → is_plain (initial c) ≡ true →
     let fresh = state_after c k [] in
     (asked_from fresh l ≡ asked_by before_two fresh l) × (run c k l ≡ run_by before_two fresh l)
     × (state_after c k (history_after [] l) ≡ left_by before_two fresh l)
@@ -226,15 +234,17 @@ FormatWasUnread = (format : Format) (w : State) (l : List Event) →
     × (run_by before_two (under format w) l ≡ run_by before_two w l)
     × (left_by before_two (under format w) l ≡ under format (left_by before_two w l))
 
--- In a state of the first or the second format an event does what it did before there was a third (FormatTwo.antt).
+-- In such a state of the first or the second format an event does what it did before there was a third (FormatTwo.antt).
 abbrev pub FormatTwoIsAsBefore : Type 0
 FormatTwoIsAsBefore =
-    (w : State) (e : Event) → names_stations w.relay.format ≡ false → effects_at w e ≡ effects_by before_three w e
+    (w : State) (e : Event) → names_stations w.relay.format ≡ false → is_plain w.relay ≡ true →
+    effects_at w e ≡ effects_by before_three w e
 
 -- Under a configuration of the first or the second format every list of events asks and does what it did before there was
 -- a third, and leaves the state that it left.
 abbrev pub FormatTwoRunsAsBefore : Type 0
 FormatTwoRunsAsBefore = (c : Configuration) (k : Counts) (l : List Event) → names_stations c.format ≡ false →
+    is_plain (initial c) ≡ true →
     let fresh = state_after c k [] in
     (asked_from fresh l ≡ asked_by before_three fresh l) × (run c k l ≡ run_by before_three fresh l)
     × (state_after c k (history_after [] l) ≡ left_by before_three fresh l)

@@ -4,6 +4,9 @@ pub mod FormatTwo
 pub mod FormatOne
 pub mod Laws
 pub mod FormatThree
+pub mod Decisions
+pub mod Plain
+pub mod Neighbours
 pub mod NoLeak
 pub mod Examples
 pub mod Refused

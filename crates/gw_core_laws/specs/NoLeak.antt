@@ -10,6 +10,7 @@ use Rattle.gw_audit.specs.declared.denial.Denial.{Denial}
 use Rattle.gw_device.specs.Laws.{AsksToRead, object_written}
 use Rattle.gw_objects.specs.Objects.{Database}
 use Rattle.gw_configuration.specs.Configuration.{Configuration}
+use Rattle.gw_relay.specs.Announcement.{announcements}
 use Rattle.gw_relay.specs.Claim.{claimed, link_source, local_source}
 use Rattle.gw_relay.specs.Laws.{AreFrom}
 use Rattle.gw_rules.specs.Allowed.{NoChangeAllowed, NoneAllowed}
@@ -167,3 +168,12 @@ abbrev pub QuietIsUnseen : Type 0
 QuietIsUnseen =
     (c : Configuration) (k : Counts) (marks : List Bool) (l : List Event) → LeavesOut IsQuiet c k [] marks l →
     map seen (run c k (kept marks l)) ≡ map seen (kept marks (run c k l))
+
+-- Where all that is left out are writes of an object, the same is announced after the list, on each port: an announcement
+-- rests on the configuration and on what was granted to be learned alone.
+abbrev pub AnnouncementsAreUnread : Type 0
+AnnouncementsAreUnread =
+    (c : Configuration) (k : Counts) (o : Object) (marks : List Bool) (l : List Event) →
+    LeavesOut (IsWriteOf o) c k [] marks l →
+    announcements (state_after c k (history_after [] (kept marks l))).relay
+    ≡ announcements (state_after c k (history_after [] l)).relay

@@ -1,5 +1,5 @@
 -- The built-in configuration, with which the worked examples are run.
-use Rattle.std.specs.Prelude.{ℕ, negsuc, true, false, List, [], ◌∷◌, codes}
+use Rattle.std.specs.Prelude.{ℕ, negsuc, true, false, List, [], ◌∷◌, None, codes}
 use Rattle.gw_addr.specs.declared.bip.BipAddr.{BipAddr}
 use Rattle.gw_rules.specs.declared.field.FieldName.TheVariants.{Operation, ObjectType, Instance, Property}
 use Rattle.gw_rules.specs.declared.range.Range.{Range}
@@ -19,13 +19,15 @@ use Rattle.gw_configuration.specs.Configuration.{Configuration}
 abbrev pub node : ℕ → ℕ → BipAddr
 node net host = record { ip = 192 ∷ 168 ∷ net ∷ host ∷ []; udp = 47808 }
 
--- a port on 192.168.net, whose network has that number too, without stations and peers
+-- a port on 192.168.net, whose network has that number too: it is the broadcast manager of its subnet, without
+-- stations and peers
 abbrev pub port_on : ℕ → Port
 port_on net = record {
   network = net;
   address = node net 10;
   broadcast = node net 255;
   stations = [];
+  bbmd = None;
   peers = [];
 }
 
@@ -90,6 +92,7 @@ all_else = rule_without_fields (codes "all") true
 abbrev pub setting : Configuration
 setting = record {
   format = One;
+  announce = false;
   device = device;
   ports = port_on 1 ∷ port_on 2 ∷ [];
   routes = record { network = 300; port = 2; next = node 2 20 } ∷ [];

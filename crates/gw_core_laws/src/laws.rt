@@ -1,6 +1,7 @@
 //! Laws of the definitions, and worked examples of them. The functions do nothing: their contracts are the laws.
 
 ghost use Rattle.std.specs.Prelude.{◌≡◌};
+ghost use Rattle.gw_core_laws.specs.Decisions.{SameDecisionsDoAlike, SameDecisionsRunAlike};
 ghost use Rattle.gw_core_laws.specs.Examples.{AllArePlaced, BroadcastIsDistributed, CountsEnd, DeniedSetIsRefused};
 ghost use Rattle.gw_core_laws.specs.Examples.{DeniedTableIsRefused, DeniedWriteIsUnseen, DenialsAreCountedOn};
 ghost use Rattle.gw_core_laws.specs.Examples.{EachCutIsDropped, GlobalWhoIsGoesOn, HiddenObjectIsUnnamed};
@@ -11,14 +12,16 @@ ghost use Rattle.gw_core_laws.specs.Examples.{WhoIsIsAnswered, WriteIsSeen, Wron
 ghost use Rattle.gw_core_laws.specs.Reasons.{DropsHaveReasons};
 ghost use Rattle.gw_core_laws.specs.FormatThree.{AsksNameTheirSender, AsksNameTheirStation};
 ghost use Rattle.gw_core_laws.specs.FormatThree.{FormatThreeIsAsTwo, FormatThreeRunsAsTwo};
-ghost use Rattle.gw_core_laws.specs.NoLeak.{AsksCarryTheirClaim, AsksHaveTheirOrigin, QuietIsUnseen};
+ghost use Rattle.gw_core_laws.specs.NoLeak.{AnnouncementsAreUnread, AsksCarryTheirClaim, AsksHaveTheirOrigin, QuietIsUnseen};
 ghost use Rattle.gw_core_laws.specs.NoLeak.{WritesAreHidden, WritesAreUnread};
 ghost use Rattle.gw_core_laws.specs.Laws.{ActsLeaveTheTables, AllowedTrafficIsSent, ConfigurationStays};
 ghost use Rattle.gw_core_laws.specs.Laws.{DeniedAsksAreLogged, DeniedBroadcastsAreKept};
 ghost use Rattle.gw_core_laws.specs.Laws.{DeniedReadsAreRefused, DeniedWritesAreRefused, DenialsAreCounted};
 ghost use Rattle.gw_core_laws.specs.Laws.{DenialsHaveTheirTick, DroppedNeedsNoMemory, FormatOneIsAsBefore};
 ghost use Rattle.gw_core_laws.specs.Laws.{FormatOneRunsAsBefore, FormatStays, FormatTwoIsAsBefore, FormatTwoRunsAsBefore};
-ghost use Rattle.gw_core_laws.specs.Laws.{FormatWasUnread, NoDeliveryOutside, NoForgedClaim, NoStranger};
+ghost use Rattle.gw_core_laws.specs.Neighbours.{CarriedPortsAreBare, EachNetworkIsOnce, EventsLeaveThemBare, OwnNetworksAreUnnamed};
+ghost use Rattle.gw_core_laws.specs.Neighbours.{PlainIsAsBefore, PlainRunsAsBefore, PortsAreBare, TwoGatewaysStop};
+ghost use Rattle.gw_core_laws.specs.Laws.{FirstFormatsArePlain, FormatWasUnread, NoDeliveryOutside, NoForgedClaim, NoStranger};
 ghost use Rattle.gw_core_laws.specs.Laws.{LearningsLeaveTheRoutes, LogIsNumbered, NothingAskedIsChanged};
 ghost use Rattle.gw_core_laws.specs.Laws.{NothingAskedIsLogged, NothingAskedIsWritten, PortsStay, RelayTicksAreCounted};
 ghost use Rattle.gw_core_laws.specs.Laws.{RunsExtendHistories, StepsExtendHistories, TicksAreCounted};
@@ -79,7 +82,8 @@ pub fn refusals()
 
 /// What the format of a policy changes. Under a configuration of the first format every list of events asks and does
 /// what a definition without formats says, and leaves its state; under the first or the second, what a definition
-/// without the third says; and no event changes the format of the configuration. Under the third, if no port has stations
+/// without the third says (in these no port has another broadcast manager beside it, and nothing is announced); and no
+/// event changes the format of the configuration. Under the third, if no port has stations
 /// and no rule names a sender or a station, every event whose asks to claim are allowed, and that is no broadcast of a
 /// request that reads or writes properties, does what it does under the second, but for the sender and the station of
 /// each ask: the sender is that of the datagram, the station the one for which the message is bound.
@@ -94,6 +98,22 @@ pub fn formats()
     ensures senders { AsksNameTheirSender }
     ensures stations { AsksNameTheirStation }
     ensures stays { FormatStays }
+    ensures plain { FirstFormatsArePlain }
+{}
+
+/// What the keys `bbmd` and `announce` change. Under a configuration without them every list of events asks and does what a
+/// definition without them says, and leaves its state. And a port beside another broadcast manager never has a peer or a
+/// foreign device: not after any history, nor in a gateway that takes over what was saved. No announcement names what lies
+/// by its own port; and what two gateways announce to each other comes to an end.
+pub fn neighbours()
+    ensures plain { PlainIsAsBefore }
+    ensures runs { PlainRunsAsBefore }
+    ensures bare { PortsAreBare }
+    ensures carried { CarriedPortsAreBare }
+    ensures events { EventsLeaveThemBare }
+    ensures own { OwnNetworksAreUnnamed }
+    ensures once { EachNetworkIsOnce }
+    ensures stop { TwoGatewaysStop }
 {}
 
 /// What the third format keeps out. If the rules allow nobody to claim, whoever names a source network that doesn't
@@ -108,6 +128,13 @@ pub fn stations()
     entry();
     delivery();
 }
+
+/// Other rules that decide as those of a gateway whatever an event asks do the same: they ask, send and deny the same, if
+/// perhaps by a rule of another name, and leave the same state. So they do whatever comes, one event after the other.
+pub fn decisions()
+    ensures events { SameDecisionsDoAlike }
+    ensures runs { SameDecisionsRunAlike }
+{}
 
 /// What a gateway counts, whatever it is configured with and whatever comes.
 pub fn counts()
@@ -154,6 +181,7 @@ pub fn no_leak()
     ensures hidden { WritesAreHidden }
     ensures unread { WritesAreUnread }
     ensures quiet { QuietIsUnseen }
+    ensures announced { AnnouncementsAreUnread }
     ensures claims { AsksCarryTheirClaim }
     ensures origins { AsksHaveTheirOrigin }
 {}

@@ -1,24 +1,24 @@
 -- What comes of a line that isn't taken.
-use Rattle.std.proofs.Common.{◌≡◌, ℕ, List, Option, Some, Err, ◌⊎◌, inl, inr, sym, subst}
-use Rattle.gw_script.specs.Event.{Event}
+use Rattle.std.proofs.Common.{◌≡◌, Bool, ℕ, List, Option, Some, Err, ◌⊎◌, inl, inr, sym, subst}
 use Rattle.gw_replay.specs.declared.replaying.RunFault.{RunFault}
 use Rattle.gw_replay.specs.declared.replaying.RunFault.TheVariants.{Memory, CountEnd}
 use Rattle.gw_core.specs.State.{State}
 use Rattle.gw_script.specs.Flaw.{IsFlaw}
 use Rattle.gw_script.specs.declared.flaw.LineFlaw.{LineFlaw}
-use Rattle.gw_script.specs.Script.{IsLine}
+use Rattle.gw_replay.specs.Entry.{Entry, IsEntry}
 use Rattle.gw_replay.specs.internal.LineOutcome.{LineOutcome, MemoryWant, PassesEnd}
 use Rattle.gw_replay.specs.Replay.{EventText}
 
-pub same_line : (p q : ℕ) (a b : List ℕ) (e : Event) → p ≡ q → a ≡ b → IsLine q b e → IsLine p a e
-same_line p q a b e ports lines is =
-    subst (λ (l : List ℕ). IsLine p l e) (sym lines) (subst (λ (n : ℕ). IsLine n b e) (sym ports) is)
+pub same_line : (x y : Bool) (p q : ℕ) (a b : List ℕ) (e : Entry) → x ≡ y → p ≡ q → a ≡ b → IsEntry y q b e → IsEntry x p a e
+same_line x y p q a b e announces ports lines is =
+    subst (λ (l : List ℕ). IsEntry x p l e) (sym lines)
+    (subst (λ (n : ℕ). IsEntry x n b e) (sym ports) (subst (λ (z : Bool). IsEntry z q b e) (sym announces) is))
 
 pub same_flaw : (p q : ℕ) (a b : List ℕ) (flaw : LineFlaw) → p ≡ q → a ≡ b → IsFlaw p a flaw → IsFlaw q b flaw
 same_flaw p q a b flaw ports lines is =
     subst (λ (l : List ℕ). IsFlaw q l flaw) lines (subst (λ (n : ℕ). IsFlaw n a flaw) ports is)
 
--- an event that isn't taken leaves what was written as it was
+-- what isn't played leaves what was written as it was
 pub not_taken : (wording : EventText) (n : ℕ) (w moved : State) (text : List ℕ) (left : Option (List ℕ)) (before : List ℕ) (after : Option (List ℕ))
     (fault : RunFault) (wants passes : Type 0)
     → ((fault ≡ Memory) × wants) ⊎ ((fault ≡ CountEnd) × passes) → (wants → MemoryWant w text) → (passes → PassesEnd w text)

@@ -1,3 +1,4 @@
+pub mod Entry
 pub mod Shown
 pub mod Explained
 pub mod Replay

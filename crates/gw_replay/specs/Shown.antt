@@ -4,6 +4,7 @@ use Rattle.std.specs.List.{flat_map}
 use Rattle.gw_audit.specs.declared.denial.Denial.{Denial}
 use Rattle.gw_audit.specs.Line.{line_text}
 use Rattle.gw_script.specs.Text.{end_line, send_line}
+use Rattle.gw_relay.specs.Announcement.{announcements}
 use Rattle.gw_relay.specs.Sends.{Batch, Sending}
 use Rattle.gw_script.specs.Event.{Event}
 use Rattle.gw_core.specs.declared.effects.Effects.{Effects}
@@ -41,3 +42,7 @@ event_text w e = effects_text (effects_at w e)
 -- the lines of what each event of a run does
 abbrev pub text_of_run : List Effects → List ℕ
 text_of_run run = flat_map effects_text run
+
+-- the lines of what a gateway in this state announces: a line for each datagram, and `end`
+abbrev pub announced_text : State → List ℕ
+announced_text w = sends_text (announcements w.relay) ++ end_line

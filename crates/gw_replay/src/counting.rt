@@ -5,16 +5,18 @@ ghost use Rattle.std.specs.Io.KnownBytes.{prepend_known};
 ghost use Rattle.gw_addr.specs.declared.TheConstants.{MAX_PORTS};
 ghost use Rattle.gw_core.specs.Asked.{asked_at};
 ghost use Rattle.gw_core.specs.History.{next};
-ghost use Rattle.gw_replay.specs.Decisions.{AreCountedFrom, IsNext, IsReport, fresh};
+ghost use Rattle.gw_replay.specs.Decisions.{AreCountedFrom, IsNext, IsReport, entry_asked, fresh};
+ghost use Rattle.gw_replay.specs.Entry.{entry_view, moved_by};
 ghost use Rattle.gw_script.specs.Event.{event_view};
 ghost use Rattle.gw_decisions.specs.tally.Tally.{IsTally, tally_text};
 ghost use Rattle.gw_decisions.specs.Counted.{AreCounted};
 
+use crate::entry::{Entry, parse_entry};
 use gw_configuration::Config;
 use gw_core::{AllAsks, Counts, Event, Gateway, take_event};
 use gw_decisions::count_asked;
 use gw_decisions::tally::{Tally, put_tally};
-use gw_script::{LineReader, MAX_DATAGRAM, NextLine, OctetSource, parse_line};
+use gw_script::{LineReader, MAX_DATAGRAM, NextLine, OctetSource};
 use std::alloc::{AllocError, Global};
 
 /// The asks aren't counted: memory was refused, a read failed, or a count of the gateway is at its end.
@@ -31,7 +33,7 @@ struct Counting {
 }
 
 /// How many asks of a script each rule of this configuration decides, in lines as `gw_decisions::tally` writes them: the asks of the
-/// events of all its lines, or of those before the first that writes none, in a fresh gateway. `None` if memory was
+/// events of all its lines, or of those before the first that writes nothing, in a fresh gateway. `announce` asks nothing. `None` if memory was
 /// refused, a read failed, or an event would pass the end of a count.
 pub fn count_script<R: OctetSource>(
     alloc: Global,
@@ -45,7 +47,8 @@ pub fn count_script<R: OctetSource>(
         return None;
     };
     let ports = counting.gateway.ports();
-    let Ok(()) = counting.count_each(alloc, ports, reader) else {
+    let announces = counting.gateway.announces();
+    let Ok(()) = counting.count_each(alloc, announces, ports, reader) else {
         return None;
     };
     counting.lines(alloc)
@@ -69,6 +72,24 @@ fn count_event(
             Ok(())
         }
         Err(_) => Err(Uncounted),
+    }
+}
+
+/// Plays what a line writes, and counts its asks. An announcement has none.
+fn count_entry(
+    alloc: Global,
+    gateway: &mut Gateway,
+    entry: &Entry<'_>,
+    tally: &mut Tally,
+) -> Result<(), Uncounted>
+    ensures moved { OnOk result (gateway.new ≡ moved_by gateway.old (entry_view entry.now)) }
+    ensures counted { OnOk result (AreCounted tally.old (entry_asked gateway.old (entry_view entry.now)) tally.new) }
+    ensures rules { gateway.new.rules ≡ gateway.old.rules }
+    ensures places { length tally.new ≡ length tally.old }
+{
+    match entry {
+        Entry::Comes(event) => count_event(alloc, gateway, event, tally),
+        Entry::Announces => Ok(()),
     }
 }
 
@@ -109,18 +130,19 @@ impl Counting {
     fn count_each<R: OctetSource>(
         &mut self,
         alloc: Global,
+        announces: bool,
         ports: u8,
         reader: &mut R,
     ) -> Result<(), Uncounted>
         requires unread { self.old.lines.unread ≡ [] }
         requires ports { ports ≤ MAX_PORTS }
         ensures counted { (text : List ℕ) → R.left reader.old ≡ Some text →
-            OnOk result (AreCountedFrom ports self.old.gateway text self.old.tally self.new.tally) }
+            OnOk result (AreCountedFrom announces ports self.old.gateway text self.old.tally self.new.tally) }
         ensures rules { self.new.gateway.rules ≡ self.old.gateway.rules }
         ensures places { length self.new.tally ≡ length self.old.tally }
     {
         for _number in 1..u64::MAX {
-            if !self.count_next(alloc, ports, reader)? {
+            if !self.count_next(alloc, announces, ports, reader)? {
                 return Ok(());
             }
         }
@@ -131,13 +153,14 @@ impl Counting {
     fn count_next<R: OctetSource>(
         &mut self,
         alloc: Global,
+        announces: bool,
         ports: u8,
         reader: &mut R,
     ) -> Result<bool, Uncounted>
         requires ports { ports ≤ MAX_PORTS }
         ensures outcome { (text : List ℕ) →
             prepend_known self.old.lines.unread (R.left reader.old) ≡ Some text →
-            IsNext ports text (prepend_known self.new.lines.unread (R.left reader.new))
+            IsNext announces ports text (prepend_known self.new.lines.unread (R.left reader.new))
             self.old.gateway self.new.gateway self.old.tally self.new.tally result }
         ensures rules { self.new.gateway.rules ≡ self.old.gateway.rules }
         ensures places { length self.new.tally ≡ length self.old.tally }
@@ -148,10 +171,11 @@ impl Counting {
             Ok(NextLine::End) => return Ok(false),
             Err(_) => return Err(Uncounted),
         };
-        let Some(event) = parse_line(ports, self.lines.front(len), &mut self.datagram) else {
+        let line = self.lines.front(len);
+        let Some((entry, _)) = parse_entry(announces, ports, line, &mut self.datagram) else {
             return Ok(false);
         };
-        let Ok(()) = count_event(alloc, &mut self.gateway, &event, &mut self.tally) else {
+        let Ok(()) = count_entry(alloc, &mut self.gateway, &entry, &mut self.tally) else {
             return Err(Uncounted);
         };
         self.lines.consume(span);

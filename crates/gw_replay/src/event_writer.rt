@@ -5,11 +5,15 @@ ghost use Rattle.gw_script.specs.Event.{Tick, event_view};
 ghost use Rattle.gw_core.specs.Effects.{NeedsNoMemory};
 ghost use Rattle.gw_core.specs.Explained.{asked_lines};
 ghost use Rattle.gw_core.specs.History.{next};
-ghost use Rattle.gw_replay.specs.internal.LineOutcome.{IsEventFault};
-ghost use Rattle.gw_replay.specs.Shown.{effects_text, event_text};
+ghost use Rattle.gw_replay.specs.Entry.{entry_view, moved_by};
+ghost use Rattle.gw_replay.specs.Replay.{entry_text};
+ghost use Rattle.gw_replay.specs.declared.replaying.RunFault.TheVariants.{Memory};
+ghost use Rattle.gw_replay.specs.internal.LineOutcome.{IsEntryFault, IsEventFault};
+ghost use Rattle.gw_replay.specs.Shown.{announced_text, effects_text, event_text};
 
+use crate::entry::Entry;
 use crate::replaying::RunFault;
-use crate::shown::append_effects;
+use crate::shown::{append_announcements, append_effects};
 use gw_core::{
     AllAsks, Asked, DenialsAlone, Effects, Gateway, StepFault, Taken, append_asked, take_event_to,
 };
@@ -194,5 +198,43 @@ impl EventText for Explaining {
             Ok(()) => Ok(()),
             Err(_) => Err(RunFault::Memory),
         }
+    }
+}
+
+/// Plays what a line writes, and makes its text.
+#[inline(always)]
+pub(crate) fn make_entry_text<T: EventText>(
+    event_writer: &mut T,
+    gateway: &mut Gateway,
+    entry: &Entry<'_>,
+    sender: &Option<SpelledAddr<'_>>,
+    text: &mut Vec<u8>,
+) -> Result<(), RunFault>
+    requires room { 4 ≤ vec_capacity text.old }
+    ensures text { OnOk result
+        (text.new.items ≡ entry_text T.wording gateway.old (entry_view entry.now)) }
+    ensures moved { OnOk result (gateway.new ≡ moved_by gateway.old (entry_view entry.now)) }
+    ensures fault { IfErr result (IsEntryFault gateway.old (entry_view entry.now)) }
+    ensures capacity { vec_capacity text.old ≤ vec_capacity text.new }
+{
+    match entry {
+        Entry::Comes(event) => event_writer.make_text(gateway, event, sender, text),
+        Entry::Announces => make_announced_text(event_writer.alloc(), gateway, text),
+    }
+}
+
+/// Makes the text of what a gateway announces on its ports, in order.
+fn make_announced_text(alloc: Global, gateway: &Gateway, text: &mut Vec<u8>) -> Result<(), RunFault>
+    ensures text { OnOk result (text.new.items ≡ announced_text gateway.now) }
+    ensures fault { IfErr result (λ fault. fault ≡ Memory) }
+    ensures capacity { vec_capacity text.old ≤ vec_capacity text.new }
+{
+    let Ok(sends) = gateway.announcements(alloc) else {
+        return Err(RunFault::Memory);
+    };
+    text.clear();
+    match append_announcements(text, &sends) {
+        Ok(()) => Ok(()),
+        Err(_) => Err(RunFault::Memory),
     }
 }

@@ -2,6 +2,7 @@
 #![tactic(auto)]
 
 mod counting;
+mod entry;
 mod event_writer;
 pub mod laws;
 mod replaying;

@@ -13,12 +13,12 @@ ghost use Rattle.gw_script.specs.Known.{IsShorter, OnKnown};
 ghost use Rattle.gw_replay.specs.internal.LineOutcome.{OnKnownLine};
 ghost use Rattle.gw_replay.specs.Flawed.{HasFlaw, IsFirstFlaw};
 
-use crate::event_writer::{EventText, Explaining, Plain};
+use crate::entry::parse_entry;
+use crate::event_writer::{EventText, Explaining, Plain, make_entry_text};
 use gw_configuration::Config;
 use gw_core::{Counts, Gateway, Taken};
 use gw_script::{
-    LineFlaw, LineReader, MAX_DATAGRAM, NextLine, OctetSink, OctetSource, flaw_of, parse_spelled,
-    write_whole,
+    LineFlaw, LineReader, MAX_DATAGRAM, NextLine, OctetSink, OctetSource, flaw_of, write_whole,
 };
 use std::alloc::{AllocError, Global};
 use thiserror::Error;
@@ -32,7 +32,7 @@ pub enum RunFault {
     /// 1: a read failed, or there were 4,294,967,295 reads.
     #[error("read failed")]
     Read,
-    /// 2: the line of this number, from 1, writes no event.
+    /// 2: the line of this number, from 1, writes no event, and isn't `announce` to a gateway that announces.
     #[error("line {0}")]
     Line(u64),
     /// 3: a write failed, or took nothing.
@@ -77,6 +77,8 @@ struct ScriptRun {
 /// 1 192.168.1.5:47808 -
 /// ```
 ///
+/// For a configuration that announces a line is also `announce`, which is no event and changes nothing.
+///
 /// For each event there is a line for each of its denials, `deny ` and the line of the log, then one
 /// for each of its sends, and then `end`.
 ///
@@ -86,10 +88,13 @@ struct ScriptRun {
 /// end
 /// ```
 ///
+/// For `announce` there is a line for each datagram by which the gateway tells each port, in order, which networks it leads to, and
+/// then `end`.
+///
 /// # Errors
 ///
 /// 1 `Read` where a read failed, or there were 4,294,967,295. 2 `Line` with the number, from 1, of
-/// the first line that writes no event. 3 `Write` where a write failed or took nothing. 4 `Memory`
+/// the first line that writes neither. 3 `Write` where a write failed or took nothing. 4 `Memory`
 /// where a growth was refused. 5 `CountEnd` where an event would pass the end of a count. What some
 /// first events do is then written, whole; of it, at `Write` alone, perhaps only a front.
 pub fn replay<R: OctetSource, W: OctetSink>(
@@ -258,11 +263,18 @@ impl ScriptRun {
         };
         let line = self.lines.front(len);
         let ports = self.gateway.ports();
-        let Some((event, sender)) = parse_spelled(ports, line, &mut self.datagram) else {
+        let announces = self.gateway.announces();
+        let Some((entry, sender)) = parse_entry(announces, ports, line, &mut self.datagram) else {
             self.flaw = flaw_of(ports, line);
             return Err(RunFault::Line(number));
         };
-        event_writer.make_text(&mut self.gateway, &event, &sender, &mut self.text)?;
+        make_entry_text(
+            event_writer,
+            &mut self.gateway,
+            &entry,
+            &sender,
+            &mut self.text,
+        )?;
         let Ok(()) = write_whole(writer, &self.text) else {
             return Err(RunFault::Write);
         };

@@ -2,6 +2,7 @@
 
 ghost use Rattle.std.specs.Prelude.{◌≡◌, ◌+◌, ◌≤◌, ◌++◌, length, IsOk, OnOk, vec_len, vec_capacity};
 ghost use Rattle.std.specs.List.{flat_map};
+ghost use Rattle.gw_script.specs.Text.{end_line};
 ghost use Rattle.gw_replay.specs.Shown.{batch_text, denial_line, denials_text, effects_text, sends_text};
 
 use gw_addr::put_slice;
@@ -26,6 +27,15 @@ pub(crate) fn append_effects(
 {
     append_denials(out, effects.denials.as_slice())?;
     append_sends(out, &effects.sends, at_hand)?;
+    append_end(out)
+}
+
+/// Appends the lines of what is announced. Refused only if the buffer had no room for them.
+pub(crate) fn append_announcements(out: &mut Vec<u8>, sends: &Sends) -> Result<(), AllocError>
+    ensures ok { OnOk result (out.new.items ≡ out.old.items ++ sends_text sends.now ++ end_line) }
+    ensures capacity { vec_capacity out.old ≤ vec_capacity out.new }
+{
+    append_sends(out, sends, &None)?;
     append_end(out)
 }
 

@@ -1,13 +1,13 @@
 -- There are no more saved objects than objects, and the tables that are carried over have seen the ticks.
-use Rattle.std.proofs.Common.{◌≡◌, sym, subst, refl, ℕ, ◌≤◌, List, [], ◌∷◌, length, arith, Option, Some, None}
-use Rattle.std.specs.Prelude.{find}
+use Rattle.std.proofs.Common.{◌≡◌, sym, subst, refl, ℕ, ◌≤◌, Bool, true, false, List, [], ◌∷◌, length, arith, Option, Some, None}
+use Rattle.std.specs.Prelude.{find, is_some, if◌then◌else◌}
 use Rattle.std.specs.List.{AllByRecursion}
 use Rattle.gw_tables.specs.declared.bdt_fdt.tables.PortTables.{PortTables}
 use Rattle.gw_configuration.specs.declared.port.Port.{Port}
 use Rattle.gw_objects.specs.Objects.{Slots}
 use Rattle.gw_state.specs.declared.port.SavedPort.{SavedPort}
 use Rattle.gw_state.specs.Saved.{OriginObject, saved_objects}
-use Rattle.gw_state.specs.Carried.{is_port, tables_carried, tables_from}
+use Rattle.gw_state.specs.Carried.{is_port, manager_tables, no_tables, tables_carried, tables_from}
 
 -- at most one object is saved of each
 pub few_saved : (objects : List OriginObject) (states : List Slots) → length (saved_objects objects states) ≤ length objects
@@ -16,9 +16,16 @@ few_saved (object ∷ objects) [] = omega arith
 few_saved (object ∷ objects) (slots ∷ states) = let few = few_saved objects states in omega (arith, few)
 
 -- the tables of a port have seen the ticks, whether it was saved or not
-seen : (ticks : ℕ) (p : Port) (s : Option SavedPort) → (tables_from ticks p s).fdt.ticks ≡ ticks
-seen ticks p None = refl
-seen ticks p (Some s) = refl
+manager_seen : (ticks : ℕ) (p : Port) (s : Option SavedPort) → (manager_tables ticks p s).fdt.ticks ≡ ticks
+manager_seen ticks p None = refl
+manager_seen ticks p (Some s) = refl
+
+pub seen : (ticks : ℕ) (p : Port) (s : Option SavedPort) → (tables_from ticks p s).fdt.ticks ≡ ticks
+seen ticks p s = by (is_some p.bbmd)
+  where
+    by : (beside : Bool) → (if beside then no_tables ticks else manager_tables ticks p s).fdt.ticks ≡ ticks
+    by true = refl
+    by false = manager_seen ticks p s
 
 all_seen : (ticks : ℕ) (ports : List Port) (saved : List SavedPort)
     → AllByRecursion (λ (t : PortTables). t.fdt.ticks ≡ ticks) (tables_carried ticks ports saved)

@@ -2,7 +2,7 @@
 -- configured and can be written, the newer word counts: if the configuration says something else than it
 -- did then, that.
 use Rattle.std.specs.Prelude.{ℕ, zero, suc, ◌+◌, Bool, nat_eq, ◌&&◌, if◌then◌else◌, List, [], ◌∷◌, map, find}
-use Rattle.std.specs.Prelude.{filter_map, slice_get, Option, Some, None}
+use Rattle.std.specs.Prelude.{filter_map, is_some, slice_get, Option, Some, None}
 use Rattle.std.specs.Cmp.Lexicographic.{pointwise}
 use Rattle.std.specs.Option.{option_and_then, option_map}
 use Rattle.gw_addr.specs.declared.entry.BdtEntry.{BdtEntry}
@@ -36,11 +36,19 @@ same_entry a b = same_address a.address b.address && pointwise nat_eq a.mask b.m
 abbrev pub entries_from : ConfiguredPort → SavedPort → List BdtEntry
 entries_from p s = if pointwise same_entry s.peers p.peers then s.entries else p.peers
 
--- the tables of a port after so many ticks: a port that was saved has its foreign devices, and its table of
--- peers; another begins anew
+-- the tables of a port after so many ticks that is the broadcast manager of its subnet: a port that was saved has its foreign
+-- devices, and its table of peers; another begins anew
+abbrev pub manager_tables : ℕ → ConfiguredPort → Option SavedPort → PortTables
+manager_tables ticks p None = record { bdt = p.peers; fdt = restored ticks [] }
+manager_tables ticks p (Some s) = record { bdt = entries_from p s; fdt = restored ticks s.devices }
+
+-- the tables of a port that has another broadcast manager beside it: no peers and no foreign devices
+abbrev pub no_tables : ℕ → PortTables
+no_tables ticks = record { bdt = []; fdt = restored ticks [] }
+
+-- the tables of a port after so many ticks, which was saved or not: it has none if another broadcast manager is beside it now
 abbrev pub tables_from : ℕ → ConfiguredPort → Option SavedPort → PortTables
-tables_from ticks p None = record { bdt = p.peers; fdt = restored ticks [] }
-tables_from ticks p (Some s) = record { bdt = entries_from p s; fdt = restored ticks s.devices }
+tables_from ticks p s = if is_some p.bbmd then no_tables ticks else manager_tables ticks p s
 
 abbrev pub tables_carried : ℕ → List ConfiguredPort → List SavedPort → List PortTables
 tables_carried ticks ports saved = map (λ p. tables_from ticks p (find (is_port p) saved)) ports

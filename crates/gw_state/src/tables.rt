@@ -1,9 +1,10 @@
 //! Which tables a port takes over.
-ghost use Rattle.std.specs.Prelude.{◌≡◌, ◌≤◌, ◌^◌, length, find, option_copied, IfOk, IsFalse};
+ghost use Rattle.std.specs.Prelude.{◌≡◌, ◌≤◌, ◌^◌, [], length, find, option_copied, IfOk, IsFalse};
 ghost use Rattle.std.specs.Cmp.Lexicographic.{pointwise};
 ghost use Rattle.std.specs.List.{AllByRecursion};
+ghost use Rattle.gw_tables.specs.bdt_fdt.Kept.{restored};
 ghost use Rattle.gw_tables.specs.bdt_fdt.Peers.{has_twice};
-ghost use Rattle.gw_state.specs.Carried.{entries_from, is_port, same_entry, tables_carried, tables_from};
+ghost use Rattle.gw_state.specs.Carried.{entries_from, is_port, manager_tables, no_tables, same_entry, tables_carried, tables_from};
 
 use crate::{Saved, SavedPort};
 use gw_addr::BdtEntry;
@@ -13,8 +14,9 @@ use std::alloc::{AllocError, Global};
 
 impl Saved {
     /// The tables that the ports of a configuration take over, in order of these ports: the foreign devices
-    /// of a port that was saved, and its table of peers if the peers are still configured as they were. The
-    /// only fault is want of memory.
+    /// of a port that was saved, and its table of peers if the peers are still configured as they were. A port
+    /// that has another broadcast manager beside it takes over nothing: its tables are empty. The only fault is
+    /// want of memory.
     pub fn carry_tables(&self, alloc: Global, ports: &[Port]) -> Result<Vec<PortTables>, AllocError>
         requires once { AllByRecursion (λ p. IsFalse (has_twice p.peers)) ports.now }
         ensures tables { IfOk result (λ tables.
@@ -70,6 +72,34 @@ fn tables_for(
     requires once { IsFalse (has_twice port.now.peers) }
     ensures { IfOk result (λ tables. tables ≡ tables_from ticks port.now (option_copied saved.entry)) }
 {
+    if port.bbmd.is_some() {
+        return no_tables(alloc, ticks);
+    }
+    manager_tables(alloc, ticks, port, saved)
+}
+
+/// The tables of a port that has another broadcast manager beside it.
+fn no_tables(alloc: Global, ticks: u64) -> Result<PortTables, AllocError>
+    requires { ticks ≤ 2 ^ 63 }
+    ensures { IfOk result (λ tables. tables ≡ no_tables ticks) }
+{
+    Ok(PortTables {
+        bdt: Bdt::from_vec(Vec::new(alloc)).unwrap(),
+        fdt: no_devices(alloc, ticks)?,
+    })
+}
+
+/// The tables of a port that is the broadcast manager of its subnet, which was saved or not.
+fn manager_tables(
+    alloc: Global,
+    ticks: u64,
+    port: &Port,
+    saved: Option<&SavedPort>,
+) -> Result<PortTables, AllocError>
+    requires ticks { ticks ≤ 2 ^ 63 }
+    requires once { IsFalse (has_twice port.now.peers) }
+    ensures { IfOk result (λ tables. tables ≡ manager_tables ticks port.now (option_copied saved.entry)) }
+{
     match saved {
         Some(saved) => Ok(PortTables {
             bdt: entries_for(alloc, port, saved)?,
@@ -77,9 +107,17 @@ fn tables_for(
         }),
         None => Ok(PortTables {
             bdt: configured(alloc, port)?,
-            fdt: Fdt::restore(alloc, ticks, &KeptDevices::new(Vec::new(alloc)).unwrap())?,
+            fdt: no_devices(alloc, ticks)?,
         }),
     }
+}
+
+/// No foreign devices, after so many ticks.
+fn no_devices(alloc: Global, ticks: u64) -> Result<Fdt, AllocError>
+    requires { ticks ≤ 2 ^ 63 }
+    ensures { IfOk result (λ fdt. fdt ≡ restored ticks []) }
+{
+    Fdt::restore(alloc, ticks, &KeptDevices::new(Vec::new(alloc)).unwrap())
 }
 
 /// The table of peers of a port that was saved.

@@ -32,7 +32,7 @@ use Rattle.gw_state_words.specs.declared.takeover.finding.ValueFate.{ValueFate}
 use Rattle.gw_state_words.specs.declared.takeover.finding.ValueFate.TheVariants as values
 use Rattle.gw_state_words.specs.declared.takeover.finding.ValueFinding.{ValueFinding}
 use Rattle.gw_state_words.specs.takeover.Findings.{TakeOver, findings}
-use Rattle.gw_state_words.specs.takeover.Losses.{loss_of}
+use Rattle.gw_state_words.specs.takeover.Losses.{are_empty, loss_of}
 
 -- ---- numbers, texts and values
 
@@ -86,10 +86,22 @@ other_words sizes = codes "other peers are configured: " ++ peers_words sizes
 abbrev pub beside_words : ℕ → List ℕ
 beside_words devices = codes " dropped, " ++ devices_words devices
 
+abbrev pub other_manager_words : List ℕ
+other_manager_words = codes "another broadcast manager is configured"
+
+-- what is dropped where another broadcast manager is configured, if anything is
+abbrev pub unmanaged_words : Sizes → List ℕ
+unmanaged_words sizes = if are_empty sizes then [] else codes ": " ++ tables_words sizes ++ codes " dropped"
+
+abbrev pub taken_over_words : List ℕ
+taken_over_words = codes " taken over"
+
 abbrev pub table_words : TableFate → Sizes → List ℕ
-table_words tables.AsConfigured sizes = codes "peers as configured, " ++ devices_words sizes.devices
-table_words tables.TakenOver sizes = tables_words sizes
-table_words tables.OtherPeers sizes = other_words sizes ++ beside_words sizes.devices
+table_words tables.AsConfigured sizes =
+    codes "peers as configured, " ++ devices_words sizes.devices ++ taken_over_words
+table_words tables.TakenOver sizes = tables_words sizes ++ taken_over_words
+table_words tables.OtherPeers sizes = other_words sizes ++ beside_words sizes.devices ++ taken_over_words
+table_words tables.OtherManager sizes = other_manager_words ++ unmanaged_words sizes
 
 abbrev pub absence_words : Absence → List ℕ
 absence_words NotConfigured = codes "not configured"
@@ -167,12 +179,9 @@ slots_words slots default = counted slots (codes " slot") (codes " slots") ++ de
 abbrev pub new_words : List ℕ
 new_words = codes ": not in the state: begins anew"
 
-abbrev pub table_line_words : TableFate → Sizes → List ℕ
-table_line_words table sizes = table_words table sizes ++ codes " taken over"
-
 abbrev pub port_line_words : ℕ → PortName → Sizes → TableFate → List ℕ
 port_line_words number port sizes table =
-    numbered_words number port ++ codes ": " ++ table_line_words table sizes
+    numbered_words number port ++ codes ": " ++ table_words table sizes
 
 abbrev pub lost_port_words : PortName → Sizes → Absence → List ℕ
 lost_port_words port sizes absence =
@@ -216,6 +225,7 @@ dropped_words c s = flat_map dropped_line (findings c s)
 
 abbrev pub same_loss : Loss → Loss → Bool
 same_loss losses.Port losses.Port = true
+same_loss losses.Tables losses.Tables = true
 same_loss losses.Table losses.Table = true
 same_loss losses.Route losses.Route = true
 same_loss losses.Object losses.Object = true
@@ -228,6 +238,7 @@ is_loss loss finding = option_map_or (same_loss loss) (loss_of finding) false
 
 abbrev pub one_word : Loss → List ℕ
 one_word losses.Port = codes " port"
+one_word losses.Tables = codes " port's tables"
 one_word losses.Table = codes " table of peers"
 one_word losses.Route = codes " route"
 one_word losses.Object = codes " object"
@@ -236,6 +247,7 @@ one_word losses.Default = codes " default"
 
 abbrev pub many_word : Loss → List ℕ
 many_word losses.Port = codes " ports"
+many_word losses.Tables = codes " ports' tables"
 many_word losses.Table = codes " tables of peers"
 many_word losses.Route = codes " routes"
 many_word losses.Object = codes " objects"
@@ -250,9 +262,15 @@ abbrev pub short_value_words : ValueFinding → List ℕ
 short_value_words value =
     identifier_words value.object ++ short_held_words value.held ++ value_words value.value ++ reason_words value.fate
 
+-- why the tables of a port aren't taken over as they were saved
+abbrev pub table_reason_words : TableFate → List ℕ
+table_reason_words tables.OtherManager = other_manager_words
+table_reason_words _ = codes "other peers are configured"
+
 -- what is dropped, in short, with its reason
 abbrev pub short_words : Finding → List ℕ
-short_words (Port number port sizes table) = numbered_words number port ++ codes ": other peers are configured"
+short_words (Port number port sizes table) =
+    numbered_words number port ++ codes ": " ++ table_reason_words table
 short_words (LostPort port sizes absence) = port_words port ++ codes ": " ++ absence_words absence
 short_words (Route route) = codes "to " ++ decimal route.network ++ codes ": " ++ refusal_words route.fate
 short_words (Value value) = short_value_words value
@@ -271,7 +289,7 @@ loss_words findings loss =
     (find (is_loss loss) findings) []
 
 abbrev pub kinds : List Loss
-kinds = losses.Port ∷ losses.Table ∷ losses.Route ∷ losses.Object ∷ losses.Slot ∷ losses.Default ∷ []
+kinds = losses.Port ∷ losses.Tables ∷ losses.Table ∷ losses.Route ∷ losses.Object ∷ losses.Slot ∷ losses.Default ∷ []
 
 abbrev pub kept_words : TakeOver → List ℕ
 kept_words t =

@@ -1,6 +1,6 @@
 //! The line of what is found of a part.
 ghost use Rattle.std.specs.Prelude.{◌≡◌, ◌++◌, codes, OnOk};
-ghost use Rattle.gw_state_words.specs.Words.{beside_words, by_words, default_words, ending_words, finding_words, held_words, line, lost_object_words, lost_port_words, new_words, other_words, port_line_words, reason_words, refusal_words, route_words, slots_words, table_line_words, table_words, verdict_words, way_words, written_words};
+ghost use Rattle.gw_state_words.specs.Words.{beside_words, by_words, default_words, ending_words, finding_words, held_words, line, lost_object_words, lost_port_words, new_words, other_words, port_line_words, reason_words, refusal_words, route_words, slots_words, table_reason_words, table_words, taken_over_words, unmanaged_words, verdict_words, way_words, written_words};
 
 use crate::takeover::{
     Absence, Finding, Held, ObjectName, PortName, RouteFate, RouteFinding, Sizes, TableFate,
@@ -74,14 +74,7 @@ fn put_kept_port(
 {
     put_numbered(out, number, port)?;
     out.extend_from_slice(b": ")?;
-    put_table_line(out, table, sizes)
-}
-
-fn put_table_line(out: &mut Vec<u8>, table: TableFate, sizes: Sizes) -> Result<(), AllocError>
-    ensures { OnOk result (out.new.items ≡ out.old.items ++ table_line_words table sizes) }
-{
-    put_table(out, table, sizes)?;
-    out.extend_from_slice(b" taken over")
+    put_table(out, table, sizes)
 }
 
 fn put_table(out: &mut Vec<u8>, table: TableFate, sizes: Sizes) -> Result<(), AllocError>
@@ -90,14 +83,53 @@ fn put_table(out: &mut Vec<u8>, table: TableFate, sizes: Sizes) -> Result<(), Al
     match table {
         TableFate::AsConfigured => {
             out.extend_from_slice(b"peers as configured, ")?;
-            put_devices(out, sizes.devices)
+            put_devices(out, sizes.devices)?;
+            put_taken_over(out)
         }
-        TableFate::TakenOver => put_tables(out, sizes),
+        TableFate::TakenOver => {
+            put_tables(out, sizes)?;
+            put_taken_over(out)
+        }
         TableFate::OtherPeers => {
             put_other(out, sizes)?;
-            put_beside(out, sizes.devices)
+            put_beside(out, sizes.devices)?;
+            put_taken_over(out)
+        }
+        TableFate::OtherManager => {
+            put_table_reason(out, table)?;
+            put_unmanaged(out, sizes)
         }
     }
+}
+
+fn put_taken_over(out: &mut Vec<u8>) -> Result<(), AllocError>
+    ensures { OnOk result (out.new.items ≡ out.old.items ++ taken_over_words) }
+{
+    out.extend_from_slice(b" taken over")
+}
+
+/// Appends why the tables of a port aren't taken over as they were saved.
+pub(crate) fn put_table_reason(out: &mut Vec<u8>, table: TableFate) -> Result<(), AllocError>
+    ensures { OnOk result (out.new.items ≡ out.old.items ++ table_reason_words table) }
+{
+    match table {
+        TableFate::OtherManager => out.extend_from_slice(
+            b"another broadcast manager is configured",
+        ),
+        _ => out.extend_from_slice(b"other peers are configured"),
+    }
+}
+
+/// Appends what is dropped where another broadcast manager is configured, if anything is.
+fn put_unmanaged(out: &mut Vec<u8>, sizes: Sizes) -> Result<(), AllocError>
+    ensures { OnOk result (out.new.items ≡ out.old.items ++ unmanaged_words sizes) }
+{
+    if sizes.are_empty() {
+        return Ok(());
+    }
+    out.extend_from_slice(b": ")?;
+    put_tables(out, sizes)?;
+    out.extend_from_slice(b" dropped")
 }
 
 fn put_other(out: &mut Vec<u8>, sizes: Sizes) -> Result<(), AllocError>

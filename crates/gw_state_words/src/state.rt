@@ -19,6 +19,7 @@ use std::alloc::{AllocError, Global};
 /// port 1, network 1, 192.168.1.1:47808: table of 3 peers and 2 foreign devices taken over
 /// port 2, network 3, 192.168.3.1:47808: other peers are configured: table of 3 peers dropped, 1 foreign device taken over
 /// port 3, network 4, 192.168.4.1:47808: not in the state: begins anew
+/// port 4, network 5, 192.168.5.1:47808: another broadcast manager is configured: table of 3 peers and 2 foreign devices dropped
 /// port of network 2, 192.168.2.1:47808: not configured: table of 3 peers and 2 foreign devices dropped
 /// route to 400 by port 2, next router 192.168.3.21:47808: taken over
 /// route to 500 by port 1, next router 192.168.1.9:47808: a route to it is configured: dropped

@@ -3,7 +3,7 @@ ghost use Rattle.std.specs.Prelude.{◌≡◌, ◌++◌, count_by, find, option_
 ghost use Rattle.std.specs.List.{flat_map};
 ghost use Rattle.gw_state_words.specs.Words.{is_loss, kept_words, kinds, loss_words, many_word, one_word, short_held_words, short_value_words, short_words, take_over_words};
 
-use crate::lines::{put_reason, put_refusal};
+use crate::lines::{put_reason, put_refusal, put_table_reason};
 use crate::takeover::{Finding, Held, Loss, RouteFinding, TakeOver, ValueFinding};
 use crate::words::{
     put_absence, put_counted, put_devices, put_identifier, put_numbered, put_port, put_value,
@@ -12,8 +12,9 @@ use gw_addr::{keep_whole, put_decimal, put_slice};
 use std::alloc::{AllocError, Global};
 
 /// The kinds of losses, in the order in which they are reported.
-const KINDS: [Loss; 6] = [
+const KINDS: [Loss; 7] = [
     Loss::Port,
+    Loss::Tables,
     Loss::Table,
     Loss::Route,
     Loss::Object,
@@ -113,6 +114,7 @@ fn one_word(loss: Loss) -> &'static str
 {
     match loss {
         Loss::Port => " port",
+        Loss::Tables => " port's tables",
         Loss::Table => " table of peers",
         Loss::Route => " route",
         Loss::Object => " object",
@@ -126,6 +128,7 @@ fn many_word(loss: Loss) -> &'static str
 {
     match loss {
         Loss::Port => " ports",
+        Loss::Tables => " ports' tables",
         Loss::Table => " tables of peers",
         Loss::Route => " routes",
         Loss::Object => " objects",
@@ -139,9 +142,15 @@ fn put_short(out: &mut Vec<u8>, finding: &Finding) -> Result<(), AllocError>
     ensures { OnOk result (out.new.items ≡ out.old.items ++ short_words finding.now) }
 {
     match finding {
-        Finding::Port { number, port, .. } => {
+        Finding::Port {
+            number,
+            port,
+            table,
+            ..
+        } => {
             put_numbered(out, *number, *port)?;
-            out.extend_from_slice(b": other peers are configured")
+            out.extend_from_slice(b": ")?;
+            put_table_reason(out, *table)
         }
         Finding::LostPort { port, absence, .. } => {
             put_port(out, *port)?;

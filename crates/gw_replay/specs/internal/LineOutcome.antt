@@ -7,58 +7,58 @@ use Rattle.gw_replay.specs.declared.replaying.RunFault.TheVariants.{Read, Line, 
 use Rattle.gw_replay.specs.declared.replaying.RunFault.TheVariants.{CountEnd}
 use Rattle.gw_core.specs.State.{State}
 use Rattle.gw_core.specs.Effects.{passes_end, NeedsNoMemory}
-use Rattle.gw_core.specs.History.{next}
-use Rattle.gw_script.specs.Script.{lines_of, IsLine}
-use Rattle.gw_replay.specs.Replay.{EventText}
+use Rattle.gw_script.specs.Script.{lines_of}
+use Rattle.gw_replay.specs.Entry.{Entry, IsEntry, MayWantMemory, PassesEndAt, moved_by}
+use Rattle.gw_replay.specs.Replay.{EventText, entry_text}
 
--- the first line writes an event, whose text was appended, and the gateway moved on by it
+-- the first line writes something, whose text was appended, and the gateway moved on by it
 pub record WholeStep (wording : EventText) (w moved : State) (text : List ℕ) (left : Option (List ℕ)) (before : List ℕ)
     (after : Option (List ℕ)) : Type 0 where
   pub line : List ℕ
-  pub event : Event
-  pub writes : IsLine (length w.relay.ports) line event
+  pub entry : Entry
+  pub writes : IsEntry w.relay.announce (length w.relay.ports) line entry
   pub rest : List ℕ
   pub remains : left ≡ Some rest
   pub lines : lines_of text ≡ line ∷ lines_of rest
-  pub appended : after ≡ Some (before ++ wording w event)
-  pub moves : moved ≡ next w event
+  pub appended : after ≡ Some (before ++ entry_text wording w entry)
+  pub moves : moved ≡ moved_by w entry
 
--- the first line writes no event
-pub record NoEvent (w : State) (text : List ℕ) : Type 0 where
+-- the first line writes nothing
+pub record NoEntry (w : State) (text : List ℕ) : Type 0 where
   pub line : List ℕ
   pub others : List (List ℕ)
   pub lines : lines_of text ≡ line ∷ others
-  pub no_event : (e : Event) → ¬ (IsLine (length w.relay.ports) line e)
+  pub no_entry : (e : Entry) → ¬ (IsEntry w.relay.announce (length w.relay.ports) line e)
 
--- the first line writes an event, of whose text a front was appended
+-- the first line writes something, of whose text a front was appended
 pub record CutStep (wording : EventText) (w : State) (text before : List ℕ) (after : Option (List ℕ)) : Type 0 where
   pub line : List ℕ
-  pub event : Event
+  pub entry : Entry
   pub others : List (List ℕ)
-  pub writes : IsLine (length w.relay.ports) line event
+  pub writes : IsEntry w.relay.announce (length w.relay.ports) line entry
   pub lines : lines_of text ≡ line ∷ others
   pub front : List ℕ
   pub unwritten : List ℕ
-  pub parts : wording w event ≡ front ++ unwritten
+  pub parts : entry_text wording w entry ≡ front ++ unwritten
   pub appended : after ≡ Some (before ++ front)
 
 -- the first line writes an event that would pass the end of a count
 pub record PassesEnd (w : State) (text : List ℕ) : Type 0 where
   pub line : List ℕ
-  pub event : Event
+  pub entry : Entry
   pub others : List (List ℕ)
-  pub writes : IsLine (length w.relay.ports) line event
+  pub writes : IsEntry w.relay.announce (length w.relay.ports) line entry
   pub lines : lines_of text ≡ line ∷ others
-  pub passes : passes_end w event ≡ true
+  pub passes : PassesEndAt w entry
 
--- the first line writes an event for which memory may be wanted
+-- the first line writes something for which memory may be wanted
 pub record MemoryWant (w : State) (text : List ℕ) : Type 0 where
   pub line : List ℕ
-  pub event : Event
+  pub entry : Entry
   pub others : List (List ℕ)
-  pub writes : IsLine (length w.relay.ports) line event
+  pub writes : IsEntry w.relay.announce (length w.relay.ports) line entry
   pub lines : lines_of text ≡ line ∷ others
-  pub wants : ¬ (NeedsNoMemory w event)
+  pub wants : MayWantMemory w entry
 
 -- what comes of the first line, whose number this is
 abbrev pub LineOutcome : EventText → ℕ → State → State → List ℕ → Option (List ℕ) → List ℕ → Option (List ℕ)
@@ -67,7 +67,7 @@ LineOutcome wording n w moved text left before after (Ok true) = WholeStep wordi
 LineOutcome wording n w moved text left before after (Ok false) =
     (lines_of text ≡ []) × (after ≡ Some before)
 LineOutcome wording n w moved text left before after (Err (Line m)) =
-    (m ≡ n) × NoEvent w text × (after ≡ Some before)
+    (m ≡ n) × NoEntry w text × (after ≡ Some before)
 LineOutcome wording n w moved text left before after (Err Write) = CutStep wording w text before after
 LineOutcome wording n w moved text left before after (Err Read) = after ≡ Some before
 LineOutcome wording n w moved text left before after (Err Memory) =
@@ -87,3 +87,7 @@ OnKnownLine wording n w moved left leaves held holds result =
 abbrev pub IsEventFault : State → Event → RunFault → Type 0
 IsEventFault w event fault =
     ((fault ≡ Memory) × ¬ (NeedsNoMemory w event)) ⊎ ((fault ≡ CountEnd) × (passes_end w event ≡ true))
+
+-- the same of what a line writes
+abbrev pub IsEntryFault : State → Entry → RunFault → Type 0
+IsEntryFault w entry fault = ((fault ≡ Memory) × MayWantMemory w entry) ⊎ ((fault ≡ CountEnd) × PassesEndAt w entry)

@@ -56,10 +56,11 @@ abbrev pub are_same : List BdtEntry → List BdtEntry → Bool
 are_same a b = pointwise same_entry a b
 
 -- no table was written if the port had the peers that were configured then; and it has the peers that are configured now
--- if they are those of the table
+-- if they are those of the table; beside another broadcast manager it has no tables
 abbrev pub table_fate : ConfiguredPort → SavedPort → TableFate
 table_fate p s =
-    if are_same s.entries p.peers then tables.AsConfigured
+    if is_some p.bbmd then tables.OtherManager
+    else if are_same s.entries p.peers then tables.AsConfigured
     else if are_same s.peers p.peers then tables.TakenOver
     else if are_same s.entries s.peers then tables.AsConfigured else tables.OtherPeers
 
@@ -95,13 +96,18 @@ lost_ports ports all place [] = []
 lost_ports ports all place (s ∷ saved) =
     lost_port ports (take place all) s ++ lost_ports ports all (place + 1) saved
 
+-- how many foreign devices were saved of a port
 abbrev pub device_count : Option SavedPort → ℕ
 device_count None = 0
 device_count (Some s) = length s.devices
 
+-- how many a port takes over of those
+abbrev pub devices_of : ConfiguredPort → Option SavedPort → ℕ
+devices_of p s = if is_some p.bbmd then 0 else device_count s
+
 -- how many foreign devices are taken over
 abbrev pub devices_kept : List ConfiguredPort → List SavedPort → ℕ
-devices_kept ports saved = sum_by (λ p. device_count (find (is_port p) saved)) ports
+devices_kept ports saved = sum_by (λ p. devices_of p (find (is_port p) saved)) ports
 
 -- ---- routes
 

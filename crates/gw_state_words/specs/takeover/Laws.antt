@@ -1,9 +1,11 @@
 -- What the lines say is what a gateway takes over.
-use Rattle.std.specs.Prelude.{◌≡◌, ◌↔◌, ℕ, ◌+◌, ◌≤◌, Bool, true, false, not, nat_eq, ◌&&◌, List, [], ◌∷◌, ◌++◌, length}
+use Rattle.std.specs.Prelude.{◌≡◌, ◌↔◌, ℕ, ◌+◌, ◌≤◌, Bool, true, false, not, nat_eq, ◌&&◌, if◌then◌else◌, List, []}
+use Rattle.std.specs.Prelude.{◌∷◌, ◌++◌, length}
 use Rattle.std.specs.Prelude.{map, find, filter_map, is_some, Option, Some, None}
 use Rattle.std.specs.List.{list_any, sum_by}
 use Rattle.gw_addr.specs.declared.entry.BdtEntry.{BdtEntry}
 use Rattle.gw_tables.specs.bdt_fdt.Kept.{row_of}
+use Rattle.gw_tables.specs.declared.bdt_fdt.kept.KeptDevice.{KeptDevice}
 use Rattle.gw_tables.specs.declared.bdt_fdt.tables.PortTables.{PortTables}
 use Rattle.gw_configuration.specs.Configuration.{Configuration}
 use Rattle.gw_configuration.specs.declared.object.Object.{Object as ConfiguredObject}
@@ -37,12 +39,24 @@ abbrev pub IsTableAsSaid : TableFate → ConfiguredPort → SavedPort → List B
 IsTableAsSaid tables.AsConfigured p s entries = are_same entries p.peers ≡ true
 IsTableAsSaid tables.TakenOver p s entries = (entries ≡ s.entries) × (are_same s.entries p.peers ≡ false)
 IsTableAsSaid tables.OtherPeers p s entries = (entries ≡ p.peers) × (are_same s.entries p.peers ≡ false)
+IsTableAsSaid tables.OtherManager p s entries = entries ≡ []
+
+-- the foreign devices of a saved port that a port has by what is said of it: none where another broadcast manager is beside it
+abbrev pub devices_by : TableFate → SavedPort → List KeptDevice
+devices_by tables.AsConfigured s = s.devices
+devices_by tables.TakenOver s = s.devices
+devices_by tables.OtherPeers s = s.devices
+devices_by tables.OtherManager s = []
+
+-- the table of peers with which a port begins: those that are configured, and none where another broadcast manager is beside it
+abbrev pub peers_at_first : ConfiguredPort → List BdtEntry
+peers_at_first p = if is_some p.bbmd then [] else p.peers
 
 -- the tables that a port has are what is said of it
 abbrev pub AreTablesAsSaid : Finding → ConfiguredPort → Option SavedPort → PortTables → Type 0
 AreTablesAsSaid (found.Port number port sizes table) p (Some s) t =
-    (sizes ≡ sizes_of s) × (t.fdt.rows ≡ map row_of s.devices) × IsTableAsSaid table p s t.bdt
-AreTablesAsSaid (found.NewPort number port) p None t = (t.fdt.rows ≡ []) × (t.bdt ≡ p.peers)
+    (sizes ≡ sizes_of s) × (t.fdt.rows ≡ map row_of (devices_by table s)) × IsTableAsSaid table p s t.bdt
+AreTablesAsSaid (found.NewPort number port) p None t = (t.fdt.rows ≡ []) × (t.bdt ≡ peers_at_first p)
 AreTablesAsSaid _ _ _ _ = ⊥
 
 -- What is said of a configured port is so of the tables that it takes over.
@@ -62,7 +76,7 @@ FirstsAreFound A =
     → is_first test before s ≡ true → find test (before ++ s ∷ after) ≡ Some s
 
 -- A saved port, which has these before it in the state, is said to be dropped exactly if there is no configured port of
--- which it is the first saved one, and which so takes its tables over.
+-- which it is the first saved one, and which so says what becomes of its tables.
 abbrev pub LostPortsAreLost : Type 0
 LostPortsAreLost =
     (ports : List ConfiguredPort) (before : List SavedPort) (s : SavedPort)

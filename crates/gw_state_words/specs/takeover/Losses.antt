@@ -8,15 +8,21 @@ use Rattle.gw_state_words.specs.declared.takeover.finding.Loss.{Loss}
 use Rattle.gw_state_words.specs.declared.takeover.finding.Loss.TheVariants as losses
 use Rattle.gw_state_words.specs.declared.takeover.finding.RouteFate.{RouteFate}
 use Rattle.gw_state_words.specs.declared.takeover.finding.RouteFate.TheVariants as routes
+use Rattle.gw_state_words.specs.declared.takeover.finding.Sizes.{Sizes}
 use Rattle.gw_state_words.specs.declared.takeover.finding.TableFate.{TableFate}
 use Rattle.gw_state_words.specs.declared.takeover.finding.TableFate.TheVariants as tables
 use Rattle.gw_state_words.specs.declared.takeover.finding.ValueFate.{ValueFate}
 use Rattle.gw_state_words.specs.declared.takeover.finding.ValueFate.TheVariants as values
 
-abbrev pub table_loss : TableFate → Option Loss
-table_loss tables.OtherPeers = Some losses.Table
-table_loss tables.AsConfigured = None
-table_loss tables.TakenOver = None
+-- nothing is in either table of a port
+abbrev pub are_empty : Sizes → Bool
+are_empty sizes = (sizes.peers == 0) && (sizes.devices == 0)
+
+abbrev pub table_loss : TableFate → Sizes → Option Loss
+table_loss tables.OtherPeers sizes = Some losses.Table
+table_loss tables.OtherManager sizes = if are_empty sizes then None else Some losses.Tables
+table_loss tables.AsConfigured sizes = None
+table_loss tables.TakenOver sizes = None
 
 abbrev pub route_loss : RouteFate → Option Loss
 route_loss routes.TakenOver = None
@@ -36,7 +42,7 @@ object_loss slots default = if (slots == 0) && not default then None else Some l
 
 -- the kind of what is dropped, or none if nothing is
 abbrev pub loss_of : Finding → Option Loss
-loss_of (Port number port sizes table) = table_loss table
+loss_of (Port number port sizes table) = table_loss table sizes
 loss_of (NewPort number port) = None
 loss_of (LostPort port sizes absence) = Some losses.Port
 loss_of (Route route) = route_loss route.fate

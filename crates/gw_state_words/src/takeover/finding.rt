@@ -1,6 +1,6 @@
 //! What is found of each part of a saved state.
 ghost use Rattle.std.specs.Prelude.{◌≡◌};
-ghost use Rattle.gw_state_words.specs.takeover.Losses.{loss_of, object_loss, route_loss, value_loss};
+ghost use Rattle.gw_state_words.specs.takeover.Losses.{are_empty, loss_of, object_loss, route_loss, table_loss, value_loss};
 
 use gw_addr::BipAddr;
 use gw_objects::PropertyValue;
@@ -23,7 +23,8 @@ pub struct Sizes {
     pub devices: usize,
 }
 
-/// What a configured port takes over of its table of peers. Its foreign devices it always takes over.
+/// What a configured port takes over of its table of peers. Its foreign devices it takes over, unless another broadcast
+/// manager is beside it.
 #[derive(Clone, Copy, Debug)]
 pub enum TableFate {
     /// It has the peers that are configured now, since no others were written.
@@ -32,6 +33,8 @@ pub enum TableFate {
     TakenOver,
     /// Not the table that was written, since other peers are configured now than then.
     OtherPeers,
+    /// Nothing, and no foreign device either, since its subnet has another broadcast manager.
+    OtherManager,
 }
 
 /// Why nothing is taken over of a port or an object.
@@ -155,8 +158,10 @@ pub enum Finding {
 /// The kinds of what can be dropped.
 #[derive(Clone, Copy, Debug, PartialEq, Eq)]
 pub enum Loss {
-    /// Both tables of a port.
+    /// A port with both tables.
     Port,
+    /// Both tables of a port that is still configured.
+    Tables,
     /// A table of peers that was written.
     Table,
     /// A learned route.
@@ -175,17 +180,36 @@ impl Finding {
         ensures { result ≡ loss_of self.now }
     {
         match self {
-            Finding::Port {
-                table: TableFate::OtherPeers,
-                ..
-            } => Some(Loss::Table),
-            Finding::Port { .. } => None,
+            Finding::Port { sizes, table, .. } => table.loss(*sizes),
             Finding::NewPort { .. } => None,
             Finding::LostPort { .. } => Some(Loss::Port),
             Finding::Route(route) => route.loss(),
             Finding::Value(value) => value.loss(),
             Finding::NewObject(_) => None,
             Finding::LostObject { slots, default, .. } => lost_object(*slots, *default),
+        }
+    }
+}
+
+impl Sizes {
+    /// Whether nothing is in either table.
+    pub fn are_empty(&self) -> bool
+        ensures { result ≡ are_empty self.now }
+    {
+        self.peers == 0 && self.devices == 0
+    }
+}
+
+impl TableFate {
+    /// Which kind of thing is dropped of tables that hold so much.
+    fn loss(&self, sizes: Sizes) -> Option<Loss>
+        ensures { result ≡ table_loss self.now sizes }
+    {
+        match self {
+            TableFate::OtherPeers => Some(Loss::Table),
+            TableFate::OtherManager if sizes.are_empty() => None,
+            TableFate::OtherManager => Some(Loss::Tables),
+            TableFate::AsConfigured | TableFate::TakenOver => None,
         }
     }
 }

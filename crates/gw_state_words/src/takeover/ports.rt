@@ -2,7 +2,7 @@
 ghost use Rattle.std.specs.Prelude.{◌≡◌, ◌≤◌, ◌++◌, length, option_copied, OnOk};
 ghost use Rattle.gw_addr.specs.declared.TheConstants.{MAX_PORTS};
 ghost use Rattle.gw_state.specs.Carried.{same_entry};
-ghost use Rattle.gw_state_words.specs.takeover.Findings.{are_same, device_count, devices_kept, port_finding, port_findings, sizes_of, table_fate};
+ghost use Rattle.gw_state_words.specs.takeover.Findings.{are_same, device_count, devices_kept, devices_of, port_finding, port_findings, sizes_of, table_fate};
 
 use crate::takeover::{Finding, PortName, Sizes, TableFate};
 use gw_addr::BdtEntry;
@@ -54,6 +54,9 @@ pub(crate) fn sizes_of(saved: &SavedPort) -> Sizes
 fn table_fate(port: &Port, saved: &SavedPort) -> TableFate
     ensures { result ≡ table_fate port.now saved.now }
 {
+    if port.bbmd.is_some() {
+        return TableFate::OtherManager;
+    }
     let configured = port.peers.as_slice();
     if are_same(saved.entries.entries(), configured) {
         return TableFate::AsConfigured;
@@ -96,12 +99,24 @@ pub(crate) fn devices_kept(ports: &[Port], saved: &[SavedPort]) -> usize
 {
     let mut devices = 0;
     for port in ports {
-        devices += device_count(port_saved(saved, port));
+        devices += devices_of(port, port_saved(saved, port));
     }
     devices
 }
 
-/// How many foreign devices a port has, if it was saved.
+/// How many foreign devices a port takes over, which was saved or not.
+fn devices_of(port: &Port, saved: Option<&SavedPort>) -> usize
+    ensures count { result ≡ devices_of port.now (option_copied saved.entry) }
+    ensures few { result ≤ 128 }
+{
+    if port.bbmd.is_some() {
+        0
+    } else {
+        device_count(saved)
+    }
+}
+
+/// How many foreign devices were saved of a port, if it was saved.
 fn device_count(saved: Option<&SavedPort>) -> usize
     ensures count { result ≡ device_count (option_copied saved.entry) }
     ensures few { result ≤ 128 }

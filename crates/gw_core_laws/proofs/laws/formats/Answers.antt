@@ -1,5 +1,6 @@
 use Rattle.gw_core_laws.proofs.FormatLemmas.{format_one_is_as_before, format_one_runs_as_before, format_stays, format_two_is_as_before, format_two_runs_as_before, format_was_unread}
 use Rattle.gw_core_laws.proofs.FormatThreeLemmas.{format_three_is_as_two, format_three_runs_as_two}
+use Rattle.gw_core_laws.proofs.PlainLemmas.{first_formats_are_plain}
 use Rattle.gw_core_laws.proofs.SenderLemmas.{asks_name_their_sender, asks_name_their_station}
 use Rattle.gw_core_laws.proofs.laws.formats.Goals as goal
 
@@ -32,3 +33,6 @@ returns-clause-senders c = asks_name_their_sender
 
 pub returns-clause-stations : goal.returns-clause-stations
 returns-clause-stations c = asks_name_their_station
+
+pub returns-clause-plain : goal.returns-clause-plain
+returns-clause-plain c = first_formats_are_plain

@@ -17,6 +17,6 @@ returns g c = λ script known.
     let last = c.count_each.new.self in
     let rules = c.count_each.ensures.rules ∙ ap (λ (w : State). w.rules) c.in-Ok.ensures.state in
     if_some c.lines.result
-    (λ (text : Vec ℕ) is. reported c.args.config script first.tally last.tally text.items c.ports-ports.result first.gateway c.in-Ok.ensures.state
-    c.ports-ports.ensures.count c.in-Ok.ensures.none (c.in-Ok-count_each.ensures.counted script known)
+    (λ (text : Vec ℕ) is. reported c.args.config script first.tally last.tally text.items c.announces-announces.result c.ports-ports.result first.gateway
+    c.in-Ok.ensures.state c.announces-announces.ensures c.ports-ports.ensures.count c.in-Ok.ensures.none (c.in-Ok-count_each.ensures.counted script known)
     (is ∙ ap (λ (r : List Rule). tally_text r last.tally) rules)) c.lines.ensures

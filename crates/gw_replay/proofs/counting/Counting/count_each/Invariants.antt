@@ -7,7 +7,7 @@ abbrev pub invariant-loop-number : goal.invariant-loop-number
 invariant-loop-number g l =
     let left = g.R.OctetSource.left in record {
       progress : (text : List ℕ) → left l.fn.reader ≡ Some text
-          → Progress l.fn.ports l.fn.self.gateway text l.fn.self.tally (prepend_known l.self.lines.unread (left l.reader)) l.self.gateway
+          → Progress l.fn.announces l.fn.ports l.fn.self.gateway text l.fn.self.tally (prepend_known l.self.lines.unread (left l.reader)) l.self.gateway
           l.self.tally;
       rules : l.self.gateway.rules ≡ l.fn.self.gateway.rules;
       places : length l.self.tally ≡ length l.fn.self.tally;

@@ -5,7 +5,7 @@ use Rattle.std.proofs.lemmas.List.{length-append, length-drop}
 use Rattle.gw_script.specs.declared.reader.NextLine.{NextLine}
 use Rattle.gw_script.specs.Reader.{IsNextLine, IsWithin}
 use Rattle.gw_script.specs.Script.{lines_of}
-use Rattle.gw_script.specs.Event.{event_view}
+use Rattle.gw_replay.specs.Entry.{Comes, entry_view}
 use Rattle.gw_replay.specs.internal.LineOutcome.{LineOutcome}
 use Rattle.gw_replay.proofs.LineOutcomeLemmas.{same_flaw, same_line, not_taken}
 use Rattle.gw_script.proofs.Passing.{passes_on}
@@ -28,8 +28,8 @@ returns-in_default-clause-outcome g c = λ text before known written.
         others = lines_of (drop span front ++ left.rest);
         lines = ap lines_of left.text_is
             ∙ lines;
-        no_event = λ e is. c.in_default.ensures.only refl e
-            (same_line _ _ _ _ e c.ports-ports.ensures.count c.front-line.ensures is);
+        no_entry = λ e is. c.in_default.ensures.only refl e
+            (same_line _ _ _ _ _ _ e c.announces-announces.ensures c.ports-ports.ensures.count c.front-line.ensures is);
       },
       written,
     )
@@ -50,8 +50,8 @@ returns-in_default-clause-flaw g c = λ n e text known.
       is = same_flaw _ _ _ _ _ c.ports-ports.ensures.count c.front-line.ensures c.flaw_of-self.ensures;
     }
 
-pub returns-in_err-make_text-clause-outcome : goal.returns-in_err-make_text-clause-outcome
-returns-in_err-make_text-clause-outcome g c = λ text before known written.
+pub returns-in_err-make_entry_text-clause-outcome : goal.returns-in_err-make_entry_text-clause-outcome
+returns-in_err-make_entry_text-clause-outcome g c = λ text before known written.
     let front = c.find_line.new.self.unread in
     let len = c.in-Ok-Line.len in
     let span = c.in-Ok-Line.span in
@@ -60,27 +60,29 @@ returns-in_err-make_text-clause-outcome g c = λ text before known written.
     (λ (r : List ℕ). IsNextLine front r c.in-Ok-Line.field-0) _ left.rest left.is c.in-Ok-Line.ensures.found in
     let lines : lines_of (front ++ left.rest) ≡ take len front ∷ lines_of (drop span front ++ left.rest) = subst
     (λ (p : NextLine). IsNextLine front left.rest p) c.in-Ok-Line.field-0-is piece in
-    let event = event_view c.in-Some.event in
-    let moved = c.make_text.new.gateway in
+    let entry = entry_view c.in-Some.entry in
+    let moved = c.make_entry_text.new.gateway in
     let unread = prepend_known front (g.R.OctetSource.left c.find_line.new.source) in
     let after = g.W.OctetSink.held c.args.writer.now in
     passes_on (LineOutcome g.T.EventText.wording c.args.number c.args.self.now.gateway moved text unread before after)
-    c.in_err-make_text.field-0.0 c.from_residual.result c.from_residual.ensures
+    c.in_err-make_entry_text.field-0.0 c.from_residual.result c.from_residual.ensures
     (not_taken g.T.EventText.wording c.args.number c.args.self.now.gateway moved text unread before after
-    c.in_err-make_text.field-0.0 _ _ c.in_err-make_text.ensures.fault
+    c.in_err-make_entry_text.field-0.0 _ _ c.in_err-make_entry_text.ensures.fault
     (λ wants. record {
       line = take len front;
-      event = event;
+      entry = entry;
       others = lines_of (drop span front ++ left.rest);
-      writes = same_line _ _ _ _ event (sym c.ports-ports.ensures.count) (sym c.front-line.ensures) c.in-Some.ensures.found;
+      writes = same_line _ _ _ _ _ _ entry (sym c.announces-announces.ensures) (sym c.ports-ports.ensures.count) (sym c.front-line.ensures)
+          c.in-Some.ensures.found;
       lines = ap lines_of left.text_is ∙ lines;
       wants = wants;
     })
     (λ passes. record {
       line = take len front;
-      event = event;
+      entry = entry;
       others = lines_of (drop span front ++ left.rest);
-      writes = same_line _ _ _ _ event (sym c.ports-ports.ensures.count) (sym c.front-line.ensures) c.in-Some.ensures.found;
+      writes = same_line _ _ _ _ _ _ entry (sym c.announces-announces.ensures) (sym c.ports-ports.ensures.count) (sym c.front-line.ensures)
+          c.in-Some.ensures.found;
       lines = ap lines_of left.text_is ∙ lines;
       passes = passes;
     }) written)
@@ -95,17 +97,18 @@ returns-in_default-write_whole-clause-outcome g c = λ text before known written
     (λ (r : List ℕ). IsNextLine front r c.in-Ok-Line.field-0) _ left.rest left.is c.in-Ok-Line.ensures.found in
     let lines : lines_of (front ++ left.rest) ≡ take len front ∷ lines_of (drop span front ++ left.rest) = subst
     (λ (p : NextLine). IsNextLine front left.rest p) c.in-Ok-Line.field-0-is piece in
-    let event = event_view c.in-Some.event in
+    let entry = entry_view c.in-Some.entry in
     let cut = c.in_default-write_whole.ensures.front in
     record {
       line = take len front;
-      event = event;
+      entry = entry;
       others = lines_of (drop span front ++ left.rest);
-      writes = same_line _ _ _ _ event (sym c.ports-ports.ensures.count) (sym c.front-line.ensures) c.in-Some.ensures.found;
+      writes = same_line _ _ _ _ _ _ entry (sym c.announces-announces.ensures) (sym c.ports-ports.ensures.count) (sym c.front-line.ensures)
+          c.in-Some.ensures.found;
       lines = ap lines_of left.text_is ∙ lines;
       front = cut.0;
       unwritten = cut.1;
-      parts = sym {A = List ℕ} c.in_ok-make_text.ensures.text ∙ sym {A = List ℕ} c.deref.ensures.value ∙ cut.2;
+      parts = sym {A = List ℕ} c.in_ok-make_entry_text.ensures.text ∙ sym {A = List ℕ} c.deref.ensures.value ∙ cut.2;
       appended = appended _ _ before cut.0 written cut.3;
     }
 
@@ -150,3 +153,6 @@ returns-in-Err-clause-outcome g c = λ text before known written. written
 
 pub returns-in-Ok-Long-clause-flaw : goal.returns-in-Ok-Long-clause-flaw
 returns-in-Ok-Long-clause-flaw g c = grind (arith, common_steps)
+
+pub flaw_of-self-requires-clause-no_event : goal.flaw_of-self-requires-clause-no_event
+flaw_of-self-requires-clause-no_event g c = λ e is. c.in_default.ensures.only refl (Comes e) is
