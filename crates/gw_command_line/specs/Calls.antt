@@ -67,7 +67,8 @@ pub record CallsAreTaken : Type 0 where
       })
 
 pub record CallsAreRefused : Type 0 where
-  pub trial : Mistakes (codes "run" ∷ on_site (codes "--trial" ∷ codes "new.toml" ∷ [])) (codes "--trial and --trial-log go together\n")
+  pub trial : Mistakes (codes "run" ∷ on_site (codes "--trial" ∷ codes "new.toml" ∷ []))
+      (codes "--trial and --trial-log go together\n")
   pub stamp : Mistakes (codes "run" ∷ on_site (codes "--stamp" ∷ [])) (codes "--stamp needs --log\n")
   pub metrics : Mistakes (codes "run" ∷ on_site (codes "--metrics" ∷ codes "site.toml" ∷ []))
       (codes "--config and --metrics use one file: site.toml\n")
@@ -76,5 +77,7 @@ pub record CallsAreRefused : Type 0 where
   pub turns : OutOfRange (codes "run" ∷ on_site (codes "--turns" ∷ codes "0" ∷ []))
   pub stats : OutOfRange (codes "run" ∷ on_site (codes "--stats" ∷ codes "0" ∷ []))
   pub stats_long : OutOfRange (codes "run" ∷ on_site (codes "--stats" ∷ codes "4294967296" ∷ []))
-  pub lint : (program : Text) → fault_of commands (program ∷ codes "check" ∷ on_site (codes "--lint" ∷ [])) ≡ parse.UnknownArgument ∷ []
-  pub compare : (program : Text) → fault_of commands (program ∷ codes "compare" ∷ []) ≡ parse.UnknownArgument ∷ parse.InvalidSubcommand ∷ []
+  pub lint : (program : Text)
+      → fault_of commands (program ∷ codes "check" ∷ on_site (codes "--lint" ∷ [])) ≡ parse.UnknownArgument ∷ []
+  pub compare : (program : Text)
+      → fault_of commands (program ∷ codes "compare" ∷ []) ≡ parse.UnknownArgument ∷ parse.InvalidSubcommand ∷ []

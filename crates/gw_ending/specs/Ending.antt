@@ -102,6 +102,7 @@ text_of fault.TooManyRules = codes "suggestion: too many rules"
 text_of fault.Unwritable = codes "suggestion: the rules can't be written"
 text_of fault.Refused = []
 text_of fault.Different = []
+text_of fault.OtherParts = []
 
 -- the line after the program's name
 abbrev pub rest_of : Fault → List ℕ
@@ -129,6 +130,7 @@ rest_naming file f = rest_of f
 -- was refused
 abbrev pub has_line : Fault → Bool
 has_line fault.Different = false
+has_line fault.OtherParts = false
 has_line fault.Refused = false
 has_line f = true
 
@@ -182,10 +184,12 @@ status_of fault.TooManyRules = 2
 status_of fault.Unwritable = 2
 status_of fault.Refused = 2
 status_of fault.Different = 1
+status_of fault.OtherParts = 1
 
 -- a comparison found something
 abbrev pub is_different : Fault → Bool
 is_different fault.Different = true
+is_different fault.OtherParts = true
 is_different _ = false
 
 -- the fault of the configuration that another is compared with

@@ -84,6 +84,8 @@ pub enum Fault {
     Unwritable,
     /// Two configurations that were compared decide some ask otherwise, or the comparison isn't finished.
     Different,
+    /// Two configurations that were compared decide each ask alike, but differ in other parts.
+    OtherParts,
 }
 
 impl Fault {
@@ -167,7 +169,8 @@ impl Fault {
             | Fault::Socket(_)
             | Fault::Memory
             | Fault::CountEnd
-            | Fault::Different => 1,
+            | Fault::Different
+            | Fault::OtherParts => 1,
         }
     }
 
@@ -176,7 +179,7 @@ impl Fault {
         ensures { result ≡ has_line self }
     {
         match self {
-            Fault::Refused | Fault::Different => false,
+            Fault::Refused | Fault::Different | Fault::OtherParts => false,
             _ => true,
         }
     }
@@ -186,7 +189,7 @@ impl Fault {
         ensures { result ≡ is_different self }
     {
         match self {
-            Fault::Different => true,
+            Fault::Different | Fault::OtherParts => true,
             _ => false,
         }
     }

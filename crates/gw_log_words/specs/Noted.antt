@@ -70,7 +70,8 @@ IsNotedAnew true held holds = IsNoted Begin held (codes "log began anew") holds
 IsNotedAnew false held holds = Keeps held holds
 
 -- Before a line the log is asked whether it began anew, and if it did it gets that note.
-pub record IsAskedAnew {S : Type 0} (held : S → Option (List ℕ)) (BeginsAnew : S → Bool → S → Type 0) (before after : S) : Type 0 where
+pub record IsAskedAnew {S : Type 0} (held : S → Option (List ℕ)) (BeginsAnew : S → Bool → S → Type 0) (before after : S)
+    : Type 0 where
   pub asked : S
   pub anew : Bool
   pub begins : BeginsAnew before anew asked

@@ -51,7 +51,8 @@ IsStamp Shows true stamp = (at : Option Moment) × Shows at × (stamp ≡ stamp_
 IsStamp Shows false stamp = stamp ≡ []
 
 -- a piece was written, after the stamp of the line if it begins there
-pub record IsWrittenStamped (Shows : Option Moment → Type 0) (begins : Bool) (held holds : Option (List ℕ)) (piece : List ℕ) : Type 0 where
+pub record IsWrittenStamped (Shows : Option Moment → Type 0) (begins : Bool) (held holds : Option (List ℕ)) (piece : List ℕ)
+    : Type 0 where
   pub stamp : List ℕ
   pub is : IsStamp Shows begins stamp
   pub written : Appends held holds (stamp ++ piece)

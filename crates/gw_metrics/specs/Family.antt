@@ -16,6 +16,8 @@ families =
     ∷ family.Drops
     ∷ family.Sends
     ∷ family.SendFailures
+    ∷ family.Announcements
+    ∷ family.AnnouncementFailures
     ∷ family.ReceiveFailures
     ∷ family.Denials
     ∷ family.Decisions
@@ -37,6 +39,8 @@ family_name family.Taken = codes "bacgw_datagrams_taken_total"
 family_name family.Drops = codes "bacgw_drops_total"
 family_name family.Sends = codes "bacgw_sends_total"
 family_name family.SendFailures = codes "bacgw_send_failures_total"
+family_name family.Announcements = codes "bacgw_announcements_total"
+family_name family.AnnouncementFailures = codes "bacgw_announcement_failures_total"
 family_name family.ReceiveFailures = codes "bacgw_receive_failures_total"
 family_name family.Denials = codes "bacgw_denials_total"
 family_name family.Decisions = codes "bacgw_decisions_total"
@@ -57,6 +61,8 @@ family_help family.Taken = codes "Datagrams that the gateway took, dropped ones 
 family_help family.Drops = codes "Datagrams that were not passed on, by the reason."
 family_help family.Sends = codes "Datagrams that the system took."
 family_help family.SendFailures = codes "Datagrams that the system refused."
+family_help family.Announcements = codes "Datagrams that the system took of announcements, at the start and after a reload."
+family_help family.AnnouncementFailures = codes "Datagrams of announcements that the system refused."
 family_help family.ReceiveFailures = codes "Receives that failed."
 family_help family.Denials = codes "Asks that were denied, each with its line in the log."
 family_help family.Decisions = codes "Asks that each rule decided, and those that none did (default), since the start or the last reload."
@@ -78,6 +84,8 @@ family_kind family.Taken = Counter
 family_kind family.Drops = Counter
 family_kind family.Sends = Counter
 family_kind family.SendFailures = Counter
+family_kind family.Announcements = Counter
+family_kind family.AnnouncementFailures = Counter
 family_kind family.ReceiveFailures = Counter
 family_kind family.Denials = Counter
 family_kind family.Decisions = Counter

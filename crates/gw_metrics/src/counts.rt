@@ -53,6 +53,10 @@ pub struct Counts<'a> {
     pub sends: u128,
     /// How many sends failed.
     pub send_failures: u128,
+    /// How many sends of announcements succeeded, which are not among those.
+    pub announcements: u128,
+    /// How many of them failed.
+    pub announcement_failures: u128,
     /// How many receives failed.
     pub receive_failures: u64,
     /// How many asks were denied.

@@ -18,6 +18,10 @@ pub enum Family {
     Sends,
     /// How many sends failed.
     SendFailures,
+    /// How many sends of announcements succeeded.
+    Announcements,
+    /// How many of them failed.
+    AnnouncementFailures,
     /// How many receives failed.
     ReceiveFailures,
     /// How many asks were denied.
@@ -97,13 +101,15 @@ impl Label {
 
 impl Family {
     /// All families, in the order of the text.
-    pub const ALL: [Family; 18] = [
+    pub const ALL: [Family; 20] = [
         Family::Ticks,
         Family::Received,
         Family::Taken,
         Family::Drops,
         Family::Sends,
         Family::SendFailures,
+        Family::Announcements,
+        Family::AnnouncementFailures,
         Family::ReceiveFailures,
         Family::Denials,
         Family::Decisions,
@@ -129,6 +135,8 @@ impl Family {
             Family::Drops => "bacgw_drops_total",
             Family::Sends => "bacgw_sends_total",
             Family::SendFailures => "bacgw_send_failures_total",
+            Family::Announcements => "bacgw_announcements_total",
+            Family::AnnouncementFailures => "bacgw_announcement_failures_total",
             Family::ReceiveFailures => "bacgw_receive_failures_total",
             Family::Denials => "bacgw_denials_total",
             Family::Decisions => "bacgw_decisions_total",
@@ -166,6 +174,9 @@ impl Family {
             Family::Drops => "Datagrams that were not passed on, by the reason.",
             Family::Sends => "Datagrams that the system took.",
             Family::SendFailures => "Datagrams that the system refused.",
+            Family::Announcements =>
+                "Datagrams that the system took of announcements, at the start and after a reload.",
+            Family::AnnouncementFailures => "Datagrams of announcements that the system refused.",
             Family::ReceiveFailures => "Receives that failed.",
             Family::Denials => "Asks that were denied, each with its line in the log.",
             Family::Decisions =>

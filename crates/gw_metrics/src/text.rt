@@ -69,6 +69,8 @@ fn put_family(family: Family, counts: &Counts<'_>, out: &mut Vec<u8>) -> Result<
         Family::Drops => put_drops(counts.drops, out),
         Family::Sends => put_single(family, counts.sends, out),
         Family::SendFailures => put_single(family, counts.send_failures, out),
+        Family::Announcements => put_single(family, counts.announcements, out),
+        Family::AnnouncementFailures => put_single(family, counts.announcement_failures, out),
         Family::ReceiveFailures => put_single(family, u128::from(counts.receive_failures), out),
         Family::Denials => put_single(family, u128::from(counts.denials), out),
         Family::Decisions => put_decisions(counts.rules, counts.decisions, out),

@@ -1,4 +1,4 @@
-mod AnnouncementLemmas
+mod StartupLemmas
 pub mod AppendLemmas
 mod StatsLemmas
 pub mod rule_changes_lemmas

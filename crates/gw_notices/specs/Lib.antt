@@ -1,4 +1,4 @@
-pub mod Announcement
+pub mod Startup
 pub mod Notices
 pub mod Reload
 pub mod Stats

@@ -62,12 +62,19 @@ IsRefusalLine (Ok (Some text)) (fault.Configuration f) line =
     ⊎ (line ≡ refusal_line (fault.Configuration f))
 IsRefusalLine read f line = line ≡ refusal_line f
 
--- the line of a configuration that is taken over by a gateway with these rules, of which this is saved: how many rules it has
--- and how they differ from those in force, how many objects, and what goes on
+-- how many rules a configuration has and how they differ from these
+abbrev pub policy_words : List Rule → Configuration → List ℕ
+policy_words rules c =
+    decimal (length c.rules) ++ codes " rules (" ++ changes_text (changes_of rules c.rules) ++ codes "), "
+
+-- how many objects it has
+abbrev pub objects_words : Configuration → List ℕ
+objects_words c = decimal (length c.objects) ++ codes " objects; "
+
+-- the line of a configuration that is taken over by a gateway with these rules, of which this is saved: that, and what goes on
 abbrev pub reload_line : List Rule → Configuration → Saved → List ℕ
 reload_line rules c s =
-    codes "reload: " ++ decimal (length c.rules) ++ codes " rules (" ++ changes_text (changes_of rules c.rules)
-    ++ codes "), " ++ decimal (length c.objects) ++ codes " objects; " ++ take_over_words (take_over c s) ++ 10 ∷ []
+    codes "reload: " ++ policy_words rules c ++ objects_words c ++ take_over_words (take_over c s) ++ 10 ∷ []
 
 -- ---- how often
 

@@ -2,23 +2,23 @@
 //! kept or recorded, and the counts of a report.
 #![tactic(auto)]
 
-mod announcement;
 mod line;
 mod losses;
 mod note;
 mod notices;
 mod reload;
 pub mod rule_changes;
+mod startup;
 mod stats;
 mod troubles;
 mod watch_report;
 
-pub use announcement::{startup_line, warning_of};
 pub use line::{line_with_place, name_of, refusal_line, reload_line};
 pub use losses::Losses;
 pub use note::write_note;
 pub use notices::report_notices;
 pub use reload::{ReloadCounts, ReloadFault};
+pub use startup::{startup_line, warning_of};
 pub use stats::{report_reloads, report_unkept};
 pub use troubles::Troubles;
 pub use watch_report::{LogCount, WatchCounts, report_watched};

@@ -1,7 +1,7 @@
 //! What is reported of a configuration that is read again.
 
-ghost use Rattle.std.specs.Prelude.{◌≡◌, IfOk, IfSome, Ok, Some};
-ghost use Rattle.gw_notices.specs.Reload.{IsRefusalLine, located_line, name_of, refusal_line, refusal_words, reload_line};
+ghost use Rattle.std.specs.Prelude.{◌≡◌, ◌++◌, IfOk, IfSome, Ok, OnOk, Some};
+ghost use Rattle.gw_notices.specs.Reload.{IsRefusalLine, located_line, name_of, objects_words, policy_words, refusal_line, refusal_words, reload_line};
 ghost use Rattle.gw_system.specs.Requests.{text_found};
 
 use crate::reload::ReloadFault;
@@ -26,18 +26,32 @@ pub fn reload_line(
 ) -> Result<Vec<u8>, AllocError>
     ensures { IfOk result (λ line. line.items ≡ reload_line rules.now config.now saved.now) }
 {
-    let changes = changes_of(rules, config.rules());
     let taken = take_over(alloc, config, saved)?;
     let mut line = Vec::from_slice(alloc, b"reload: ")?;
-    put_decimal(&mut line, config.rules().rules().len())?;
-    line.extend_from_slice(b" rules (")?;
-    put_changes(&changes, &mut line)?;
-    line.extend_from_slice(b"), ")?;
-    put_decimal(&mut line, config.objects().len())?;
-    line.extend_from_slice(b" objects; ")?;
+    put_policy(&mut line, rules, config)?;
+    put_objects(&mut line, config)?;
     put_take_over(&taken, &mut line)?;
     line.push(b'\n')?;
     Ok(line)
+}
+
+/// Appends how many objects a configuration has.
+fn put_objects(line: &mut Vec<u8>, config: &Config) -> Result<(), AllocError>
+    ensures { OnOk result (line.new.items ≡ line.old.items ++ objects_words config.now) }
+{
+    put_decimal(line, config.objects().len())?;
+    line.extend_from_slice(b" objects; ")
+}
+
+/// Appends how many rules a configuration has and how they differ from those in force.
+fn put_policy(line: &mut Vec<u8>, rules: &RuleList, config: &Config) -> Result<(), AllocError>
+    ensures { OnOk result (line.new.items ≡ line.old.items ++ policy_words rules.now config.now) }
+{
+    let changes = changes_of(rules, config.rules());
+    put_decimal(line, config.rules().rules().len())?;
+    line.extend_from_slice(b" rules (")?;
+    put_changes(&changes, line)?;
+    line.extend_from_slice(b"), ")
 }
 
 /// The name of a fault of a configuration.

@@ -12,6 +12,8 @@ use Rattle.gw_state.specs.Saved.{Origin, origin_of}
 use Rattle.gw_script.specs.Event.{Event}
 use Rattle.gw_script.specs.Event as event
 use Rattle.gw_script.specs.declared.sink.WriteFailed.{WriteFailed}
+use Rattle.gw_turns.specs.Announcing.{with_due}
+use Rattle.gw_turns.specs.declared.announcing.Announcing.{Announcing}
 use Rattle.gw_turns.specs.Stretch.{EndsAtTick, EndsAtTurns, EndsStretch, EndsWithheld, GoOn, Moment, moment}
 use Rattle.gw_turns.specs.declared.stretch.Pause.{Pause}
 use Rattle.gw_turns.specs.declared.serving.ServeFault.{ServeFault}
@@ -66,15 +68,16 @@ turns_counted s (taken_event e tries ∷ turns) =
 -- a configuration that is taken over, and what is answered and reported of it
 pub taken_so : {K : Type 0} (Adopts : K → Configuration → State → K → Type 0) (o : Origin) (w : State) (k l : K)
     (read : Result (Option (List ℕ)) ReadFailure) (made : Adopted) (first middle last : Asking) (line : List ℕ)
-    (counts then : ReloadCounts) (Never : Type 0) (held holds : Option (List ℕ)) {L : Type 0}
+    (counts then : ReloadCounts) (announcing due : Announcing) (Never : Type 0) (held holds : Option (List ℕ)) {L : Type 0}
     (Takes : L → List ℕ → Result (Unit {0}) WriteFailed → L → Type 0) (log log_then : L) (written : Result (Unit {0}) WriteFailed)
     → IsReloaded w o read made
     → ((c : Configuration) → IsSuccessor c made.successor → Adopts k c made.gateway l) → GoesOn first middle (asked read ∷ []) → GoesOn middle last (answered line ∷ [])
-    → line ≡ made.line.items → then ≡ with_taken_over counts w.ticks → (Never → Appends held holds line) → Takes log line written log_then
-    → Looks (IsLooked Adopts) (IsNotedBy Takes log log_then) o (standing w k first counts) made.origin (standing made.gateway l last then) Never
-    held holds
-taken_so {K} Adopts o w k l (Ok (Some text)) made first middle last line counts then Never held holds Takes log log_then written is adopts asks
-    answers is_line is_counts records noted = λ c is_origin.
+    → line ≡ made.line.items → then ≡ with_taken_over counts w.ticks → due ≡ with_due announcing → (Never → Appends held holds line)
+    → Takes log line written log_then
+    → Looks (IsLooked Adopts) (IsNotedBy Takes log log_then) o (standing w k first counts announcing) made.origin
+    (standing made.gateway l last then due) Never held holds
+taken_so {K} Adopts o w k l (Ok (Some text)) made first middle last line counts then announcing due Never held holds Takes log log_then written is
+    adopts asks answers is_line is_counts is_due records noted = λ c is_origin.
     let new = is.config in
     let same : saved_of o w ≡ saved c w = ap (λ (x : Origin). saved_of x w) is_origin in
     let is_text : line ≡ reload_line w.rules new (saved c w) = is_line ∙ is.adopted.line ∙ ap (reload_line w.rules new) same in (
@@ -90,35 +93,37 @@ taken_so {K} Adopts o w k l (Ok (Some text)) made first middle last line counts 
         requests = subst (λ (t : List ℕ). GoesOn first last (asked (Ok (Some text)) ∷ answered t ∷ [])) is_text
             (goes_two first middle last (asked (Ok (Some text))) (answered line) asks answers);
         counts = is_counts;
+        announcing = is_due;
       },
       λ never. subst (λ (t : List ℕ). Appends held holds t) is_text (records never),
       (written, subst (λ (t : List ℕ). Takes log t written log_then) is_text noted),
     )
-taken_so Adopts o w k l (Ok None) made first middle last line counts then Never held holds Takes log log_then written is adopts asks answers
-    is_line is_counts records noted =
+taken_so Adopts o w k l (Ok None) made first middle last line counts then announcing due Never held holds Takes log log_then written is adopts asks
+    answers is_line is_counts is_due records noted =
     absurd is
-taken_so Adopts o w k l (Err failure) made first middle last line counts then Never held holds Takes log log_then written is adopts asks answers
-    is_line is_counts records noted =
+taken_so Adopts o w k l (Err failure) made first middle last line counts then announcing due Never held holds Takes log log_then written is adopts
+    asks answers is_line is_counts is_due records noted =
     absurd is
 
 -- one that isn't
 pub refused_so : {K : Type 0} (Adopts : K → Configuration → State → K → Type 0) (o : Origin) (w : State) (k : K)
     (read : Result (Option (List ℕ)) ReadFailure) (fault : ReloadFault) (first middle last : Asking) (line : List ℕ)
-    (counts then : ReloadCounts) (Never : Type 0) (held holds : Option (List ℕ)) {L : Type 0}
+    (counts then : ReloadCounts) (announcing : Announcing) (Never : Type 0) (held holds : Option (List ℕ)) {L : Type 0}
     (Takes : L → List ℕ → Result (Unit {0}) WriteFailed → L → Type 0) (log log_then : L) (written : Result (Unit {0}) WriteFailed)
     → IsRefused w read fault → IsRefusalLine read fault line
     → GoesOn first middle (asked read ∷ []) → GoesOn middle last (answered line ∷ []) → then ≡ with_refused counts
     → (Never → Appends held holds line) → Takes log line written log_then
-    → Looks (IsLooked Adopts) (IsNotedBy Takes log log_then) o (standing w k first counts) o (standing w k last then) Never held holds
-refused_so Adopts o w k read fault first middle last line counts then Never held holds Takes log log_then written is says asks answers is_counts
-    records noted = λ c is_origin. (
+    → Looks (IsLooked Adopts) (IsNotedBy Takes log log_then) o (standing w k first counts announcing) o (standing w k last then announcing) Never
+    held holds
+refused_so Adopts o w k read fault first middle last line counts then announcing Never held holds Takes log log_then written is says asks answers
+    is_counts records noted = λ c is_origin. (
       c,
       refused read fault line,
       is_origin,
       record {
         why = is;
         says = says;
-        stays = record { config = refl; gateway = refl; keeper = refl };
+        stays = record { config = refl; gateway = refl; keeper = refl; announcing = refl };
         requests = goes_two first middle last (asked read) (answered line) asks answers;
         counts = is_counts;
       },
@@ -143,20 +148,20 @@ says_why read fault None is = short_line read fault
 says_why read fault (Some line) is = is
 
 -- what is reported of a request is the same with any keeper
-pub same_text : {K : Type 0} (c : Configuration) (w : State) (k l : K) (q : Asking) (counts : ReloadCounts) (look : Look)
-    → look_text c (standing w k q counts) look ≡ look_text c (standing w l q counts) look
-same_text c w k l q counts unrequested = refl
-same_text c w k l q counts (refused read f line) = refl
-same_text c w k l q counts (taken_over text new) = refl
+pub same_text : {K : Type 0} (c : Configuration) (w : State) (k l : K) (q : Asking) (counts : ReloadCounts) (a : Announcing) (look : Look)
+    → look_text c (standing w k q counts a) look ≡ look_text c (standing w l q counts a) look
+same_text c w k l q counts a unrequested = refl
+same_text c w k l q counts a (refused read f line) = refl
+same_text c w k l q counts a (taken_over text new) = refl
 
 -- so is what is noted of it
-pub same_note : {K L : Type 0} (c : Configuration) (w : State) (k l : K) (q : Asking) (counts : ReloadCounts)
+pub same_note : {K L : Type 0} (c : Configuration) (w : State) (k l : K) (q : Asking) (counts : ReloadCounts) (a : Announcing)
     (Takes : L → List ℕ → Result (Unit {0}) WriteFailed → L → Type 0) (log log_then : L) (look : Look)
-    → IsNotedBy Takes log log_then look (look_text c (standing w k q counts) look)
-    → IsNotedBy Takes log log_then look (look_text c (standing w l q counts) look)
-same_note c w k l q counts Takes log log_then unrequested noted = noted
-same_note c w k l q counts Takes log log_then (refused read f line) noted = noted
-same_note c w k l q counts Takes log log_then (taken_over text new) noted = noted
+    → IsNotedBy Takes log log_then look (look_text c (standing w k q counts a) look)
+    → IsNotedBy Takes log log_then look (look_text c (standing w l q counts a) look)
+same_note c w k l q counts a Takes log log_then unrequested noted = noted
+same_note c w k l q counts a Takes log log_then (refused read f line) noted = noted
+same_note c w k l q counts a Takes log log_then (taken_over text new) noted = noted
 
 -- ---- how a stretch ended
 

@@ -5,6 +5,8 @@ use Rattle.gw_configuration.specs.Configuration.{Configuration}
 use Rattle.gw_core.specs.State.{State}
 use Rattle.gw_core.specs.declared.event.Counts.{Counts}
 use Rattle.gw_state.specs.Saved.{Origin, origin_of}
+use Rattle.gw_turns.specs.Announcing.{first_announcing}
+use Rattle.gw_turns.specs.declared.announcing.Announcing.{Announcing}
 use Rattle.gw_turns.specs.Serve.{Scene, scene, zero_counts}
 use Rattle.gw_turns.specs.Stretch.{moment}
 use Rattle.gw_turns.specs.Tally.{no_tally}
@@ -13,7 +15,7 @@ use Rattle.gw_turns.specs.declared.serving.ServeFault.{ServeFault}
 use Rattle.gw_turns.specs.declared.serving.Served.{Served}
 use Rattle.gw_turns.specs.declared.tally.Tally.{Tally}
 use Rattle.gw_system.specs.Requests.{Asking, recorded_by}
-use Rattle.gw_service.specs.Chain.{Link, Manner, Runs, Stage, chain_text, stage}
+use Rattle.gw_service.specs.Chain.{Begins, Link, Manner, Runs, Stage, chain_text, stage}
 use Rattle.gw_service.specs.Keeping.{troubles_in, unkept_in}
 use Rattle.gw_service.specs.Watch.{more_of, troubles_of}
 use Rattle.gw_notices.specs.declared.troubles.Troubles.{Troubles}
@@ -33,28 +35,31 @@ use Rattle.gw_notices.specs.declared.reload.ReloadCounts.{ReloadCounts}
 use Rattle.gw_notices.proofs.AppendLemmas.{appends_nothing, appends_two}
 
 -- A run reports first what isn't kept or recorded, and last what was done.
-pub ran_from : {K : Type 0} (manner : Manner K) (report : K → ReloadCounts → State → Served → Tally → List ℕ) (count : ℕ) (at : Troubles → Stage K)
-    (p : Origin) (was is troubles : Troubles) (last : Configuration → Stage K) (answer : Result (Unit {0}) ServeFault) (after : Ends)
+pub ran_from : {K : Type 0} (manner : Manner K) (report : K → ReloadCounts → Announcing → State → Served → Tally → List ℕ) (count : ℕ)
+    (at begun : Troubles → Stage K) (p : Origin) (was is troubles : Troubles) (last : Configuration → Stage K) (answer : Result (Unit {0}) ServeFault) (after : Ends)
     (Never Then : Type 0) (held middle third holds : Option (List ℕ)) → was ≡ no_troubles → is ≡ troubles → ((t : Troubles) → (at t).said ≡ t)
-    → ((d : Configuration) × (links : List Link) × (p ≡ origin_of d) × Runs manner count (at is) answer links (last d)
+    → ((t : Troubles) → Begins (at t) (begun t))
+    → ((d : Configuration) × (links : List Link) × (p ≡ origin_of d) × Runs manner count (begun is) answer links (last d)
     × (Then → Appends middle third (chain_text links)))
     → ((d : Configuration) → (last d).now.scene.log ≡ after.log) → ((d : Configuration) → (last d).now.scene.calls ≡ after.calls)
     → (Never → Appends held middle (notice_of was is)) → (Never → Then)
     → ((d : Configuration) → Never → Appends third holds
-    (report (last d).now.guard (last d).counts (last d).now.scene.gateway (last d).now.served (last d).now.tally))
+    (report (last d).now.guard (last d).counts (last d).announcing (last d).now.scene.gateway (last d).now.served (last d).now.tally))
     → (text : List ℕ) × RunsFrom manner report count (at troubles) answer after text × (Never → Appends held holds text)
-ran_from manner report count at p was is troubles last answer after Never Then held middle third holds untold failing records led log calls noticed lasts
-    reported =
+ran_from manner report count at begun p was is troubles last answer after Never Then held middle third holds untold failing records begins led log
+    calls noticed lasts reported =
     let notice = notice_of no_troubles troubles in
     let now = (last led.0).now in
-    let final = report now.guard (last led.0).counts now.scene.gateway now.served now.tally in
+    let final = report now.guard (last led.0).counts (last led.0).announcing now.scene.gateway now.served now.tally in
     let same : notice_of was is ≡ notice =
     ap (λ (x : Troubles). notice_of x is) untold ∙ ap (notice_of no_troubles) failing in (
       (notice ++ chain_text led.1) ++ final,
       record {
+        begun = begun troubles;
+        begins = begins troubles;
         links = led.1;
         last = last led.0;
-        runs = subst (λ (x : Troubles). Runs manner count (at x) answer led.1 (last led.0)) failing led.3;
+        runs = subst (λ (x : Troubles). Runs manner count (begun x) answer led.1 (last led.0)) failing led.3;
         log = log led.0;
         calls = calls led.0;
         said = ap (λ (x : Troubles). (notice_of no_troubles x ++ chain_text led.1) ++ final) (sym (records troubles));
@@ -66,16 +71,17 @@ ran_from manner report count at p was is troubles last answer after Never Then h
     )
 
 -- a run from a stage whose parts are these
-from_start : {K : Type 0} (how : Manner K) (report : K → ReloadCounts → State → Served → Tally → List ℕ) (count : ℕ) (c : Configuration) (now : Scene)
-    (k : K) (s z : Served) (t n : Tally) (q r : Asking) (u v : ReloadCounts) (f : Troubles) (answer : Result (Unit {0}) ServeFault)
-    (after : Ends) (text : List ℕ) → s ≡ z → t ≡ n → q ≡ r → u ≡ v
-    → RunsFrom how report count (stage c (moment now k s t) q u f) answer after text
-    → RunsFrom how report count (stage c (moment now k z n) r v f) answer after text
-from_start how report count c now k s z t n q r u v f answer after text served tally requests counts runs =
-    subst (λ (x : Served). RunsFrom how report count (stage c (moment now k x n) r v f) answer after text) served
-    (subst (λ (x : Tally). RunsFrom how report count (stage c (moment now k s x) r v f) answer after text) tally
-    (subst (λ (x : Asking). RunsFrom how report count (stage c (moment now k s t) x v f) answer after text) requests
-    (subst (λ (x : ReloadCounts). RunsFrom how report count (stage c (moment now k s t) q x f) answer after text) counts runs)))
+from_start : {K : Type 0} (how : Manner K) (report : K → ReloadCounts → Announcing → State → Served → Tally → List ℕ) (count : ℕ) (c : Configuration) (now : Scene)
+    (k : K) (s z : Served) (t n : Tally) (q r : Asking) (u v : ReloadCounts) (a b : Announcing) (f : Troubles)
+    (answer : Result (Unit {0}) ServeFault) (after : Ends) (text : List ℕ) → s ≡ z → t ≡ n → q ≡ r → u ≡ v → a ≡ b
+    → RunsFrom how report count (stage c (moment now k s t) q u a f) answer after text
+    → RunsFrom how report count (stage c (moment now k z n) r v b f) answer after text
+from_start how report count c now k s z t n q r u v a b f answer after text served tally requests counts announcing runs =
+    subst (λ (x : Served). RunsFrom how report count (stage c (moment now k x n) r v b f) answer after text) served
+    (subst (λ (x : Tally). RunsFrom how report count (stage c (moment now k s x) r v b f) answer after text) tally
+    (subst (λ (x : Asking). RunsFrom how report count (stage c (moment now k s t) x v b f) answer after text) requests
+    (subst (λ (x : ReloadCounts). RunsFrom how report count (stage c (moment now k s t) q x b f) answer after text) counts
+    (subst (λ (x : Announcing). RunsFrom how report count (stage c (moment now k s t) q u x f) answer after text) announcing runs))))
 
 -- the counts of a gateway, one by one
 pub same_counts : (k : Counts) (w : State) → k.ticks ≡ w.ticks → k.denials ≡ w.denials → k ≡ counts_of w
@@ -91,18 +97,18 @@ is_reporting stats start other keeps kept reloads read starts is_kept is_read =
 
 -- A gateway that began so ran so.
 pub ran_kept : {S Q L : Type 0} (given : Given S Q L) (c : Configuration) (how : Service) (start : Counts) (keeps reloads : Bool) (w : State) (k : Kept S)
-    (s : Served) (t : Tally) (q : Asking) (u : ReloadCounts) (before after : Ends) (answer : Result (Unit {0}) ServeFault)
+    (s : Served) (t : Tally) (q : Asking) (u : ReloadCounts) (a : Announcing) (before after : Ends) (answer : Result (Unit {0}) ServeFault)
     (outcome : Result (Unit {0}) ServiceFault) (Never : Type 0) (held holds : Option (List ℕ)) → given.watcher ≡ None → start ≡ counts_of w
     → BeginsAs c given.saved given.line w → KeepsFirst given.held given.store c w k → s ≡ zero_counts → t ≡ no_tally
-    → q ≡ recorded_by given.said given.requests → u ≡ counts_since w.ticks → keeps ≡ (is_some given.requests || is_some given.store)
+    → q ≡ recorded_by given.said given.requests → u ≡ counts_since w.ticks → a ≡ first_announcing → keeps ≡ (is_some given.requests || is_some given.store)
     → reloads ≡ is_some given.requests → outcome ≡ outcome_by answer
     → ((text : List ℕ) × RunsFrom (manner_of given.held (reporting how.stats start keeps reloads))
     (end_stats unkept_in no_more (reporting how.stats start keeps reloads)) how.turns
-    (stage c (moment (scene w before.log before.calls) k s t) q u (troubles_in k)) answer after text × (Never → Appends held holds text))
+    (stage c (moment (scene w before.log before.calls) k s t) q u a (troubles_in k)) answer after text × (Never → Appends held holds text))
     → (text : List ℕ) × LeavesKept given c how before after text outcome × (Never → Appends held holds text)
-ran_kept {S} given c how start keeps reloads w k s t q u before after answer outcome Never held holds unwatched is_start begins is_kept served tally
-    requests is_counts is_keeps is_reloads answers ran =
-    let at = stage c (moment (scene w before.log before.calls) k s t) q u (troubles_in k) in
+ran_kept {S} given c how start keeps reloads w k s t q u a before after answer outcome Never held holds unwatched is_start begins is_kept served tally
+    requests is_counts is_announcing is_keeps is_reloads answers ran =
+    let at = stage c (moment (scene w before.log before.calls) k s t) q u a (troubles_in k) in
     let same = is_reporting how.stats start (counts_of w) keeps (is_some given.requests || is_some given.store) reloads (is_some given.requests)
     is_start is_keeps is_reloads in (
       ran.0,
@@ -113,8 +119,8 @@ ran_kept {S} given c how start keeps reloads w k s t q u before after answer out
         keeps = is_kept;
         answer = answer;
         runs = from_start (manner_of given.held (reporting_of given how w)) (end_stats unkept_in no_more (reporting_of given how w)) how.turns c
-            (scene w before.log before.calls) k s zero_counts t no_tally q (recorded_by given.said given.requests) u (counts_since w.ticks) (troubles_in k)
-            answer after ran.0 served tally requests is_counts
+            (scene w before.log before.calls) k s zero_counts t no_tally q (recorded_by given.said given.requests) u (counts_since w.ticks) a first_announcing (troubles_in k)
+            answer after ran.0 served tally requests is_counts is_announcing
             (subst (λ (x : Reporting). RunsFrom (manner_of given.held x) (end_stats unkept_in no_more x) how.turns at answer after ran.0) same ran.1);
         answers = answers;
       })),
@@ -124,18 +130,18 @@ ran_kept {S} given c how start keeps reloads w k s t q u before after answer out
 -- So did one that is watched.
 pub ran_watched : {S Q L : Type 0} (given : Given S Q L) (watcher : Watching L L) (c : Configuration) (how : Service) (start : Counts)
     (keeps reloads : Bool) (w : State) (k : Both (Kept S) (Watching L L)) (s : Served) (t : Tally) (q : Asking) (u : ReloadCounts)
-    (before after : Ends) (answer : Result (Unit {0}) ServeFault) (outcome : Result (Unit {0}) ServiceFault) (Never : Type 0)
+    (a : Announcing) (before after : Ends) (answer : Result (Unit {0}) ServeFault) (outcome : Result (Unit {0}) ServiceFault) (Never : Type 0)
     (held holds : Option (List ℕ)) → given.watcher ≡ Some watcher → start ≡ counts_of w
     → BeginsAs c given.saved given.line w → KeepsFirst given.held given.store c w k.first → k.second ≡ watcher → s ≡ zero_counts → t ≡ no_tally
-    → q ≡ recorded_by given.said given.requests → u ≡ counts_since w.ticks → keeps ≡ (is_some given.requests || is_some given.store)
+    → q ≡ recorded_by given.said given.requests → u ≡ counts_since w.ticks → a ≡ first_announcing → keeps ≡ (is_some given.requests || is_some given.store)
     → reloads ≡ is_some given.requests → outcome ≡ outcome_by answer
     → ((text : List ℕ) × RunsFrom (watched_manner_of given.held given.log_held (reporting how.stats start keeps reloads))
     (end_stats unkept_of more_of (reporting how.stats start keeps reloads)) how.turns
-    (stage c (moment (scene w before.log before.calls) k s t) q u (troubles_of k)) answer after text × (Never → Appends held holds text))
+    (stage c (moment (scene w before.log before.calls) k s t) q u a (troubles_of k)) answer after text × (Never → Appends held holds text))
     → (text : List ℕ) × LeavesKept given c how before after text outcome × (Never → Appends held holds text)
-ran_watched {S} given watcher c how start keeps reloads w k s t q u before after answer outcome Never held holds watched is_start begins is_kept watches
-    served tally requests is_counts is_keeps is_reloads answers ran =
-    let at = stage c (moment (scene w before.log before.calls) k s t) q u (troubles_of k) in
+ran_watched {S} given watcher c how start keeps reloads w k s t q u a before after answer outcome Never held holds watched is_start begins is_kept watches
+    served tally requests is_counts is_announcing is_keeps is_reloads answers ran =
+    let at = stage c (moment (scene w before.log before.calls) k s t) q u a (troubles_of k) in
     let same = is_reporting how.stats start (counts_of w) keeps (is_some given.requests || is_some given.store) reloads (is_some given.requests)
     is_start is_keeps is_reloads in (
       ran.0,
@@ -147,8 +153,8 @@ ran_watched {S} given watcher c how start keeps reloads w k s t q u before after
         watches = watches;
         answer = answer;
         runs = from_start (watched_manner_of given.held given.log_held (reporting_of given how w)) (end_stats unkept_of more_of (reporting_of given how w))
-            how.turns c (scene w before.log before.calls) k s zero_counts t no_tally q (recorded_by given.said given.requests) u (counts_since w.ticks)
-            (troubles_of k) answer after ran.0 served tally requests is_counts
+            how.turns c (scene w before.log before.calls) k s zero_counts t no_tally q (recorded_by given.said given.requests) u (counts_since w.ticks) a
+            first_announcing (troubles_of k) answer after ran.0 served tally requests is_counts is_announcing
             (subst (λ (x : Reporting). RunsFrom (watched_manner_of given.held given.log_held x) (end_stats unkept_of more_of x) how.turns at answer after
             ran.0) same ran.1);
         answers = answers;

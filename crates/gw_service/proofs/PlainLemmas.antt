@@ -19,7 +19,7 @@ use Rattle.gw_system.specs.declared.reading.ReadFailure.{ReadFailure}
 use Rattle.gw_turns.specs.declared.serving.ServeFault.{ServeFault}
 use Rattle.gw_wire.specs.declared.store.StoreFault.{StoreFault}
 use Rattle.gw_watchers.specs.Watching.{Watching}
-use Rattle.gw_service.specs.Chain.{AreLinks, IsLink, Link, Look, Runs, Stage, Standing, chain_text, link_text, look_text, standing_at}
+use Rattle.gw_service.specs.Chain.{AreLinks, IsLink, Link, Look, Runs, Stage, Standing, announced_at, chain_text, link_text, look_text, standing_at}
 use Rattle.gw_service.specs.Chain.{served, ticked, unrequested, withheld}
 use Rattle.gw_service.specs.Keeping.{IsKeptFor, troubles_in}
 use Rattle.gw_service.specs.Kept.{AreRequestsUnder, Given, IsLastLine, IsMetricsUnder, IsStateUnder, IsStoreUnder, IsUnprepared, LeavesKept, LeavesWithState}
@@ -32,7 +32,7 @@ use Rattle.gw_service.specs.declared.fault.ServiceFault.{ServiceFault}
 use Rattle.gw_service.specs.declared.fault.ServiceFault.TheVariants as fault
 use Rattle.gw_service.specs.declared.keeping.Kept.{Kept}
 use Rattle.gw_service.specs.declared.keeping.Kept.TheVariants.{Nowhere}
-use Rattle.gw_service.proofs.ServedLemmas.{as_served, first_nowhere, link_none, link_serves, looks_none}
+use Rattle.gw_service.proofs.ServedLemmas.{IsQuiet, as_served, begins_quiet, first_nowhere, link_none, link_serves, looks_none}
 
 -- ---- nothing is reported
 
@@ -54,43 +54,43 @@ tick_silent c look was is report unasked no_was no_is none s =
     ∙ none
 
 link_silent : {S : Type 0} (held : S → Option (List ℕ)) (how : Reporting) (s t : Stage (Kept S)) (link : Link)
-    → IsLink (manner_of held how) s link t → s.requests ≡ nobody → s.now.guard ≡ Nowhere → how.seconds ≡ None → s.said ≡ no_troubles
-    → (link_text link ≡ []) × (t.said ≡ no_troubles)
-link_silent held how s t (served turns) is none nowhere unreported said = (refl, is.said ∙ said)
-link_silent held how s t (ticked turns look text) is none nowhere unreported said =
+    → IsLink (manner_of held how) s link t → s.requests ≡ nobody → s.now.guard ≡ Nowhere → IsQuiet s.now.scene.gateway → how.seconds ≡ None
+    → s.said ≡ no_troubles → (link_text link ≡ []) × (t.said ≡ no_troubles)
+link_silent held how s t (served turns) is none nowhere quiet unreported said = (refl, is.said ∙ said)
+link_silent held how s t (ticked turns look text) is none nowhere quiet unreported said =
     let found = looks_none (IsKeptFor held) s.config t.config _ _ look is.done.looked none in
-    let after = link_serves held how s t (ticked turns look text) is none nowhere in
+    let after = link_serves held how s t (ticked turns look text) is none nowhere quiet in
     let now : t.said ≡ no_troubles = is.said ∙ ap troubles_in after.nowhere in (
       is.lines ∙ tick_silent s.config look s.said t.said _ found.0 said now
-          (due_none how.seconds how.start t.now.scene.gateway _ unreported) (standing_at is.then s.requests s.counts),
+          (due_none how.seconds how.start t.now.scene.gateway _ unreported) (standing_at is.then s.requests s.counts s.announcing),
       now,
     )
-link_silent held how s t (withheld turns event text) is none nowhere unreported said =
-    let after = link_serves held how s t (withheld turns event text) is none nowhere in
+link_silent held how s t (withheld turns event text) is none nowhere quiet unreported said =
+    let after = link_serves held how s t (withheld turns event text) is none nowhere quiet in
     let now : t.said ≡ no_troubles = is.said ∙ ap troubles_in after.nowhere in (
       is.lines ∙ ap (λ (x : Troubles). notice_of x t.said) said ∙ ap (λ (x : Troubles). notice_of no_troubles x) now,
       now,
     )
 
 chain_silent : {S : Type 0} (held : S → Option (List ℕ)) (how : Reporting) (s t : Stage (Kept S)) (links : List Link)
-    → AreLinks (manner_of held how) s links t → s.requests ≡ nobody → s.now.guard ≡ Nowhere → how.seconds ≡ None → s.said ≡ no_troubles
-    → chain_text links ≡ []
+    → AreLinks (manner_of held how) s links t → s.requests ≡ nobody → s.now.guard ≡ Nowhere → IsQuiet s.now.scene.gateway
+    → how.seconds ≡ None → s.said ≡ no_troubles → chain_text links ≡ []
 unfolding AreLinks
-chain_silent held how s t [] chain none nowhere unreported said = refl
-chain_silent held how s t (link ∷ links) chain none nowhere unreported said =
+chain_silent held how s t [] chain none nowhere quiet unreported said = refl
+chain_silent held how s t (link ∷ links) chain none nowhere quiet unreported said =
     let still = link_none (manner_of held how) s chain.0 link chain.1 none in
-    let after = link_serves held how s chain.0 link chain.1 none nowhere in
-    let first = link_silent held how s chain.0 link chain.1 none nowhere unreported said in
-    let later = chain_silent held how chain.0 t links chain.2 still.2 after.nowhere unreported first.1 in
+    let after = link_serves held how s chain.0 link chain.1 none nowhere quiet in
+    let first = link_silent held how s chain.0 link chain.1 none nowhere quiet unreported said in
+    let later = chain_silent held how chain.0 t links chain.2 still.2 after.nowhere after.quiet unreported first.1 in
     flat_map-cons link_text link links ∙ ap (λ (x : List ℕ). x ++ chain_text links) first.0 ∙ later
 
 run_silent : {S : Type 0} (held : S → Option (List ℕ)) (how : Reporting) (count : ℕ) (s t : Stage (Kept S)) (answer : Result (Unit {0}) ServeFault)
     (links : List Link) → Runs (manner_of held how) count s answer links t → s.requests ≡ nobody → s.now.guard ≡ Nowhere
-    → how.seconds ≡ None → s.said ≡ no_troubles → chain_text links ≡ []
-run_silent held how count s t (Ok done) links runs none nowhere unreported said =
-    chain_silent held how s t links runs.chain none nowhere unreported said
-run_silent held how count s t (Err f) links runs none nowhere unreported said =
-    chain_silent held how s runs.then links runs.chain none nowhere unreported said
+    → IsQuiet s.now.scene.gateway → how.seconds ≡ None → s.said ≡ no_troubles → chain_text links ≡ []
+run_silent held how count s t (Ok done) links runs none nowhere quiet unreported said =
+    chain_silent held how s t links runs.chain none nowhere quiet unreported said
+run_silent held how count s t (Err f) links runs none nowhere quiet unreported said =
+    chain_silent held how s runs.then links runs.chain none nowhere quiet unreported said
 
 -- what is said of a whole run, if nothing is kept and no report is asked for
 all_silent : (is : Troubles) (chain report : List ℕ) → is ≡ no_troubles → chain ≡ [] → report ≡ []
@@ -100,25 +100,31 @@ all_silent is chain report no_is no_chain none =
     ∙ ap (λ (x : List ℕ). x ++ report) no_chain
     ∙ none
 
-kept_silent : {S Q L : Type 0} (given : Given S Q L) → given.store ≡ None → given.requests ≡ None → (c : Configuration) (how : Service)
-    (before after : Ends) (text : List ℕ) (outcome : Result (Unit {0}) ServiceFault) → how.stats ≡ None
-    → RunsKept given c how before after text outcome → text ≡ []
-kept_silent given no_store no_requests c how before after text outcome unreported runs =
+kept_silent : {S Q L : Type 0} (given : Given S Q L) → given.saved ≡ None → given.line ≡ None → given.store ≡ None → given.requests ≡ None
+    → (c : Configuration) (how : Service) (before after : Ends) (text : List ℕ) (outcome : Result (Unit {0}) ServiceFault) → c.announce ≡ false
+    → how.stats ≡ None → RunsKept given c how before after text outcome → text ≡ []
+kept_silent given no_saved no_line no_store no_requests c how before after text outcome announces_none unreported runs =
     let reporting = reporting_of given how runs.gateway in
     let nowhere = first_nowhere given.held given.store c runs.gateway runs.keeper no_store runs.keeps in
     let first = first_stage given c runs.gateway runs.keeper (troubles_in runs.keeper) before in
+    let begun = runs.runs.begun in
+    let is : begun ≡ announced_at first begun.announcing begun.now.scene.calls = runs.runs.begins.is in
+    let quiet = begins_quiet c given.saved given.line runs.gateway no_saved no_line announces_none runs.begins in
     let said : first.said ≡ no_troubles = ap troubles_in nowhere in
-    let chain = run_silent given.held reporting how.turns first runs.runs.last runs.answer runs.runs.links runs.runs.runs
-    (ap (recorded_by given.said) no_requests) nowhere unreported said in
+    let chain = run_silent given.held reporting how.turns begun runs.runs.last runs.answer runs.runs.links runs.runs.runs
+    (ap (λ (x : Stage (Kept _)). x.requests) is ∙ ap (recorded_by given.said) no_requests)
+    (ap (λ (x : Stage (Kept _)). x.now.guard) is ∙ nowhere) (ap (λ (x : Stage (Kept _)). x.now.scene.gateway.relay.announce) is ∙ quiet)
+    unreported (ap (λ (x : Stage (Kept _)). x.said) is ∙ said) in
     runs.runs.said ∙ all_silent first.said (chain_text runs.runs.links) _ said chain (end_none how.stats _ unreported)
 
-silent : {S Q L : Type 0} (given : Given S Q L) → given.store ≡ None → given.requests ≡ None → given.watcher ≡ None → (c : Configuration)
-    (how : Service) (before after : Ends) (text : List ℕ) (outcome : Result (Unit {0}) ServiceFault) → how.stats ≡ None
-    → LeavesKept given c how before after text outcome → text ≡ []
-silent given no_store no_requests no_watcher c how before after text outcome unreported (inl runs) =
-    kept_silent given no_store no_requests c how before after text outcome unreported
+silent : {S Q L : Type 0} (given : Given S Q L) → given.saved ≡ None → given.line ≡ None → given.store ≡ None → given.requests ≡ None
+    → given.watcher ≡ None → (c : Configuration) (how : Service) (before after : Ends) (text : List ℕ)
+    (outcome : Result (Unit {0}) ServiceFault) → c.announce ≡ false → how.stats ≡ None → LeavesKept given c how before after text outcome
+    → text ≡ []
+silent given no_saved no_line no_store no_requests no_watcher c how before after text outcome quiet unreported (inl runs) =
+    kept_silent given no_saved no_line no_store no_requests c how before after text outcome quiet unreported
     (subst (λ (w : Option (Watching _ _)). RunsBy given w c how before after text outcome) no_watcher runs)
-silent given no_store no_requests no_watcher c how before after text outcome unreported (inr unbegun) = unbegun.1
+silent given no_saved no_line no_store no_requests no_watcher c how before after text outcome quiet unreported (inr unbegun) = unbegun.1
 
 -- ---- what is read and opened before
 
@@ -225,14 +231,14 @@ no_note false said none = none
 
 serves_plain : {Log Sockets S Q : Type 0} (m : Machine Log Sockets) (states : StateMachine S Q) (names : Names) (held holds : Option (List ℕ))
     (c : Configuration) (how : Service) (is_verbose : Bool) (line said : List ℕ) (outcome : Result (Unit {0}) ServiceFault) → AreNone names
-    → how.stats ≡ None → LeavesWithState m states names held holds c how is_verbose line said outcome
+    → how.stats ≡ None → c.announce ≡ false → LeavesWithState m states names held holds c how is_verbose line said outcome
     → LeavesServed m names.log held holds c how.turns is_verbose line said outcome
-serves_plain m states names held holds c how is_verbose line said outcome none unreported (unprepared f why is stays unsaid) =
+serves_plain m states names held holds c how is_verbose line said outcome none unreported quiet (unprepared f why is stays unsaid) =
     shut (opening.Log log_failure.Memory) (inl (refl, stays)) (is ∙ ap Err (unprepared_memory states m.LogOpens names c f none why))
     (no_note is_verbose said unsaid)
-serves_plain m states names held holds c how is_verbose line said outcome none unreported (unopened failure opens is note) =
+serves_plain m states names held holds c how is_verbose line said outcome none unreported quiet (unopened failure opens is note) =
     shut failure opens is note
-serves_plain m states names held holds c how is_verbose line said outcome none unreported
+serves_plain m states names held holds c how is_verbose line said outcome none unreported quiet
     (ran before log log_then sockets sockets_then output warning text prepared opens closes stays leaves warns is) =
     let at = given states.held states.said m.held before in
     let no_saved = state_none states.FileReads names.state before.saved none.state prepared.saved in
@@ -241,8 +247,8 @@ serves_plain m states names held holds c how is_verbose line said outcome none u
     let no_requests = requests_none states.ReloadsOpen names.reload names.config before.requests none.reload prepared.requests in
     let no_watcher = watcher_none states.FileReads states.LastLines m.LogOpens c names.watch before.watcher none.watched prepared.watcher in
     let no_text = prepared.text ∙ text_none names.state is_verbose c before.saved none.state in
-    let serves = as_served at no_saved no_line no_store no_requests c how _ _ text outcome leaves in
-    let nothing = silent at no_store no_requests no_watcher c how _ _ text outcome unreported leaves in
+    let serves = as_served at no_saved no_line no_store no_requests c how _ _ text outcome quiet leaves in
+    let nothing = silent at no_saved no_line no_store no_requests no_watcher c how _ _ text outcome quiet unreported leaves in
     served_by log log_then sockets sockets_then output warning opens closes stays serves warns
     (is ∙ ap (λ (x : List ℕ). ((line ++ warning) ++ x) ++ text) no_text ∙ ap (λ (x : List ℕ). ((line ++ warning) ++ []) ++ x) nothing
     ∙ append-nil ((line ++ warning) ++ []) ∙ append-nil (line ++ warning))
@@ -264,9 +270,9 @@ or_parts true b is = absurd cc
 
 pub plain_is_served : {Log Sockets S Q : Type 0} (m : Machine Log Sockets) (states : StateMachine S Q) (options : RunOptions)
     (held holds : Option (List ℕ)) (c : Configuration) (line said : List ℕ) (outcome : Result (Unit {0}) ServiceFault) → is_plain options ≡ true
-    → LeavesWithState m states (names_of options) held holds c (service options.turns options.stats) options.verbose line said outcome
+    → c.announce ≡ false → LeavesWithState m states (names_of options) held holds c (service options.turns options.stats) options.verbose line said outcome
     → LeavesServed m (option_map string_bytes options.log) held holds c options.turns options.verbose line said outcome
-plain_is_served m states options held holds c line said outcome plain leaves =
+plain_is_served m states options held holds c line said outcome plain quiet leaves =
     let names = names_of options in
     let parts = plain_parts (is_some options.state) (is_some options.reload) (is_watched names.watch) plain in
     let trial = or_parts (is_some names.watch.trial) (is_some names.watch.audit || names.watch.counts) parts.2 in
@@ -280,4 +286,4 @@ plain_is_served m states options held holds c line said outcome plain leaves =
       trial = none_of names.watch.trial trial.0;
       audit = none_of names.watch.audit audit.0;
       watched = parts.2;
-    }) (none_of options.stats counts.0) leaves
+    }) (none_of options.stats counts.0) quiet leaves

@@ -1,6 +1,6 @@
 -- A run in which nobody asks; and one that keeps no state either, which is one of `serve`.
 use Rattle.std.proofs.Common.{◌≡◌, ◌∙◌, ℕ, ◌+◌, ◌<◌, List, [], ◌∷◌, ◌++◌, Bool, true, false, true≢false, Option, Some, None, refl, sym, ap, subst, arith, length, inl, inr}
-use Rattle.std.proofs.lemmas.List.{length-append}
+use Rattle.std.proofs.lemmas.List.{append-nil, length-append}
 use Rattle.std.proofs.lemmas.List.Elements.{All-from_recursion}
 use Rattle.std.specs.List.{AllByRecursion}
 use Rattle.std.specs.Prelude.{Result, Ok, Err}
@@ -13,15 +13,17 @@ use Rattle.gw_state.specs.Saved.{Saved}
 use Rattle.gw_script.specs.Event.{Event}
 use Rattle.gw_turns.proofs.ServeLemmas.{lead_along, lead_nowhere}
 use Rattle.gw_turns.specs.Serve.{EndsBy, LeadTo, Scene, Stops, Turn, count_fault, count_turn, counts_after, counts_of, empty_turn, failed_turn}
-use Rattle.gw_turns.specs.Serve.{lost_event, scene, taken_event, turn_events}
+use Rattle.gw_turns.specs.Serve.{events_of, lost_event, scene, taken_event, turn_events}
+use Rattle.gw_turns.proofs.AnnouncingLemmas.{unannounced_is_silent}
+use Rattle.gw_core.proofs.HistoryLemmas.{announce_after, announce_stays}
 use Rattle.gw_turns.specs.Stretch.{AreGuarded, GuardsTurn}
-use Rattle.gw_wire.specs.Wire.{Call}
+use Rattle.gw_wire.specs.Wire.{Call, Records}
 use Rattle.gw_turns.specs.declared.serving.ServeFault.{ServeFault}
 use Rattle.gw_turns.specs.declared.serving.ServeFault.TheVariants as serving
 use Rattle.gw_turns.specs.declared.serving.Served.{Served}
 use Rattle.gw_system.specs.Requests.{Asking, GoesOn, answered, asked, nobody, recorded_by, unasked}
 use Rattle.gw_watchers.specs.Watching.{Watching}
-use Rattle.gw_service.specs.Chain.{AreLinks, IsLink, IsLooked, IsUnrequested, Link, Look, Manner, Runs, Stage, Standing}
+use Rattle.gw_service.specs.Chain.{AreLinks, IsLink, IsLooked, IsUnrequested, Link, Look, Manner, Runs, Stage, Standing, announced_at}
 use Rattle.gw_service.specs.Chain.{refused, served, taken_over, ticked, unrequested, withheld}
 use Rattle.gw_service.specs.Fault.{fault_of_serving}
 use Rattle.gw_service.specs.Keeping.{IsKeptAtTick, IsKeptFor, IsPassed, troubles_in}
@@ -122,6 +124,12 @@ turns_nowhere held w [] k l is guarded = guarded ∙ is
 turns_nowhere held w (turn ∷ turns) k l is guarded =
     turns_nowhere held (state_from w (turn_events turn)) turns guarded.0 l (turn_nowhere held w turn k guarded.0 is guarded.1) guarded.2
 
+-- ---- nothing is announced
+
+-- a gateway that doesn't announce
+abbrev pub IsQuiet : State → Type 0
+IsQuiet w = w.relay.announce ≡ false
+
 -- ---- stretches one after the other are one serving
 
 -- a scene by its parts
@@ -136,57 +144,85 @@ unfolding counts_after
 counts_along s [] more = refl
 counts_along s (turn ∷ turns) more = counts_along (count_turn s turn) turns more
 
--- From one stage to another these turns were served, and nothing keeps the state then.
+-- From one stage to another these turns were served, nothing keeps the state then, and the gateway doesn't announce.
 pub record AreServed {S : Type 0} (s t : Stage (Kept S)) : Type 0 where
   pub turns : List Turn
   pub led : LeadTo s.now.scene turns t.now.scene
   pub counts : t.now.served ≡ counts_after s.now.served turns
   pub nowhere : t.now.guard ≡ Nowhere
+  pub quiet : IsQuiet t.now.scene.gateway
+
+-- a gateway that doesn't announce goes on so
+stays_quiet : (a b : Scene) (turns : List Turn) → LeadTo a turns b → IsQuiet a.gateway → IsQuiet b.gateway
+stays_quiet a b turns led quiet =
+    ap (λ (w : State). w.relay.announce) led.gateway ∙ announce_stays a.gateway (events_of turns) ∙ quiet
+
+-- it calls the wire for no announcement
+lead_quietly : (a : Scene) (calls : Option (List Call)) → Records a.calls calls [] → LeadTo a [] (scene a.gateway a.log calls)
+lead_quietly a calls silent =
+    let still = lead_nowhere a in
+    record { each = still.each; gateway = still.gateway; log = still.log; calls = silent }
+
+-- so turns lead on to where it would have announced
+leads_on : (a b : Scene) (turns : List Turn) (calls : Option (List Call)) → LeadTo a turns b → Records b.calls calls []
+    → LeadTo a turns (scene b.gateway b.log calls)
+leads_on a b turns calls led silent =
+    let along = lead_along a b (scene b.gateway b.log calls) turns [] led (lead_quietly b calls silent) in
+    subst (λ (l : List Turn). LeadTo a l (scene b.gateway b.log calls)) (append-nil turns) along
 
 pub link_serves : {S : Type 0} (held : S → Option (List ℕ)) (how : Reporting) (s t : Stage (Kept S)) (link : Link)
-    → IsLink (manner_of held how) s link t → s.requests ≡ nobody → s.now.guard ≡ Nowhere → AreServed s t
-link_serves held how s t (served turns) is none nowhere = record {
+    → IsLink (manner_of held how) s link t → s.requests ≡ nobody → s.now.guard ≡ Nowhere → IsQuiet s.now.scene.gateway → AreServed s t
+link_serves held how s t (served turns) is none nowhere quiet = record {
   turns = turns;
   led = is.went.went;
   counts = is.went.counts;
   nowhere = turns_nowhere held s.now.scene.gateway turns s.now.guard t.now.guard nowhere is.went.guarded;
+  quiet = stays_quiet s.now.scene t.now.scene turns is.went.went quiet;
 }
-link_serves held how s t (ticked turns look text) is none nowhere =
+link_serves held how s t (ticked turns look text) is none nowhere quiet =
     let found = looks_none (IsKeptFor held) s.config t.config _ _ look is.done.looked none in
     let guard = turns_nowhere held s.now.scene.gateway turns s.now.guard is.then.guard nowhere is.went.guarded in
     let kept = ticked_nowhere held is.then.scene.gateway is.then.guard is.done.keeper guard is.done.ticks in
     let then = t.now.scene in
-    let same = scene_as is.then.scene then.gateway then.log then.calls (sym found.1.stays.gateway) (sym is.rest.log) (sym is.rest.calls) in
+    let is_quiet = ap (λ (w : State). w.relay.announce) found.1.stays.gateway
+    ∙ stays_quiet s.now.scene is.then.scene turns is.went.went quiet in
+    let silent = unannounced_is_silent is.due t.announcing then.gateway is.then.scene.calls then.calls is_quiet is.announced in
+    let same = scene_as (scene is.then.scene.gateway is.then.scene.log then.calls) then.gateway then.log then.calls
+    (sym found.1.stays.gateway) (sym is.rest.log) refl in
     record {
       turns = turns;
-      led = subst (λ (x : Scene). LeadTo s.now.scene turns x) same is.went.went;
+      led = subst (λ (x : Scene). LeadTo s.now.scene turns x) same
+          (leads_on s.now.scene is.then.scene turns then.calls is.went.went silent);
       counts = is.rest.served ∙ is.went.counts;
       nowhere = found.1.stays.keeper ∙ kept;
+      quiet = is_quiet;
     }
-link_serves held how s t (withheld turns event text) is none nowhere =
+link_serves held how s t (withheld turns event text) is none nowhere quiet =
     let guard = turns_nowhere held s.now.scene.gateway turns s.now.guard is.then.guard nowhere is.went.guarded in
     let passed = passed_nowhere held is.then.scene.gateway event false is.then.guard t.now.guard guard is.last.passes in
     absurd (true≢false (sym passed.1))
 
 chain_serves : {S : Type 0} (held : S → Option (List ℕ)) (how : Reporting) (s t : Stage (Kept S)) (links : List Link)
-    → AreLinks (manner_of held how) s links t → s.requests ≡ nobody → s.now.guard ≡ Nowhere → AreServed s t
+    → AreLinks (manner_of held how) s links t → s.requests ≡ nobody → s.now.guard ≡ Nowhere → IsQuiet s.now.scene.gateway → AreServed s t
 unfolding AreLinks counts_after
-chain_serves held how s t [] chain none nowhere = record {
+chain_serves held how s t [] chain none nowhere quiet = record {
   turns = [];
   led = subst (λ (x : Stage (Kept _)). LeadTo s.now.scene [] x.now.scene) (sym chain) (lead_nowhere s.now.scene);
   counts = ap (λ (x : Stage (Kept _)). x.now.served) chain;
   nowhere = ap (λ (x : Stage (Kept _)). x.now.guard) chain ∙ nowhere;
+  quiet = ap (λ (x : Stage (Kept _)). x.now.scene.gateway.relay.announce) chain ∙ quiet;
 }
-chain_serves held how s t (link ∷ links) chain none nowhere =
-    let first = link_serves held how s chain.0 link chain.1 none nowhere in
+chain_serves held how s t (link ∷ links) chain none nowhere quiet =
+    let first = link_serves held how s chain.0 link chain.1 none nowhere quiet in
     let still = link_none (manner_of held how) s chain.0 link chain.1 none in
-    let later = chain_serves held how chain.0 t links chain.2 still.2 first.nowhere in
+    let later = chain_serves held how chain.0 t links chain.2 still.2 first.nowhere first.quiet in
     record {
       turns = first.turns ++ later.turns;
       led = lead_along s.now.scene chain.0.now.scene t.now.scene first.turns later.turns first.led later.led;
       counts = later.counts ∙ ap (λ (x : Served). counts_after x later.turns) first.counts
           ∙ sym (counts_along s.now.served first.turns later.turns);
       nowhere = later.nowhere;
+      quiet = later.quiet;
     }
 
 -- ---- a run
@@ -216,11 +252,11 @@ stopped c count before after moment last turns f event fewer went ends log calls
 
 run_serves : {S : Type 0} (held : S → Option (List ℕ)) (how : Reporting) (count : ℕ) (c : Configuration) (before after : Ends)
     (s t : Stage (Kept S)) (answer : Result (Unit {0}) ServeFault) (links : List Link) → Runs (manner_of held how) count s answer links t
-    → s.requests ≡ nobody → s.now.guard ≡ Nowhere → s.now.scene ≡ first_scene c before → t.now.scene.log ≡ after.log
-    → t.now.scene.calls ≡ after.calls → Serves c count before after (outcome_by answer)
-run_serves held how count c before after s t (Ok done) links runs none nowhere at log calls =
-    let led = chain_serves held how s t links runs.chain none nowhere in
-    let from = subst (λ (x : Scene). LeadTo x led.turns t.now.scene) at led.led in
+    → s.requests ≡ nobody → s.now.guard ≡ Nowhere → IsQuiet s.now.scene.gateway → LeadTo (first_scene c before) [] s.now.scene
+    → t.now.scene.log ≡ after.log → t.now.scene.calls ≡ after.calls → Serves c count before after (outcome_by answer)
+run_serves held how count c before after s t (Ok done) links runs none nowhere quiet at log calls =
+    let led = chain_serves held how s t links runs.chain none nowhere quiet in
+    let from = lead_along (first_scene c before) s.now.scene t.now.scene [] led.turns at led.led in
     let same = scene_as t.now.scene t.now.scene.gateway after.log after.calls refl log calls in
     let counted = ap (λ (x : Served). x.turns) led.counts in
     record {
@@ -233,9 +269,9 @@ run_serves held how count c before after s t (Ok done) links runs none nowhere a
         counts = refl;
       };
     }
-run_serves held how count c before after s t (Err f) links runs none nowhere at log calls =
-    let led = chain_serves held how s runs.then links runs.chain none nowhere in
-    let from = subst (λ (x : Scene). LeadTo x led.turns runs.then.now.scene) at led.led in
+run_serves held how count c before after s t (Err f) links runs none nowhere quiet at log calls =
+    let led = chain_serves held how s runs.then links runs.chain none nowhere quiet in
+    let from = lead_along (first_scene c before) s.now.scene runs.then.now.scene [] led.turns at led.led in
     let end = runs.ends.ends in
     let counted = ap (λ (x : Served). x.turns) led.counts in
     stopped c count before after end.then.scene t.now.scene (led.turns ++ end.turns) f end.event
@@ -250,29 +286,45 @@ begins_first c None None w no_state no_line begins =
 begins_first c None (Some line) w no_state no_line begins = absurd cc
 begins_first c (Some state) line w no_state no_line begins = absurd cc
 
+pub begins_quiet : (c : Configuration) (state : Option Saved) (line : Option (List ℕ)) (w : State) → state ≡ None → line ≡ None
+    → c.announce ≡ false → BeginsAs c state line w → IsQuiet w
+begins_quiet c state line w no_state no_line announces_none begins =
+    ap (λ (x : State). x.relay.announce) (begins_first c state line w no_state no_line begins) ∙ announce_after c no_counts [] ∙ announces_none
+
 kept_serves : {S Q L : Type 0} (given : Given S Q L) → given.saved ≡ None → given.line ≡ None → given.store ≡ None → given.requests ≡ None
     → (c : Configuration) (how : Service) (before after : Ends) (text : List ℕ) (outcome : Result (Unit {0}) ServiceFault)
-    → RunsKept given c how before after text outcome → Serves c how.turns before after outcome
-kept_serves given no_state no_line no_store no_requests c how before after text outcome runs =
+    → c.announce ≡ false → RunsKept given c how before after text outcome → Serves c how.turns before after outcome
+kept_serves given no_state no_line no_store no_requests c how before after text outcome announces_none runs =
     let fresh = begins_first c given.saved given.line runs.gateway no_state no_line runs.begins in
+    let quiet = begins_quiet c given.saved given.line runs.gateway no_state no_line announces_none runs.begins in
+    let first = first_stage given c runs.gateway runs.keeper (troubles_in runs.keeper) before in
+    let begun = runs.runs.begun in
+    let is : begun ≡ announced_at first begun.announcing begun.now.scene.calls = runs.runs.begins.is in
+    let silent = unannounced_is_silent first.announcing begun.announcing runs.gateway before.calls begun.now.scene.calls quiet
+    runs.runs.begins.announced in
+    let at = lead_quietly (scene runs.gateway before.log before.calls) begun.now.scene.calls silent in
+    let from = subst (λ (x : Scene). LeadTo (scene runs.gateway before.log before.calls) [] x)
+    (sym (ap (λ (x : Stage (Kept _)). x.now.scene) is)) at in
     subst (λ (x : Result (Unit {0}) ServiceFault). Serves c how.turns before after x) (sym runs.answers)
-    (run_serves given.held (reporting_of given how runs.gateway) how.turns c before after
-    (first_stage given c runs.gateway runs.keeper (troubles_in runs.keeper) before) runs.runs.last runs.answer runs.runs.links runs.runs.runs
-    (ap (recorded_by given.said) no_requests) (first_nowhere given.held given.store c runs.gateway runs.keeper no_store runs.keeps)
-    (ap (λ (w : State). scene w before.log before.calls) fresh) runs.runs.log runs.runs.calls)
+    (run_serves given.held (reporting_of given how runs.gateway) how.turns c before after begun runs.runs.last runs.answer runs.runs.links
+    runs.runs.runs (ap (λ (x : Stage (Kept _)). x.requests) is ∙ ap (recorded_by given.said) no_requests)
+    (ap (λ (x : Stage (Kept _)). x.now.guard) is ∙ first_nowhere given.held given.store c runs.gateway runs.keeper no_store runs.keeps)
+    (ap (λ (x : Stage (Kept _)). x.now.scene.gateway.relay.announce) is ∙ quiet)
+    (subst (λ (w : State). LeadTo (scene w before.log before.calls) [] begun.now.scene) fresh from)
+    runs.runs.log runs.runs.calls)
 
 runs_serve : {S Q L : Type 0} (given : Given S Q L) → given.saved ≡ None → given.line ≡ None → given.store ≡ None → given.requests ≡ None
     → (watcher : Option (Watching L L)) (c : Configuration) (how : Service) (before after : Ends) (text : List ℕ)
-    (outcome : Result (Unit {0}) ServiceFault) → RunsBy given watcher c how before after text outcome
+    (outcome : Result (Unit {0}) ServiceFault) → c.announce ≡ false → RunsBy given watcher c how before after text outcome
     → Serves c how.turns before after outcome
-runs_serve given no_state no_line no_store no_requests None c how before after text outcome runs =
-    kept_serves given no_state no_line no_store no_requests c how before after text outcome runs
-runs_serve given no_state no_line no_store no_requests (Some watcher) c how before after text outcome runs =
+runs_serve given no_state no_line no_store no_requests None c how before after text outcome quiet runs =
+    kept_serves given no_state no_line no_store no_requests c how before after text outcome quiet runs
+runs_serve given no_state no_line no_store no_requests (Some watcher) c how before after text outcome quiet runs =
     let other = as_unwatched given watcher c how before after text outcome runs in
-    kept_serves given no_state no_line no_store no_requests c how before after other.0 outcome other.1
+    kept_serves given no_state no_line no_store no_requests c how before after other.0 outcome quiet other.1
 
 pub as_served : {S Q L : Type 0} (given : Given S Q L) → IsAsServed given
-as_served given no_state no_line no_store no_requests c how before after text outcome (inl runs) =
-    runs_serve given no_state no_line no_store no_requests given.watcher c how before after text outcome runs
-as_served given no_state no_line no_store no_requests c how before after text outcome (inr unbegun) =
+as_served given no_state no_line no_store no_requests c how before after text outcome quiet (inl runs) =
+    runs_serve given no_state no_line no_store no_requests given.watcher c how before after text outcome quiet runs
+as_served given no_state no_line no_store no_requests c how before after text outcome quiet (inr unbegun) =
     subst (λ (x : Result (Unit {0}) ServiceFault). Serves c how.turns before after x) (sym unbegun.2) (inr unbegun.0)

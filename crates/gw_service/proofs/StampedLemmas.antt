@@ -3,7 +3,7 @@ use Rattle.std.proofs.Common.{◌≡◌, ℕ, Bool, true, false, List, Option, R
 use Rattle.std.specs.Prelude.{option_map, string_bytes}
 use Rattle.gw_configuration.specs.declared.run_options.RunOptions.{RunOptions}
 use Rattle.gw_configuration.specs.Configuration.{Configuration}
-use Rattle.gw_notices.specs.Announcement.{startup_line}
+use Rattle.gw_notices.specs.Startup.{startup_line}
 use Rattle.gw_service.specs.Kept.{LeavesService, LeavesWithState, Names, StateMachine, names_of, ran, unopened, unprepared, whole_machine}
 use Rattle.gw_service.specs.Serving.{LeavesServed, Machine, Service, served, service, shut}
 use Rattle.gw_service.specs.StampedRun.{LeavesBy}
@@ -45,7 +45,7 @@ service_closes m states Closes so options held holds c said outcome leaves =
       leaves.1,
       (
         kept_closes m states Closes so (names_of options) held holds c how options.verbose line leaves.0 outcome leaves.2.0,
-        λ is. served_closes m Closes so name held holds c options.turns options.verbose line leaves.0 outcome (leaves.2.1 is),
+        λ is quiet. served_closes m Closes so name held holds c options.turns options.verbose line leaves.0 outcome (leaves.2.1 is quiet),
       ),
     )
 

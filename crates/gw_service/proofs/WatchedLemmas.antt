@@ -79,22 +79,32 @@ lets trial audit g h w event p = absurd (true≢false (sym p.0))
 -- ---- without what watches
 
 abbrev unwatched : {S L : Type 0} → Stage (Both (Kept S) (Watching L L)) → Stage (Kept S)
-unwatched s = stage s.config (first_moment s.now) s.requests s.counts (of_state s.said.state)
+unwatched s = stage s.config (first_moment s.now) s.requests s.counts s.announcing (of_state s.said.state)
 
 abbrev standing_of : {S L : Type 0} → Standing (Both (Kept S) (Watching L L)) → Standing (Kept S)
-standing_of s = standing s.gateway s.keeper.first s.requests s.counts
+standing_of s = standing s.gateway s.keeper.first s.requests s.counts s.announcing
 
 looked : {S L : Type 0} (held : S → _) (c d : Configuration) (s t : Standing (Both (Kept S) (Watching L L))) (look : Look)
     → IsLooked (IsKeptForBeside held) c s look d t → IsLooked (IsKeptFor held) c (standing_of s) look d (standing_of t)
 looked held c d s t unrequested is = record {
-  stays = record { config = is.stays.config; gateway = is.stays.gateway; keeper = ap (λ (k : Both _ _). k.first) is.stays.keeper };
+  stays = record {
+    config = is.stays.config;
+    gateway = is.stays.gateway;
+    keeper = ap (λ (k : Both _ _). k.first) is.stays.keeper;
+    announcing = is.stays.announcing;
+  };
   requests = is.requests;
   counts = is.counts;
 }
 looked held c d s t (refused read fault line) is = record {
   why = is.why;
   says = is.says;
-  stays = record { config = is.stays.config; gateway = is.stays.gateway; keeper = ap (λ (k : Both _ _). k.first) is.stays.keeper };
+  stays = record {
+    config = is.stays.config;
+    gateway = is.stays.gateway;
+    keeper = ap (λ (k : Both _ _). k.first) is.stays.keeper;
+    announcing = is.stays.announcing;
+  };
   requests = is.requests;
   counts = is.counts;
 }
@@ -106,6 +116,7 @@ looked held c d s t (taken_over text new) is = record {
   keeper = is.keeper.0;
   requests = is.requests;
   counts = is.counts;
+  announcing = is.announcing;
 }
 
 -- ---- a link
@@ -119,15 +130,16 @@ linked held log_held how s t (served turns) is = (
     config = is.config;
     requests = is.requests;
     counts = is.counts;
+    announcing = is.announcing;
     said = ap (λ (x : Troubles). of_state x.state) is.said;
   },
 )
 linked held log_held how s t (ticked turns look text) is =
     let then = first_moment is.then in
     let manner = manner_of held how in
-    let other = (look_text s.config (standing then.scene.gateway then.guard s.requests s.counts) look
+    let other = (look_text s.config (standing then.scene.gateway then.guard s.requests s.counts s.announcing) look
     ++ notice_of (of_state s.said.state) (of_state t.said.state))
-    ++ manner.report t.now.guard.first t.counts t.now.scene.gateway t.now.served t.now.tally in (
+    ++ manner.report t.now.guard.first t.counts t.announcing t.now.scene.gateway t.now.served t.now.tally in (
       ticked turns look other,
       record {
         before = is.before;
@@ -136,12 +148,14 @@ linked held log_held how s t (ticked turns look text) is =
         then = then;
         went = first_goes (IsPassed held) (HasWatched log_held log_held) s.now is.then turns is.went;
         ticks = is.ticks;
+        due = is.due;
         done = record {
           keeper = is.done.keeper.first;
           ticks = is.done.ticks.0;
           looked = looked held s.config t.config _ _ look is.done.looked;
         };
-        rest = record { log = is.rest.log; calls = is.rest.calls; served = is.rest.served; tally = is.rest.tally };
+        announced = is.announced;
+        rest = record { log = is.rest.log; served = is.rest.served; tally = is.rest.tally };
         said = ap (λ (x : Troubles). of_state x.state) is.said;
         lines = refl;
       },
@@ -161,6 +175,7 @@ linked held log_held how s t (withheld turns event text) is = (
     config = is.config;
     requests = is.requests;
     counts = is.counts;
+    announcing = is.announcing;
     said = ap (λ (x : Troubles). of_state x.state) is.said;
     lines = refl;
   },
@@ -197,6 +212,7 @@ ran held log_held how count s t (Err fault) links runs =
           config = runs.ends.config;
           requests = runs.ends.requests;
           counts = runs.ends.counts;
+          announcing = runs.ends.announcing;
           said = ap (λ (x : Troubles). of_state x.state) runs.ends.said;
         };
       },
@@ -208,7 +224,7 @@ as_unwatched given w c how before after text outcome runs =
     let last = runs.runs.last in
     let other = ran given.held given.log_held reports how.turns _ last runs.answer runs.runs.links runs.runs.runs in
     let report = end_stats unkept_in no_more reports in
-    let final = report last.now.guard.first last.counts last.now.scene.gateway last.now.served last.now.tally in (
+    let final = report last.now.guard.first last.counts last.announcing last.now.scene.gateway last.now.served last.now.tally in (
       (notice_of no_troubles (troubles_in runs.keeper.first) ++ chain_text other.0) ++ final,
       record {
         gateway = runs.gateway;
@@ -217,6 +233,8 @@ as_unwatched given w c how before after text outcome runs =
         keeps = runs.keeps;
         answer = runs.answer;
         runs = record {
+          begun = unwatched runs.runs.begun;
+          begins = record { announced = runs.runs.begins.announced; is = ap unwatched runs.runs.begins.is };
           links = other.0;
           last = unwatched last;
           runs = other.1;

@@ -11,8 +11,11 @@ use Rattle.gw_state.specs.Saved.{Origin, origin_of}
 use Rattle.gw_script.specs.Event.{Event}
 use Rattle.gw_script.specs.Event as event
 use Rattle.gw_script.specs.declared.sink.WriteFailed.{WriteFailed}
-use Rattle.gw_turns.specs.Serve.{Try, Turn, taken_event}
-use Rattle.gw_turns.specs.Stretch.{EndsFaulty, GoOn, IsWithheld, Moment}
+use Rattle.gw_turns.specs.Announcing.{Announces, with_due}
+use Rattle.gw_turns.specs.declared.announcing.Announcing.{Announcing}
+use Rattle.gw_turns.specs.Serve.{Try, Turn, scene, taken_event}
+use Rattle.gw_turns.specs.Stretch.{EndsFaulty, GoOn, IsWithheld, Moment, moment}
+use Rattle.gw_wire.specs.Wire.{Call}
 use Rattle.gw_turns.specs.declared.serving.ServeFault.{ServeFault}
 use Rattle.gw_turns.specs.declared.serving.Served.{Served}
 use Rattle.gw_turns.specs.declared.tally.Tally.{Tally}
@@ -34,10 +37,11 @@ pub record Manner (K : Type 0) : Type 1 where
   pub Ticks : K → State → K → Type 0
   pub Adopts : K → Configuration → State → K → Type 0
   pub troubles : K → Troubles
-  pub report : K → ReloadCounts → State → Served → Tally → List ℕ
+  pub report : K → ReloadCounts → Announcing → State → Served → Tally → List ℕ
 
 abbrev pub manner : {K : Type 0} → (K → State → Event → K → Bool → Type 0) → (K → State → K → Type 0)
-    → (K → Configuration → State → K → Type 0) → (K → Troubles) → (K → ReloadCounts → State → Served → Tally → List ℕ) → Manner K
+    → (K → Configuration → State → K → Type 0) → (K → Troubles) → (K → ReloadCounts → Announcing → State → Served → Tally → List ℕ)
+    → Manner K
 manner Passes Ticks Adopts troubles report = record {
   Passes = Passes;
   Ticks = Ticks;
@@ -48,15 +52,22 @@ manner Passes Ticks Adopts troubles report = record {
 
 -- ---- a request
 
--- the gateway, its keeper, what is known of requests, and how often there was one
+-- the gateway, its keeper, what is known of requests, how often there was one, and what is to be announced
 pub record Standing (K : Type 0) : Type 0 where
   pub gateway : State
   pub keeper : K
   pub requests : Asking
   pub counts : ReloadCounts
+  pub announcing : Announcing
 
-abbrev pub standing : {K : Type 0} → State → K → Asking → ReloadCounts → Standing K
-standing w keeper requests counts = record { gateway = w; keeper = keeper; requests = requests; counts = counts }
+abbrev pub standing : {K : Type 0} → State → K → Asking → ReloadCounts → Announcing → Standing K
+standing w keeper requests counts announcing = record {
+  gateway = w;
+  keeper = keeper;
+  requests = requests;
+  counts = counts;
+  announcing = announcing;
+}
 
 -- What comes of looking for a request: there is none; there is one, and the configuration isn't taken over, which this line
 -- says; or it is.
@@ -70,6 +81,7 @@ pub record Stays {K : Type 0} (c : Configuration) (s : Standing K) (d : Configur
   pub config : d ≡ c
   pub gateway : t.gateway ≡ s.gateway
   pub keeper : t.keeper ≡ s.keeper
+  pub announcing : t.announcing ≡ s.announcing
 
 -- The configuration isn't taken over, and the request is answered by a line that says why.
 pub record IsRefusedSo {K : Type 0} (c : Configuration) (s : Standing K) (read : Result (Option (List ℕ)) ReadFailure) (fault : ReloadFault)
@@ -80,7 +92,8 @@ pub record IsRefusedSo {K : Type 0} (c : Configuration) (s : Standing K) (read :
   pub requests : GoesOn s.requests t.requests (asked read ∷ answered line ∷ [])
   pub counts : t.counts ≡ with_refused s.counts
 
--- The configuration of the text is in force: the gateway goes on as one of it that takes over what is saved.
+-- The configuration of the text is in force: the gateway goes on as one of it that takes over what is saved, and an
+-- announcement is due.
 pub record IsTakenOver {K : Type 0} (Adopts : K → Configuration → State → K → Type 0) (c : Configuration) (s : Standing K) (text : List ℕ) (new : Configuration)
     (d : Configuration) (t : Standing K) : Type 0 where
   pub config : d ≡ new
@@ -91,6 +104,7 @@ pub record IsTakenOver {K : Type 0} (Adopts : K → Configuration → State → 
   pub requests : GoesOn s.requests t.requests
       (asked (Ok (Some text)) ∷ answered (reload_line s.gateway.rules new (saved c s.gateway)) ∷ [])
   pub counts : t.counts ≡ with_taken_over s.counts s.gateway.ticks
+  pub announcing : t.announcing ≡ with_due s.announcing
 
 -- There was no request.
 pub record IsUnrequested {K : Type 0} (c : Configuration) (s : Standing K) (d : Configuration) (t : Standing K) : Type 0 where
@@ -115,7 +129,7 @@ pub record AtTick {K : Type 0} (Ticks : K → State → K → Type 0) (Adopts : 
     (s : Standing K) (look : Look) (d : Configuration) (t : Standing K) : Type 0 where
   pub keeper : K
   pub ticks : Ticks s.keeper s.gateway keeper
-  pub looked : IsLooked Adopts c (standing s.gateway keeper s.requests s.counts) look d t
+  pub looked : IsLooked Adopts c (standing s.gateway keeper s.requests s.counts s.announcing) look d t
 
 -- The log takes a note of the line of what came of looking for a request, written or not; if there was none it stays as it is.
 abbrev pub IsNotedBy : {L : Type 0} → (Takes : L → List ℕ → Result (Unit {0}) WriteFailed → L → Type 0) → (log log_then : L) → Look → List ℕ
@@ -135,25 +149,32 @@ Looks Done Noted o s p t Never held holds =
 -- ---- one stretch, and what is done after it
 
 -- what there is between two stretches: the configuration in force; the gateway, the log, the wire, the keeper and what was
--- counted; what was asked and answered, and how often; and what was reported last of what isn't kept or recorded
+-- counted; what was asked and answered, and how often; what is to be announced; and what was reported last of what isn't kept or
+-- recorded
 pub record Stage (K : Type 0) : Type 0 where
   pub config : Configuration
   pub now : Moment K
   pub requests : Asking
   pub counts : ReloadCounts
+  pub announcing : Announcing
   pub said : Troubles
 
-abbrev pub stage : {K : Type 0} → Configuration → Moment K → Asking → ReloadCounts → Troubles → Stage K
-stage config now requests counts said =
-    record { config = config; now = now; requests = requests; counts = counts; said = said }
+abbrev pub stage : {K : Type 0} → Configuration → Moment K → Asking → ReloadCounts → Announcing → Troubles → Stage K
+stage config now requests counts announcing said = record {
+  config = config;
+  now = now;
+  requests = requests;
+  counts = counts;
+  announcing = announcing;
+  said = said;
+}
 
-abbrev pub standing_at : {K : Type 0} → Moment K → Asking → ReloadCounts → Standing K
-standing_at now requests counts = standing now.scene.gateway now.guard requests counts
+abbrev pub standing_at : {K : Type 0} → Moment K → Asking → ReloadCounts → Announcing → Standing K
+standing_at now requests counts announcing = standing now.scene.gateway now.guard requests counts announcing
 
--- The log, the wire and the counts are as they were.
+-- The log and the counts are as they were.
 pub record IsIdle {K : Type 0} (before after : Moment K) : Type 0 where
   pub log : after.scene.log ≡ before.scene.log
-  pub calls : after.scene.calls ≡ before.scene.calls
   pub served : after.served ≡ before.served
   pub tally : after.tally ≡ before.tally
 
@@ -170,9 +191,10 @@ pub record IsServed {K : Type 0} (manner : Manner K) (s : Stage K) (turns : List
   pub config : t.config ≡ s.config
   pub requests : t.requests ≡ s.requests
   pub counts : t.counts ≡ s.counts
+  pub announcing : t.announcing ≡ s.announcing
   pub said : t.said ≡ s.said
 
--- turns were served, the last of which took a tick, and what was due then was done and reported
+-- turns were served, the last of which took a tick, and what was due then was done, announced and reported
 pub record IsTicked {K : Type 0} (manner : Manner K) (s : Stage K) (turns : List Turn) (look : Look) (text : List ℕ) (t : Stage K) : Type 0 where
   pub before : List Turn
   pub tries : List Try
@@ -180,12 +202,14 @@ pub record IsTicked {K : Type 0} (manner : Manner K) (s : Stage K) (turns : List
   pub then : Moment K
   pub went : GoOn manner.Passes s.now turns then
   pub ticks : then.scene.gateway.ticks ≡ s.now.scene.gateway.ticks + 1
-  pub done : AtTick manner.Ticks manner.Adopts s.config (standing_at then s.requests s.counts) look t.config
-      (standing_at t.now t.requests t.counts)
+  pub due : Announcing
+  pub done : AtTick manner.Ticks manner.Adopts s.config (standing_at then s.requests s.counts s.announcing) look t.config
+      (standing_at t.now t.requests t.counts due)
+  pub announced : Announces due t.now.scene.gateway then.scene.calls t.announcing t.now.scene.calls
   pub rest : IsIdle then t.now
   pub said : t.said ≡ manner.troubles t.now.guard
-  pub lines : text ≡ (look_text s.config (standing_at then s.requests s.counts) look ++ notice_of s.said t.said)
-      ++ manner.report t.now.guard t.counts t.now.scene.gateway t.now.served t.now.tally
+  pub lines : text ≡ (look_text s.config (standing_at then s.requests s.counts s.announcing) look ++ notice_of s.said t.said)
+      ++ manner.report t.now.guard t.counts t.announcing t.now.scene.gateway t.now.served t.now.tally
 
 -- The keeper didn't let the datagrams of the last event go, and that was reported.
 pub record IsHeldBack {K : Type 0} (manner : Manner K) (s : Stage K) (turns : List Turn) (event : Event) (text : List ℕ) (t : Stage K)
@@ -196,6 +220,7 @@ pub record IsHeldBack {K : Type 0} (manner : Manner K) (s : Stage K) (turns : Li
   pub config : t.config ≡ s.config
   pub requests : t.requests ≡ s.requests
   pub counts : t.counts ≡ s.counts
+  pub announcing : t.announcing ≡ s.announcing
   pub said : t.said ≡ manner.troubles t.now.guard
   pub lines : text ≡ notice_of s.said t.said
 
@@ -203,6 +228,20 @@ abbrev pub IsLink : {K : Type 0} → Manner K → Stage K → Link → Stage K �
 IsLink manner s (served turns) t = IsServed manner s turns t
 IsLink manner s (ticked turns look text) t = IsTicked manner s turns look text t
 IsLink manner s (withheld turns event text) t = IsHeldBack manner s turns event text t
+
+-- ---- the begin
+
+-- a stage once something was announced, or not: its announcements and the calls of its wire are these
+abbrev pub announced_at : {K : Type 0} → Stage K → Announcing → Option (List Call) → Stage K
+announced_at s announcing calls = record s {
+  now = record s.now { scene = scene s.now.scene.gateway s.now.scene.log calls };
+  announcing = announcing;
+}
+
+-- What is due is announced before the first turn, and a stage is this one then.
+pub record Begins {K : Type 0} (s t : Stage K) : Type 0 where
+  pub announced : Announces s.announcing s.now.scene.gateway s.now.scene.calls t.announcing t.now.scene.calls
+  pub is : t ≡ announced_at s t.announcing t.now.scene.calls
 
 -- ---- a chain
 
@@ -231,6 +270,7 @@ pub record EndsSo {K : Type 0} (manner : Manner K) (count : ℕ) (fault : ServeF
   pub config : last.config ≡ then.config
   pub requests : last.requests ≡ then.requests
   pub counts : last.counts ≡ then.counts
+  pub announcing : last.announcing ≡ then.announcing
   pub said : last.said ≡ then.said
 
 -- it did so before so many turns were served

@@ -5,10 +5,12 @@ use Rattle.gw_configuration.specs.Configuration.{Configuration}
 use Rattle.gw_core.specs.State.{State}
 use Rattle.gw_state.specs.Saved.{Saved, origin_of}
 use Rattle.gw_core.specs.Guard.{PassesBoth}
+use Rattle.gw_turns.specs.Announcing.{first_announcing}
 use Rattle.gw_turns.specs.Keeping.{IsTried, nothing_kept}
 use Rattle.gw_turns.specs.Serve.{scene, zero_counts}
 use Rattle.gw_turns.specs.Stretch.{moment}
 use Rattle.gw_turns.specs.Tally.{no_tally}
+use Rattle.gw_turns.specs.declared.announcing.Announcing.{Announcing}
 use Rattle.gw_turns.specs.declared.serving.ServeFault.{ServeFault}
 use Rattle.gw_core.specs.declared.guard.Both.{Both}
 use Rattle.gw_turns.specs.declared.serving.Served.{Served}
@@ -21,8 +23,8 @@ use Rattle.gw_system.specs.Requests.{Asking, recorded_by}
 use Rattle.gw_system.specs.declared.opening.OpenFailure.{OpenFailure}
 use Rattle.gw_system.specs.declared.reading.ReadFailure.{ReadFailure}
 use Rattle.gw_system.specs.declared.reading.ReadFailure.TheVariants as reading
-use Rattle.gw_service.specs.Chain.{Link, Manner, Runs, Stage, chain_text, manner, stage}
-use Rattle.gw_notices.specs.Announcement.{IsWarning, startup_line}
+use Rattle.gw_service.specs.Chain.{Begins, Link, Manner, Runs, Stage, chain_text, manner, stage}
+use Rattle.gw_notices.specs.Startup.{IsWarning, startup_line}
 use Rattle.gw_service.specs.Fault.{fault_of_opening, fault_of_serving}
 use Rattle.gw_service.specs.Keeping.{IsKeptAtTick, IsKeptFor, IsPassed, troubles_in, unkept_in}
 use Rattle.gw_notices.specs.Notices.{no_troubles, notice_of}
@@ -158,11 +160,11 @@ abbrev pub outcome_by : Result (Unit {0}) ServeFault → Result (Unit {0}) Servi
 outcome_by (Ok done) = Ok done
 outcome_by (Err fault) = Err (fault_of_serving fault)
 
--- the first stage: nothing was counted, and it was reported whether the state is kept
+-- the first stage: nothing was counted, an announcement is due, and it was reported whether the state is kept
 abbrev pub first_stage : {S Q L K : Type 0} → Given S Q L → Configuration → State → K → Troubles → Ends → Stage K
 first_stage given c w keeper troubles ends =
     stage c (moment (scene w ends.log ends.calls) keeper zero_counts no_tally) (recorded_by given.said given.requests) (counts_since w.ticks)
-    troubles
+    first_announcing troubles
 
 -- What is reported of such a run, of which a gateway in this state begins: how often its state couldn't be kept, if it is or
 -- requests are looked for, and how often its configuration was read again, if they are.
@@ -170,16 +172,19 @@ abbrev pub reporting_of : {S Q L : Type 0} → Given S Q L → Service → State
 reporting_of given how w =
     reporting how.stats (counts_of w) (is_some given.requests || is_some given.store) (is_some given.requests)
 
--- A run of so many turns from a stage, by its answer: what isn't kept or recorded is reported first, and last what was done.
-pub record RunsFrom {K : Type 0} (manner : Manner K) (last_report : K → ReloadCounts → State → Served → Tally → List ℕ) (turns : ℕ)
-    (first : Stage K) (answer : Result (Unit {0}) ServeFault) (after : Ends) (text : List ℕ) : Type 0 where
+-- A run of so many turns from a stage, by its answer: what isn't kept or recorded is reported first, then what is due is announced,
+-- before the first turn, and last it is reported what was done.
+pub record RunsFrom {K : Type 0} (manner : Manner K) (last_report : K → ReloadCounts → Announcing → State → Served → Tally → List ℕ)
+    (turns : ℕ) (first : Stage K) (answer : Result (Unit {0}) ServeFault) (after : Ends) (text : List ℕ) : Type 0 where
+  pub begun : Stage K
+  pub begins : Begins first begun
   pub links : List Link
   pub last : Stage K
-  pub runs : Runs manner turns first answer links last
+  pub runs : Runs manner turns begun answer links last
   pub log : last.now.scene.log ≡ after.log
   pub calls : last.now.scene.calls ≡ after.calls
   pub said : text ≡ (notice_of no_troubles first.said ++ chain_text links)
-      ++ last_report last.now.guard last.counts last.now.scene.gateway last.now.served last.now.tally
+      ++ last_report last.now.guard last.counts last.announcing last.now.scene.gateway last.now.served last.now.tally
 
 -- A gateway of this configuration begins with what was saved, its state is kept at once, and then it runs for so many turns, and
 -- reports what it did.
@@ -318,15 +323,15 @@ pub record WholeMachine (Log Sockets S Q : Type 0) : Type 1 where
 abbrev pub whole_machine : {Log Sockets S Q : Type 0} → Machine Log Sockets → StateMachine S Q → WholeMachine Log Sockets S Q
 whole_machine machine states = record { machine = machine; states = states }
 
--- What a run leaves under a configuration, by its options. If they name neither a state nor a request file, and nothing watches,
--- then it is also what one of `serve` from the gateway's first state leaves.
+-- What a run leaves under a configuration, by its options. If they name neither a state nor a request file, nothing watches and
+-- nothing is announced, then it is also what one of `serve` from the gateway's first state leaves.
 abbrev pub LeavesChosen : {Log Sockets S Q : Type 0} → WholeMachine Log Sockets S Q → RunOptions → (held holds : Option (List ℕ))
     → Configuration → List ℕ → Result (Unit {0}) ServiceFault → Type 0
 LeavesChosen whole options held holds c said outcome =
     let name = option_map string_bytes options.log in
     let line = startup_line options.verbose c name in
     LeavesWithState whole.machine whole.states (names_of options) held holds c (service options.turns options.stats) options.verbose line said outcome
-    × (is_plain options ≡ true → LeavesServed whole.machine name held holds c options.turns options.verbose line said outcome)
+    × (is_plain options ≡ true → c.announce ≡ false → LeavesServed whole.machine name held holds c options.turns options.verbose line said outcome)
 
 -- and before all it is said if rules say that they are audited, and no audit is named
 abbrev pub LeavesService : {Log Sockets S Q : Type 0} → WholeMachine Log Sockets S Q → RunOptions → (held holds : Option (List ℕ))

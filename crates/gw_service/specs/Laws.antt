@@ -1,5 +1,5 @@
 -- Laws of a run.
-use Rattle.std.specs.Prelude.{◌≡◌, ◌⊎◌, ⊤, ℕ, ◌<◌, ◌≤◌, ◌^◌, List, [], Some, None, Result, All}
+use Rattle.std.specs.Prelude.{◌≡◌, ◌⊎◌, ⊤, ℕ, ◌<◌, ◌≤◌, ◌^◌, false, List, [], Some, None, Result, All}
 use Rattle.gw_audit.specs.Entry.{IsLineOf, IsShowable}
 use Rattle.gw_audit.specs.declared.denial.Denial.{Denial}
 use Rattle.gw_core.specs.Effects.{effects_at}
@@ -70,10 +70,10 @@ NobodyAsks {K} manner =
     (count : ℕ) (s t : Stage K) (answer : Result (Unit {0}) ServeFault) (links : List Link) → Runs manner count s answer links t
     → s.requests ≡ nobody → StaysUnasked s links t
 
--- A run that keeps no state and looks for no request, but may report or be watched, is one of `serve` from the gateway's first state:
--- its log, its wire's calls and its outcome are those.
+-- A run that keeps no state, looks for no request and announces nothing, but may report or be watched, is one of `serve` from the
+-- gateway's first state: its log, its wire's calls and its outcome are those.
 abbrev pub IsAsServed : {S Q L : Type 0} → Given S Q L → Type 0
 IsAsServed {S} {Q} {L} given =
     given.saved ≡ None → given.line ≡ None → given.store ≡ None → given.requests ≡ None
     → (c : Configuration) (how : Service) (before after : Ends) (text : List ℕ) (outcome : Result (Unit {0}) ServiceFault)
-    → LeavesKept given c how before after text outcome → Serves c how.turns before after outcome
+    → c.announce ≡ false → LeavesKept given c how before after text outcome → Serves c how.turns before after outcome

@@ -11,6 +11,7 @@ use Rattle.gw_metrics.specs.file.Writing.{Writing, WritesAtTick}
 use Rattle.gw_relay.specs.declared.port.PortState.{PortState}
 use Rattle.gw_rules.specs.declared.rule.Rule.{Rule}
 use Rattle.gw_turns.specs.Reports.{has_gone_on, report_of}
+use Rattle.gw_turns.specs.declared.announcing.Announcing.{Announcing}
 use Rattle.gw_turns.specs.declared.report.Report.{Report}
 use Rattle.gw_turns.specs.declared.serving.Served.{Served}
 use Rattle.gw_turns.specs.declared.tally.Tally.{Tally}
@@ -20,10 +21,17 @@ use Rattle.gw_notices.specs.declared.reload.ReloadCounts.{ReloadCounts}
 
 -- What is measured of a run whose gateway began with these counts and is in this state, when so much was done. The counts never
 -- fell since then; if they had, nothing would be.
-abbrev pub measures_of : gateway.Counts → State → Served → Tally → ReloadCounts → Losses → Option StateTries → Option Measures
-measures_of start w s tally reloads losses tries =
+abbrev pub measures_of : gateway.Counts → State → Served → Tally → ReloadCounts → Announcing → Losses → Option StateTries
+    → Option Measures
+measures_of start w s tally reloads announcing losses tries =
     if has_gone_on start w s
-    then Some (record { report = report_of start w s tally; reloads = reloads; losses = losses; tries = tries })
+    then Some (record {
+      report = report_of start w s tally;
+      reloads = reloads;
+      announcing = announcing;
+      losses = losses;
+      tries = tries;
+    })
     else None
 
 abbrev pub drops_of : Report → Drops
@@ -53,6 +61,8 @@ pub record AreCounts (m : Measures) (in_force : List Rule) (decided : Option (Li
   pub drops : c.drops ≡ drops_of m.report
   pub sends : c.sends ≡ m.report.sends
   pub send_failures : c.send_failures ≡ m.report.send_failures
+  pub announcements : c.announcements ≡ m.announcing.sends
+  pub announcement_failures : c.announcement_failures ≡ m.announcing.send_failures
   pub receive_failures : c.receive_failures ≡ m.report.receive_failures
   pub denials : c.denials ≡ m.report.denials
   pub rules : c.rules.now ≡ in_force

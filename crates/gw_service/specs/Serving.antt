@@ -11,7 +11,7 @@ use Rattle.gw_turns.specs.declared.serving.ServeFault.{ServeFault}
 use Rattle.gw_turns.specs.declared.serving.ServeFault.TheVariants as serving
 use Rattle.gw_configuration.specs.Configuration.{Configuration}
 use Rattle.gw_configuration.specs.declared.port.Port.{Port}
-use Rattle.gw_notices.specs.Announcement.{IsWarning}
+use Rattle.gw_notices.specs.Startup.{IsWarning}
 use Rattle.gw_system.specs.Host.{LogOpening}
 use Rattle.gw_system.specs.Opening.{IsNote}
 use Rattle.gw_system.specs.declared.opening.LogFailure.{LogFailure}

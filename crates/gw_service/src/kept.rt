@@ -9,11 +9,12 @@ ghost use Rattle.std.specs.Io.KnownBytes.{Appends};
 ghost use Rattle.gw_configuration.specs.Configuration.{Configuration};
 ghost use Rattle.gw_metrics.specs.file.Writing.{nothing_written};
 ghost use Rattle.gw_state.specs.Saved.{origin_of};
+ghost use Rattle.gw_turns.specs.Announcing.{first_announcing};
 ghost use Rattle.gw_turns.specs.Serve.{zero_counts};
 ghost use Rattle.gw_turns.specs.Stretch.{CanCount};
 ghost use Rattle.gw_turns.specs.Tally.{no_tally};
 ghost use Rattle.gw_service.specs.Kept.{AreRequestsUnder, IsLastLine, IsMetricsUnder, IsStateUnder, IsStoreUnder, IsUnprepared, KeepsFirst, LeavesKept, LeavesWithState, given, line_read, names_of, outcome_by, state_machine, text_before};
-ghost use Rattle.gw_notices.specs.Announcement.{startup_line};
+ghost use Rattle.gw_notices.specs.Startup.{startup_line};
 ghost use Rattle.gw_notices.specs.Reload.{counts_since};
 ghost use Rattle.gw_service.specs.Serving.{IsFlushedFor, LogStays, ends, log_held, machine, service};
 ghost use Rattle.gw_notices.specs.Notices.{no_troubles};
@@ -36,7 +37,7 @@ use gw_notices::{ReloadCounts, Troubles, warning_of, write_note};
 use gw_script::OctetSink;
 use gw_state::{Origin, Saved};
 use gw_system::{Host, ReadFailure, Requests, note_of};
-use gw_turns::{Keeper, ServeFault, ServeState};
+use gw_turns::{Announcing, Keeper, ServeFault, ServeState};
 use gw_watchers::Watcher;
 use gw_wire::{Store, Wire};
 use std::alloc::{AllocError, Global};
@@ -253,6 +254,7 @@ fn make_running<S: Store + Drop, Q: Requests + Drop, T: OctetSink + Drop>(
     ensures keeps { IfOk result (λ r. KeepsFirst S.held before.store config r.gateway r.keeper) }
     ensures requests { IfOk result (λ r. r.requests ≡ before.requests) }
     ensures counts { IfOk result (λ r. r.counts ≡ counts_since r.gateway.ticks) }
+    ensures announcing { IfOk result (λ r. r.announcing ≡ first_announcing) }
     ensures served { IfOk result (λ r. r.state.served ≡ zero_counts) }
     ensures tally { IfOk result (λ r. r.state.tally ≡ no_tally) }
     ensures said { IfOk result (λ r. r.said ≡ no_troubles) }
@@ -280,6 +282,7 @@ fn make_running<S: Store + Drop, Q: Requests + Drop, T: OctetSink + Drop>(
         keeper,
         requests,
         counts,
+        announcing: Announcing::first(),
         state: ServeState::new(alloc),
         said: Troubles::none(),
         metrics: metrics_in(metrics),

@@ -2,6 +2,7 @@
 
 ghost use Rattle.std.specs.Prelude.{List, ℕ};
 ghost use Rattle.gw_core.specs.State.{State};
+ghost use Rattle.gw_turns.specs.declared.announcing.Announcing.{Announcing};
 ghost use Rattle.gw_turns.specs.declared.serving.Served.{Served};
 ghost use Rattle.gw_turns.specs.declared.tally.Tally.{Tally};
 ghost use Rattle.gw_service.specs.Chain.{manner};
@@ -18,7 +19,7 @@ use gw_wire::Store;
 /// Each event is judged by the rules of the configuration in force: wherever a run leads, the gateway has them, and in a stretch
 /// they stay.
 pub fn rules_are_in_force<K: StateKeeper>()
-    ensures chain { (report : K → ReloadCounts → State → Served → Tally → List ℕ) →
+    ensures chain { (report : K → ReloadCounts → Announcing → State → Served → Tally → List ℕ) →
         RulesAreInForce (manner K.Passes K.Ticks K.Adopts K.troubles report) }
     ensures stretch { RulesStay }
 {}
@@ -37,11 +38,11 @@ pub fn as_unwatched<S: Store + Drop, Q: Requests + Drop, L: OctetSink + Drop>()
 
 /// If no request file is named, nobody asks: no look finds a request, and the configuration in force stays to the end.
 pub fn nobody_asks<K: StateKeeper>()
-    ensures { (report : K → ReloadCounts → State → Served → Tally → List ℕ) →
+    ensures { (report : K → ReloadCounts → Announcing → State → Served → Tally → List ℕ) →
         NobodyAsks (manner K.Passes K.Ticks K.Adopts K.troubles report) }
 {}
 
-/// A run that neither keeps a state nor looks for requests is one of [`serve`](gw_turns::serve) but for what it reports: the log, the calls of the wire and the outcome are those of serving from the gateway's first state.
+/// A run that neither keeps a state nor looks for requests, of a configuration that announces nothing, is one of [`serve`](gw_turns::serve) but for what it reports: the log, the calls of the wire and the outcome are those of serving from the gateway's first state.
 pub fn as_served<S: Store + Drop, Q: Requests + Drop, L: OctetSink + Drop>()
     ensures { (given : Given S Q L) → IsAsServed given }
 {}

@@ -15,7 +15,7 @@ use gw_metrics::{Counts, Drops, Reloads, StateTries};
 use gw_notices::{Losses, ReloadCounts};
 use gw_relay::PortState;
 use gw_rules::RuleList;
-use gw_turns::Report;
+use gw_turns::{Announcing, Report};
 use gw_wire::Store;
 use std::alloc::Global;
 
@@ -26,6 +26,8 @@ pub(crate) struct Measures {
     pub report: Report,
     /// How often its configuration was read again.
     pub reloads: ReloadCounts,
+    /// What was announced.
+    pub announcing: Announcing,
     /// How much of what is watched was lost.
     pub losses: Losses,
     /// How its state is kept, if it is.
@@ -82,6 +84,7 @@ fn counts_of<'a>(
     let Measures {
         report,
         reloads,
+        announcing,
         losses,
         tries,
     } = *measures;
@@ -92,6 +95,8 @@ fn counts_of<'a>(
         drops: drops_of(&report),
         sends: report.sends,
         send_failures: report.send_failures,
+        announcements: announcing.sends,
+        announcement_failures: announcing.send_failures,
         receive_failures: report.receive_failures,
         denials: report.denials,
         rules,

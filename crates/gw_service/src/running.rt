@@ -20,7 +20,7 @@ ghost use Rattle.gw_service.specs.Stats.{due_stats, end_stats};
 use crate::keeping::StateKeeper;
 use crate::metrics::put_due;
 use crate::reload::{Adopted, reloaded};
-use crate::stats::Schedule;
+use crate::stats::{RunCounts, Schedule};
 use gw_core::{Both, Gateway};
 use gw_log_words::Notes;
 use gw_metrics::file::Metrics;
@@ -31,7 +31,7 @@ use gw_policy_text::MAX_OCTETS;
 use gw_script::OctetSink;
 use gw_state::Origin;
 use gw_system::{ReadFailure, Requests};
-use gw_turns::{Pause, ServeFault, ServeState};
+use gw_turns::{Announcing, Pause, ServeFault, ServeState};
 use gw_wire::{Store, Wire};
 use std::alloc::Global;
 
@@ -48,6 +48,8 @@ pub struct Running<K, Q, M: Store + Drop> {
     pub requests: Q,
     /// How often it was.
     pub counts: ReloadCounts,
+    /// What is to be announced, and what was.
+    pub announcing: Announcing,
     /// What is kept from turn to turn, and what was counted.
     pub state: ServeState,
     /// What was reported last of what isn't kept or recorded.
@@ -65,6 +67,7 @@ impl<K: Drop, Q: Drop, M: Store + Drop> Drop for Running<K, Q, M> {
             keeper: _,
             requests: _,
             counts: _,
+            announcing: _,
             state: _,
             said: _,
             metrics: _,
@@ -95,8 +98,8 @@ impl<K: StateKeeper, Q: Requests, M: Store + Drop> Running<K, Q, M> {
         ensures looked { (first : Asking) →
             GoesOn first (Q.recorded self.old.requests) (asked (text_found read.now) ∷ []) →
             Looks (IsLooked K.Adopts) (IsNotedBy L.Takes log.old log.new) self.old.origin
-            (standing self.old.gateway self.old.keeper first self.old.counts)
-            self.new.origin (standing self.new.gateway self.new.keeper (Q.recorded self.new.requests) self.new.counts)
+            (standing self.old.gateway self.old.keeper first self.old.counts self.old.announcing)
+            self.new.origin (standing self.new.gateway self.new.keeper (Q.recorded self.new.requests) self.new.counts self.new.announcing)
             (E.NeverFails errors.old) (E.held errors.old) (E.held errors.new) }
         ensures log { Keeps (L.held log.old) (L.held log.new) }
         ensures state { self.new.state ≡ self.old.state }
@@ -113,6 +116,7 @@ impl<K: StateKeeper, Q: Requests, M: Store + Drop> Running<K, Q, M> {
                 },
             ) => {
                 self.counts = self.counts.with_taken_over(self.gateway.counts().ticks);
+                self.announcing = self.announcing.with_due();
                 self.gateway = gateway;
                 self.origin = origin;
                 self.keeper.adopt(alloc, successor, &self.gateway);
@@ -134,8 +138,8 @@ impl<K: StateKeeper, Q: Requests, M: Store + Drop> Running<K, Q, M> {
     /// Looks for a request, and if there is one reads the configuration again.
     fn look<L: Notes, E: OctetSink>(&mut self, alloc: Global, log: &mut L, errors: &mut E)
         ensures looked { Looks (IsLooked K.Adopts) (IsNotedBy L.Takes log.old log.new) self.old.origin
-            (standing self.old.gateway self.old.keeper (Q.recorded self.old.requests) self.old.counts)
-            self.new.origin (standing self.new.gateway self.new.keeper (Q.recorded self.new.requests) self.new.counts)
+            (standing self.old.gateway self.old.keeper (Q.recorded self.old.requests) self.old.counts self.old.announcing)
+            self.new.origin (standing self.new.gateway self.new.keeper (Q.recorded self.new.requests) self.new.counts self.new.announcing)
             (E.NeverFails errors.old) (E.held errors.old) (E.held errors.new) }
         ensures log { Keeps (L.held log.old) (L.held log.new) }
         ensures state { self.new.state ≡ self.old.state }
@@ -162,8 +166,8 @@ impl<K: StateKeeper, Q: Requests, M: Store + Drop> Running<K, Q, M> {
     /// Does what is due at a tick: does what is due of the state, and looks for a request.
     fn at_tick<L: Notes, E: OctetSink>(&mut self, alloc: Global, log: &mut L, errors: &mut E)
         ensures done { Looks (AtTick K.Ticks K.Adopts) (IsNotedBy L.Takes log.old log.new) self.old.origin
-            (standing self.old.gateway self.old.keeper (Q.recorded self.old.requests) self.old.counts)
-            self.new.origin (standing self.new.gateway self.new.keeper (Q.recorded self.new.requests) self.new.counts)
+            (standing self.old.gateway self.old.keeper (Q.recorded self.old.requests) self.old.counts self.old.announcing)
+            self.new.origin (standing self.new.gateway self.new.keeper (Q.recorded self.new.requests) self.new.counts self.new.announcing)
             (E.NeverFails errors.old) (E.held errors.old) (E.held errors.new) }
         ensures log { Keeps (L.held log.old) (L.held log.new) }
         ensures state { self.new.state ≡ self.old.state }
@@ -174,7 +178,8 @@ impl<K: StateKeeper, Q: Requests, M: Store + Drop> Running<K, Q, M> {
         self.look(alloc, log, errors);
     }
 
-    /// Serves a stretch of at most so many turns, and does what is due after it. Faults: those of serving.
+    /// Serves a stretch of at most so many turns, and does what is due after it: after a tick also what is to be announced.
+    /// Faults: those of serving.
     fn advance<W: Wire, L: Notes, E: OctetSink>(
         &mut self,
         alloc: Global,
@@ -187,12 +192,12 @@ impl<K: StateKeeper, Q: Requests, M: Store + Drop> Running<K, Q, M> {
         requires count { CanCount self.old.state.served self.old.state.tally (W.failure_count wire.old) turns }
         ensures advances { (c : Configuration) → self.old.origin ≡ origin_of c →
             let before = stage c (moment (scene self.old.gateway (L.held log.old) (W.calls wire.old)) self.old.keeper
-            self.old.state.served self.old.state.tally) (Q.recorded self.old.requests) self.old.counts self.old.said in
+            self.old.state.served self.old.state.tally) (Q.recorded self.old.requests) self.old.counts self.old.announcing self.old.said in
             (d : Configuration) × (text : List ℕ) × (self.new.origin ≡ origin_of d)
             × Advances (manner K.Passes K.Ticks K.Adopts K.troubles
             (due_stats K.unkept K.more (reporting_by schedule.now))) turns before result text
             (stage d (moment (scene self.new.gateway (L.held log.new) (W.calls wire.new)) self.new.keeper
-            self.new.state.served self.new.state.tally) (Q.recorded self.new.requests) self.new.counts self.new.said)
+            self.new.state.served self.new.state.tally) (Q.recorded self.new.requests) self.new.counts self.new.announcing self.new.said)
             × (E.NeverFails errors.old → Appends (E.held errors.old) (E.held errors.new) text) }
         ensures rest { (rest : ℕ) → self.new.state.served.turns + rest ≤ self.old.state.served.turns + turns →
             CanCount self.new.state.served self.new.state.tally (W.failure_count wire.new) rest }
@@ -208,20 +213,14 @@ impl<K: StateKeeper, Q: Requests, M: Store + Drop> Running<K, Q, M> {
             Ok(Pause::Turns) => {}
             Ok(Pause::Tick) => {
                 self.at_tick(alloc, log, errors);
+                self.announcing.announce(alloc, &self.gateway, wire);
                 self.said = self.notice(errors);
-                schedule.report_due(
-                    &self.gateway,
-                    &self.state,
-                    &self.keeper,
-                    self.counts,
-                    errors,
-                );
-                let measured = schedule.measure(
-                    &self.gateway,
-                    &self.state,
-                    &self.keeper,
-                    self.counts,
-                );
+                let counts = RunCounts {
+                    reloads: self.counts,
+                    announcing: self.announcing,
+                };
+                schedule.report_due(&self.gateway, &self.state, &self.keeper, counts, errors);
+                let measured = schedule.measure(&self.gateway, &self.state, &self.keeper, counts);
                 put_due(
                     alloc,
                     &mut self.metrics,
@@ -237,8 +236,8 @@ impl<K: StateKeeper, Q: Requests, M: Store + Drop> Running<K, Q, M> {
     }
 
     /// Serves a wire for so many turns, by stretches. After each tick the keeper does what is due, and a request is looked
-    /// for; if there is one the configuration is read again, and the gateway goes on by it, or as it is. It reports as the
-    /// schedule asks, and its metrics are put into their store when that is due.
+    /// for; if there is one the configuration is read again, and the gateway goes on by it, or as it is. If an announcement is
+    /// due, it is made then. It reports as the schedule asks, and its metrics are put into their store when that is due.
     ///
     /// # Errors
     ///
@@ -255,12 +254,12 @@ impl<K: StateKeeper, Q: Requests, M: Store + Drop> Running<K, Q, M> {
         requires count { CanCount self.old.state.served self.old.state.tally (W.failure_count wire.old) turns }
         ensures runs { (c : Configuration) → self.old.origin ≡ origin_of c →
             let before = stage c (moment (scene self.old.gateway (L.held log.old) (W.calls wire.old)) self.old.keeper
-            self.old.state.served self.old.state.tally) (Q.recorded self.old.requests) self.old.counts self.old.said in
+            self.old.state.served self.old.state.tally) (Q.recorded self.old.requests) self.old.counts self.old.announcing self.old.said in
             (d : Configuration) × (links : List Link) × (self.new.origin ≡ origin_of d)
             × Runs (manner K.Passes K.Ticks K.Adopts K.troubles
             (due_stats K.unkept K.more (reporting_by schedule.now))) turns before result links
             (stage d (moment (scene self.new.gateway (L.held log.new) (W.calls wire.new)) self.new.keeper
-            self.new.state.served self.new.state.tally) (Q.recorded self.new.requests) self.new.counts self.new.said)
+            self.new.state.served self.new.state.tally) (Q.recorded self.new.requests) self.new.counts self.new.announcing self.new.said)
             × (E.NeverFails errors.old → Appends (E.held errors.old) (E.held errors.new) (chain_text links)) }
         ensures lasts { E.NeverFails errors.old → E.NeverFails errors.new }
     {
@@ -276,8 +275,8 @@ impl<K: StateKeeper, Q: Requests, M: Store + Drop> Running<K, Q, M> {
         Ok(())
     }
 
-    /// Serves a wire for so many turns as [`Running::serve`] does, reports before it what isn't kept or recorded, and reports
-    /// after it what was done, if the schedule asks for that.
+    /// Serves a wire for so many turns as [`Running::serve`] does. Before it reports what isn't kept or recorded, and announces
+    /// the gateway's networks on each port; after it reports what was done, if the schedule asks for that.
     ///
     /// # Errors
     ///
@@ -295,7 +294,7 @@ impl<K: StateKeeper, Q: Requests, M: Store + Drop> Running<K, Q, M> {
         requires untold { self.old.said ≡ no_troubles }
         ensures runs { (c : Configuration) → self.old.origin ≡ origin_of c →
             let before = stage c (moment (scene self.old.gateway (L.held log.old) (W.calls wire.old)) self.old.keeper
-            self.old.state.served self.old.state.tally) (Q.recorded self.old.requests) self.old.counts (K.troubles self.old.keeper) in
+            self.old.state.served self.old.state.tally) (Q.recorded self.old.requests) self.old.counts self.old.announcing (K.troubles self.old.keeper) in
             let how = reporting_by schedule.now in
             let after = ends (L.held log.new) (W.calls wire.new) in
             (text : List ℕ) × RunsFrom (manner K.Passes K.Ticks K.Adopts K.troubles (due_stats K.unkept K.more how))
@@ -304,14 +303,13 @@ impl<K: StateKeeper, Q: Requests, M: Store + Drop> Running<K, Q, M> {
         ensures lasts { E.NeverFails errors.old → E.NeverFails errors.new }
     {
         self.said = self.notice(errors);
+        self.announcing.announce(alloc, &self.gateway, wire);
         let answer = self.serve(alloc, wire, log, errors, schedule, turns);
-        schedule.report_last(
-            &self.gateway,
-            &self.state,
-            &self.keeper,
-            self.counts,
-            errors,
-        );
+        let counts = RunCounts {
+            reloads: self.counts,
+            announcing: self.announcing,
+        };
+        schedule.report_last(&self.gateway, &self.state, &self.keeper, counts, errors);
         answer
     }
 
@@ -323,6 +321,7 @@ impl<K: StateKeeper, Q: Requests, M: Store + Drop> Running<K, Q, M> {
         ensures second { result.keeper.second ≡ watcher }
         ensures requests { result.requests ≡ self.requests }
         ensures counts { result.counts ≡ self.counts }
+        ensures announcing { result.announcing ≡ self.announcing }
         ensures state { result.state ≡ self.state }
         ensures said { result.said ≡ self.said }
         ensures metrics { result.metrics ≡ self.metrics }
@@ -333,6 +332,7 @@ impl<K: StateKeeper, Q: Requests, M: Store + Drop> Running<K, Q, M> {
             keeper,
             requests,
             counts,
+            announcing,
             state,
             said,
             metrics,
@@ -346,6 +346,7 @@ impl<K: StateKeeper, Q: Requests, M: Store + Drop> Running<K, Q, M> {
             },
             requests,
             counts,
+            announcing,
             state,
             said,
             metrics,

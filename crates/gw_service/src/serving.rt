@@ -3,7 +3,7 @@
 ghost use Rattle.std.specs.Prelude.{◌≡◌, [], ℕ, List, None, MatchResult, is_some, option_map, string_bytes, IfOk, OnOk};
 ghost use Rattle.std.specs.Io.Buffered.{writer_buffer, writer_contents};
 ghost use Rattle.std.specs.Io.KnownBytes.{Appends};
-ghost use Rattle.gw_notices.specs.Announcement.{startup_line};
+ghost use Rattle.gw_notices.specs.Startup.{startup_line};
 ghost use Rattle.gw_system.specs.Host.{OpensAtLine};
 ghost use Rattle.gw_service.specs.Kept.{LeavesService, state_machine, whole_machine};
 ghost use Rattle.std.specs.List.{list_any};

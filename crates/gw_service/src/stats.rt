@@ -11,7 +11,16 @@ use crate::metrics::Measures;
 use gw_core::{Counts, Gateway};
 use gw_notices::{ReloadCounts, report_reloads, report_unkept};
 use gw_script::OctetSink;
-use gw_turns::{ServeState, has_gone_on, report_of, try_report};
+use gw_turns::{Announcing, ServeState, has_gone_on, report_announcing, report_of, try_report};
+
+/// What is counted of a run beside what is served.
+#[derive(Clone, Copy)]
+pub(crate) struct RunCounts {
+    /// How often the configuration was read again.
+    pub reloads: ReloadCounts,
+    /// What is to be announced, and what was.
+    pub announcing: Announcing,
+}
 
 /// When a report is due: the counts of the gateway at first, and the seconds from one to the next, if reports are asked for;
 /// and whether it says how often the state couldn't be kept, and how often the configuration was read again.
@@ -37,22 +46,23 @@ fn is_due(start: Counts, gateway: &Gateway, seconds: u64) -> bool
 }
 
 impl Schedule {
-    /// Reports how often the state couldn't be kept, if it is, how often the configuration was read again, if it is, and
-    /// what else the keeper reports.
+    /// Reports how often the state couldn't be kept, if it is, how often the configuration was read again, if it is, what was
+    /// announced, if anything was, and what else the keeper reports.
     fn report_tries<K: StateKeeper, E: OctetSink>(
         &self,
         gateway: &Gateway,
         keeper: &K,
-        counts: ReloadCounts,
+        counts: RunCounts,
         errors: &mut E,
     )
         ensures said { let how = reporting self.now.seconds self.now.start self.now.keeps self.now.reloads in
             E.NeverFails errors.old → Appends (E.held errors.old) (E.held errors.new)
-            (tries_text K.unkept K.more how keeper.now counts gateway.now) }
+            (tries_text K.unkept K.more how keeper.now counts.reloads counts.announcing gateway.now) }
         ensures lasts { E.NeverFails errors.old → E.NeverFails errors.new }
     {
         report_unkept(self.keeps, keeper.unkept(), errors);
-        report_reloads(self.reloads, counts, errors);
+        report_reloads(self.reloads, counts.reloads, errors);
+        report_announcing(counts.announcing, errors);
         keeper.report_more(gateway, errors);
     }
 
@@ -62,13 +72,13 @@ impl Schedule {
         gateway: &Gateway,
         state: &ServeState,
         keeper: &K,
-        counts: ReloadCounts,
+        counts: RunCounts,
         errors: &mut E,
     )
         ensures said { let how = reporting self.now.seconds self.now.start self.now.keeps self.now.reloads in
             E.NeverFails errors.old → Appends (E.held errors.old) (E.held errors.new)
             (stats_text how gateway.now state.now.served state.now.tally
-            (tries_text K.unkept K.more how keeper.now counts gateway.now)) }
+            (tries_text K.unkept K.more how keeper.now counts.reloads counts.announcing gateway.now)) }
         ensures lasts { E.NeverFails errors.old → E.NeverFails errors.new }
     {
         if has_gone_on(self.start, gateway, &state.served) {
@@ -84,15 +94,16 @@ impl Schedule {
         gateway: &Gateway,
         state: &ServeState,
         keeper: &K,
-        reloads: ReloadCounts,
+        counts: RunCounts,
     ) -> Option<Measures>
-        ensures { result ≡ measures_of self.now.start gateway.now state.now.served state.now.tally reloads
-            (K.losses keeper.now) (K.tries keeper.now) }
+        ensures { result ≡ measures_of self.now.start gateway.now state.now.served state.now.tally counts.reloads
+            counts.announcing (K.losses keeper.now) (K.tries keeper.now) }
     {
         if has_gone_on(self.start, gateway, &state.served) {
             Some(Measures {
                 report: report_of(self.start, gateway, &state.served, state.tally),
-                reloads,
+                reloads: counts.reloads,
+                announcing: counts.announcing,
                 losses: keeper.losses(),
                 tries: keeper.tries(),
             })
@@ -107,12 +118,12 @@ impl Schedule {
         gateway: &Gateway,
         state: &ServeState,
         keeper: &K,
-        counts: ReloadCounts,
+        counts: RunCounts,
         errors: &mut E,
     )
         ensures said { let how = reporting self.now.seconds self.now.start self.now.keeps self.now.reloads in
             E.NeverFails errors.old → Appends (E.held errors.old) (E.held errors.new)
-            (due_stats K.unkept K.more how keeper.now counts gateway.now state.now.served state.now.tally) }
+            (due_stats K.unkept K.more how keeper.now counts.reloads counts.announcing gateway.now state.now.served state.now.tally) }
         ensures lasts { E.NeverFails errors.old → E.NeverFails errors.new }
     {
         if let Some(seconds) = self.seconds {
@@ -128,12 +139,12 @@ impl Schedule {
         gateway: &Gateway,
         state: &ServeState,
         keeper: &K,
-        counts: ReloadCounts,
+        counts: RunCounts,
         errors: &mut E,
     )
         ensures said { let how = reporting self.now.seconds self.now.start self.now.keeps self.now.reloads in
             E.NeverFails errors.old → Appends (E.held errors.old) (E.held errors.new)
-            (end_stats K.unkept K.more how keeper.now counts gateway.now state.now.served state.now.tally) }
+            (end_stats K.unkept K.more how keeper.now counts.reloads counts.announcing gateway.now state.now.served state.now.tally) }
         ensures lasts { E.NeverFails errors.old → E.NeverFails errors.new }
     {
         if self.seconds.is_some() {

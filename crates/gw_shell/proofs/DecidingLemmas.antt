@@ -25,7 +25,7 @@ no_lines_yet ports (line ∷ lines) = tt
 none_read : (said : EventText) (c : Configuration) (script before : List ℕ) → RunsPart said c script before before
 unfolding text_after
 none_read said c script before = record {
-  events = [];
+  entries = [];
   lines = no_lines_yet (length c.ports) (lines_of script);
   text = sym (append-nil before);
 }
@@ -33,7 +33,7 @@ none_read said c script before = record {
 none_held : (said : EventText) (c : Configuration) (script before : List ℕ) → RunsToMemory said c script before before
 unfolding text_after
 none_held said c script before = record {
-  events = [];
+  entries = [];
   lines = no_lines_yet (length c.ports) (lines_of script);
   cause = inl refl;
   text = sym (append-nil before);

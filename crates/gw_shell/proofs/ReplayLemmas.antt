@@ -2,10 +2,10 @@
 use Rattle.std.proofs.Common.{◌≡◌, refl, sym, subst, rules, true, false, Bool, ℕ, ◌++◌, List, Result, Ok, Err, Option, Some, None, [], ◌∷◌, length, take, IsSomeAnd, IsErrOf}
 use Rattle.gw_replay.specs.declared.replaying.RunFault.{RunFault}
 use Rattle.gw_replay.specs.declared.replaying.RunFault.TheVariants as run
-use Rattle.gw_script.specs.Event.{Event}
+use Rattle.gw_replay.specs.Entry.{AreEntries, Entry}
 use Rattle.gw_replay.specs.Replay.{Replays, RunsFront, RunsToLine, RunsWhole, EventText, run_text}
 use Rattle.gw_script.specs.Known.{OnKnown}
-use Rattle.gw_script.specs.Script.{AreLines, lines_of}
+use Rattle.gw_script.specs.Script.{lines_of}
 use Rattle.gw_configuration.specs.Configuration.{Configuration}
 use Rattle.gw_replay.specs.Explained.{explained_text}
 use Rattle.gw_replay.specs.Flawed.{HasFlaw}
@@ -53,11 +53,12 @@ explained_plays c read held holds (Err run.Memory) flaw replays is = replays
 explained_plays c read held holds (Err run.CountEnd) flaw replays is = replays
 
 -- all the lines are the first lines
-all_are_first : (ports : ℕ) (lines : List (List ℕ)) (events : List Event) → AreLines ports lines events → AreLines ports (take (length events) lines) events
-all_are_first ports [] [] are = tt
-all_are_first ports [] (e ∷ events) are = absurd are
-all_are_first ports (line ∷ lines) [] are = absurd are
-all_are_first ports (line ∷ lines) (e ∷ events) are = (are.0, all_are_first ports lines events are.1)
+all_are_first : (announces : Bool) (ports : ℕ) (lines : List (List ℕ)) (entries : List Entry) → AreEntries announces ports lines entries
+    → AreEntries announces ports (take (length entries) lines) entries
+all_are_first announces ports [] [] are = tt
+all_are_first announces ports [] (e ∷ entries) are = absurd are
+all_are_first announces ports (line ∷ lines) [] are = absurd are
+all_are_first announces ports (line ∷ lines) (e ∷ entries) are = (are.0, all_are_first announces ports lines entries are.1)
 
 nothing_more : (xs : List ℕ) → xs ++ [] ≡ xs
 nothing_more xs = search rules
@@ -65,11 +66,11 @@ nothing_more xs = search rules
 -- a whole run that isn't flushed leaves a front of its text
 whole_is_front : (said : EventText) (c : Configuration) (script before after : List ℕ) → RunsWhole said c script before after → RunsFront said c script before after
 whole_is_front said c script before after whole = record {
-  events = whole.events;
-  lines = all_are_first (length c.ports) (lines_of script) whole.events whole.lines;
-  front = run_text said c whole.events;
+  entries = whole.entries;
+  lines = all_are_first c.announce (length c.ports) (lines_of script) whole.entries whole.lines;
+  front = run_text said c whole.entries;
   unwritten = [];
-  parts = sym (nothing_more (run_text said c whole.events));
+  parts = sym (nothing_more (run_text said c whole.entries));
   text = whole.text;
 }
 

@@ -6,3 +6,4 @@ pub mod BothLemmas
 pub mod GuardLemmas
 pub mod AlikeLemmas
 pub mod KeepingLemmas
+pub mod AnnouncingLemmas

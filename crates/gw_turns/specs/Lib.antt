@@ -6,3 +6,4 @@ pub mod Served
 pub mod Stretch
 pub mod Both
 pub mod Keeping
+pub mod Announcing

@@ -1,10 +1,11 @@
 -- What is reported of serving: what was done so far, and what the tables hold.
-use Rattle.std.specs.Prelude.{ℕ, ◌+◌, ◌-◌, ◌≤◌, ◌&&◌, nat_le, Bool, List, [], ◌∷◌, ◌++◌, codes}
+use Rattle.std.specs.Prelude.{ℕ, ◌+◌, ◌-◌, ◌==◌, ◌≤◌, ◌&&◌, nat_le, Bool, if◌then◌else◌, List, [], ◌∷◌, ◌++◌, codes}
 use Rattle.std.specs.Prelude.{decimal, length, sum_by}
 use Rattle.gw_tables.specs.bdt_fdt.Peers.{peers}
 use Rattle.gw_relay.specs.declared.port.PortState.{PortState}
 use Rattle.gw_core.specs.State.{State}
 use Rattle.gw_core.specs.declared.event.Counts.{Counts}
+use Rattle.gw_turns.specs.declared.announcing.Announcing.{Announcing}
 use Rattle.gw_turns.specs.declared.tally.Tally.{Tally}
 use Rattle.gw_turns.specs.declared.report.Report.{Report}
 use Rattle.gw_turns.specs.declared.serving.Served.{Served}
@@ -83,3 +84,17 @@ tally_text t = refusals_text t ++ drops_text t ++ 10 ∷ []
 -- the line of a report: its fields in this order
 unfoldable pub report_line : Report → List ℕ
 report_line r = events_text r ++ calls_text r ++ tables_text r ++ tally_text r.tally
+
+-- ---- announcements
+
+-- how many of their sends succeeded and failed
+abbrev pub announced_text : Announcing → List ℕ
+announced_text a =
+    field (codes "stats announcements=") a.sends ++ field (codes " announcement_failures=") a.send_failures
+
+abbrev pub announcing_line : Announcing → List ℕ
+announcing_line a = announced_text a ++ 10 ∷ []
+
+-- the same, if any was tried
+abbrev pub announcing_text : Announcing → List ℕ
+announcing_text a = if (a.sends == 0) && (a.send_failures == 0) then [] else announcing_line a

@@ -1,5 +1,6 @@
 //! Laws of serving. The functions do nothing: their contracts are the laws.
 
+ghost use Rattle.gw_turns.specs.Announcing.{UnannouncedIsSilent};
 ghost use Rattle.gw_turns.specs.Both.{GoOnUnderSecond, IsUnderFirst};
 ghost use Rattle.gw_turns.specs.Keeping.{AlikeButTicksIsEqual, AlikeIsEqual, EqualIsAlike, TicksKeepRecent};
 ghost use Rattle.gw_turns.specs.Served.{StopsAreServed, TurnsAreServed};
@@ -23,6 +24,11 @@ pub fn keeping<S: Store>()
     ensures alike { EqualIsAlike }
     ensures but_ticks { AlikeButTicksIsEqual }
     ensures recent { TicksKeepRecent S.held }
+{}
+
+/// A gateway of a configuration that doesn't announce calls the wire for no announcement.
+pub fn unannounced()
+    ensures { UnannouncedIsSilent }
 {}
 
 /// Under two guards: if the second lets all go, a stretch is one under the first alone, which knows nothing of the second; and

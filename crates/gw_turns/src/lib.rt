@@ -2,6 +2,7 @@
 #![tactic(auto)]
 
 mod alike;
+mod announcing;
 mod keeper;
 pub mod laws;
 mod report;
@@ -11,8 +12,9 @@ mod stretch;
 mod tally;
 
 pub use alike::Part;
+pub use announcing::Announcing;
 pub use keeper::Keeper;
-pub use report::{Report, has_gone_on, report_of, try_report};
+pub use report::{Report, has_gone_on, report_announcing, report_of, try_report};
 pub use serving::{ServeFault, ServeState, ServeStop, Served, serve};
 pub use stretch::Pause;
 pub use tally::Tally;

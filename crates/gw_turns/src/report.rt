@@ -5,8 +5,9 @@ ghost use Rattle.std.specs.Io.KnownBytes.{Appends};
 ghost use Rattle.gw_addr.specs.declared.TheConstants.{MAX_PORTS};
 ghost use Rattle.gw_tables.specs.bdt_fdt.Peers.{peers};
 ghost use Rattle.gw_tables.specs.declared.bdt_fdt.bdt.TheConstants.{MAX_ENTRIES};
-ghost use Rattle.gw_turns.specs.Reports.{HasGoneOn, calls_text, drops_text, events_text, field, has_gone_on, peer_count, refusals_text, registrations, report_line, report_of, tables_text, tally_text};
+ghost use Rattle.gw_turns.specs.Reports.{HasGoneOn, announced_text, announcing_line, announcing_text, calls_text, drops_text, events_text, field, has_gone_on, peer_count, refusals_text, registrations, report_line, report_of, tables_text, tally_text};
 
+use crate::announcing::Announcing;
 use crate::serving::Served;
 use crate::tally::Tally;
 use gw_core::{Counts, Gateway};
@@ -209,4 +210,37 @@ pub fn try_report<S: OctetSink>(report: &Report, sink: &mut S)
     ensures lasts { S.NeverFails sink.old → S.NeverFails sink.new }
 {
     let _ = write_report(report, sink);
+}
+
+/// Writes how many sends of announcements succeeded and failed.
+fn write_announced<S: OctetSink>(announcing: Announcing, sink: &mut S) -> Result<(), WriteFailed>
+    ensures ok { OnOk result
+        (Appends (S.held sink.old) (S.held sink.new) (announced_text announcing)) }
+    ensures sure { S.NeverFails sink.old → IsOk result }
+    ensures lasts { S.NeverFails sink.old → S.NeverFails sink.new }
+{
+    write_field("stats announcements=", announcing.sends, sink)?;
+    write_field(" announcement_failures=", announcing.send_failures, sink)
+}
+
+/// Writes the same, and ends the line.
+fn write_announcing<S: OctetSink>(announcing: Announcing, sink: &mut S) -> Result<(), WriteFailed>
+    ensures ok { OnOk result
+        (Appends (S.held sink.old) (S.held sink.new) (announcing_line announcing)) }
+    ensures sure { S.NeverFails sink.old → IsOk result }
+    ensures lasts { S.NeverFails sink.old → S.NeverFails sink.new }
+{
+    write_announced(announcing, sink)?;
+    write_whole(sink, b"\n")
+}
+
+/// Reports how many sends of announcements succeeded and failed, if any was tried.
+pub fn report_announcing<S: OctetSink>(announcing: Announcing, sink: &mut S)
+    ensures said { S.NeverFails sink.old →
+        Appends (S.held sink.old) (S.held sink.new) (announcing_text announcing) }
+    ensures lasts { S.NeverFails sink.old → S.NeverFails sink.new }
+{
+    if announcing.sends != 0 || announcing.send_failures != 0 {
+        let _ = write_announcing(announcing, sink);
+    }
 }

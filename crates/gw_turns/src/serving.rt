@@ -287,7 +287,7 @@ fn append_lines(out: &mut Vec<u8>, denials: &Denials) -> Result<(), AllocError>
 }
 
 /// Tries to send each datagram once, in order, and counts what came of it.
-fn try_sends<W: Wire>(wire: &mut W, sends: &Sends, served: &mut Served)
+pub(crate) fn try_sends<W: Wire>(wire: &mut W, sends: &Sends, served: &mut Served)
     requires counts { wire_counts served.old + 2 ^ 64 ≤ 2 ^ 128 }
     requires failures { W.failure_count wire.old + 2 ^ 64 ≤ 2 ^ 128 }
     ensures tried { let failures = W.failure_count wire.old in

@@ -87,6 +87,11 @@ format_moved None relay = refl
 format_moved (Some (move.Commit change)) relay = refl
 format_moved (Some move.Tick) relay = refl
 
+pub announce_moved : (m : Option Move) (relay : Relay) → (moved m relay).announce ≡ relay.announce
+announce_moved None relay = refl
+announce_moved (Some (move.Commit change)) relay = refl
+announce_moved (Some move.Tick) relay = refl
+
 -- ---- before any event
 
 pub ports_begin : (number : ℕ) (ports : List ConfiguredPort) → AreStatesOf 0 number ports (port_states_from number ports)

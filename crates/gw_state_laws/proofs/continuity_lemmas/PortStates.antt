@@ -1,14 +1,14 @@
 -- The tables of the ports are taken over.
-use Rattle.std.proofs.Common.{◌≡◌, ◌∙◌, sym, ap, refl, ℕ, zero, suc, ◌+◌, ◌<◌, ◌≤◌, arith, true, false, ◌&&◌, List, [], ◌∷◌, ◌++◌, length, map, nat_eq, if◌then◌else◌, Option, Some, None, append_assoc}
-use Rattle.std.specs.Prelude.{find, slice_get}
+use Rattle.std.proofs.Common.{◌≡◌, ◌∙◌, sym, ap, refl, ℕ, zero, suc, ◌+◌, ◌<◌, ◌≤◌, arith, Bool, true, false, not, ◌&&◌, ◌||◌, ◌==◌, List, [], ◌∷◌, ◌++◌, length, map, nat_eq, if◌then◌else◌, Option, Some, None, append_assoc}
+use Rattle.std.specs.Prelude.{find, is_some, slice_get}
 use Rattle.std.specs.Cmp.Lexicographic.{pointwise}
 use Rattle.std.specs.Cmp.{nat_eq_equiv}
 use Rattle.std.specs.List.{AllByRecursion, list_any}
 use Rattle.std.specs.Option.{option_and_then}
-use Rattle.std.proofs.lemmas.Bool.{and_from, or_parts}
+use Rattle.std.proofs.lemmas.Bool.{and_from, and_parts, eqb-true, or_parts}
 use Rattle.std.proofs.lemmas.Cmp.{nat_list_eq_equiv}
 use Rattle.gw_addr.specs.declared.entry.BdtEntry.{BdtEntry}
-use Rattle.gw_tables.specs.bdt_fdt.Registrations.{Registrations, Registered}
+use Rattle.gw_tables.specs.bdt_fdt.Registrations.{Registrations, Registered, emptied}
 use Rattle.gw_tables.specs.bdt_fdt.Registrations.{same as same_address}
 use Rattle.gw_tables.proofs.bdt_fdt_lemmas.Same.{own}
 use Rattle.gw_configuration.specs.Duplicates.{has_twice}
@@ -21,8 +21,13 @@ use Rattle.gw_tables.specs.bdt_fdt.Kept.{kept, row_of}
 use Rattle.gw_state.specs.Saved.{origin_port, saved_port}
 use Rattle.gw_state.specs.declared.port.SavedPort.{SavedPort}
 use Rattle.gw_relay.specs.Initial.{port_state_with, port_states_with}
-use Rattle.gw_state.specs.Carried.{is_port, number_now, port_then, same_entry, tables_carried, tables_from}
+use Rattle.gw_relay.specs.Neighbours.{are_bare, is_bare}
+use Rattle.gw_relay.specs.State.{is_manager}
+use Rattle.gw_tables.specs.declared.bdt_fdt.tables.PortTables.{PortTables}
+use Rattle.gw_state.proofs.Carrying.{seen as tables_seen}
+use Rattle.gw_state.specs.Carried.{is_port, manager_tables, no_tables, number_now, port_then, same_entry, tables_carried, tables_from}
 use Rattle.gw_core.specs.Resumed.{saved_ports}
+use Rattle.gw_state_laws.specs.continuity.Laws.{HaveNoTables, TablesAgree}
 use Rattle.gw_state_laws.specs.continuity.StateOf.{AreStatesOf}
 use Rattle.gw_state_laws.proofs.continuity_lemmas.Found.{AllApart, all_push, find_after}
 
@@ -68,27 +73,66 @@ table ticks rows = record { ticks = ticks; rows = rows }
 abbrev link_of_parts : Port → List Subnet → List BdtEntry → Registrations → PortState
 link_of_parts port stations bdt fdt = record { port = port; stations = stations; bdt = bdt; fdt = fdt }
 
+-- a list without an element
+length_none : {A : Type 0} (xs : List A) → (length xs == 0) ≡ true → xs ≡ []
+length_none [] is = refl
+length_none (x ∷ xs) is =
+    let none : suc (length xs) ≡ 0 = eqb-true (suc (length xs)) 0 is in absurd (omega (arith, none))
+
+-- a port that is no manager has neither a peer nor a foreign device
+bare_parts : (manager none : Bool) → manager ≡ false → (manager || none) ≡ true → none ≡ true
+bare_parts false none is bare = bare
+bare_parts true none is bare = absurd cc
+
+pub bare_tables : (number : ℕ) (p : ConfiguredPort) (state : PortState) → state.port ≡ port_of number p → is_bare state ≡ true
+    → is_some p.bbmd ≡ true → (state.bdt ≡ []) × (state.fdt.rows ≡ [])
+bare_tables number p state port bare beside =
+    let manager : is_manager state.port ≡ false = ap is_manager port ∙ ap not beside in
+    let parts = and_parts (length state.bdt == 0) (length state.fdt.rows == 0) (bare_parts (is_manager state.port) _ manager bare) in
+    (length_none state.bdt parts.0, length_none state.fdt.rows parts.1)
+
 taken_over : (since number : ℕ) (p : ConfiguredPort) (state : PortState) → state.port ≡ port_of number p → state.stations ≡ p.stations
-    → state.fdt.ticks ≡ since → port_state_with number p (tables_from since p (Some (port_saved p state))) ≡ state
-taken_over since number p state port stations ticks =
-    λ j. link_of_parts (sym port j) (sym stations j) (if same_entries p.peers j then state.bdt else p.peers)
-    (table (sym ticks j) (rows_back state.fdt.rows j))
+    → state.fdt.ticks ≡ since → is_bare state ≡ true
+    → port_state_with number p (tables_from since p (Some (port_saved p state))) ≡ state
+taken_over since number p state port stations ticks bare = by (is_some p.bbmd) refl
+  where
+    tables : Bool → PortTables
+    tables b = if b then no_tables since else manager_tables since p (Some (port_saved p state))
+
+    by : (b : Bool) → is_some p.bbmd ≡ b
+        → link_of_parts (port_of number p) p.stations (if b then [] else (tables b).bdt) (if b then emptied (tables b).fdt else (tables b).fdt)
+        ≡ state
+    by true beside =
+        let none = bare_tables number p state port bare beside in
+        λ j. link_of_parts (sym port j) (sym stations j) (sym none.0 j) (table (sym ticks j) (sym none.1 j))
+    by false beside =
+        λ j. link_of_parts (sym port j) (sym stations j) (if same_entries p.peers j then state.bdt else p.peers)
+        (table (sym ticks j) (rows_back state.fdt.rows j))
+
+-- the first of bare ports, and the others
+first_bare : (number : ℕ) (state : PortState) (states : List PortState) → are_bare number (state ∷ states) ≡ true
+    → (is_bare state ≡ true) × (are_bare (number + 1) states ≡ true)
+first_bare number state states bare =
+    let parts = and_parts ((state.port.number == number) && is_bare state) (are_bare (number + 1) states) bare in
+    ((and_parts (state.port.number == number) (is_bare state) parts.0).1, parts.1)
 
 pub ports_back : (since number : ℕ) (ports : List ConfiguredPort) (states : List PortState) (before : List SavedPort)
-    → AreStatesOf since number ports states → AllApart is_port ports before → has_twice nat_eq (map (λ p. p.network) ports) ≡ false
+    → AreStatesOf since number ports states → are_bare number states ≡ true → AllApart is_port ports before
+    → has_twice nat_eq (map (λ p. p.network) ports) ≡ false
     → port_states_with number ports (tables_carried since ports (before ++ ports_saved ports states)) ≡ states
-ports_back since number [] [] before are apart once = refl
-ports_back since number [] (state ∷ states) before are apart once = absurd are
-ports_back since number (p ∷ ports) [] before are apart once = absurd are
-ports_back since number (p ∷ ports) (state ∷ states) before are apart once =
+ports_back since number [] [] before are bare apart once = refl
+ports_back since number [] (state ∷ states) before are bare apart once = absurd are
+ports_back since number (p ∷ ports) [] before are bare apart once = absurd are
+ports_back since number (p ∷ ports) (state ∷ states) before are bare apart once =
+    let empty = first_bare number state states bare in
     let s = port_saved p state in
     let rest = ports_saved ports states in
     let parts = or_parts (list_any (nat_eq p.network) (map (λ q. q.network) ports)) (has_twice nat_eq (map (λ q. q.network) ports)) once in
     let found : find (is_port p) (before ++ s ∷ rest) ≡ Some s = find_after is_port p before s rest apart.0 (is_own p state) in
-    let later = ports_back since (number + 1) ports states (before ++ s ∷ []) are.3
+    let later = ports_back since (number + 1) ports states (before ++ s ∷ []) are.3 empty.1
     (all_push is_port ports before s apart.1 (others p state ports parts.0)) parts.1 in
     (λ j. port_state_with number p (tables_from since p (found j)) ∷ port_states_with (number + 1) ports (tables_carried since ports (sym (append_assoc before (s ∷ []) rest) j)))
-    ∙ (λ j. taken_over since number p state are.0 are.1 are.2 j ∷ later j)
+    ∙ (λ j. taken_over since number p state are.0 are.1 are.2 empty.0 j ∷ later j)
 
 -- ---- each port has the number that it had
 
@@ -135,12 +179,42 @@ number_back since ports states (suc i) are once some most =
 
 -- ---- whatever was saved, these are states of the ports
 
-seen : (since : ℕ) (p : ConfiguredPort) (s : Option SavedPort) → (tables_from since p s).fdt.ticks ≡ since
-seen since p None = refl
-seen since p (Some s) = refl
+seen : (since number : ℕ) (p : ConfiguredPort) (s : Option SavedPort)
+    → (port_state_with number p (tables_from since p s)).fdt.ticks ≡ since
+seen since number p s = by (is_some p.bbmd) (tables_seen since p s)
+  where
+    by : (b : Bool) → (tables_from since p s).fdt.ticks ≡ since
+        → (if b then emptied (tables_from since p s).fdt else (tables_from since p s).fdt).ticks ≡ since
+    by true is = is
+    by false is = is
 
 pub ports_carried : (since number : ℕ) (ports : List ConfiguredPort) (saved : List SavedPort)
     → AreStatesOf since number ports (port_states_with number ports (tables_carried since ports saved))
 ports_carried since number [] saved = tt
 ports_carried since number (p ∷ ports) saved =
-    (refl, refl, seen since p (find (is_port p) saved), ports_carried since (number + 1) ports saved)
+    (refl, refl, seen since number p (find (is_port p) saved), ports_carried since (number + 1) ports saved)
+
+-- ---- beside another broadcast manager
+
+pub tables_agree : TablesAgree
+tables_agree ticks number p s = let same = by (is_some p.bbmd) in record { bdt = same.0; fdt = same.1 }
+  where
+    tables : Bool → PortTables
+    tables b = if b then no_tables ticks else manager_tables ticks p s
+
+    by : (b : Bool) → ((if b then [] else (tables b).bdt) ≡ (tables b).bdt)
+        × ((if b then emptied (tables b).fdt else (tables b).fdt) ≡ (tables b).fdt)
+    by true = (refl, refl)
+    by false = (refl, refl)
+
+pub none_saved : (since number : ℕ) (ports : List ConfiguredPort) (states : List PortState) → AreStatesOf since number ports states
+    → are_bare number states ≡ true → HaveNoTables ports (ports_saved ports states)
+none_saved since number [] [] are bare = tt
+none_saved since number [] (state ∷ states) are bare = absurd are
+none_saved since number (p ∷ ports) [] are bare = absurd are
+none_saved since number (p ∷ ports) (state ∷ states) are bare =
+    let empty = first_bare number state states bare in (
+      λ beside.
+          let none = bare_tables number p state are.0 empty.0 beside in (none.0, ap (map kept) none.1),
+      none_saved since (number + 1) ports states are.3 empty.1,
+    )

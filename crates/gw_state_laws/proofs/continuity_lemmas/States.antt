@@ -15,11 +15,13 @@ use Rattle.gw_core.specs.History.{acts_of, next, state_after, state_from, writte
 use Rattle.gw_core.specs.State.{State}
 use Rattle.gw_core.specs.declared.event.Counts.{Counts}
 use Rattle.gw_core.proofs.HistoryLemmas.{state_next}
-use Rattle.gw_state.specs.Carried.{routes_carried}
+use Rattle.gw_core_laws.proofs.BareLemmas.{bare_next}
+use Rattle.gw_relay.proofs.NeighbourLemmas.{bare_at_first, bare_resumed}
+use Rattle.gw_state.specs.Carried.{routes_carried, tables_carried}
 use Rattle.gw_state_laws.specs.continuity.Laws.{StatesAreCarried, StatesAreKept, StatesGoOn}
 use Rattle.gw_state_laws.specs.continuity.StateOf.{AllInRange, IsAccepted, IsStateOf, IsTableOf}
 use Rattle.gw_state_laws.proofs.continuity_lemmas.Learning.{table_stays}
-use Rattle.gw_state_laws.proofs.continuity_lemmas.PortMoves.{format_moved, ports_begin, ports_numbered, ports_stay}
+use Rattle.gw_state_laws.proofs.continuity_lemmas.PortMoves.{announce_moved, format_moved, ports_begin, ports_numbered, ports_stay}
 use Rattle.gw_state_laws.proofs.continuity_lemmas.PortStates.{ports_carried}
 use Rattle.gw_state_laws.proofs.continuity_lemmas.Made.{granted_fits}
 use Rattle.gw_state_laws.proofs.continuity_lemmas.Ranges.{WriteFits, written_range}
@@ -38,7 +40,9 @@ begins : (c : Configuration) (k : Counts) → IsAccepted c → IsStateOf c (stat
 unfolding acts_of moved_by written
 begins c k is = record {
   format = refl;
+  announce = refl;
   ports = ports_begin 1 c.ports;
+  bare = bare_at_first c;
   routes = fresh_table c is.few;
   device = refl;
   values = states_begin c.objects is.defaults;
@@ -62,7 +66,9 @@ next_is : (c : Configuration) (w : State) (e : Event) → IsStateOf c w → IsSt
 unfolding next
 next_is c w e is = record {
   format = format_moved (move_at w e) w.relay ∙ is.format;
+  announce = announce_moved (move_at w e) w.relay ∙ is.announce;
   ports = ports_stay (move_at w e) w.relay c.ports is.ports;
+  bare = bare_next w e is.bare;
   routes = table_stays (length c.ports) (direct_of c) (map routed_of c.routes) w e (ports_numbered w.relay.ticks c.ports w.relay.ports is.ports) is.routes;
   device = configured_stays (change_at w e) w.device ∙ is.device;
   values = changed_range c (change_at w e) w.device is.device (granted_fits w e) is.values;
@@ -84,7 +90,9 @@ states_go_on c w (e ∷ l) is = states_go_on c (next w e) l (next_is c w e is)
 pub states_are_carried : (c : Configuration) → IsAccepted c → StatesAreCarried c
 states_are_carried c is s = record {
   format = refl;
+  announce = refl;
   ports = ports_carried s.counts.since 1 c.ports s.ports;
+  bare = bare_resumed c (tables_carried s.counts.since c.ports s.ports) (routes_carried c.ports s) s.counts.since;
   routes = learned_stays (length c.ports) (direct_of c) (map routed_of c.routes) (routes_carried c.ports s) _ (by_ports c.ports s.ports s.routes)
       (fresh_table c is.few);
   device = refl;

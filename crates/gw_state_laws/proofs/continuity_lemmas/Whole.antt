@@ -1,5 +1,5 @@
 -- A whole state is taken over.
-use Rattle.std.proofs.Common.{◌≡◌, ◌∙◌, sym, ap, refl, subst, ℕ, ◌+◌, ◌≤◌, false, ◌||◌, List, [], ◌∷◌, ◌++◌, length, map, nat_eq, IsFalse}
+use Rattle.std.proofs.Common.{◌≡◌, ◌∙◌, sym, ap, refl, subst, ℕ, ◌+◌, ◌≤◌, Bool, false, ◌||◌, List, [], ◌∷◌, ◌++◌, length, map, nat_eq, IsFalse}
 use Rattle.std.specs.List.{AllByRecursion, list_any}
 use Rattle.std.proofs.lemmas.Bool.{or_parts}
 use Rattle.gw_configuration.specs.Configuration.{Configuration}
@@ -15,11 +15,11 @@ use Rattle.gw_core.specs.State.{State}
 use Rattle.gw_core.specs.History.{run_from, state_after}
 use Rattle.gw_tables.specs.routes.Table.{learned_by}
 use Rattle.gw_state.specs.Carried.{is_object, is_port, routes_carried}
-use Rattle.gw_state_laws.specs.continuity.Laws.{HistoriesGoOn, NothingIsLost, RunsGoOn, ValuesStayInRange}
+use Rattle.gw_state_laws.specs.continuity.Laws.{HistoriesGoOn, NoTablesAreSaved, NothingIsLost, RunsGoOn, ValuesStayInRange}
 use Rattle.gw_core.specs.Resumed.{saved}
 use Rattle.gw_state_laws.specs.continuity.StateOf.{IsAccepted, IsStateOf}
 use Rattle.gw_state_laws.proofs.continuity_lemmas.Found.{apart_none}
-use Rattle.gw_state_laws.proofs.continuity_lemmas.PortStates.{ports_back}
+use Rattle.gw_state_laws.proofs.continuity_lemmas.PortStates.{none_saved, ports_back}
 use Rattle.gw_state_laws.proofs.continuity_lemmas.Learned.{learned_back, routes_stay}
 use Rattle.gw_state_laws.proofs.continuity_lemmas.States.{states_are_kept}
 use Rattle.gw_state_laws.proofs.continuity_lemmas.Values.{states_back}
@@ -49,9 +49,9 @@ objects_once c e =
     let third = or_parts (list_any (λ port. has_twice nat_eq (peer_addresses port.peers)) c.ports) _ second.1 in
     (or_parts (has_twice nat_eq (identifiers c.objects)) _ third.1).0
 
-abbrev state_with : Format → List PortState → Table → ℕ → Configured → List Slots → List Rule → ℕ → ℕ → State
-state_with format ports routes since configured states rules ticks denials = record {
-  relay = record { format = format; ports = ports; routes = routes; ticks = since };
+abbrev state_with : Format → Bool → List PortState → Table → ℕ → Configured → List Slots → List Rule → ℕ → ℕ → State
+state_with format announce ports routes since configured states rules ticks denials = record {
+  relay = record { format = format; announce = announce; ports = ports; routes = routes; ticks = since };
   device = record { configured = configured; states = states };
   rules = rules;
   ticks = ticks;
@@ -79,9 +79,12 @@ routes_back c w once is =
 pub nothing_is_lost : (c : Configuration) → IsAccepted c → NothingIsLost c
 nothing_is_lost c accepted w is =
     let once = ports_once c accepted.once in
-    let ports = ports_back w.relay.ticks 1 c.ports w.relay.ports [] is.ports (apart_none is_port c.ports) once in
+    let ports = ports_back w.relay.ticks 1 c.ports w.relay.ports [] is.ports is.bare (apart_none is_port c.ports) once in
     let states = states_back c.objects w.device.states [] is.values (apart_none is_object c.objects) (objects_once c accepted.once) in
-    λ j. state_with (sym is.format j) (ports j) (routes_back c w once is j) w.relay.ticks (sym is.device j) (states j) (sym is.rules j) w.ticks w.denials
+    λ j. state_with (sym is.format j) (sym is.announce j) (ports j) (routes_back c w once is j) w.relay.ticks (sym is.device j) (states j) (sym is.rules j) w.ticks w.denials
+
+pub no_tables_are_saved : (c : Configuration) → NoTablesAreSaved c
+no_tables_are_saved c w is = none_saved w.relay.ticks 1 c.ports w.relay.ports is.ports is.bare
 
 pub histories_go_on : (c : Configuration) → IsAccepted c → HistoriesGoOn c
 histories_go_on c accepted k h = nothing_is_lost c accepted (state_after c k h) (states_are_kept c accepted k h)

@@ -17,7 +17,7 @@ use Rattle.gw_turns.specs.declared.serving.ServeFault.{ServeFault}
 use Rattle.gw_wire.specs.declared.store.StoreFault.{StoreFault}
 use Rattle.gw_turns.proofs.KeepingLemmas.{ticks_keep_recent}
 use Rattle.gw_turns.proofs.ServeLemmas.{state_along}
-use Rattle.gw_service.specs.Chain.{AreLinks, IsLink, IsLooked, IsTicked, Link, Look, Manner, Runs, Stage, Standing}
+use Rattle.gw_service.specs.Chain.{AreLinks, Begins, IsLink, IsLooked, IsTicked, Link, Look, Manner, Runs, Stage, Standing}
 use Rattle.gw_service.specs.Chain.{refused, served, taken_over, ticked, unrequested, withheld}
 use Rattle.gw_service.specs.Keeping.{IsKeptAtTick, IsKeptFor, IsPassed, failing_in}
 use Rattle.gw_service.specs.Kept.{Given, KeepsFirst, manner_of, reporting_of, watched_manner_of}
@@ -237,18 +237,26 @@ given_keeps : {S : Type 0} (held : S → Option (List ℕ)) (given : Option S) (
 given_keeps held given store c w kept same p =
     first_is_current held store c w kept (subst (λ (o : Option _). KeepsFirst held o c w kept) same p)
 
+-- what is announced before the first turn leaves the keeper and the gateway
+begun_keeps : {S K : Type 0} (held : S → Option (List ℕ)) (part : K → Kept S) (s t : Stage K) → Begins s t → KeepsAt held part s
+    → KeepsAt held part t
+begun_keeps held part s t begins now = subst (λ (u : Stage _). KeepsAt held part u) (sym begins.is) now
+
 pub runs_end_current : {S Q L : Type 0} (given : Given S Q L) → RunsEndCurrent given
 runs_end_current given store same c how before after text outcome run =
     let reports = reporting_of given how run.gateway in
     end_keeps given.held itself (manner_of given.held reports) (whole given.held reports) how.turns _ run.runs.last run.answer
-    run.runs.links run.runs.runs (given_keeps given.held given.store store c run.gateway run.keeper same run.keeps)
+    run.runs.links run.runs.runs
+    (begun_keeps given.held itself _ run.runs.begun run.runs.begins
+    (given_keeps given.held given.store store c run.gateway run.keeper same run.keeps))
 
 pub watched_runs_end_current : {S Q L : Type 0} (given : Given S Q L) → WatchedRunsEndCurrent given
 watched_runs_end_current given store same watcher c how before after text outcome run =
     let reports = reporting_of given how run.gateway in
     end_keeps given.held first_part (watched_manner_of given.held given.log_held reports) (first given.held given.log_held reports)
     how.turns _ run.runs.last run.answer run.runs.links run.runs.runs
-    (given_keeps given.held given.store store c run.gateway run.keeper.first same run.keeps)
+    (begun_keeps given.held first_part _ run.runs.begun run.runs.begins
+    (given_keeps given.held given.store store c run.gateway run.keeper.first same run.keeps))
 
 -- ---- in the store
 

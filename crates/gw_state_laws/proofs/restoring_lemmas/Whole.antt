@@ -114,7 +114,9 @@ pub counts_leave_them_so : (c : Configuration) → CountsLeaveThemSo c
 counts_leave_them_so c w ticks denials is = record {
   state = record {
     format = is.state.format;
+    announce = is.state.announce;
     ports = is.state.ports;
+    bare = is.state.bare;
     routes = is.state.routes;
     device = is.state.device;
     values = is.state.values;

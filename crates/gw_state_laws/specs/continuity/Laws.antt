@@ -1,5 +1,5 @@
 -- That a gateway that is stopped and resumed goes on as if it had never stopped.
-use Rattle.std.specs.Prelude.{◌≡◌, false, List, map}
+use Rattle.std.specs.Prelude.{◌≡◌, ⊤, ℕ, true, false, is_some, List, [], ◌∷◌, map, Option}
 use Rattle.gw_addr.specs.declared.entry.BdtEntry.{BdtEntry}
 use Rattle.gw_configuration.specs.Configuration.{Configuration}
 use Rattle.gw_core.specs.History.{IsStateAfter, next, run_from, state_after, state_from}
@@ -10,7 +10,12 @@ use Rattle.gw_script.specs.Event.{Event}
 use Rattle.std.specs.List.{AllByRecursion}
 use Rattle.gw_core.specs.Lasting.{lasts}
 use Rattle.gw_core.specs.Resumed.{carried, saved}
+use Rattle.gw_configuration.specs.declared.port.Port.{Port as ConfiguredPort}
+use Rattle.gw_relay.specs.Initial.{port_state_with}
+use Rattle.gw_state.specs.Carried.{tables_from}
 use Rattle.gw_state.specs.Saved.{Saved}
+use Rattle.gw_state.specs.declared.port.SavedPort.{SavedPort}
+use Rattle.gw_tables.specs.declared.bdt_fdt.tables.PortTables.{PortTables}
 use Rattle.gw_state_laws.specs.continuity.StateOf.{AllInRange, HasItsSlots, HaveTheirSlots, IsStateOf}
 
 -- ---- states
@@ -48,6 +53,28 @@ SlotsAreSaved c = (w : State) → HaveTheirSlots w.device.states → AllByRecurs
 -- If each that was saved has them, under whatever configuration, each has them that takes them over.
 abbrev pub SlotsAreCarried : Configuration → Type 0
 SlotsAreCarried c = (s : Saved) → AllByRecursion (λ object. HasItsSlots object.slots) s.objects → HaveTheirSlots (carried c s).device.states
+
+-- ---- a port beside another broadcast manager
+
+-- ports as they were saved, each of a configured one: where another broadcast manager is beside it, nothing is in its tables
+abbrev pub HaveNoTables : List ConfiguredPort → List SavedPort → Type 0
+HaveNoTables [] [] = ⊤
+HaveNoTables (p ∷ ports) (s ∷ saved) =
+    (is_some p.bbmd ≡ true → (s.entries ≡ []) × (s.devices ≡ [])) × HaveNoTables ports saved
+HaveNoTables _ _ = ⊥
+
+-- So what is saved holds no table of a port that has another broadcast manager beside it.
+abbrev pub NoTablesAreSaved : Configuration → Type 0
+NoTablesAreSaved c = (w : State) → IsStateOf c w → HaveNoTables c.ports (saved c w).ports
+
+-- The tables that a port takes over are those that its gateway has: where another broadcast manager is beside the port they are
+-- empty before the gateway empties them.
+pub record AreTablesKept (number : ℕ) (p : ConfiguredPort) (t : PortTables) : Type 0 where
+  pub bdt : (port_state_with number p t).bdt ≡ t.bdt
+  pub fdt : (port_state_with number p t).fdt ≡ t.fdt
+
+abbrev pub TablesAgree : Type 0
+TablesAgree = (ticks number : ℕ) (p : ConfiguredPort) (s : Option SavedPort) → AreTablesKept number p (tables_from ticks p s)
 
 -- ---- nothing is lost
 

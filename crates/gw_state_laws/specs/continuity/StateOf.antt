@@ -1,5 +1,5 @@
 -- Which states a gateway of a configuration can be in.
-use Rattle.std.specs.Prelude.{◌≡◌, ℕ, ◌+◌, ◌≤◌, ⊤, IsTrue, IsFalse, nat_eq, List, [], ◌∷◌, get_or, length, map, IfSome, None}
+use Rattle.std.specs.Prelude.{◌≡◌, ℕ, ◌+◌, ◌≤◌, ⊤, true, IsTrue, IsFalse, nat_eq, List, [], ◌∷◌, get_or, length, map, IfSome, None}
 use Rattle.std.specs.List.{AllByRecursion, IsDistinct}
 use Rattle.std.specs.Map.{keys_of}
 use Rattle.gw_configuration.specs.Configuration.{Configuration}
@@ -8,6 +8,7 @@ use Rattle.gw_configuration.specs.declared.object.Object.{Object as ConfiguredOb
 use Rattle.gw_configuration.specs.declared.port.Port.{Port as ConfiguredPort}
 use Rattle.gw_objects.specs.Objects.{Slots, database_of, default_of, details_of}
 use Rattle.gw_relay.specs.Initial.{direct_of, port_of, routed_of}
+use Rattle.gw_relay.specs.Neighbours.{are_bare}
 use Rattle.gw_relay.specs.declared.port.PortState.{PortState}
 use Rattle.gw_tables.specs.routes.Table.{Routed, Table, is_fixed, routes_held}
 use Rattle.gw_core.specs.State.{State}
@@ -66,7 +67,10 @@ AllInRange _ _ = ⊥
 -- what is so in each state of a gateway of a configuration
 pub record IsStateOf (c : Configuration) (w : State) : Type 0 where
   pub format : w.relay.format ≡ c.format
+  pub announce : w.relay.announce ≡ c.announce
   pub ports : AreStatesOf w.relay.ticks 1 c.ports w.relay.ports
+  -- a port that has another broadcast manager beside it has no peer and no foreign device
+  pub bare : are_bare 1 w.relay.ports ≡ true
   pub routes : IsTableOf (length c.ports) (direct_of c) (map routed_of c.routes) w.relay.routes
   pub device : w.device.configured ≡ (database_of c).configured
   pub values : AllInRange c.objects w.device.states

@@ -1,6 +1,6 @@
 //! Laws of what is saved of a gateway and of what is taken over, for each configuration that is accepted. The functions
 //! change nothing: their contracts are the laws.
-ghost use Rattle.gw_state_laws.specs.continuity.Laws.{HistoriesGoOn, NothingIsLost, OnlyLastingChanges, RunsGoOn, SlotsAreCarried, SlotsAreKept, SlotsAreSaved, SlotsGoOn, StatesAreCarried, StatesAreKept, StatesGoOn, ValuesStayInRange};
+ghost use Rattle.gw_state_laws.specs.continuity.Laws.{HistoriesGoOn, NoTablesAreSaved, NothingIsLost, OnlyLastingChanges, RunsGoOn, SlotsAreCarried, SlotsAreKept, SlotsAreSaved, SlotsGoOn, StatesAreCarried, StatesAreKept, StatesGoOn, TablesAgree, ValuesStayInRange};
 
 use crate::continuity::accepted::accepted;
 use gw_configuration::Config;
@@ -32,6 +32,13 @@ pub fn states_are_kept(config: &Config)
 {
     accepted(config);
 }
+
+/// Of a port that has another broadcast manager beside it no table is saved, and none is taken over: what it takes over are the
+/// empty tables that its gateway has.
+pub fn no_tables_beside_a_manager(config: &Config)
+    ensures saved { NoTablesAreSaved config.now }
+    ensures agree { TablesAgree }
+{}
 
 /// After every history the value of each slot that isn't empty, and each default, are in the range of their object.
 pub fn values_stay_in_range(config: &Config)

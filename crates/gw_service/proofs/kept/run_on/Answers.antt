@@ -33,13 +33,13 @@ returns-in-None-clause-ran g c =
     let said = recorded_by g.Q.Requests.recorded in
     ran_kept (given g.S.Store.held g.Q.Requests.recorded g.T.OctetSink.held c.args.before) c.args.config
     (service c.args.options.now.turns c.args.options.now.stats) c.counts.result c.is_kept-keeps.result c.is_some-reloads.result run.gateway run.keeper
-    run.state.served run.state.tally (said run.requests) run.counts
+    run.state.served run.state.tally (said run.requests) run.counts run.announcing
     (ends (g.L.OctetSink.held c.args.log.now) (g.X.Wire.calls c.args.sockets.now))
     (ends (g.L.OctetSink.held c.run-in-None.new.log) (g.X.Wire.calls c.run-in-None.new.wire)) c.run-in-None.result c.outcome_of-in-None.result
     (g.E.OctetSink.NeverFails c.args.errors.now) (held c.args.errors.now) (held c.run-in-None.new.errors)
     (sym c.take-watcher.ensures.value ∙ c.in-None.is)
     (same_counts c.counts.result run.gateway c.counts.ensures.ticks c.counts.ensures.denials) is.begins is.keeps is.served is.tally
-    (ap said is.requests) is.counts c.is_kept-keeps.ensures c.is_some-reloads.ensures c.outcome_of-in-None.ensures (c.run-in-None.ensures.runs c.args.config is.origin)
+    (ap said is.requests) is.counts is.announcing c.is_kept-keeps.ensures c.is_some-reloads.ensures c.outcome_of-in-None.ensures (c.run-in-None.ensures.runs c.args.config is.origin)
 
 pub returns-in-Some-clause-ran : goal.returns-in-Some-clause-ran
 returns-in-Some-clause-ran g c =
@@ -52,7 +52,7 @@ returns-in-Some-clause-ran g c =
     let from = given g.S.Store.held g.Q.Requests.recorded g.T.OctetSink.held c.args.before in
     ran_watched from c.in-Some.watcher c.args.config
     (service c.args.options.now.turns c.args.options.now.stats) c.counts.result c.is_kept-keeps.result c.is_some-reloads.result watched.gateway watched.keeper
-    watched.state.served watched.state.tally (said watched.requests) watched.counts
+    watched.state.served watched.state.tally (said watched.requests) watched.counts watched.announcing
     (ends (g.L.OctetSink.held c.args.log.now) (g.X.Wire.calls c.args.sockets.now))
     (ends (g.L.OctetSink.held c.run.new.log) (g.X.Wire.calls c.run.new.wire)) c.run.result c.outcome_of.result
     (g.E.OctetSink.NeverFails c.args.errors.now) (held c.args.errors.now) (held c.run.new.errors)
@@ -63,4 +63,4 @@ returns-in-Some-clause-ran g c =
     (subst (λ (w : State). KeepsFirst from.held from.store c.args.config w run.keeper) (sym by.gateway) is.keeps))
     by.second (ap (λ (x : ServeState). x.served) by.state ∙ is.served) (ap (λ (x : ServeState). x.tally) by.state ∙ is.tally)
     (ap said by.requests ∙ ap said is.requests) (by.counts ∙ is.counts ∙ ap (λ (w : State). counts_since w.ticks) (sym by.gateway))
-    c.is_kept-keeps.ensures c.is_some-reloads.ensures c.outcome_of.ensures (c.run.ensures.runs c.args.config (by.origin ∙ is.origin))
+    (by.announcing ∙ is.announcing) c.is_kept-keeps.ensures c.is_some-reloads.ensures c.outcome_of.ensures (c.run.ensures.runs c.args.config (by.origin ∙ is.origin))

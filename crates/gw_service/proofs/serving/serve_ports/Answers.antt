@@ -3,7 +3,7 @@ use Rattle.std.specs.Io.Buffered.{writer_contents}
 use Rattle.std.specs.Io.KnownBytes.{Appends}
 use Rattle.std.specs.Prelude.{option_map, string_bytes}
 use Rattle.gw_notices.proofs.AppendLemmas.{appends_two}
-use Rattle.gw_notices.specs.Announcement.{startup_line}
+use Rattle.gw_notices.specs.Startup.{startup_line}
 use Rattle.gw_system.specs.Host.{OpensAtLine}
 use Rattle.gw_service.specs.Kept.{state_machine}
 use Rattle.gw_service.specs.Serving.{machine}
@@ -29,8 +29,8 @@ returns-clause-served g c =
         ap (λ (t : List ℕ). t ++ done.0) c.unaudited_note.ensures,
         (
           done.1,
-          λ plain. plain_is_served given states options (writer_contents g.W.Write.contents c.args.output.now)
-              (writer_contents g.W.Write.contents c.serve_kept.new.output) c.args.config line done.0 c.serve_kept.result plain done.1,
+          λ plain quiet. plain_is_served given states options (writer_contents g.W.Write.contents c.args.output.now)
+              (writer_contents g.W.Write.contents c.serve_kept.new.output) c.args.config line done.0 c.serve_kept.result plain quiet done.1,
         ),
       ),
       λ never. appends_two (held c.args.errors.now) (held c.write_note.new.errors) (held c.serve_kept.new.errors) note done.0

@@ -1,8 +1,8 @@
-use Rattle.std.proofs.Common.{◌<◌, ◌++◌, ◌∷◌, [], ap, refl, subst, sym}
+use Rattle.std.proofs.Common.{◌+◌, ◌<◌, ◌≤◌, ◌++◌, ◌∷◌, [], ap, refl, subst, sym}
 use Rattle.std.specs.Io.KnownBytes.{Appends}
 use Rattle.gw_script.specs.Event as event
 use Rattle.gw_turns.specs.Serve.{scene, taken_event}
-use Rattle.gw_turns.specs.Stretch.{moment}
+use Rattle.gw_turns.specs.Stretch.{CanCount, moment}
 use Rattle.gw_turns.specs.declared.serving.ServeState.{ServeState}
 use Rattle.gw_notices.specs.declared.troubles.Troubles.{Troubles}
 use Rattle.gw_turns.specs.declared.stretch.Pause.TheVariants as pause
@@ -25,7 +25,7 @@ returns-in-Ok-Turns-clause-advances g c = λ config is_config.
       config,
       [],
       is_config,
-      (served end.turns, record { went = end.went; config = refl; requests = refl; counts = refl; said = refl }, refl),
+      (served end.turns, record { went = end.went; config = refl; requests = refl; counts = refl; announcing = refl; said = refl }, refl),
       λ never. appends_nothing (g.E.OctetSink.held c.args.errors.now),
     )
 
@@ -57,11 +57,11 @@ returns-in-Ok-Tick-clause-advances g c = λ config is_config.
     let old = c.args.self.now in
     let stretch = c.serve_to_tick.new in
     let done = c.at_tick.ensures.done config is_config in
-    let look = look_text config (standing stretch.gateway stretch.guard (g.Q.Requests.recorded old.requests) old.counts) done.1 in
+    let look = look_text config (standing stretch.gateway stretch.guard (g.Q.Requests.recorded old.requests) old.counts old.announcing) done.1 in
     let notice = notice_of old.said c.notice-self.result in
     let after = c.at_tick.new.self in
     let report = due_stats g.K.StateKeeper.unkept g.K.StateKeeper.more
-    (reporting_by c.args.schedule.now) after.keeper after.counts after.gateway
+    (reporting_by c.args.schedule.now) after.keeper after.counts c.announce.new.self after.gateway
     after.state.served after.state.tally in
     let turns = end.turns ++ taken_event event.Tick end.tries ∷ [] in
     let calls = g.W.Wire.calls stretch.wire in
@@ -83,10 +83,11 @@ returns-in-Ok-Tick-clause-advances g c = λ config is_config.
           then = then;
           went = went;
           ticks = end.ticks;
+          due = after.announcing;
           done = done.3;
+          announced = c.announce.ensures.announces;
           rest = record {
             log = refl;
-            calls = refl;
             served = ap (λ (s : ServeState). s.served) c.at_tick.ensures.state;
             tally = ap (λ (s : ServeState). s.tally) c.at_tick.ensures.state;
           };
@@ -103,6 +104,13 @@ returns-in-Ok-Tick-clause-advances g c = λ config is_config.
           c.at_tick.ensures.said (c.notice-self.ensures.text one)))
           (c.report_due.ensures.said (c.notice-self.ensures.lasts one)),
     )
+
+pub returns-in-Ok-Tick-clause-rest : goal.returns-in-Ok-Tick-clause-rest
+returns-in-Ok-Tick-clause-rest g c = λ rest most.
+    subst (λ (s : ServeState). CanCount s.served s.tally (g.W.Wire.failure_count c.announce.new.wire) rest) (sym c.at_tick.ensures.state)
+    (c.announce.ensures.counted _ _ rest
+    (c.serve_to_tick.ensures.rest rest
+    (subst (λ (s : ServeState). s.served.turns + rest ≤ c.args.self.now.state.served.turns + c.args.turns) c.at_tick.ensures.state most)))
 
 pub returns-in-Ok-Tick-clause-more : goal.returns-in-Ok-Tick-clause-more
 returns-in-Ok-Tick-clause-more g c = λ some.
@@ -142,6 +150,7 @@ returns-in-Ok-Withheld-clause-advances g c = λ config is_config.
           config = refl;
           requests = refl;
           counts = refl;
+          announcing = refl;
           said = c.notice-self-in-Ok-Withheld.ensures.troubles;
           lines = refl;
         },

@@ -11,10 +11,12 @@ returns-in-Ok-clause-looked g c = λ first goes.
     let said = g.Q.Requests.recorded in
     let held = g.E.OctetSink.held in
     taken_so g.K.StateKeeper.Adopts old.origin old.gateway old.keeper c.adopt.new.self (text_found c.args.read.now) c.in-Ok.field-0 first
-    (said old.requests) (said c.answer.new.self) c.deref.result.now old.counts c.with_taken_over-self.result
+    (said old.requests) (said c.answer.new.self) c.deref.result.now old.counts c.with_taken_over-self.result old.announcing
+    c.with_due-self.result
     (g.E.OctetSink.NeverFails c.args.errors.now) (held c.args.errors.now) (held c.write_note.new.errors) g.L.Notes.Takes c.args.log.now
     c.take_note.new.self c.take_note.result c.in-Ok.ensures.adopted c.adopt.ensures goes
     c.answer.ensures c.deref.ensures.value (c.with_taken_over-self.ensures ∙ ap (with_taken_over old.counts) c.counts.ensures.ticks)
+    c.with_due-self.ensures
     (λ never. subst (λ (t : List ℕ). Appends (held c.args.errors.now) (held c.write_note.new.errors) t)
     (c.deref-in-Ok-2.ensures.value ∙ sym c.deref.ensures.value) (c.write_note.ensures.said never))
     (subst (λ (t : List ℕ). g.L.Notes.Takes c.args.log.now t c.take_note.result c.take_note.new.self)
@@ -28,7 +30,7 @@ returns-in-Err-clause-looked g c = λ first goes.
     let read = text_found c.args.read.now in
     let fault = c.in-Err.fault in
     refused_so g.K.StateKeeper.Adopts old.origin old.gateway old.keeper read fault first (said old.requests)
-    (said c.answer-in-Err.new.self) c.line_or-line.result.now old.counts c.with_refused-self.result (g.E.OctetSink.NeverFails c.args.errors.now)
+    (said c.answer-in-Err.new.self) c.line_or-line.result.now old.counts c.with_refused-self.result old.announcing (g.E.OctetSink.NeverFails c.args.errors.now)
     (held c.args.errors.now) (held c.write_note-in-Err.new.errors) g.L.Notes.Takes c.args.log.now c.take_note-in-Err.new.self
     c.take_note-in-Err.result c.in-Err.ensures.fault
     (subst (λ (t : List ℕ). IsRefusalLine read fault t) (sym c.line_or-line.ensures) (says_why read fault c.line_with_place-located.result c.line_with_place-located.ensures))

@@ -21,13 +21,16 @@ returns-clause-runs g c = λ config is_config.
     (due_stats g.K.StateKeeper.unkept g.K.StateKeeper.more how))
     (end_stats g.K.StateKeeper.unkept g.K.StateKeeper.more how) c.args.turns
     (λ (t : Troubles). stage config (moment (scene old.gateway (g.L.OctetSink.held c.args.log.now) (g.W.Wire.calls c.args.wire.now)) old.keeper
-    old.state.served old.state.tally) (g.Q.Requests.recorded old.requests) old.counts t)
+    old.state.served old.state.tally) (g.Q.Requests.recorded old.requests) old.counts old.announcing t)
+    (λ (t : Troubles). stage config (moment (scene old.gateway (g.L.OctetSink.held c.args.log.now) (g.W.Wire.calls c.announce.new.wire)) old.keeper
+    old.state.served old.state.tally) (g.Q.Requests.recorded old.requests) old.counts c.announce.new.self t)
     new.origin old.said c.notice-self.result (g.K.StateKeeper.troubles old.keeper)
     (λ (d : Configuration). stage d (moment (scene new.gateway (g.L.OctetSink.held c.serve-answer.new.log) (g.W.Wire.calls c.serve-answer.new.wire))
-    new.keeper new.state.served new.state.tally) (g.Q.Requests.recorded new.requests) new.counts new.said)
+    new.keeper new.state.served new.state.tally) (g.Q.Requests.recorded new.requests) new.counts new.announcing new.said)
     c.serve-answer.result (ends (g.L.OctetSink.held c.serve-answer.new.log) (g.W.Wire.calls c.serve-answer.new.wire))
     (never c.args.errors.now) (never c.notice-self.new.errors) (held c.args.errors.now) (held c.notice-self.new.errors)
     (held c.serve-answer.new.errors) (held c.report_last.new.errors) c.requires.untold c.notice-self.ensures.troubles (λ t. refl)
+    (λ t. record { announced = c.announce.ensures.announces; is = refl })
     (c.serve-answer.ensures.runs config is_config) (λ d. refl) (λ d. refl)
     c.notice-self.ensures.text c.notice-self.ensures.lasts
     (λ d is_never. c.report_last.ensures.said (c.serve-answer.ensures.lasts (c.notice-self.ensures.lasts is_never)))

@@ -21,7 +21,7 @@ loop-init g c =
       λ never. never,
       chained_none how old.origin
           (λ (config : Configuration). stage config (moment (scene old.gateway (g.L.OctetSink.held c.args.log.now) (g.W.Wire.calls c.args.wire.now))
-          old.keeper old.state.served old.state.tally) (g.Q.Requests.recorded old.requests) old.counts old.said)
+          old.keeper old.state.served old.state.tally) (g.Q.Requests.recorded old.requests) old.counts old.announcing old.said)
           (g.E.OctetSink.NeverFails c.args.errors.now) (g.E.OctetSink.held c.args.errors.now),
     )
 
@@ -44,11 +44,11 @@ loop-preserved g c =
       λ never. c.advance.ensures.lasts (kept.3 never),
       chained_more how c.loop.left old.origin now.origin new.origin
           (λ (config : Configuration). stage config (moment (scene old.gateway (g.L.OctetSink.held c.args.log.now) (g.W.Wire.calls c.args.wire.now))
-          old.keeper old.state.served old.state.tally) (g.Q.Requests.recorded old.requests) old.counts old.said)
+          old.keeper old.state.served old.state.tally) (g.Q.Requests.recorded old.requests) old.counts old.announcing old.said)
           (λ (config : Configuration). stage config (moment (scene now.gateway (g.L.OctetSink.held c.loop.log) (g.W.Wire.calls c.loop.wire))
-          now.keeper now.state.served now.state.tally) (g.Q.Requests.recorded now.requests) now.counts now.said)
+          now.keeper now.state.served now.state.tally) (g.Q.Requests.recorded now.requests) now.counts now.announcing now.said)
           (λ (config : Configuration). stage config (moment (scene new.gateway (g.L.OctetSink.held c.advance.new.log) (g.W.Wire.calls c.advance.new.wire))
-          new.keeper new.state.served new.state.tally) (g.Q.Requests.recorded new.requests) new.counts new.said)
+          new.keeper new.state.served new.state.tally) (g.Q.Requests.recorded new.requests) new.counts new.announcing new.said)
           c.in_ok-advance.field-0 (g.E.OctetSink.NeverFails c.args.errors.now) (g.E.OctetSink.NeverFails c.loop.errors)
           (g.E.OctetSink.held c.args.errors.now) (g.E.OctetSink.held c.loop.errors) (g.E.OctetSink.held c.advance.new.errors)
           kept.4 c.in_ok-advance.ensures.advances kept.3,
@@ -67,14 +67,14 @@ returns-in_err-advance-clause-runs g c =
     let held = g.E.OctetSink.held in
     let first : Configuration → Stage _ = λ (config : Configuration). stage config
     (moment (scene old.gateway (g.L.OctetSink.held c.args.log.now) (g.W.Wire.calls c.args.wire.now)) old.keeper old.state.served old.state.tally)
-    (g.Q.Requests.recorded old.requests) old.counts old.said in
+    (g.Q.Requests.recorded old.requests) old.counts old.announcing old.said in
     let last : Configuration → Stage _ = λ (config : Configuration). stage config
     (moment (scene new.gateway (g.L.OctetSink.held c.advance.new.log) (g.W.Wire.calls c.advance.new.wire)) new.keeper new.state.served
-    new.state.tally) (g.Q.Requests.recorded new.requests) new.counts new.said in
+    new.state.tally) (g.Q.Requests.recorded new.requests) new.counts new.announcing new.said in
     passes_on (λ (r : Result (Unit {0}) ServeFault). Ran how c.args.turns old.origin first r new.origin last (never c.args.errors.now)
     (held c.args.errors.now) (held c.advance.new.errors)) fault c.from_residual.result c.from_residual.ensures
     (ran_until how c.args.turns c.loop.left old.origin now.origin new.origin first
     (λ (config : Configuration). stage config (moment (scene now.gateway (g.L.OctetSink.held c.loop.log) (g.W.Wire.calls c.loop.wire))
-    now.keeper now.state.served now.state.tally) (g.Q.Requests.recorded now.requests) now.counts now.said)
+    now.keeper now.state.served now.state.tally) (g.Q.Requests.recorded now.requests) now.counts now.announcing now.said)
     last fault (never c.args.errors.now) (never c.loop.errors) (held c.args.errors.now) (held c.loop.errors) (held c.advance.new.errors)
     kept.4 c.in_err-advance.ensures.advances kept.3 (λ a b. kept.1))

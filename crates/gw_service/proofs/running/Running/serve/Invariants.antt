@@ -18,8 +18,8 @@ invariant-loop g l =
     × Chained (manner g.K.Guard.Passes g.K.StateKeeper.Ticks g.K.StateKeeper.Adopts g.K.StateKeeper.troubles
     (due_stats g.K.StateKeeper.unkept g.K.StateKeeper.more (reporting_by l.fn.schedule))) l.fn.self.origin
     (λ (c : Configuration). stage c (moment (scene l.fn.self.gateway (g.L.OctetSink.held l.fn.log) (g.W.Wire.calls l.fn.wire)) l.fn.self.keeper
-    l.fn.self.state.served l.fn.self.state.tally) (g.Q.Requests.recorded l.fn.self.requests) l.fn.self.counts l.fn.self.said)
+    l.fn.self.state.served l.fn.self.state.tally) (g.Q.Requests.recorded l.fn.self.requests) l.fn.self.counts l.fn.self.announcing l.fn.self.said)
     l.self.origin
     (λ (c : Configuration). stage c (moment (scene l.self.gateway (g.L.OctetSink.held l.log) (g.W.Wire.calls l.wire)) l.self.keeper
-    l.self.state.served l.self.state.tally) (g.Q.Requests.recorded l.self.requests) l.self.counts l.self.said)
+    l.self.state.served l.self.state.tally) (g.Q.Requests.recorded l.self.requests) l.self.counts l.self.announcing l.self.said)
     (g.E.OctetSink.NeverFails l.fn.errors) (g.E.OctetSink.held l.fn.errors) (g.E.OctetSink.held l.errors)

@@ -1,6 +1,6 @@
 use Rattle.std.proofs.Common.{◌≡◌, ◌++◌, codes, decimal, subst, ℕ, OnOk}
-use Rattle.gw_notices.proofs.AnnouncementLemmas.{two_more}
-use Rattle.gw_notices.proofs.announcement.put_device.Goals as goal
+use Rattle.gw_notices.proofs.StartupLemmas.{two_more}
+use Rattle.gw_notices.proofs.startup.put_device.Goals as goal
 
 pub returns : goal.returns
 returns c =

@@ -3,9 +3,9 @@
 ghost use Rattle.std.specs.Prelude.{◌≡◌, ◌++◌, ◌≤◌, length, option_map, string_bytes, IfOk, OnOk};
 ghost use Rattle.gw_addr.specs.Address.{text_of};
 ghost use Rattle.gw_addr.specs.declared.TheConstants.{MAX_PORTS};
-ghost use Rattle.gw_notices.specs.Announcement.{announcement, device_text, log_text, objects_text, port_text, rules_text, startup_line};
+ghost use Rattle.gw_notices.specs.Startup.{device_text, log_text, objects_text, port_text, rules_text, serving_line, startup_line};
 ghost use Rattle.gw_script.specs.Order.{in_order};
-ghost use Rattle.gw_notices.specs.Announcement.{IsWarning, routing_note};
+ghost use Rattle.gw_notices.specs.Startup.{IsWarning, routing_note};
 
 use gw_addr::{BipAddr, put_decimal, put_text_number};
 use gw_configuration::{Config, Device, Port, put_shown};
@@ -13,9 +13,9 @@ use gw_system::Host;
 use std::alloc::{AllocError, Global};
 
 /// The line that says what is served, with the log in the file of this name or on standard output.
-fn announcement(alloc: Global, config: &Config, log: &Option<String>) -> Result<Vec<u8>, AllocError>
+fn serving_line(alloc: Global, config: &Config, log: &Option<String>) -> Result<Vec<u8>, AllocError>
     ensures { let log = option_map string_bytes log.now in
-        IfOk result (λ line. line.items ≡ announcement config.now log) }
+        IfOk result (λ line. line.items ≡ serving_line config.now log) }
 {
     let mut line = Vec::from_slice(alloc, b"bacgw: serving ")?;
     put_ports(&mut line, config.ports())?;
@@ -39,7 +39,7 @@ pub fn startup_line(
         IfOk result (λ said. said.items ≡ startup_line is_asked config.now log) }
 {
     if is_asked {
-        announcement(alloc, config, log)
+        serving_line(alloc, config, log)
     } else {
         Ok(Vec::new(alloc))
     }

@@ -1,8 +1,8 @@
 use Rattle.std.proofs.Common.{arith, length, rules, ◌≡◌, get_or, subst, ◌++◌, ◌+◌, sym}
 use Rattle.gw_configuration.specs.declared.port.Port.{Port}
-use Rattle.gw_notices.specs.Announcement.{port_text}
+use Rattle.gw_notices.specs.Startup.{port_text}
 use Rattle.gw_script.proofs.Order.{in_order_end, in_order_none, in_order_step}
-use Rattle.gw_notices.proofs.announcement.put_ports.Goals as goal
+use Rattle.gw_notices.proofs.startup.put_ports.Goals as goal
 
 pub loop-place-init : goal.loop-place-init
 loop-place-init c = in_order_none port_text c.args.out.now.items

@@ -1,6 +1,6 @@
 use Rattle.std.proofs.Common.{Bool, [], refl, sym, subst}
-use Rattle.gw_notices.specs.Announcement.{IsWarning}
-use Rattle.gw_notices.proofs.announcement.warning_of.Goals as goal
+use Rattle.gw_notices.specs.Startup.{IsWarning}
+use Rattle.gw_notices.proofs.startup.warning_of.Goals as goal
 
 pub returns-then-is_asked : goal.returns-then-is_asked
 returns-then-is_asked g c =

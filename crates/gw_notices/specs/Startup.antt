@@ -32,14 +32,14 @@ log_text (Some name) = shown name
 log_text None = codes "standard output"
 
 -- the line
-abbrev pub announcement : Configuration → Option (List ℕ) → List ℕ
-announcement c log =
+abbrev pub serving_line : Configuration → Option (List ℕ) → List ℕ
+serving_line c log =
     codes "bacgw: serving " ++ in_order port_text 1 c.ports ++ device_text c.device ++ objects_text c ++ rules_text c
     ++ log_text log ++ 10 ∷ []
 
 -- what is reported at the start: the line where that is asked for, and else nothing
 abbrev pub startup_line : Bool → Configuration → Option (List ℕ) → List ℕ
-startup_line true c log = announcement c log
+startup_line true c log = serving_line c log
 startup_line false c log = []
 
 -- what is written at the start of a machine that routes IP itself

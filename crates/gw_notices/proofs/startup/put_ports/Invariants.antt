@@ -1,7 +1,7 @@
 use Rattle.std.proofs.Common.{◌≡◌, ◌++◌, take}
-use Rattle.gw_notices.specs.Announcement.{port_text}
+use Rattle.gw_notices.specs.Startup.{port_text}
 use Rattle.gw_script.specs.Order.{in_order}
-use Rattle.gw_notices.proofs.announcement.put_ports.Given as goal
+use Rattle.gw_notices.proofs.startup.put_ports.Given as goal
 
 abbrev pub invariant-loop-place : goal.invariant-loop-place
 invariant-loop-place l = l.out.items ≡ l.fn.out.items ++ in_order port_text 1 (take l.place l.ports)
