@@ -3,13 +3,15 @@ use Rattle.std.proofs.Common.{ℕ, ◌^◌, ◌<◌, true, false, List, [], ◌�
 use Rattle.std.specs.Prelude.{codes}
 use Rattle.std.specs.List.{AllByRecursion}
 use Rattle.json.specs.Json.{null, boolean, number, string, no_members}
+use Rattle.gw_addr.specs.Address.{text_of}
+use Rattle.gw_addr.specs.declared.bip.BipAddr.{BipAddr}
 use Rattle.gw_configuration.specs.Configuration.{Configuration}
 use Rattle.gw_configuration.specs.declared.fault.ConfigFault.{ConfigFault}
 use Rattle.gw_configuration.specs.declared.fault.ConfigFault.TheVariants as faults
 use Rattle.gw_configuration.specs.declared.port.Port.{Port}
-use Rattle.gw_json.specs.Check.{checked_value, device_value, fault_row, fault_value, format_number, networks_value}
+use Rattle.gw_json.specs.Check.{checked_value, device_value, fault_row, fault_value, format_number, manager_value, managers_value, networks_value}
 use Rattle.gw_json.specs.Laws.{ChecksRead, FaultsRead, NumbersFit}
-use Rattle.gw_json.proofs.Documents.{IsShallow, boolean_shallow, items_array, line_read, member_shallow, none_shallow, null_shallow, number_shallow, object_shallow, or_shallow, string_shallow, wider}
+use Rattle.gw_json.proofs.Documents.{IsShallow, boolean_shallow, items_array, line_read, mapped_shallow, member_shallow, none_shallow, null_shallow, number_shallow, object_shallow, or_shallow, string_shallow, wider}
 use Rattle.gw_json.proofs.Plain.{Each}
 use Rattle.gw_rules.specs.declared.format.Format.{Format}
 use Rattle.gw_rules.specs.declared.format.Format.TheVariants as formats
@@ -18,6 +20,12 @@ each_network : (ports : List Port) → AllByRecursion (λ port. port.network < 2
     → Each (IsShallow 0) (map (λ port. number (decimal port.network)) ports)
 each_network [] fit = tt
 each_network (port ∷ ports) fit = (number_shallow 0 port.network fit.0, each_network ports fit.1)
+
+manager_shallow : (port : Port) → IsShallow 0 (manager_value port)
+manager_shallow port = or_shallow 0 (λ (manager : BipAddr). string (text_of manager)) port.bbmd null (λ manager. string_shallow 0 (text_of manager)) (null_shallow 0)
+
+managers_shallow : (ports : List Port) → IsShallow 2 (managers_value ports)
+managers_shallow ports = wider 1 2 (managers_value ports) (omega arith) (mapped_shallow 0 manager_value ports manager_shallow)
 
 format_shallow : (format : Format) → IsShallow 2 (number (decimal (format_number format)))
 format_shallow formats.One = number_shallow 2 1 (omega arith)
@@ -37,7 +45,9 @@ checked_shallow c fit =
     (wider 1 2 (networks_value c.ports) (omega arith) (items_array 0 (map (λ port. number (decimal port.network)) c.ports) (each_network c.ports fit.networks)))
     (member_shallow 2 (codes "objects") (number (decimal (length c.objects))) _ (number_shallow 2 (length c.objects) fit.objects)
     (member_shallow 2 (codes "rules") (number (decimal (length c.rules))) _ (number_shallow 2 (length c.rules) fit.rules)
-    (member_shallow 2 (codes "routes") (number (decimal (length c.routes))) no_members (number_shallow 2 (length c.routes) fit.routes) (none_shallow 2)))))))))
+    (member_shallow 2 (codes "routes") (number (decimal (length c.routes))) _ (number_shallow 2 (length c.routes) fit.routes)
+    (member_shallow 2 (codes "bbmd") (managers_value c.ports) _ (managers_shallow c.ports)
+    (member_shallow 2 (codes "announce") (boolean c.announce) no_members (boolean_shallow 2 c.announce) (none_shallow 2)))))))))))
 
 pub checks_read : ChecksRead
 checks_read c fit = line_read 3 (checked_value c) (omega arith) (checked_shallow c fit)

@@ -2,6 +2,7 @@
 use Rattle.std.specs.Prelude.{ℕ, true, false, List, [], ◌∷◌, length, map, codes, decimal, Option}
 use Rattle.std.specs.Option.{option_map_or}
 use Rattle.json.specs.Json.{Json, null, boolean, number, string, array}
+use Rattle.gw_addr.specs.Address.{text_of}
 use Rattle.gw_configuration.specs.Configuration.{Configuration}
 use Rattle.gw_configuration.specs.declared.device.Device.{Device}
 use Rattle.gw_configuration.specs.declared.fault.ConfigFault.{ConfigFault}
@@ -27,7 +28,15 @@ device_value device =
 abbrev pub networks_value : List Port → Json
 networks_value ports = array (items_of (map (λ port. number (decimal port.network)) ports))
 
--- its format, its device, its networks, and how many ports, objects, rules and routes there are
+-- the broadcast manager beside each port, in order, or null where the port is one itself
+abbrev pub manager_value : Port → Json
+manager_value port = option_map_or (λ manager. string (text_of manager)) port.bbmd null
+
+abbrev pub managers_value : List Port → Json
+managers_value ports = array (items_of (map manager_value ports))
+
+-- its format, its device, its networks, how many ports, objects, rules and routes there are, the managers beside its ports,
+-- and whether it announces networks
 abbrev pub checked_value : Configuration → Json
 checked_value c =
     object_of ((codes "valid", boolean true)
@@ -38,6 +47,8 @@ checked_value c =
     ∷ (codes "objects", number (decimal (length c.objects)))
     ∷ (codes "rules", number (decimal (length c.rules)))
     ∷ (codes "routes", number (decimal (length c.routes)))
+    ∷ (codes "bbmd", managers_value c.ports)
+    ∷ (codes "announce", boolean c.announce)
     ∷ [])
 
 -- ---- a fault

@@ -2,6 +2,7 @@
 use Rattle.std.specs.Prelude.{ℕ, ◌-◌, Bool, ◌==◌, if◌then◌else◌, List, [], ◌∷◌, ◌++◌, drop, map, slice_get, codes, decimal, Option}
 use Rattle.std.specs.List.{flat_map, list_all}
 use Rattle.std.specs.Option.{option_map_or}
+use Rattle.std.specs.Str.Lines.{lines}
 use Rattle.json.specs.Json.{Json, null, boolean, number, string, array}
 use Rattle.gw_json.specs.Ask.{key_value}
 use Rattle.gw_json.specs.Document.{items_of, object_of}
@@ -93,6 +94,15 @@ deciders_members old new f = (codes "by", rules_value new f.new_rules.items) ∷
 -- these, and the other fields of its asks
 abbrev pub found_value : List Rule → List Rule → Found → Json
 found_value old new f = object_of (outcome_members f ++ map (field_member f.region) other_fields ++ deciders_members old new f)
+
+-- the lines of a text, or null if there is none
+abbrev pub lines_value : Option (List ℕ) → Json
+lines_value text = option_map_or (λ text. array (items_of (map string (lines text)))) text null
+
+-- the parts that differ, and what is said of them
+abbrev pub differences_value : (names details : Option (List ℕ)) → Json
+differences_value names details =
+    object_of ((codes "differ", lines_value names) ∷ (codes "details", lines_value details) ∷ [])
 
 -- how many regions there are, whether they are all, and how many steps it took
 abbrev pub summary_value : ℕ → Bool → ℕ → Json

@@ -7,7 +7,7 @@ use Rattle.gw_audit.specs.declared.denial.Denial.{Denial}
 use Rattle.gw_configuration.specs.Configuration.{Configuration}
 use Rattle.gw_configuration.specs.declared.fault.ConfigFault.{ConfigFault}
 use Rattle.gw_json.specs.Check.{checked_value, fault_value}
-use Rattle.gw_json.specs.Comparison.{found_value, summary_value}
+use Rattle.gw_json.specs.Comparison.{differences_value, found_value, summary_value}
 use Rattle.gw_json.specs.Document.{line_of}
 use Rattle.gw_json.specs.Log.{AreFrontMembers, IsEntryIn, denial_value, front_members, front_octets_members, octets_value, text_value}
 use Rattle.gw_json.specs.Why.{IsAnswerIn, answer_value}
@@ -56,6 +56,10 @@ AnswersRead =
 -- and the lines of a comparison, with numbers that fit 64 bits
 abbrev pub ComparisonsRead : Type 0
 ComparisonsRead = (old new : List Rule) (f : Found) → IsRead (found_value old new f)
+
+-- of its first line, whatever the texts of the parts that differ are
+abbrev pub DifferencesRead : Type 0
+DifferencesRead = (names details : Option (List ℕ)) → IsRead (differences_value names details)
 
 abbrev pub SummariesRead : Type 0
 SummariesRead =

@@ -3,19 +3,21 @@
 ghost use Rattle.std.specs.Prelude.{◌≡◌, decimal, option_map, IfOk};
 ghost use Rattle.std.specs.Option.{option_map_or};
 ghost use Rattle.json.specs.Json.{null, number, string};
-ghost use Rattle.gw_json.specs.Check.{checked_value, device_value, fault_row, fault_value, format_number, networks_value};
+ghost use Rattle.gw_json.specs.Check.{checked_value, device_value, fault_row, fault_value, format_number, manager_value, managers_value, networks_value};
+ghost use Rattle.gw_addr.specs.Address.{text_of};
 ghost use Rattle.gw_json.specs.Document.{IsLinePut, object_of};
 ghost use Rattle.gw_json.specs.internal.View.{members_view, value_view};
 
 use crate::value::{Member, Value, count_value, push_value, put_object, text_value};
+use gw_addr::BipAddr;
 use gw_configuration::{Config, ConfigFault, Device, Format, Port};
 use std::alloc::{AllocError, Global};
 
-/// Appends the line of a configuration: its format, its device, the networks of its ports, and how many ports, objects,
-/// rules and routes it has. An `Err` only if memory was refused; the buffer then holds what it held.
+/// Appends the line of a configuration: its format, its device, the networks of its ports, how many ports, objects,
+/// rules and routes it has, the broadcast managers beside its ports, and whether it announces networks. An `Err` only if memory was refused; the buffer then holds what it held.
 ///
 /// ```text
-/// {"valid":true,"format":3,"device":{"network":100,"instance":1000,"name":"gateway"},"ports":2,"networks":[1,2],"objects":4,"rules":7,"routes":0}
+/// {"valid":true,"format":3,"device":{"network":100,"instance":1000,"name":"gateway"},"ports":2,"networks":[1,2],"objects":4,"rules":7,"routes":0,"bbmd":[null,null],"announce":false}
 /// ```
 pub fn put_check(alloc: Global, out: &mut Vec<u8>, config: &Config) -> Result<(), AllocError>
     ensures { IsLinePut (checked_value config.now) out.old.items out.new.items result }
@@ -66,6 +68,7 @@ fn checked_members(alloc: Global, config: &Config) -> Result<Vec<Member>, AllocE
 {
     let device = device_value(alloc, config.device())?;
     let networks = networks_value(alloc, config.ports())?;
+    let managers = managers_value(alloc, config.ports())?;
     Ok(vec![in alloc;
         ("valid", Value::Boolean(true)),
         ("format", Value::Number(format_number(config.format()))),
@@ -75,6 +78,8 @@ fn checked_members(alloc: Global, config: &Config) -> Result<Vec<Member>, AllocE
         ("objects", count_value(config.objects().len())),
         ("rules", count_value(config.rules().rules().len())),
         ("routes", count_value(config.routes().len())),
+        ("bbmd", managers),
+        ("announce", Value::Boolean(config.announces())),
     ]?)
 }
 
@@ -114,6 +119,33 @@ fn network_value(port: &Port) -> Value
     ensures { value_view result ≡ number (decimal port.now.network) }
 {
     Value::Number(u64::from(port.network.get()))
+}
+
+/// The broadcast manager beside each port, in order, or null where the port is one itself.
+fn managers_value(alloc: Global, ports: &[Port]) -> Result<Value, AllocError>
+    ensures { IfOk result (λ value. value_view value ≡ managers_value ports.now) }
+{
+    let mut managers = Vec::with_capacity(alloc, ports.len())?;
+    for port in ports {
+        push_value(&mut managers, manager_value(alloc, port)?)?;
+    }
+    Ok(Value::Array(managers))
+}
+
+fn manager_value(alloc: Global, port: &Port) -> Result<Value, AllocError>
+    ensures { IfOk result (λ value. value_view value ≡ manager_value port.now) }
+{
+    match port.bbmd {
+        Some(manager) => address_value(alloc, manager),
+        None => Ok(Value::Null),
+    }
+}
+
+fn address_value(alloc: Global, address: BipAddr) -> Result<Value, AllocError>
+    ensures { IfOk result (λ value. value_view value ≡ string (text_of address)) }
+{
+    let text = address.to_string(alloc)?;
+    text_value(alloc, text.as_str())
 }
 
 /// A line, or null if there is none.

@@ -2,12 +2,13 @@
 
 ghost use Rattle.std.specs.Prelude.{◌≡◌, ◌++◌, map, option_map, IfOk, OnOk};
 ghost use Rattle.std.specs.List.{flat_map};
-ghost use Rattle.json.specs.Json.{array};
+ghost use Rattle.std.specs.Str.Lines.{lines};
+ghost use Rattle.json.specs.Json.{array, string};
 ghost use Rattle.gw_ask_sets.specs.regions.Ranges.{both};
 ghost use Rattle.gw_rules.specs.Bounds.{bounds};
 ghost use Rattle.gw_rules.specs.declared.format.Format.TheVariants.{Three};
 ghost use Rattle.gw_rules.specs.declared.operation.TheConstants.Operation.{ALL};
-ghost use Rattle.gw_json.specs.Comparison.{deciders_members, end_value, field_member, found_value, name_or_null, named_operation, operations_value, other_fields, range_value, range_values, ranges_value, rule_value, rules_value, summary_value, values_value, outcome_members, verdict_word};
+ghost use Rattle.gw_json.specs.Comparison.{deciders_members, differences_value, end_value, field_member, found_value, lines_value, name_or_null, named_operation, operations_value, other_fields, range_value, range_values, ranges_value, rule_value, rules_value, summary_value, values_value, outcome_members, verdict_word};
 ghost use Rattle.gw_json.specs.Document.{IsLinePut, items_of, object_of};
 ghost use Rattle.gw_json.specs.internal.View.{members_view, value_view, values_view};
 
@@ -35,6 +36,76 @@ pub fn put_found(
 {
     let members = found_members(alloc, old, new, found)?;
     put_object(alloc, out, members)
+}
+
+/// Appends the first line of a comparison: the names of the parts that differ beside the rules, and what is said of them,
+/// of each a text of lines, or null if there is none. An `Err` only if memory was refused; the buffer then holds what it
+/// held.
+///
+/// ```text
+/// {"differ":["stations of port 1"],"details":["port 1: 10.9.0.0/24 is a station now"]}
+/// ```
+pub fn put_differences(
+    alloc: Global,
+    out: &mut Vec<u8>,
+    names: Option<&str>,
+    details: Option<&str>,
+) -> Result<(), AllocError>
+    ensures { let names = option_map (λ text. text.now) names.entry in
+        let details = option_map (λ text. text.now) details.entry in
+        IsLinePut (differences_value names details) out.old.items out.new.items result }
+{
+    let members = differences_members(alloc, names, details)?;
+    put_object(alloc, out, members)
+}
+
+fn differences_members(
+    alloc: Global,
+    names: Option<&str>,
+    details: Option<&str>,
+) -> Result<Vec<Member>, AllocError>
+    ensures { let names = option_map (λ text. text.now) names.entry in
+        let details = option_map (λ text. text.now) details.entry in
+        IfOk result (λ members. object_of (members_view members.items) ≡ differences_value names details) }
+{
+    let differ = lines_value(alloc, names)?;
+    let details = lines_value(alloc, details)?;
+    Ok(vec![in alloc; ("differ", differ), ("details", details)]?)
+}
+
+/// The lines of a text, or null if there is none.
+fn lines_value(alloc: Global, text: Option<&str>) -> Result<Value, AllocError>
+    ensures { IfOk result (λ value. value_view value ≡ lines_value (option_map (λ text. text.now) text.entry)) }
+{
+    match text {
+        Some(text) => array_of_lines(alloc, text),
+        None => Ok(Value::Null),
+    }
+}
+
+#[tactic(auto, using(crate::proofs::Views::strings_of))]
+fn array_of_lines(alloc: Global, text: &str) -> Result<Value, AllocError>
+    ensures { IfOk result (λ value. value_view value ≡ array (items_of (map string (lines text.now)))) }
+{
+    let lines = lines_of(alloc, text)?;
+    texts_value(alloc, &lines)
+}
+
+/// The lines of a text.
+fn lines_of<'a>(alloc: Global, text: &'a str) -> Result<Vec<&'a str>, AllocError>
+    ensures { IfOk result (λ found. map (λ line. line.now) found.items ≡ lines text.now) }
+{
+    text.lines().collect(alloc)
+}
+
+fn texts_value(alloc: Global, texts: &[&str]) -> Result<Value, AllocError>
+    ensures { IfOk result (λ value. value_view value ≡ array (items_of (map (λ text. string text.now) texts.now))) }
+{
+    let mut values = Vec::with_capacity(alloc, texts.len())?;
+    for text in texts {
+        push_value(&mut values, text_value(alloc, text)?)?;
+    }
+    Ok(Value::Array(values))
 }
 
 /// Appends the last line of a comparison: how many regions it found, whether these are all, and how many steps it took.

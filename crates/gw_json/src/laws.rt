@@ -1,6 +1,6 @@
 //! Laws of the lines. The functions change nothing and answer nothing: their contracts are the laws.
 
-ghost use Rattle.gw_json.specs.Laws.{AnswersRead, ChecksRead, ComparisonsRead, DenialsRead, DenialsStay, FaultsRead, OthersRead, RecordsAllowed, SummariesRead};
+ghost use Rattle.gw_json.specs.Laws.{AnswersRead, ChecksRead, ComparisonsRead, DenialsRead, DenialsStay, DifferencesRead, FaultsRead, OthersRead, RecordsAllowed, SummariesRead};
 
 /// A reader of JSON reads each line as the object that it is: nothing that a line of the log, a note or a rule's name has
 /// can end a string or a line, or begin another member. So it is with the lines of a log, of answers, of a comparison and of a
@@ -11,6 +11,7 @@ pub fn reading()
     ensures answers { AnswersRead }
     ensures comparisons { ComparisonsRead }
     ensures summaries { SummariesRead }
+    ensures differences { DifferencesRead }
     ensures checks { ChecksRead }
     ensures faults { FaultsRead }
 {}

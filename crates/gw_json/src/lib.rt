@@ -13,6 +13,6 @@ mod value;
 mod why;
 
 pub use check::{put_check, put_fault};
-pub use comparison::{put_found, put_summary};
+pub use comparison::{put_differences, put_found, put_summary};
 pub use log::log_in_json;
 pub use why::why_in_json;

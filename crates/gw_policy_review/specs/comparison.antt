@@ -4,5 +4,7 @@ pub mod Comparison
 pub mod Groups
 pub mod Laws
 pub mod Lines
-pub mod Notes
+pub mod Details
+pub mod PartLines
+pub mod Parts
 pub mod Words

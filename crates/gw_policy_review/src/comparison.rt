@@ -2,13 +2,20 @@
 mod asks;
 mod comparing;
 mod comparison;
+mod details;
 mod groups;
 pub mod laws;
 mod lines;
-mod notes;
+mod listing;
+mod object_details;
+mod parts;
+mod port_details;
+mod rule_details;
 mod words;
 
 pub use asks::asks_of;
 pub use comparing::{Comparing, put_steps};
-pub use comparison::{Compared, put_comparison};
+pub use comparison::{Compared, compared_by, put_comparison};
+pub use details::put_details;
 pub use groups::MOST_UNGROUPED;
+pub use parts::{Part, PortPart, differing_parts, put_part_names};

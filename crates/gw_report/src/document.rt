@@ -83,6 +83,9 @@ fn put_sizes(page: &mut Page, config: &Config) -> Result<(), AllocError> {
     page.text(" objects, ")?;
     page.number(config.rules().rules().len() as u64)?;
     page.text(" rules.")?;
+    if config.announces() {
+        page.text(" Networks are announced.")?;
+    }
     page.close(Element::Aside)
 }
 

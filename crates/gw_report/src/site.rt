@@ -1,8 +1,8 @@
-//! A site as a picture: the gateway, its ports with their networks, peers and routers, and its device.
+//! A site as a picture: the gateway, its ports with their networks, broadcast managers, peers and routers, and its device.
 
 use crate::page::{Element, Label, Page, Place, Shape, Size};
 use crate::words::shortened;
-use gw_addr::{BdtEntry, NetNum};
+use gw_addr::{BipAddr, NetNum};
 use gw_configuration::{Config, Device, Port, Route};
 use itoa::Buffer;
 use std::alloc::{AllocError, Global};
@@ -161,7 +161,7 @@ impl Lane<'_> {
 
     /// How many boxes it has.
     fn boxes(&self) -> u64 {
-        let mut count = self.port.peers.as_slice().len().min(MAX_DRAWN) as u64;
+        let mut count = self.managers();
         let mut drawn = 0usize;
         for route in self.routes {
             if drawn < MAX_DRAWN && u64::from(route.port) == self.number {
@@ -172,16 +172,32 @@ impl Lane<'_> {
         count
     }
 
+    /// How many boxes are those of other broadcast managers: of its peers, or of the one beside it, which has the peers.
+    fn managers(&self) -> u64 {
+        let peers = self.port.peers.as_slice().len().min(MAX_DRAWN) as u64;
+        peers.saturating_add(u64::from(self.port.bbmd.is_some()))
+    }
+
     /// Draws it so far from the top.
     fn put(&self, alloc: Global, page: &mut Page, top: u64) -> Result<(), AllocError> {
         self.put_head(alloc, page, top)?;
         let y = top.saturating_add(HEAD);
+        self.put_managers(alloc, page, y)?;
+        self.put_routers(alloc, page, self.managers(), y)
+    }
+
+    /// Draws the other broadcast managers.
+    fn put_managers(&self, alloc: Global, page: &mut Page, y: u64) -> Result<(), AllocError> {
         let mut place = 0u64;
-        for peer in self.port.peers.as_slice().iter().take(MAX_DRAWN) {
-            put_peer(alloc, page, box_at(place, y), peer)?;
+        if let Some(manager) = self.port.bbmd {
+            put_manager(alloc, page, box_at(place, y), "its BBMD", manager)?;
             place = place.saturating_add(1);
         }
-        self.put_routers(alloc, page, place, y)
+        for peer in self.port.peers.as_slice().iter().take(MAX_DRAWN) {
+            put_manager(alloc, page, box_at(place, y), "peer (BBMD)", peer.address)?;
+            place = place.saturating_add(1);
+        }
+        Ok(())
     }
 
     /// Draws the network of the port.
@@ -235,9 +251,15 @@ fn box_at(place: u64, y: u64) -> Place {
     }
 }
 
-fn put_peer(alloc: Global, page: &mut Page, at: Place, peer: &BdtEntry) -> Result<(), AllocError> {
-    let address = peer.address.to_string(alloc)?;
-    put_box(page, Shape::Peer, at, "peer (BBMD)", address.as_str())
+fn put_manager(
+    alloc: Global,
+    page: &mut Page,
+    at: Place,
+    words: &str,
+    manager: BipAddr,
+) -> Result<(), AllocError> {
+    let address = manager.to_string(alloc)?;
+    put_box(page, Shape::Peer, at, words, address.as_str())
 }
 
 fn put_router(alloc: Global, page: &mut Page, at: Place, route: &Route) -> Result<(), AllocError> {

@@ -18,6 +18,8 @@ module _ (Is : Compared → List ℕ → Type 0) (held holds : Option (List ℕ)
   printed : (lines : Lines) (f : Fault) → Is lines.made lines.text.items → LeavesLines (Ok lines) held holds (Err f)
       → LeavesSome Is held holds (Err f)
   printed lines fault.Different is leaves = (lines.made, leaves.0, lines.text.items, is, leaves.1)
+  printed lines fault.OtherParts is leaves =
+      (lines.text.items, subst (λ (made : Compared). Is made lines.text.items) leaves.0 is, leaves.1)
   printed lines fault.Write is leaves = (lines.made, lines.text.items, is, leaves)
   printed lines fault.CommandLine is leaves = elim leaves [ ]
   printed lines (fault.Unreadable _) is leaves = elim leaves [ ]

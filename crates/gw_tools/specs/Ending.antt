@@ -57,9 +57,10 @@ abbrev pub error_text_by : Result Choice Fault → Result (Unit {0}) Fault → L
 error_text_by choice (Ok done) = []
 error_text_by choice (Err of_program) = line_by (codes "bacgwctl") (file_of choice of_program) of_program
 
--- of `compare`: 1 if it found that the two aren't alike, and 2 at any other fault
+-- of `compare`: 1 if an ask may be decided otherwise, 3 if only other parts differ, and 2 at any other fault
 abbrev pub status_of_comparison : Fault → ℕ
 status_of_comparison fault.Different = 1
+status_of_comparison fault.OtherParts = 3
 status_of_comparison _ = 2
 
 -- the exit status after a choice

@@ -1,14 +1,18 @@
 -- What `check --json`, `compare --json` and `objects --csv` print, over the definitions of `gw_json` and `gw_report::points`.
 use Rattle.std.specs.Prelude.{◌≡◌, ◌⊎◌, ⊤, ℕ, ◌==◌, List, [], ◌++◌, length, take, Option, Some, None, Result, Ok, Err}
 use Rattle.std.specs.List.{flat_map}
+use Rattle.std.specs.Str.{IsUtf8}
 use Rattle.gw_policy_review.specs.comparison.Asks.{asks_of}
 use Rattle.gw_policy_review.specs.comparison.Comparison.{compared_by}
+use Rattle.gw_policy_review.specs.comparison.PartLines.{details as details_of}
+use Rattle.gw_policy_review.specs.comparison.Parts.{AreDifferences, name_line}
 use Rattle.gw_policy_review.specs.declared.comparison.comparison.Compared.{Compared}
+use Rattle.gw_policy_review.specs.declared.comparison.parts.Part.{Part}
 use Rattle.gw_configuration.specs.Configuration.{Configuration}
 use Rattle.gw_configuration.specs.declared.fault.ConfigFault.{ConfigFault}
 use Rattle.gw_policy_text.specs.faults.Explanation.{ExplainsText}
 use Rattle.gw_json.specs.Check.{checked_value, fault_value}
-use Rattle.gw_json.specs.Comparison.{found_value, summary_value}
+use Rattle.gw_json.specs.Comparison.{differences_value, found_value, summary_value}
 use Rattle.gw_json.specs.Document.{line_of}
 use Rattle.gw_ask_sets.specs.regions.Comparing.{IsSummary}
 use Rattle.gw_ask_sets.specs.regions.Regions.{Region}
@@ -44,12 +48,29 @@ FaultLine _ _ line = line ≡ []
 
 -- ---- `compare`
 
--- A line for each region in which the old and the new rules decide otherwise, at most so many, and a last line.
+-- a text, if it is UTF-8
+abbrev pub IsTextOf : List ℕ → Option (List ℕ) → Type 0
+IsTextOf octets None = IsUtf8 octets → ⊥
+IsTextOf octets (Some text) = text ≡ octets
+
+-- The line of the parts in which two configurations differ.
+pub record IsPartsLine (old new : Configuration) (differ : List Part) (line : List ℕ) : Type 0 where
+  pub names : Option (List ℕ)
+  pub are_names : IsTextOf (flat_map name_line differ) names
+  pub details : Option (List ℕ)
+  pub are_details : IsTextOf (details_of old new differ) details
+  pub is : line ≡ line_of (differences_value names details)
+
+-- That line, a line for each region in which the old and the new rules decide otherwise, at most so many, and a last line.
 pub record AreComparisonLines (old new : Configuration) (most : ℕ) (made : Compared) (text : List ℕ) : Type 0 where
+  pub differ : List Part
+  pub are_differences : AreDifferences old new differ
+  pub ahead : List ℕ
+  pub is_ahead : IsPartsLine old new differ ahead
   pub found : List Found
   pub left : List Region
   pub steps : ℕ
   pub summary : IsSummary (asks_of old new) old.rules new.rules found left
-  pub verdict : made ≡ compared_by (length found) (length left)
-  pub lines : text ≡ flat_map (λ f. line_of (found_value old.rules new.rules f)) (take most found)
-      ++ line_of (summary_value (length found) (length left == 0) steps)
+  pub verdict : made ≡ compared_by (length differ) (length found) (length left)
+  pub lines : text ≡ ahead ++ (flat_map (λ f. line_of (found_value old.rules new.rules f)) (take most found)
+      ++ line_of (summary_value (length found) (length left == 0) steps))

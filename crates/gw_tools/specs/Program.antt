@@ -5,6 +5,7 @@ use Rattle.std.specs.Prelude.{string_bytes}
 use Rattle.std.specs.Io.KnownBytes.{Appends}
 use Rattle.gw_script.specs.Known.{OnKnown}
 use Rattle.std.specs.declared.alloc.AllocError.{AllocError}
+use Rattle.gw_policy_review.specs.comparison.Laws.{says_alike}
 use Rattle.gw_policy_review.specs.declared.comparison.comparison.Compared.{Compared}
 use Rattle.gw_policy_review.specs.declared.comparison.comparison.Compared.TheVariants as compared
 use Rattle.gw_configuration.specs.Configuration.{Configuration}
@@ -93,11 +94,12 @@ LeavesMigrated held holds (Ok c) outcome =
     × (c.format ≡ formats.Three → outcome ≡ Err (fault.Migration migration.Already))
 LeavesMigrated held holds (Err f) outcome = (outcome ≡ Err f) × (holds ≡ held)
 
--- What printing leaves of a comparison that was made, of which a failed write may leave a front: if the two aren't alike,
--- that is the outcome. Nothing if memory was refused for it.
+-- What printing leaves of a comparison that was made, of which a failed write may leave a front: if other parts differ, or
+-- an ask may be decided otherwise, that is the outcome. Nothing if memory was refused for it.
 abbrev pub LeavesLines : Result Lines AllocError → Option (List ℕ) → Option (List ℕ) → Result (Unit {0}) Fault → Type 0
 LeavesLines (Ok lines) held holds (Ok done) = (lines.made ≡ compared.Alike) × Appends held holds lines.text.items
-LeavesLines (Ok lines) held holds (Err fault.Different) = (lines.made ≢ compared.Alike) × Appends held holds lines.text.items
+LeavesLines (Ok lines) held holds (Err fault.OtherParts) = (lines.made ≡ compared.OtherParts) × Appends held holds lines.text.items
+LeavesLines (Ok lines) held holds (Err fault.Different) = (says_alike lines.made ≡ false) × Appends held holds lines.text.items
 LeavesLines (Ok lines) held holds (Err fault.Write) = AppendsFront held holds lines.text.items
 LeavesLines (Ok lines) held holds (Err _) = ⊥
 LeavesLines (Err refused) held holds outcome = (outcome ≡ Err fault.Memory) × (holds ≡ held)
@@ -105,8 +107,9 @@ LeavesLines (Err refused) held holds outcome = (outcome ≡ Err fault.Memory) ×
 -- The same of a comparison of which only this is known.
 abbrev pub LeavesSome : (Compared → List ℕ → Type 0) → Option (List ℕ) → Option (List ℕ) → Result (Unit {0}) Fault → Type 0
 LeavesSome Is held holds (Ok done) = (text : List ℕ) × Is compared.Alike text × Appends held holds text
+LeavesSome Is held holds (Err fault.OtherParts) = (text : List ℕ) × Is compared.OtherParts text × Appends held holds text
 LeavesSome Is held holds (Err fault.Different) =
-    (made : Compared) × (made ≢ compared.Alike) × (text : List ℕ) × Is made text × Appends held holds text
+    (made : Compared) × (says_alike made ≡ false) × (text : List ℕ) × Is made text × Appends held holds text
 LeavesSome Is held holds (Err fault.Write) = (made : Compared) × (text : List ℕ) × Is made text × AppendsFront held holds text
 LeavesSome Is held holds (Err fault.Memory) = holds ≡ held
 LeavesSome Is held holds (Err _) = ⊥

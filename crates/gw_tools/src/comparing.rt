@@ -183,12 +183,13 @@ fn compared<C: Calendar, E: OctetSink>(
     lines_of(alloc, limits, comparing)
 }
 
-/// How a comparison ends: `Different` unless the two are alike.
+/// How a comparison ends: `OtherParts` if only other parts differ, and `Different` if an ask may be decided otherwise.
 pub fn outcome_of(made: Compared) -> Result<(), Fault>
     ensures { result ≡ outcome_of_comparison made }
 {
     match made {
         Compared::Alike => Ok(()),
+        Compared::OtherParts => Err(Fault::OtherParts),
         Compared::Different | Compared::Unfinished => Err(Fault::Different),
     }
 }

@@ -131,12 +131,13 @@ pub fn end_by<E: OctetSink>(
     }
 }
 
-/// The exit status of `compare`: 1 if it found that the two configurations aren't alike, else 2.
+/// The exit status of `compare`: 1 if an ask may be decided otherwise, 3 if only other parts differ, else 2.
 fn status_of_comparison(fault: Fault) -> u8
     ensures { result ≡ status_of_comparison fault }
 {
     match fault {
         Fault::Different => 1,
+        Fault::OtherParts => 3,
         _ => 2,
     }
 }

@@ -3,13 +3,12 @@
 ghost use Rattle.std.specs.Prelude.{◌≡◌, ◌⊎◌, ◌++◌, ◌==◌, [], length, take, option_map, IfOk, MatchResult, OnOk};
 ghost use Rattle.std.specs.Io.Buffered.{writer_buffer, writer_contents};
 ghost use Rattle.std.specs.List.{flat_map};
-ghost use Rattle.gw_policy_review.specs.comparison.Comparison.{compared_by};
 ghost use Rattle.gw_json.specs.Check.{checked_value, fault_value};
 ghost use Rattle.gw_json.specs.Comparison.{found_value};
 ghost use Rattle.gw_json.specs.Document.{line_of};
 ghost use Rattle.gw_report.specs.points.Points.{points_text};
 ghost use Rattle.gw_ending.specs.reading.Files.{result_map};
-ghost use Rattle.gw_tools.specs.Json.{AreComparisonLines, FaultLine, IsFaultLine, IsMade, checked_line};
+ghost use Rattle.gw_tools.specs.Json.{AreComparisonLines, IsPartsLine, IsTextOf, FaultLine, IsFaultLine, IsMade, checked_line};
 ghost use Rattle.gw_tools.specs.Program.{LeavesCheckedJson, LeavesComparedJson, LeavesComparisonJson, LeavesPoints};
 
 use crate::comparing::{Lines, print_lines};
@@ -17,8 +16,10 @@ use gw_ask_sets::regions::{Found, MAX_STEPS, summarize};
 use gw_configuration::{Config, ConfigFault};
 use gw_ending::Fault;
 use gw_ending::reading::{configuration_of, print, print_made};
-use gw_json::{put_check, put_fault, put_found, put_summary};
-use gw_policy_review::comparison::{Compared, asks_of};
+use gw_json::{put_check, put_differences, put_fault, put_found, put_summary};
+use gw_policy_review::comparison::{
+    Part, asks_of, compared_by, differing_parts, put_details, put_part_names,
+};
 use gw_policy_text::faults::explain;
 use gw_report::points::put_points;
 use gw_rules::Rule;
@@ -106,7 +107,31 @@ fn put_all(
     Ok(())
 }
 
-/// What the rules of two configurations decide otherwise, in at most so many lines and a last one.
+/// A text of these octets, if they are UTF-8.
+fn text_of(octets: &[u8]) -> Option<&str>
+    ensures { IsTextOf octets.now (option_map (λ text. text.now) result) }
+{
+    str::from_utf8(octets).ok()
+}
+
+/// The line of the parts in which two configurations differ.
+fn parts_line(
+    alloc: Global,
+    old: &Config,
+    new: &Config,
+    differ: &[Part],
+) -> Result<Vec<u8>, AllocError>
+    ensures { IfOk result (λ line. IsPartsLine old.now new.now differ.now line.items) }
+{
+    let (mut names, mut details, mut line) = (Vec::new(alloc), Vec::new(alloc), Vec::new(alloc));
+    put_part_names(&mut names, differ)?;
+    put_details(&mut details, old, new, differ)?;
+    put_differences(alloc, &mut line, text_of(&names), text_of(&details))?;
+    Ok(line)
+}
+
+/// In which parts two configurations differ, and what their rules decide otherwise, in at most so many lines and a last
+/// one.
 fn comparison_lines(
     alloc: Global,
     most: usize,
@@ -115,28 +140,17 @@ fn comparison_lines(
 ) -> Result<Lines, AllocError>
     ensures { IfOk result (λ lines. AreComparisonLines old.now new.now most lines.made lines.text.items) }
 {
+    let differ = differing_parts(alloc, old, new)?;
+    let mut text = parts_line(alloc, old, new, &differ)?;
     let asks = asks_of(alloc, old, new)?;
     let (before, after) = (old.rules().rules(), new.rules().rules());
     let summary = summarize(alloc, before, after, &asks, MAX_STEPS)?;
     let (kinds, left) = (summary.found.len(), summary.left.len());
     let shown = &summary.found[..most.min(kinds)];
-    let mut text = Vec::new(alloc);
     put_all(alloc, before, after, shown, &mut text)?;
     put_summary(alloc, &mut text, kinds, left == 0, summary.steps)?;
-    let made = compared_by(kinds, left);
+    let made = compared_by(differ.len(), kinds, left);
     Ok(Lines { text, made })
-}
-
-fn compared_by(found: usize, left: usize) -> Compared
-    ensures { result ≡ compared_by found left }
-{
-    if left != 0 {
-        Compared::Unfinished
-    } else if found != 0 {
-        Compared::Different
-    } else {
-        Compared::Alike
-    }
 }
 
 /// Prints what the rules of two configurations decide otherwise, as JSON objects.

@@ -1,5 +1,5 @@
 -- What a datagram brings: a message comes from an address, and what it names was read of octets.
-use Rattle.std.proofs.Common.{◌≡◌, ◌∙◌, sym, ap, refl, subst, ℕ, Bool, true, false, List, length, nat_le, Option, Some, None, Result, Ok, Err}
+use Rattle.std.proofs.Common.{◌≡◌, refl, subst, ℕ, Bool, true, false, List, length, nat_le, Option, Some, None, Result, Ok, Err}
 use Rattle.std.specs.Prelude.{IfSome, not, if◌then◌else◌}
 use Rattle.gw_addr.specs.declared.bip.BipAddr.{BipAddr}
 use Rattle.gw_addr.specs.Address.{IsAddress}

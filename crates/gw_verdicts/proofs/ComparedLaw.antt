@@ -1,6 +1,5 @@
 -- What the text of a comparison says is true of every event.
 use Rattle.std.proofs.Common.{◌≡◌, inl, inr, true}
-use Rattle.std.specs.List.{AllByRecursion}
 use Rattle.gw_configuration.specs.Configuration.{Configuration}
 use Rattle.gw_policy_review.specs.comparison.Laws.{IsAskOf}
 use Rattle.gw_policy_review.proofs.comparison_lemmas.TextLaw.{alike_is_alike, found_is_all, lines_are_true}
@@ -29,7 +28,7 @@ events_are_compared old new most made text translated finished =
     raised old new _ (found_is_all old new most made text translated finished)
 
 pub events_are_alike : EventsAreAlike
-events_are_alike old new most text translated = raised old new _ (alike_is_alike old new most text translated)
+events_are_alike old new most made text translated alike = raised old new _ (alike_is_alike old new most made text translated alike)
 
 pub lines_are_true_of_events : LinesAreTrueOfEvents
 lines_are_true_of_events old new most made text translated =

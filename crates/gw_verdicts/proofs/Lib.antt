@@ -6,8 +6,10 @@ pub mod Gaps
 pub mod Knowing
 pub mod Octets
 pub mod Parts
+pub mod PeerLaw
 pub mod Raised
 pub mod RelayAsks
 pub mod ShapeLaw
+pub mod RunsLaw
 pub mod WhyLaw
 pub mod asks_lemmas

@@ -1,6 +1,6 @@
 -- What a decoder reads of octets: the numbers of an NPDU, an APDU and a service's body, and the octets after them.
-use Rattle.std.proofs.Common.{◌≡◌, ◌∙◌, ◌⊎◌, inl, inr, sym, ap, refl, subst, ℕ, zero, suc, ◌+◌, ◌≤◌, ◌<◌, Bool, true, false, List, [], ◌∷◌, ◌++◌, length, nat_le, Option, Some, None, Result, Ok, Err, arith}
-use Rattle.std.specs.Prelude.{◌≢◌, ◌^◌, ◌*◌, IfSome, IsSomeAnd, MatchOption, if◌then◌else◌, ⊤}
+use Rattle.std.proofs.Common.{◌≡◌, ◌⊎◌, inl, inr, refl, subst, ℕ, zero, suc, ◌≤◌, ◌<◌, Bool, true, false, List, [], ◌∷◌, ◌++◌, length, nat_le, Option, Some, None, Result, Ok, Err, arith}
+use Rattle.std.specs.Prelude.{◌≢◌, ◌^◌, IfSome, IsSomeAnd, MatchOption, if◌then◌else◌, ⊤}
 use Rattle.std.specs.Option.{ok_or}
 use Rattle.gw_codecs.specs.tags.Number.{unsigned_of}
 use Rattle.std.specs.Int.{w16, to_be_bytes}
@@ -22,12 +22,11 @@ use Rattle.gw_codecs.specs.declared.apdu.header.Header.{Header}
 use Rattle.gw_codecs.specs.declared.apdu.header.Header.TheVariants as header
 use Rattle.gw_codecs.proofs.apdu_lemmas.Headers.{apdu_is}
 use Rattle.gw_codecs.specs.services.Body.{Begins, Body, IsBody, done, given, left_out, may, must, nothing_more, required}
-use Rattle.gw_codecs.specs.declared.services.fault.BodyFault.{BodyFault}
 use Rattle.gw_codecs.specs.declared.services.fault.BodyFault.TheVariants.{InvalidTag, OutOfRange}
 use Rattle.gw_codecs.specs.services.Limits.{last_number, last_priority, last_property, priority_of}
 use Rattle.gw_codecs.specs.services.Multi.{IsList, IsNamed, IsReference, Reference, a_property, in_new_list, in_same_list, last_one, most_references, next_object, next_property, the_object, whole, with_index}
 use Rattle.gw_codecs.specs.services.MultiReading.{multi_at}
-use Rattle.gw_codecs.specs.services.Parameter.{Content, Holds, IsContentOf, Parameter, a_number, a_text, a_text_value, an_enumerated_value, an_object, an_object_value, an_unsigned_value, between, enclosed, in_range, number, object, of_number, of_object, of_text, plain_enumerated, plain_object, plain_text, plain_unsigned, tagged, text, under, values}
+use Rattle.gw_codecs.specs.services.Parameter.{Content, Holds, IsContentOf, Parameter, a_number, a_text, a_text_value, an_enumerated_value, an_object, an_object_value, an_unsigned_value, between, enclosed, in_range, number, object, of_number, of_object, of_text, plain_enumerated, plain_object, plain_text, plain_unsigned, tagged, under}
 use Rattle.gw_codecs.specs.services.Parameter.{Shape as Content_shape}
 use Rattle.gw_codecs.specs.services.Read.{Read, read_at}
 use Rattle.gw_codecs.specs.services.Reading.{ended, given_at, number_at, number_given, number_in, number_maybe_at, object_at, ranged, values_at}

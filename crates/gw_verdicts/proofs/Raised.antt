@@ -1,5 +1,5 @@
 -- The asks of a message lie in the shapes of whence it comes.
-use Rattle.std.proofs.Common.{◌≡◌, ◌≤◌, ◌∙◌, ◌⊎◌, sym, ap, refl, subst, ℕ, Bool, true, false, List, [], ◌∷◌, length, nat_le, Option, Some, None, inl, inr, arith}
+use Rattle.std.proofs.Common.{◌≡◌, ◌≤◌, ◌∙◌, ◌⊎◌, sym, ap, refl, subst, ℕ, Bool, true, false, List, [], ◌∷◌, ◌++◌, length, nat_le, Option, Some, None, inl, inr, arith}
 use Rattle.std.specs.Prelude.{◌==◌, ◌||◌, if◌then◌else◌, IfSome}
 use Rattle.std.specs.List.{AllByRecursion}
 use Rattle.std.specs.Option.{option_map, option_map_or}
@@ -35,14 +35,14 @@ use Rattle.gw_relay.specs.Manage.{learn_ask, network_ask}
 use Rattle.gw_relay.specs.Message.{Message}
 use Rattle.gw_relay.specs.Named.{named_ask, unnamed_ask}
 use Rattle.gw_relay.specs.Route.{route_ask}
-use Rattle.gw_relay.specs.State.{Relay}
+use Rattle.gw_relay.specs.State.{Relay, is_manager}
 use Rattle.gw_relay.specs.declared.port.Port.{Port}
 use Rattle.gw_core.specs.Asks.{apdu_asks, asks_for}
 use Rattle.gw_core.specs.Receive.{message}
 use Rattle.gw_core.specs.Reply.{apdu_for, apdu_of, apdu_towards, context_of, is_broadcast, is_device}
 use Rattle.gw_core.specs.State.{device_network}
 use Rattle.gw_ask_sets.specs.shapes.Shape.{IsWithin, LiesIn, LiesInOne, Shape}
-use Rattle.gw_ask_sets.specs.shapes.Shapes.{aimed, answer, bound, claim_shapes, enter_shapes, message_shapes, named, near_shapes, network as any_network, nothing, only, own, passed_shapes, perhaps, perhaps_in, plain, request_or_message, request_shapes, shapes_from, some, some_in, table_shapes}
+use Rattle.gw_ask_sets.specs.shapes.Shapes.{aimed, answer, bound, broadcast_shapes, cast_shapes, claim_shapes, enter_shapes, frame_shapes, message_shapes, named, near_shapes, network as any_network, nothing, only, own, passed_shapes, passed_to, perhaps, perhaps_in, plain, request_or_message, request_shapes, shapes_from, some, some_in, table_shapes}
 use Rattle.gw_ask_sets.specs.declared.shapes.shapes.Origin.{Origin}
 use Rattle.gw_ask_sets.specs.declared.shapes.side.Side.{Side}
 use Rattle.gw_ask_sets.proofs.shapes_lemmas.Lying.{in_front, in_rest, lies_by}
@@ -51,7 +51,7 @@ use Rattle.gw_verdicts.proofs.DeviceAsks.{DeviceCases, DeviceKnown, each_device}
 use Rattle.gw_verdicts.proofs.Knowing.{bounds_known}
 use Rattle.gw_verdicts.proofs.Octets.{AreNamed, IsAskedFor, IsPlace, IsRead, payload_asks}
 use Rattle.gw_verdicts.proofs.Parts.{each_part}
-use Rattle.gw_verdicts.proofs.RelayAsks.{CastCases, JudgesRequests, NamedCases, NetworkCases, Reached, RouteCases, each_cast, each_network, each_route}
+use Rattle.gw_verdicts.proofs.RelayAsks.{CastCases, JudgesRequests, NamedCases, Reached, RouteCases, each_cast, each_network, each_route}
 
 -- what is to be shown of each ask
 abbrev pub Lies : Format → ℕ → Origin → Ask → Type 0
@@ -63,6 +63,7 @@ pub record Comes (format : Format) (from : Origin) (m : Message) : Type 0 where
   pub network : IsWithin from.network (Some m.claim.net)
   pub key : IsWithin from.key (key_of m.claim.mac)
   pub sender : from.sender ≡ some_in format fields.Sender
+  pub manages : from.manages ≡ is_manager m.here.port
   pub brought : IsBrought m
 
 -- ---- sides
@@ -141,13 +142,38 @@ asked_for (Some n) (inr both) = inr both
 
 in_message : (format : Format) (device : ℕ) (from : Origin) (ask : Ask) → LiesInOne (message_shapes format device from) ask
     → LiesInOne (shapes_from format device from) ask
-in_message format device from ask lies = in_front (message_shapes format device from) (request_shapes format from) ask lies
+in_message format device from ask lies =
+    in_rest (cast_shapes format from) (message_shapes format device from ++ request_shapes format from) ask
+    (in_front (message_shapes format device from) (request_shapes format from) ask lies)
+
+-- a broadcast of broadcast managers
+in_cast : (format : Format) (device : ℕ) (from : Origin) (ask : Ask) → from.manages ≡ true → LiesInOne (broadcast_shapes format from) ask
+    → LiesInOne (shapes_from format device from) ask
+in_cast format device from ask manages lies =
+    in_front (cast_shapes format from) (message_shapes format device from ++ request_shapes format from) ask
+    (subst (λ (b : Bool). LiesInOne (if b then broadcast_shapes format from else []) ask) (sym manages) lies)
 
 in_request : (format : Format) (device : ℕ) (from : Origin) (to : Side) (ask : Ask) → request_shapes format from ≡ passed_shapes format to from
     → LiesInOne (passed_shapes format to from) ask → LiesInOne (shapes_from format device from) ask
 in_request format device from to ask is lies =
-    in_rest (message_shapes format device from) (request_shapes format from) ask
-    (subst (λ (shapes : List Shape). LiesInOne shapes ask) (sym is) lies)
+    in_rest (cast_shapes format from) (message_shapes format device from ++ request_shapes format from) ask
+    (in_rest (message_shapes format device from) (request_shapes format from) ask
+    (subst (λ (shapes : List Shape). LiesInOne shapes ask) (sym is) lies))
+
+-- where requests of broadcast managers go, and what they route
+anywhere : (from : Origin) (network : Option ℕ) → from.manages ≡ true → IsWithin (perhaps fields.DestinationNetwork) network
+    → IsWithin (passed_to from) network
+anywhere from network manages within =
+    subst (λ (b : Bool). IsWithin (if b then perhaps fields.DestinationNetwork else any_network) network) (sym manages) within
+
+routed_to : (from : Origin) (network : ℕ) → (1 ≤ network) × (network ≤ 65534) → IsWithin (passed_to from) (Some network)
+routed_to from network net = by from.manages
+  where
+    by : (b : Bool) → IsWithin (if b then perhaps fields.DestinationNetwork else any_network) (Some network)
+    by true =
+        let below = net.1 in
+        (net.0, omega (arith, below))
+    by false = net
 
 -- ---- requests that are passed on
 
@@ -213,13 +239,13 @@ named_cases format device from to m operation network comes is bound_to = record
 
 -- ---- the relay's asks
 
-cast_follows : (format : Format) (device : ℕ) (from : Origin) (m : Message) → Comes format from m → names_stations format ≡ true
+cast_follows : (format : Format) (device : ℕ) (from : Origin) (m : Message) → Comes format from m → from.manages ≡ true → names_stations format ≡ true
     → NamedCases (Lies format device from) bounds_known (cast_ask format m)
-cast_follows One device from m comes e = absurd cc
-cast_follows Two device from m comes e = absurd cc
-cast_follows Three device from m comes e =
-    named_cases Three device from (perhaps fields.DestinationNetwork) m operations.Cast (table.bound_for m.npdu) comes refl
-    (bound_within m.npdu comes.brought.npdu)
+cast_follows One device from m comes manages e = absurd cc
+cast_follows Two device from m comes manages e = absurd cc
+cast_follows Three device from m comes manages e =
+    named_cases Three device from (passed_to from) m operations.Cast (table.bound_for m.npdu) comes refl
+    (anywhere from (table.bound_for m.npdu) manages (bound_within m.npdu comes.brought.npdu))
 
 -- a message that is passed on, by what it asks for
 passes : (format : Format) (from : Origin) (m : Message) (operation : Operation) (network : Option ℕ) (services to : Side)
@@ -234,16 +260,16 @@ passes format from m operation network services to comes at bound_to asked =
 service_read : (m : Message) → IsBrought m → IsWithin request_or_message (table.service_of m.npdu.payload) ⊎ IsWithin answer (table.service_of m.npdu.payload)
 service_read m is = asked_for (table.service_of m.npdu.payload) (payload_asks m.npdu.payload is.npdu.fits is.npdu.octets)
 
-cast_cases : (format : Format) (device : ℕ) (from : Origin) (m : Message) → Comes format from m
+cast_cases : (format : Format) (device : ℕ) (from : Origin) (m : Message) → Comes format from m → is_manager m.here.port ≡ true
     → CastCases (Lies format device from) bounds_known format m
-cast_cases format device from m comes = record {
-  cast = in_message format device from (cast_ask format m) (elim (service_read m comes.brought) [
+cast_cases format device from m comes managed = record {
+  cast = in_cast format device from (cast_ask format m) (comes.manages ∙ managed) (elim (service_read m comes.brought) [
     | inl asked ↦ inl (passes format from m operations.Cast (table.bound_for m.npdu) request_or_message (perhaps fields.DestinationNetwork) comes
         (exactly 1) (bound_within m.npdu comes.brought.npdu) asked)
     | inr asked ↦ inr (inl (passes format from m operations.Cast (table.bound_for m.npdu) answer (perhaps fields.DestinationNetwork) comes
         (exactly 1) (bound_within m.npdu comes.brought.npdu) asked))
   ]);
-  follows = cast_follows format device from m comes;
+  follows = cast_follows format device from m comes (comes.manages ∙ managed);
 }
 
 -- what a message that names no source asks
@@ -254,10 +280,10 @@ pub record NearCases (P : Ask → Type 0) (format : Format) (m : Message) : Type
 question_lies : (format : Format) (device : ℕ) (from : Origin) (m : Message) → Comes format from m → service_of m.npdu.payload ≡ Some 512
     → (network : Option ℕ) → IfSome network (λ n. is_network n ≡ true) → Lies format device from (network_ask format m network)
 question_lies format device from m comes is network net =
-    in_message format device from _ (inr (inr (inr (inr (inl
+    in_message format device from _ (inr (inr (inl
     (lies_by (bound from operations.Network (only 512) (record any_network { absent = true })) (network_ask format m network)
     (exactly 8) comes.port comes.network comes.key (net_or_none network net) (is_exactly 512 _ is)
-    refl refl refl refl (sent format from.sender m.from comes.sender comes.brought.from) refl))))))
+    refl refl refl refl (sent format from.sender m.from comes.sender comes.brought.from) refl))))
 
 pub near_cases : (format : Format) (from : Origin) (m : Message) → Comes format from m → NearCases (LiesInOne (near_shapes from)) format m
 near_cases format from m comes = record {
@@ -278,17 +304,14 @@ route_follows One device from m network comes net judges = absurd judges
 route_follows Two device from m network comes net judges =
     named_cases Two device from any_network m operations.Route (Some network) comes refl net
 route_follows Three device from m network comes net judges =
-    named_cases Three device from (perhaps fields.DestinationNetwork) m operations.Route (Some network) comes refl (net.0, at_most net.1)
-  where
-    at_most : network ≤ 65534 → network ≤ 65535
-    at_most below = omega (arith, below)
+    named_cases Three device from (passed_to from) m operations.Route (Some network) comes refl (routed_to from network net)
 
 route_cases : (format : Format) (device : ℕ) (from : Origin) (m : Message) → Comes format from m
     → RouteCases (Lies format device from) bounds_known format m
 route_cases format device from m comes = record {
   route = λ network net. in_message format device from (route_ask format m (Some network)) (elim (service_read m comes.brought) [
-    | inl asked ↦ inr (inr (inl (passes format from m operations.Route (Some network) request_or_message any_network comes (exactly 2) net asked)))
-    | inr asked ↦ inr (inr (inr (inl (passes format from m operations.Route (Some network) answer any_network comes (exactly 2) net asked))))
+    | inl asked ↦ inl (passes format from m operations.Route (Some network) request_or_message any_network comes (exactly 2) net asked)
+    | inr asked ↦ inr (inl (passes format from m operations.Route (Some network) answer any_network comes (exactly 2) net asked))
   ]);
   follows = λ network net judges. route_follows format device from m network comes net judges;
 }
@@ -300,31 +323,31 @@ device_cases : (format : Format) (from : Origin) (d : Database) (m : Message) �
     → DeviceCases (Lies format (device_network d) from) bounds_known d (context_of format (device_network d) m)
 device_cases format from d m comes own =
     let device = device_network d in record {
-      read = λ object p known. in_message format device from _ (inr (inr (inr (inr (inr (inl
+      read = λ object p known. in_message format device from _ (inr (inr (inr (inl
           (lies_by (named from operations.Read (only 12) (only device) nothing) _
           (exactly 9) comes.port comes.network comes.key (exactly device) (exactly 12)
           (object_kind object known.0) (object_instance object known.0) (property_within p known.1) refl
-          (sent format from.sender m.from comes.sender comes.brought.from) refl)))))));
-      multi = λ object p known. in_message format device from _ (inr (inr (inr (inr (inr (inr (inl
+          (sent format from.sender m.from comes.sender comes.brought.from) refl)))));
+      multi = λ object p known. in_message format device from _ (inr (inr (inr (inr (inl
           (lies_by (named from operations.Read (only 14) (only device) nothing) _
           (exactly 9) comes.port comes.network comes.key (exactly device) (exactly 14)
           (object_kind object known.0) (object_instance object known.0) (property_within p known.1) refl
-          (sent format from.sender m.from comes.sender comes.brought.from) refl))))))));
-      write = λ object p priority known rank. in_message format device from _ (inr (inr (inr (inr (inr (inr (inr (inl
+          (sent format from.sender m.from comes.sender comes.brought.from) refl))))));
+      write = λ object p priority known rank. in_message format device from _ (inr (inr (inr (inr (inr (inl
           (lies_by (named from operations.Write (only 15) (only device) (some fields.Priority)) _
           (exactly 10) comes.port comes.network comes.key (exactly device) (exactly 15)
           (object_kind object known.0) (object_instance object known.0) (property_within p known.1) rank
-          (sent format from.sender m.from comes.sender comes.brought.from) refl)))))))));
-      who_has = λ object known. in_message format device from _ (inr (inr (inr (inr (inr (inr (inr (inr (inl
+          (sent format from.sender m.from comes.sender comes.brought.from) refl)))))));
+      who_has = λ object known. in_message format device from _ (inr (inr (inr (inr (inr (inr (inl
           (lies_by (record (named from operations.List (only 263) (only device) nothing) { property = only 77 }) _
           (exactly 11) comes.port comes.network comes.key (exactly device) (exactly 263)
           (object_kind object known) (object_instance object known) (exactly 77) refl
-          (sent format from.sender m.from comes.sender comes.brought.from) refl))))))))));
-      who_is = in_message format device from _ (inr (inr (inr (inr (inr (inr (inr (inr (inr (inl
+          (sent format from.sender m.from comes.sender comes.brought.from) refl))))))));
+      who_is = in_message format device from _ (inr (inr (inr (inr (inr (inr (inr (inl
           (lies_by (record (named from operations.List (only 264) (only device) nothing) { object_type = only 8; property = only 75 }) _
           (exactly 11) comes.port comes.network comes.key (exactly device) (exactly 264)
           (exactly 8) (object_instance (device_id d.configured.device) own) (exactly 75) refl
-          (sent format from.sender m.from comes.sender comes.brought.from) refl)))))))))));
+          (sent format from.sender m.from comes.sender comes.brought.from) refl)))))))));
     }
 
 device_lies : (format : Format) (rules : List Rule) (d : Database) (from : Origin) (m : Message) → Comes format from m
@@ -367,7 +390,7 @@ message_lies rules relay d from m P comes reached own so near entered =
     let device = device_network d in
     let L = Lies format device from in
     each_part P rules relay d m entered
-    (each_weaker L P so _ (each_cast L bounds_known format m (cast_cases format device from m comes) comes.brought.npdu.octets))
+    (each_weaker L P so _ (each_cast L bounds_known format m (λ managed. cast_cases format device from m comes managed) comes.brought.npdu.octets))
     (each_weaker L P so _ (each_route L bounds_known relay m (route_cases format device from m comes) reached))
     (each_network P relay m (record {
       learn = near.learn;
@@ -383,9 +406,10 @@ in_if true shape ask e lies = inl lies
 in_if false shape ask e lies = absurd cc
 
 pub enter_lies : (format : Format) (number network : ℕ) (m : Message) → names_stations format ≡ true → number ≡ m.here.port.number
-    → network ≡ m.here.port.network → IsBrought m → LiesInOne (enter_shapes format (own format number network)) (enter_ask format m)
-enter_lies format number network m names at net brought =
-    let from = own format number network in
+    → network ≡ m.here.port.network → (manages : Bool) → IsBrought m
+    → LiesInOne (enter_shapes format (own format number network manages)) (enter_ask format m)
+enter_lies format number network m names at net manages brought =
+    let from = own format number network manages in
     in_if (names_stations format) (plain from operations.Enter nothing) (enter_ask format m) names
     (lies_by (plain from operations.Enter nothing) (enter_ask format m) (exactly 12) (omega (arith, at), omega (arith, at))
     (omega (arith, net), omega (arith, net)) (six_octets m.link brought.link)
@@ -402,46 +426,45 @@ claim_lies format from m names comes =
 
 table_lies : (format : Format) (number network : ℕ) (port : Port) (sender : BipAddr) (frame : Frame) → number ≡ port.number → network ≡ port.network
     → IsAddress sender → HasFields frame
-    → AllByRecursion (LiesInOne (table_shapes format (own format number network))) (table.link_asks format port sender frame)
+    → AllByRecursion (LiesInOne (table_shapes format (own format number network (is_manager port)))) (table.link_asks format port sender frame)
 table_lies format number network port sender frame at net is fits = each frame fits
   where
+    from : Origin
+    from = own format number network (is_manager port)
+
+    -- an ask is raised at a broadcast manager alone
+    managed : (b : Bool) (ask : Ask) → LiesInOne (frame_shapes format from) ask
+        → AllByRecursion (LiesInOne (if b then frame_shapes format from else [])) (if b then ask ∷ [] else [])
+    managed true ask lies = (lies, tt)
+    managed false ask lies = tt
+
     each : (frame : Frame) → HasFields frame
-        → AllByRecursion (LiesInOne (table_shapes format (own format number network))) (table.link_asks format port sender frame)
-    each (bvll.write_bdt entries) fits = (
-      inl
-          (lies_by (plain (own format number network) operations.WriteTable (only 769)) _
-          (exactly 6) (omega (arith, at), omega (arith, at)) (omega (arith, net), omega (arith, net)) (address_key sender is) refl (exactly 769) refl refl refl refl
-          (sent format (some_in format fields.Sender) sender refl is) refl),
-      tt,
-    )
-    each bvll.read_bdt fits = (
-      inr (inl
-          (lies_by (plain (own format number network) operations.ReadTable (only 770)) _
-          (exactly 5) (omega (arith, at), omega (arith, at)) (omega (arith, net), omega (arith, net)) (address_key sender is) refl (exactly 770) refl refl refl refl
-          (sent format (some_in format fields.Sender) sender refl is) refl)),
-      tt,
-    )
-    each (bvll.register time_to_live) fits = (
-      inr (inr (inl
-          (lies_by (plain (own format number network) operations.Register (only 773)) _
-          (exactly 3) (omega (arith, at), omega (arith, at)) (omega (arith, net), omega (arith, net)) (address_key sender is) refl (exactly 773) refl refl refl refl
-          (sent format (some_in format fields.Sender) sender refl is) refl))),
-      tt,
-    )
-    each bvll.read_fdt fits = (
-      inr (inr (inr (inl
-          (lies_by (plain (own format number network) operations.ReadTable (only 774)) _
-          (exactly 5) (omega (arith, at), omega (arith, at)) (omega (arith, net), omega (arith, net)) (address_key sender is) refl (exactly 774) refl refl refl refl
-          (sent format (some_in format fields.Sender) sender refl is) refl)))),
-      tt,
-    )
-    each (bvll.delete address) fits = (
-      inr (inr (inr (inr (inl
-          (lies_by (record (plain (own format number network) operations.Delete (only 776)) { station = some_in format fields.Station }) _
-          (exactly 4) (omega (arith, at), omega (arith, at)) (omega (arith, net), omega (arith, net)) (address_key sender is) refl (exactly 776) refl refl refl refl
-          (sent format (some_in format fields.Sender) sender refl is) (key_within (names_stations format) address fits)))))),
-      tt,
-    )
+        → AllByRecursion (LiesInOne (table_shapes format (own format number network (is_manager port)))) (table.link_asks format port sender frame)
+    each (bvll.write_bdt entries) fits =
+        managed (is_manager port) _ (inl
+        (lies_by (plain (own format number network (is_manager port)) operations.WriteTable (only 769)) _
+        (exactly 6) (omega (arith, at), omega (arith, at)) (omega (arith, net), omega (arith, net)) (address_key sender is) refl (exactly 769) refl refl refl refl
+        (sent format (some_in format fields.Sender) sender refl is) refl))
+    each bvll.read_bdt fits =
+        managed (is_manager port) _ (inr (inl
+        (lies_by (plain (own format number network (is_manager port)) operations.ReadTable (only 770)) _
+        (exactly 5) (omega (arith, at), omega (arith, at)) (omega (arith, net), omega (arith, net)) (address_key sender is) refl (exactly 770) refl refl refl refl
+        (sent format (some_in format fields.Sender) sender refl is) refl)))
+    each (bvll.register time_to_live) fits =
+        managed (is_manager port) _ (inr (inr (inl
+        (lies_by (plain (own format number network (is_manager port)) operations.Register (only 773)) _
+        (exactly 3) (omega (arith, at), omega (arith, at)) (omega (arith, net), omega (arith, net)) (address_key sender is) refl (exactly 773) refl refl refl refl
+        (sent format (some_in format fields.Sender) sender refl is) refl))))
+    each bvll.read_fdt fits =
+        managed (is_manager port) _ (inr (inr (inr (inl
+        (lies_by (plain (own format number network (is_manager port)) operations.ReadTable (only 774)) _
+        (exactly 5) (omega (arith, at), omega (arith, at)) (omega (arith, net), omega (arith, net)) (address_key sender is) refl (exactly 774) refl refl refl refl
+        (sent format (some_in format fields.Sender) sender refl is) refl)))))
+    each (bvll.delete address) fits =
+        managed (is_manager port) _ (inr (inr (inr (inr (inl
+        (lies_by (record (plain (own format number network (is_manager port)) operations.Delete (only 776)) { station = some_in format fields.Station }) _
+        (exactly 4) (omega (arith, at), omega (arith, at)) (omega (arith, net), omega (arith, net)) (address_key sender is) refl (exactly 776) refl refl refl refl
+        (sent format (some_in format fields.Sender) sender refl is) (key_within (names_stations format) address fits)))))))
     each (bvll.result_code code) fits = tt
     each (bvll.read_bdt_ack entries) fits = tt
     each (bvll.forwarded originator npdu) fits = tt
@@ -451,5 +474,5 @@ table_lies format number network port sender frame at net is fits = each frame f
     each (bvll.original_broadcast npdu) fits = tt
 
 pub link_lies : (format : Format) (port : Port) (sender : BipAddr) (frame : Frame) → IsAddress sender → HasFields frame
-    → AllByRecursion (LiesInOne (table_shapes format (own format port.number port.network))) (table.link_asks format port sender frame)
+    → AllByRecursion (LiesInOne (table_shapes format (own format port.number port.network (is_manager port)))) (table.link_asks format port sender frame)
 link_lies format port sender frame is fits = table_lies format port.number port.network port sender frame refl refl is fits

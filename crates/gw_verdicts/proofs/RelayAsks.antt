@@ -37,6 +37,7 @@ use Rattle.gw_codecs.specs.declared.services.fault.BodyFault.{BodyFault}
 use Rattle.gw_codecs.specs.tags.Object.{Object}
 use Rattle.gw_relay.specs.Asks.{bound_for, service_of}
 use Rattle.gw_relay.specs.Cast.{cast_ask, cast_asks, goes_on, is_broadcast}
+use Rattle.gw_relay.specs.State.{is_manager}
 use Rattle.gw_relay.specs.Manage.{are_networks, is_for_all, is_i_am_router, is_what_is_network_number, is_who_is_router, learn_ask, manage_asks, named_networks, network_ask, networks_in, question_of, question_steps}
 use Rattle.gw_relay.specs.Message.{Message}
 use Rattle.gw_relay.specs.Named.{apdu_asks, body_asks, forward_asks, header_asks, multi_asks, named_ask, named_asks, payload_asks, read_asks, reference_ask, request_asks, segment_asks, unnamed_ask, write_asks}
@@ -162,15 +163,21 @@ pub record CastCases (P : Ask → Type 0) (K : Known) (format : Format) (m : Mes
   pub cast : P (cast_ask format m)
   pub follows : names_stations format ≡ true → NamedCases P K (cast_ask format m)
 
-pub each_cast : (P : Ask → Type 0) (K : Known) (format : Format) (m : Message) → CastCases P K format m → K.IsText (payload_octets m.npdu.payload)
-    → AllByRecursion P (cast_asks format m)
+-- of a broadcast on a port that is a broadcast manager
+pub each_cast : (P : Ask → Type 0) (K : Known) (format : Format) (m : Message) → (is_manager m.here.port ≡ true → CastCases P K format m)
+    → K.IsText (payload_octets m.npdu.payload) → AllByRecursion P (cast_asks format m)
 unfolding cast_asks
 each_cast P K format m cases fits =
-    each_if P (goes_on m.here m.from m.frame && is_broadcast m.frame) _ [] (λ e. (
-      cases.cast,
+    each_if P (goes_on m.here m.from m.frame && (is_manager m.here.port && is_broadcast m.frame)) _ [] (λ e. (
+      (cases (managed e)).cast,
       each_if P (names_stations format) _ []
-          (λ t. each_following P K format (cast_ask format m) m.npdu.payload (λ judges. cases.follows t) refl fits) (λ f. tt),
+          (λ t. each_following P K format (cast_ask format m) m.npdu.payload (λ judges. (cases (managed e)).follows t) refl fits) (λ f. tt),
     )) (λ e. tt)
+  where
+    managed : (goes_on m.here m.from m.frame && (is_manager m.here.port && is_broadcast m.frame)) ≡ true → is_manager m.here.port ≡ true
+    managed e =
+        (and_parts (is_manager m.here.port) (is_broadcast m.frame)
+        (and_parts (goes_on m.here m.from m.frame) (is_manager m.here.port && is_broadcast m.frame) e).1).0
 
 -- ---- routing
 

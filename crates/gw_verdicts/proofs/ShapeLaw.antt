@@ -34,7 +34,7 @@ use Rattle.gw_relay.specs.History.{all_after, ports_from}
 use Rattle.gw_relay.specs.Message.{Message}
 use Rattle.gw_relay.specs.declared.port.Port.{Port}
 use Rattle.gw_relay.specs.declared.port.PortState.{PortState}
-use Rattle.gw_relay.specs.State.{Relay}
+use Rattle.gw_relay.specs.State.{Relay, is_manager}
 use Rattle.gw_relay.specs.Stations.{is_station}
 use Rattle.gw_tables.specs.declared.routes.route.TheConstants.{EVERYWHERE}
 use Rattle.gw_rules.specs.Ask.{Ask}
@@ -58,7 +58,8 @@ use Rattle.gw_core_laws.proofs.StandLemmas.{acts_leave_the_tables}
 use Rattle.gw_core_laws.proofs.Whence.{Heard, InPorts, IsHeard, all_ports, heard_at, port_bounds}
 use Rattle.gw_verdicts.specs.Laws.{AsksLieInShapes, IsCarried, IsInstance, IsNumbered, IsOnNetwork, NeverFirstNeverDecides}
 use Rattle.gw_ask_sets.specs.shapes.Shape.{IsWithin, LiesInOne, Shape}
-use Rattle.gw_ask_sets.specs.shapes.Shapes.{claim_shapes, enter_shapes, foreign, foreign_shapes, gaps, near_shapes, network, own, own_shapes, perhaps, shapes, shapes_from, shapes_of, shapes_within, some, table_shapes}
+use Rattle.gw_ask_sets.specs.shapes.Shapes.{any_entrance, claim_shapes, enter_shapes, entrances, entrances_from, foreign, foreign_shapes, gaps, is_manager as is_configured_manager, near_shapes, network, only, own, own_shapes, perhaps, shapes, shapes_by, shapes_from, shapes_of, shapes_within, some, table_shapes}
+use Rattle.gw_ask_sets.specs.declared.shapes.shapes.Entrance.{Entrance}
 use Rattle.gw_ask_sets.specs.declared.shapes.side.Side.{Side}
 use Rattle.gw_ask_sets.proofs.shapes_lemmas.Lying.{in_front, in_rest}
 use Rattle.gw_verdicts.proofs.Brought.{Brought, IsBrought, brought_at}
@@ -73,14 +74,14 @@ use Rattle.gw_verdicts.proofs.Raised.{Comes, any_octets, claim_lies, enter_lies,
 -- ---- in the list of all shapes
 
 in_own : (format : Format) (device number : ℕ) (ports : List ConfiguredPort) (port : Port) (ask : Ask) → InPorts number ports port
-    → LiesInOne (shapes_within format device (own format port.number port.network)) ask
+    → LiesInOne (shapes_within format device (own format port.number port.network (is_manager port))) ask
     → LiesInOne (own_shapes format device number ports) ask
 in_own format device number [] port ask there lies = absurd there
 in_own format device number (p ∷ ports) port ask (inl is) lies =
-    let at = subst (λ (q : Port). LiesInOne (shapes_within format device (own format q.number q.network)) ask) is lies in
-    in_front (shapes_within format device (own format number p.network)) (own_shapes format device (number + 1) ports) ask at
+    let at = subst (λ (q : Port). LiesInOne (shapes_within format device (own format q.number q.network (is_manager q))) ask) is lies in
+    in_front (shapes_within format device (own format number p.network (is_configured_manager p))) (own_shapes format device (number + 1) ports) ask at
 in_own format device number (p ∷ ports) port ask (inr later) lies =
-    in_rest (shapes_within format device (own format number p.network)) (own_shapes format device (number + 1) ports) ask
+    in_rest (shapes_within format device (own format number p.network (is_configured_manager p))) (own_shapes format device (number + 1) ports) ask
     (in_own format device (number + 1) ports port ask later lies)
 
 -- the gap that a number is in, whose shapes are among those of all
@@ -109,18 +110,18 @@ abbrev LiesThere : Format → ℕ → List ConfiguredPort → Ask → Type 0
 LiesThere format device ports ask = LiesInOne (shapes_of format device ports) ask
 
 abbrev others : Format → ℕ → List ConfiguredPort → List Shape
-others format device ports = flat_map (foreign_shapes format device (length ports)) (gaps device ports)
+others format device ports = flat_map (foreign_shapes format device (entrances ports)) (gaps device ports)
 
 -- what lies in the shapes of a port's own network
 here_lies : (format : Format) (device : ℕ) (ports : List ConfiguredPort) (port : Port) (ask : Ask) → InPorts 1 ports port
-    → LiesInOne (shapes_within format device (own format port.number port.network)) ask → LiesInOne (shapes_of format device ports) ask
+    → LiesInOne (shapes_within format device (own format port.number port.network (is_manager port))) ask → LiesInOne (shapes_of format device ports) ask
 here_lies format device ports port ask there lies =
     in_front (own_shapes format device 1 ports) (others format device ports) ask (in_own format device 1 ports port ask there lies)
 
 managed_lies : (format : Format) (device : ℕ) (ports : List ConfiguredPort) (port : Port) (from : BipAddr) (frame : Frame) → InPorts 1 ports port
     → IsAddress from → HasFields frame → AllByRecursion (LiesThere format device ports) (table.link_asks format port from frame)
 managed_lies format device ports port from frame there is fits =
-    let at = own format port.number port.network in
+    let at = own format port.number port.network (is_manager port) in
     each_weaker (LiesInOne (table_shapes format at)) (LiesThere format device ports)
     (λ ask lies. here_lies format device ports port ask there
     (in_front (table_shapes format at) (enter_shapes format at ++ (near_shapes at ++ shapes_from format device at)) ask lies))
@@ -141,11 +142,11 @@ entering_lies : (format : Format) (device : ℕ) (ports : List ConfiguredPort) (
     → is_stranger format m ≡ true → LiesThere format device ports (enter_ask format m)
 entering_lies format device ports m there brought e =
     let port = m.here.port in
-    let at = own format port.number port.network in
+    let at = own format port.number port.network (is_manager port) in
     here_lies format device ports port (enter_ask format m) there
     (in_rest (table_shapes format at) (enter_shapes format at ++ (near_shapes at ++ shapes_from format device at)) (enter_ask format m)
     (in_front (enter_shapes format at) (near_shapes at ++ shapes_from format device at) (enter_ask format m)
-    (enter_lies format port.number port.network m (stranger_names format m e) refl refl brought)))
+    (enter_lies format port.number port.network m (stranger_names format m e) refl refl (is_manager port) brought)))
 
 -- ---- of a port's own network
 
@@ -153,7 +154,7 @@ entering_lies format device ports m there brought e =
 own_claim : (m : Message) → IsBrought m → m.npdu.source ≡ None → m.claim ≡ local_source m.here.port.network m.link
 own_claim m brought none = brought.claim ∙ ap (claimed_by (local_source m.here.port.network m.link)) none
 
-own_comes : (format : Format) (m : Message) → IsBrought m → m.npdu.source ≡ None → Comes format (own format m.here.port.number m.here.port.network) m
+own_comes : (format : Format) (m : Message) → IsBrought m → m.npdu.source ≡ None → Comes format (own format m.here.port.number m.here.port.network (is_manager m.here.port)) m
 own_comes format m brought none =
     let is = own_claim m brought none in
     let net : m.claim.net ≡ m.here.port.network = ap (λ (c : Source). c.net) is in
@@ -162,6 +163,7 @@ own_comes format m brought none =
       network = (omega (arith, net), omega (arith, net));
       key = subst (λ (c : Source). IsWithin (some fields.SourceKey) (key_of c.mac)) (sym is) (six_octets m.link brought.link);
       sender = refl;
+      manages = refl;
       brought = brought;
     }
 
@@ -173,7 +175,7 @@ own_lies w ports m there none brought reached device_known entered =
     let format = w.relay.format in
     let device = device_network w.device in
     let port = m.here.port in
-    let at = own format port.number port.network in
+    let at = own format port.number port.network (is_manager port) in
     let comes = own_comes format m brought none in
     let near = near_cases format at m comes in
     let behind : (ask : Ask) → LiesInOne (near_shapes at ++ shapes_from format device at) ask → LiesThere format device ports ask =
@@ -219,13 +221,67 @@ far : (m : Message) (ports : List ConfiguredPort) → IsBrought m → InPorts 1 
 far m ports brought there none silent =
     not_own 1 ports m.here.port m.claim.net there none (ap (λ (c : Source). c.net) (own_claim m brought silent))
 
-comes_foreign : (format : Format) (ports : List ConfiguredPort) (m : Message) (side : Side) → InPorts 1 ports m.here.port → IsBrought m
-    → NamesSource m → IsWithin side (Some m.claim.net) → Comes format (foreign format (length ports) side) m
-comes_foreign format ports m side there brought named within =
-    let bounds = port_bounds 1 ports m.here.port there in
-    let low = bounds.0 in
-    let high = bounds.1 in
-    record { port = (low, omega (arith, high)); network = within; key = named.key; sender = refl; brought = brought }
+-- the entrance that a port is one of, whose shapes are among those of all
+record Entered (ways : List Entrance) (port : Port) : Type 0 where
+  by : Entrance
+  within : IsWithin by.port (Some port.number)
+  manages : by.manages ≡ is_manager port
+  lies : (format : Format) (device : ℕ) (networks : Side) (ask : Ask) → LiesInOne (shapes_by format device networks by) ask
+      → LiesInOne (foreign_shapes format device ways networks) ask
+
+later_way : (way : Entrance) (ways : List Entrance) (port : Port) → Entered ways port → Entered (way ∷ ways) port
+later_way way ways port entered = record {
+  by = entered.by;
+  within = entered.within;
+  manages = entered.manages;
+  lies = λ format device networks ask lies. in_rest (shapes_by format device networks way) (foreign_shapes format device ways networks) ask
+      (entered.lies format device networks ask lies);
+}
+
+first_way : (way : Entrance) (ways : List Entrance) (port : Port) → IsWithin way.port (Some port.number) → way.manages ≡ is_manager port
+    → Entered (way ∷ ways) port
+first_way way ways port within manages = record {
+  by = way;
+  within = within;
+  manages = manages;
+  lies = λ format device networks ask lies. in_front (shapes_by format device networks way) (foreign_shapes format device ways networks) ask lies;
+}
+
+entered_alone : (number : ℕ) (ports : List ConfiguredPort) (port : Port) → InPorts number ports port → Entered (entrances_from number ports) port
+entered_alone number [] port there = absurd there
+entered_alone number (p ∷ ports) port (inl is) =
+    let at : port.number ≡ number = ap (λ (q : Port). q.number) is in
+    first_way (record { port = only number; manages = is_configured_manager p }) (entrances_from (number + 1) ports) port
+    (omega (arith, at), omega (arith, at)) (sym (ap is_manager is))
+entered_alone number (p ∷ ports) port (inr later) =
+    later_way (record { port = only number; manages = is_configured_manager p }) (entrances_from (number + 1) ports) port
+    (entered_alone (number + 1) ports port later)
+
+all_manage : (number : ℕ) (ports : List ConfiguredPort) (port : Port) → InPorts number ports port → list_all is_configured_manager ports ≡ true
+    → is_manager port ≡ true
+all_manage number [] port there all = absurd there
+all_manage number (p ∷ ports) port (inl is) all =
+    ap is_manager is ∙ (and_parts (is_configured_manager p) (list_all is_configured_manager ports) all).0
+all_manage number (p ∷ ports) port (inr later) all =
+    all_manage (number + 1) ports port later (and_parts (is_configured_manager p) (list_all is_configured_manager ports) all).1
+
+entered_by : (ports : List ConfiguredPort) (port : Port) → InPorts 1 ports port → Entered (entrances ports) port
+entered_by ports port there = by (list_all is_configured_manager ports) refl
+  where
+    by : (b : Bool) → list_all is_configured_manager ports ≡ b
+        → Entered (if b then any_entrance ports ∷ [] else entrances_from 1 ports) port
+    by true all =
+        let bounds = port_bounds 1 ports port there in
+        let low = bounds.0 in
+        let high = bounds.1 in
+        first_way (any_entrance ports) [] port (low, omega (arith, high)) (sym (all_manage 1 ports port there all))
+    by false all = entered_alone 1 ports port there
+
+comes_foreign : (format : Format) (way : Entrance) (m : Message) (side : Side) → IsWithin way.port (Some m.here.port.number)
+    → way.manages ≡ is_manager m.here.port → IsBrought m → NamesSource m → IsWithin side (Some m.claim.net)
+    → Comes format (foreign format way side) m
+comes_foreign format way m side port manages brought named within =
+    record { port = port; network = within; key = named.key; sender = refl; manages = manages; brought = brought }
 
 foreign_lies : (w : State) (ports : List ConfiguredPort) (m : Message) → InPorts 1 ports m.here.port → IsBrought m
     → m.claim.net ≢ device_network w.device → AllByRecursion (λ p. m.claim.net ≢ p.network) ports
@@ -237,12 +293,13 @@ foreign_lies w ports m there brought other none reached device_known entered =
     let device = device_network w.device in
     let silent = far m ports brought there none in
     let named = names_source m brought silent in
-    let gap = gap_of (foreign_shapes format device (length ports)) (gaps device ports) m.claim.net (in_gap device ports m.claim.net named.net other none) in
-    let at = foreign format (length ports) gap.side in
+    let gap = gap_of (foreign_shapes format device (entrances ports)) (gaps device ports) m.claim.net (in_gap device ports m.claim.net named.net other none) in
+    let way = entered_by ports m.here.port there in
+    let at = foreign format way.by gap.side in
     message_lies w.rules w.relay w.device at m (LiesThere format device ports)
-    (comes_foreign format ports m gap.side there brought named gap.within) reached device_known
+    (comes_foreign format way.by m gap.side way.within way.manages brought named gap.within) reached device_known
     (λ ask lies. in_rest (own_shapes format device 1 ports) (others format device ports) ask
-    (gap.lies ask (in_rest (claim_shapes format at) (shapes_from format device at) ask lies)))
+    (gap.lies ask (way.lies format device gap.side ask (in_rest (claim_shapes format at) (shapes_from format device at) ask lies))))
     (record { learn = λ is none network net. absurd (silent none); number = λ is none. absurd (silent none) }) entered
 
 claiming_lies : (format : Format) (device : ℕ) (ports : List ConfiguredPort) (m : Message) → InPorts 1 ports m.here.port → IsBrought m
@@ -250,11 +307,13 @@ claiming_lies : (format : Format) (device : ℕ) (ports : List ConfiguredPort) (
     → LiesThere format device ports (claim_ask format m)
 claiming_lies format device ports m there brought names other none =
     let named = names_source m brought (far m ports brought there none) in
-    let gap = gap_of (foreign_shapes format device (length ports)) (gaps device ports) m.claim.net (in_gap device ports m.claim.net named.net other none) in
-    let at = foreign format (length ports) gap.side in
+    let gap = gap_of (foreign_shapes format device (entrances ports)) (gaps device ports) m.claim.net (in_gap device ports m.claim.net named.net other none) in
+    let way = entered_by ports m.here.port there in
+    let at = foreign format way.by gap.side in
     in_rest (own_shapes format device 1 ports) (others format device ports) (claim_ask format m)
-    (gap.lies (claim_ask format m) (in_front (claim_shapes format at) (shapes_from format device at) (claim_ask format m)
-    (claim_lies format at m names (comes_foreign format ports m gap.side there brought named gap.within))))
+    (gap.lies (claim_ask format m) (way.lies format device gap.side (claim_ask format m)
+    (in_front (claim_shapes format at) (shapes_from format device at) (claim_ask format m)
+    (claim_lies format at m names (comes_foreign format way.by m gap.side way.within way.manages brought named gap.within)))))
 
 -- no port is of a network now, so none is
 abbrev Apart : State → List ConfiguredPort → Type 0

@@ -27,7 +27,7 @@ use Rattle.gw_relay.specs.Cast.{accepts, is_unregistered}
 use Rattle.gw_relay.specs.Entry.{admits, entry_asks}
 use Rattle.gw_relay.specs.Asks as table
 use Rattle.gw_relay.specs.Message.{Message, message_of}
-use Rattle.gw_relay.specs.State.{Relay, port_at}
+use Rattle.gw_relay.specs.State.{Relay, is_manager, port_at}
 use Rattle.gw_relay.specs.declared.port.PortState.{PortState}
 use Rattle.gw_rules.specs.Ask.{Ask}
 use Rattle.gw_rules.specs.Format.{names_stations}
@@ -80,21 +80,28 @@ no_station : (format : Format) (from : BipAddr) (value : Option ℕ) → table.s
     → (if names_stations format then value else None) ≡ None
 no_station format from value e = absent_too (names_stations format) (big_endian (octets_of from)) value e
 
+-- the one ask, if the port is a broadcast manager
+one_if : (P : Ask → Type 0) (b : Bool) (ask : Ask) → P ask → AllByRecursion P (if b then ask ∷ [] else [])
+one_if P true ask is = (is, tt)
+one_if P false ask is = tt
+
 by_link : (format : Format) (on : PortState) (sender : BipAddr) (frame : Frame) → IsAddress sender
     → AllByRecursion (Carries (node_origin on sender)) (table.link_asks format on.port sender frame)
-by_link format on sender (bvll.write_bdt entries) is = (record { port = refl; network = refl; key = key_is sender is; station = λ e. refl }, tt)
-by_link format on sender bvll.read_bdt is = (record { port = refl; network = refl; key = key_is sender is; station = λ e. refl }, tt)
-by_link format on sender (bvll.register time_to_live) is = (record { port = refl; network = refl; key = key_is sender is; station = λ e. refl }, tt)
-by_link format on sender bvll.read_fdt is = (record { port = refl; network = refl; key = key_is sender is; station = λ e. refl }, tt)
-by_link format on sender (bvll.delete address) is = (
-  record {
-    port = refl;
-    network = refl;
-    key = key_is sender is;
-    station = λ e. no_station format sender (Some (big_endian (octets_of address))) e;
-  },
-  tt,
-)
+by_link format on sender (bvll.write_bdt entries) is =
+    one_if (Carries (node_origin on sender)) (is_manager on.port) _ (record { port = refl; network = refl; key = key_is sender is; station = λ e. refl })
+by_link format on sender bvll.read_bdt is =
+    one_if (Carries (node_origin on sender)) (is_manager on.port) _ (record { port = refl; network = refl; key = key_is sender is; station = λ e. refl })
+by_link format on sender (bvll.register time_to_live) is =
+    one_if (Carries (node_origin on sender)) (is_manager on.port) _ (record { port = refl; network = refl; key = key_is sender is; station = λ e. refl })
+by_link format on sender bvll.read_fdt is =
+    one_if (Carries (node_origin on sender)) (is_manager on.port) _ (record { port = refl; network = refl; key = key_is sender is; station = λ e. refl })
+by_link format on sender (bvll.delete address) is =
+    one_if (Carries (node_origin on sender)) (is_manager on.port) _ (record {
+      port = refl;
+      network = refl;
+      key = key_is sender is;
+      station = λ e. no_station format sender (Some (big_endian (octets_of address))) e;
+    })
 by_link format on sender (bvll.result_code code) is = tt
 by_link format on sender (bvll.read_bdt_ack entries) is = tt
 by_link format on sender (bvll.forwarded originator npdu) is = tt
@@ -173,7 +180,7 @@ entry_so rules relay m =
 message_so : (rules : List Rule) (relay : Relay) (d : Database) (m : Message) → AllByRecursion (so m) (asks_for rules relay d (message m))
 message_so rules relay d m =
     let P = so m in
-    each_part P rules relay d m (entry_so rules relay m) (each_cast P nothing_known relay.format m (cast_so relay.format m) tt)
+    each_part P rules relay d m (entry_so rules relay m) (each_cast P nothing_known relay.format m (λ managed. cast_so relay.format m) tt)
     (each_route P nothing_known relay m (route_so relay.format m) (reached_unknown relay m)) (each_network P relay m (network_so relay.format m))
     (apdu_so rules relay.format d m (apdu_for (device_network d) m.npdu))
 

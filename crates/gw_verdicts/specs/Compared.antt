@@ -3,6 +3,7 @@ use Rattle.std.specs.Prelude.{◌≡◌, ◌≢◌, ℕ, true, List}
 use Rattle.std.specs.List.{AllByRecursion}
 use Rattle.gw_configuration.specs.Configuration.{Configuration}
 use Rattle.gw_policy_review.specs.comparison.Comparison.{IsComparisonText}
+use Rattle.gw_policy_review.specs.comparison.Laws.{says_alike}
 use Rattle.gw_policy_review.specs.declared.comparison.comparison.Compared.{Compared}
 use Rattle.gw_policy_review.specs.declared.comparison.comparison.Compared.TheVariants as compared
 use Rattle.gw_ask_sets.specs.regions.Comparing.{IsDecided, differs, is_found}
@@ -21,10 +22,10 @@ EventsAreCompared = (old new : Configuration) (most : ℕ) (made : Compared) (te
     (translated : IsComparisonText old new most made text) → made ≢ compared.Unfinished
     → OfBoth old new (λ ask. differs old.rules new.rules ask ≡ is_found translated.found ask)
 
--- If the text says that no ask is decided otherwise, none is.
+-- If the text says that no ask is decided otherwise, or that only other parts differ, none is.
 abbrev pub EventsAreAlike : Type 0
-EventsAreAlike = (old new : Configuration) (most : ℕ) (text : List ℕ) → IsComparisonText old new most compared.Alike text
-    → OfBoth old new (λ ask. allows old.rules ask ≡ allows new.rules ask)
+EventsAreAlike = (old new : Configuration) (most : ℕ) (made : Compared) (text : List ℕ) → IsComparisonText old new most made text
+    → says_alike made ≡ true → OfBoth old new (λ ask. allows old.rules ask ≡ allows new.rules ask)
 
 -- Finished or not: it is decided as the line of each region says in which it lies.
 abbrev pub LinesAreTrueOfEvents : Type 0

@@ -1,7 +1,7 @@
 -- Every ask that a gateway raises lies in a shape of its configuration, so a rule that no ask of
 -- the shapes reaches never decides, nor does one of which a lint finds so. And what the log shows of
 -- a denied ask is enough to know which rule denied it.
-use Rattle.std.specs.Prelude.{◌≡◌, ◌⊎◌, ℕ, ◌+◌, ◌≤◌, Bool, true, false, List, [], ◌∷◌, ◌++◌, None, Some, codes, ⊤}
+use Rattle.std.specs.Prelude.{◌≡◌, ◌⊎◌, ℕ, ◌+◌, ◌≤◌, Bool, true, false, List, [], ◌∷◌, ◌++◌, length, None, Some, codes, ⊤}
 use Rattle.std.specs.Fmt.{decimal}
 use Rattle.std.specs.List.{AllByRecursion}
 use Rattle.gw_addr.specs.Address.{IsAddress}
@@ -13,7 +13,7 @@ use Rattle.gw_audit.specs.declared.entry.ShownAsk.{ShownAsk}
 use Rattle.gw_rules.specs.Ask.{Ask}
 use Rattle.gw_rules.specs.RuleList.{HasNumber, first}
 use Rattle.gw_frames.specs.bvll.Bvll.{register}
-use Rattle.gw_configuration.specs.Configuration.{Configuration}
+use Rattle.gw_configuration.specs.Configuration.{Configuration, is_managed}
 use Rattle.gw_configuration.specs.declared.object.Object.{Object}
 use Rattle.gw_configuration.specs.declared.port.Port.{Port}
 use Rattle.gw_relay.specs.Asks.{link_asks}
@@ -88,9 +88,11 @@ FoundNeverDecides = (c : Configuration) (number : ℕ) (rule : Rule) (found : Fi
 -- ---- a peer that registers
 
 -- The ask of which a warning says that the policy allows it is the one that the peer raises by registering at its port,
--- for whatever time.
+-- for whatever time: a port that has peers is the broadcast manager of its subnet, as each port of a configuration is that
+-- has no other one beside it.
 abbrev pub PeersRaiseTheAsk : Type 0
 PeersRaiseTheAsk = (format : Format) (place : ℕ) (port : Port) (peer : BipAddr) (time_to_live : ℕ) →
+    is_managed port ≡ true → 1 ≤ length port.peers →
     link_asks format (port_of (place + 1) port) peer (register time_to_live) ≡ register_ask format place port peer ∷ []
 
 -- ---- the rule of a line

@@ -1,4 +1,5 @@
 pub mod Compared
 pub mod Laws
+pub mod Runs
 pub mod Why
 pub mod asks

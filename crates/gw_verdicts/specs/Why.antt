@@ -1,5 +1,5 @@
 -- Which rule would decide the asks that a text shows, line by line.
-use Rattle.std.specs.Prelude.{◌≡◌, ℕ, ◌-◌, ◌==◌, List, [], ◌∷◌, ◌++◌, codes, if◌then◌else◌, length, map, Option, Some, None, Result, slice_get}
+use Rattle.std.specs.Prelude.{◌≡◌, ℕ, ◌-◌, ◌==◌, List, [], ◌∷◌, ◌++◌, codes, if◌then◌else◌, length, Option, Some, None, Result, slice_get}
 use Rattle.std.specs.Option.{option_map_or}
 use Rattle.gw_audit.specs.Entry.{ShowsAsk, ask_shown}
 use Rattle.gw_audit.specs.declared.entry.ShownAsk.{ShownAsk}

@@ -5,6 +5,7 @@ ghost use Rattle.gw_addr.specs.Reading.{AreOctets};
 ghost use Rattle.gw_script.specs.Event.{event_view};
 ghost use Rattle.gw_verdicts.specs.Compared.{EventsAreAlike, EventsAreCompared, LinesAreTrueOfEvents};
 ghost use Rattle.gw_verdicts.specs.Laws.{AsksLieInShapes, FoundNeverDecides, IsCarried, IsInstance, IsNumbered, IsOnNetwork, NeverFirstNeverDecides, PeersRaiseTheAsk, WhyNamesTheRule};
+ghost use Rattle.gw_verdicts.specs.Runs.{AlikeRunsAlike};
 
 use gw_configuration::{Config, Object, Port};
 use gw_script::Event;
@@ -22,7 +23,7 @@ pub fn shapes()
     ensures never { NeverFirstNeverDecides }
 {}
 
-/// A peer that a warning says may register raises exactly the ask that the warning judges.
+/// A peer of a port that a warning says may register raises exactly the ask that the warning judges.
 pub fn registrations()
     ensures { PeersRaiseTheAsk }
 {}
@@ -40,6 +41,12 @@ pub fn comparisons()
     ensures compared { EventsAreCompared }
     ensures alike { EventsAreAlike }
     ensures lines { LinesAreTrueOfEvents }
+{}
+
+/// If `bacgwctl compare` says that no ask is decided otherwise, or that other parts alone differ, then a gateway of the old
+/// configuration does under the new rules what it does under its own, whatever comes, one event after the other.
+pub fn runs()
+    ensures { AlikeRunsAlike }
 {}
 
 /// What these laws ask of an event holds of each: a datagram has octets, and comes from an address.

@@ -1,6 +1,6 @@
 -- The shapes of a configuration's asks: every ask that the gateway raises lies in one of them (`Laws.antt` of gw_verdicts).
-use Rattle.std.specs.Prelude.{ℕ, ◌+◌, true, false, List, [], ◌∷◌, ◌++◌, length, if◌then◌else◌}
-use Rattle.std.specs.List.{flat_map}
+use Rattle.std.specs.Prelude.{ℕ, ◌+◌, Bool, true, false, not, is_some, List, [], ◌∷◌, ◌++◌, length, if◌then◌else◌}
+use Rattle.std.specs.List.{flat_map, list_all}
 use Rattle.std.specs.Option.{option_to_list}
 use Rattle.gw_configuration.specs.Configuration.{Configuration}
 use Rattle.gw_configuration.specs.declared.port.Port.{Port}
@@ -17,6 +17,7 @@ use Rattle.gw_rules.specs.declared.operation.Operation.TheVariants as operations
 use Rattle.gw_ask_sets.specs.shapes.Pieces.{above, below, no_range, numbers}
 use Rattle.gw_ask_sets.specs.shapes.Shape.{Shape}
 use Rattle.gw_ask_sets.specs.declared.shapes.side.Side.{Side}
+use Rattle.gw_ask_sets.specs.declared.shapes.shapes.Entrance.{Entrance}
 use Rattle.gw_ask_sets.specs.declared.shapes.shapes.Origin.{Origin}
 
 -- ---- sides
@@ -90,9 +91,9 @@ named from operation service destination priority = record (bound from operation
 abbrev pub aimed : Format → Shape → Shape
 aimed format shape = record shape { station = perhaps_in format fields.Station }
 
--- frames that read or change a table of their port, by their function; one that deletes names a station
-abbrev pub table_shapes : Format → Origin → List Shape
-table_shapes format from =
+-- frames that read or change a table of a broadcast manager, by their function; one that deletes names a station
+abbrev pub frame_shapes : Format → Origin → List Shape
+frame_shapes format from =
     plain from operations.WriteTable (only 769)
     ∷ plain from operations.ReadTable (only 770)
     ∷ plain from operations.Register (only 773)
@@ -100,19 +101,32 @@ table_shapes format from =
     ∷ record (plain from operations.Delete (only 776)) { station = some_in format fields.Station }
     ∷ []
 
+-- nobody is asked for them at a port that has another manager beside it
+abbrev pub table_shapes : Format → Origin → List Shape
+table_shapes format from = if from.manages then frame_shapes format from else []
+
 -- messages that name no source, so they come from the port's own network: the networks of a router, and the question for
 -- the number of the network
 abbrev pub near_shapes : Origin → List Shape
 near_shapes from =
     bound from operations.Learn (only 513) network ∷ bound from operations.Network (only 530) nothing ∷ []
 
--- what a message raises: broadcasts, routing, the question for routers, and requests to the device on this network, of
+-- broadcasts that a broadcast manager distributes
+abbrev pub broadcast_shapes : Format → Origin → List Shape
+broadcast_shapes format from =
+    aimed format (bound from operations.Cast request_or_message (perhaps fields.DestinationNetwork))
+    ∷ aimed format (bound from operations.Cast answer (perhaps fields.DestinationNetwork))
+    ∷ []
+
+-- a port that has another manager beside it distributes none
+abbrev pub cast_shapes : Format → Origin → List Shape
+cast_shapes format from = if from.manages then broadcast_shapes format from else []
+
+-- what a message raises beside that: routing, the question for routers, and requests to the device on this network, of
 -- which lists are of Object_Name, and of the device's Object_Identifier
 abbrev pub message_shapes : Format → ℕ → Origin → List Shape
 message_shapes format device from =
-    aimed format (bound from operations.Cast request_or_message (perhaps fields.DestinationNetwork))
-    ∷ aimed format (bound from operations.Cast answer (perhaps fields.DestinationNetwork))
-    ∷ aimed format (bound from operations.Route request_or_message network)
+    aimed format (bound from operations.Route request_or_message network)
     ∷ aimed format (bound from operations.Route answer network)
     ∷ bound from operations.Network (only 512) (record network { absent = true })
     ∷ named from operations.Read (only 12) (only device) nothing
@@ -141,15 +155,21 @@ passed_shapes format destination from =
     passed_reads format 12 destination from
     ++ (passed_reads format 14 destination from ++ passed_writes format destination from)
 
+-- where requests from there go that are judged by what they name, under the third format: in a broadcast that is
+-- distributed anywhere, and else to a network
+abbrev pub passed_to : Origin → Side
+passed_to from = if from.manages then perhaps fields.DestinationNetwork else network
+
 -- under the first format they aren't judged by that, under the second where they are routed, and under the third in a
 -- broadcast too, which may have no destination
 abbrev pub request_shapes : Format → Origin → List Shape
 request_shapes One from = []
 request_shapes Two from = passed_shapes Two network from
-request_shapes Three from = passed_shapes Three (perhaps fields.DestinationNetwork) from
+request_shapes Three from = passed_shapes Three (passed_to from) from
 
 abbrev pub shapes_from : Format → ℕ → Origin → List Shape
-shapes_from format device from = message_shapes format device from ++ request_shapes format from
+shapes_from format device from =
+    cast_shapes format from ++ (message_shapes format device from ++ request_shapes format from)
 
 -- a station that enters by a port, under the third format
 abbrev pub enter_shapes : Format → Origin → List Shape
@@ -161,13 +181,18 @@ claim_shapes format from = if names_stations format then plain from operations.C
 
 -- ---- whence
 
+-- a port is the broadcast manager of its subnet: it has no other one beside it
+abbrev pub is_manager : Port → Bool
+is_manager port = not (is_some port.bbmd)
+
 -- a station of a port's own network, whose address has six octets
-abbrev pub own : Format → ℕ → ℕ → Origin
-own format number net = record {
+abbrev pub own : Format → ℕ → ℕ → Bool → Origin
+own format number net manages = record {
   port = only number;
   network = only net;
   key = some fields.SourceKey;
   sender = some_in format fields.Sender;
+  manages = manages;
 }
 
 -- what comes from there
@@ -179,7 +204,7 @@ shapes_within format device from =
 abbrev pub own_shapes : Format → ℕ → ℕ → List Port → List Shape
 own_shapes format device number [] = []
 own_shapes format device number (p ∷ ports) =
-    shapes_within format device (own format number p.network) ++ own_shapes format device (number + 1) ports
+    shapes_within format device (own format number p.network (is_manager p)) ++ own_shapes format device (number + 1) ports
 
 -- a side without a number
 abbrev pub split : ℕ → Side → List Side
@@ -197,27 +222,45 @@ gaps_between sides (p ∷ ports) = gaps_between (flat_map (split p.network) side
 abbrev pub gaps : ℕ → List Port → List Side
 gaps device ports = gaps_between (flat_map (split device) (network ∷ [])) ports
 
--- a station of such a network, by any of so many ports; its address may have any length
-abbrev pub foreign : Format → ℕ → Side → Origin
-foreign format ports networks = record {
-  port = numbers 1 ports;
+-- each port by itself, counted on from a number
+abbrev pub entrances_from : ℕ → List Port → List Entrance
+entrances_from number [] = []
+entrances_from number (p ∷ ports) =
+    record { port = only number; manages = is_manager p } ∷ entrances_from (number + 1) ports
+
+-- all ports together
+abbrev pub any_entrance : List Port → Entrance
+any_entrance ports = record { port = numbers 1 (length ports); manages = true }
+
+-- by which ports other networks reach the gateway: by any, if all are managers, and else by each
+abbrev pub entrances : List Port → List Entrance
+entrances ports = if list_all is_manager ports then any_entrance ports ∷ [] else entrances_from 1 ports
+
+-- a station of such a network, by such ports; its address may have any length
+abbrev pub foreign : Format → Entrance → Side → Origin
+foreign format by networks = record {
+  port = by.port;
   network = networks;
   key = perhaps fields.SourceKey;
   sender = some_in format fields.Sender;
+  manages = by.manages;
 }
 
 -- what comes from there
 abbrev pub shapes_beyond : Format → ℕ → Origin → List Shape
 shapes_beyond format device from = claim_shapes format from ++ shapes_from format device from
 
-abbrev pub foreign_shapes : Format → ℕ → ℕ → Side → List Shape
-foreign_shapes format device ports networks = shapes_beyond format device (foreign format ports networks)
+abbrev pub shapes_by : Format → ℕ → Side → Entrance → List Shape
+shapes_by format device networks by = shapes_beyond format device (foreign format by networks)
+
+abbrev pub foreign_shapes : Format → ℕ → List Entrance → Side → List Shape
+foreign_shapes format device ways networks = flat_map (shapes_by format device networks) ways
 
 -- all of them
 abbrev pub shapes_of : Format → ℕ → List Port → List Shape
 shapes_of format device ports =
     own_shapes format device 1 ports
-    ++ flat_map (foreign_shapes format device (length ports)) (gaps device ports)
+    ++ flat_map (foreign_shapes format device (entrances ports)) (gaps device ports)
 
 abbrev pub shapes : Configuration → List Shape
 shapes c = shapes_of c.format c.device.network c.ports

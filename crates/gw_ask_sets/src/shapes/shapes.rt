@@ -1,10 +1,12 @@
 //! The shapes of a configuration's asks. `gw_verdicts::laws::shapes` says that every ask that the
 //! gateway raises lies in one of them.
 ghost use Rattle.std.specs.Prelude.{◌≡◌, ◌≤◌, ◌++◌, [], ◌∷◌, IfOk, OnOk, length};
-ghost use Rattle.std.specs.List.{flat_map};
+ghost use Rattle.std.specs.List.{flat_map, list_all};
 ghost use Rattle.std.specs.Option.{option_to_list};
-ghost use Rattle.gw_ask_sets.specs.shapes.Shapes.{aimed, bound, claim_shapes, enter_shapes, foreign, foreign_shapes, gaps};
-ghost use Rattle.gw_ask_sets.specs.shapes.Shapes.{gaps_between, message_shapes, named, near_shapes, network, only, own};
+ghost use Rattle.gw_ask_sets.specs.shapes.Shapes.{aimed, any_entrance, bound, broadcast_shapes, cast_shapes, claim_shapes, enter_shapes};
+ghost use Rattle.gw_ask_sets.specs.shapes.Shapes.{entrances, entrances_from, foreign, foreign_shapes, frame_shapes, gaps};
+ghost use Rattle.gw_ask_sets.specs.shapes.Shapes.{gaps_between, is_manager, message_shapes, named, near_shapes, network};
+ghost use Rattle.gw_ask_sets.specs.shapes.Shapes.{only, own, passed_to, shapes_by};
 ghost use Rattle.gw_ask_sets.specs.shapes.Shapes.{own_shapes, passed_reads, passed_shapes, passed_writes, perhaps, perhaps_in};
 ghost use Rattle.gw_ask_sets.specs.shapes.Shapes.{plain, request_shapes, shapes, shapes_beyond, shapes_from, shapes_within};
 ghost use Rattle.gw_ask_sets.specs.shapes.Shapes.{some, some_in, split, table_shapes};
@@ -26,6 +28,17 @@ pub struct Origin {
     pub key: Side,
     /// The senders, whom asks name in format 3 alone.
     pub sender: Side,
+    /// Whether the ports are the broadcast managers of their subnets.
+    pub manages: bool,
+}
+
+/// Ports by which other networks reach the gateway.
+#[derive(Clone, Copy)]
+pub struct Entrance {
+    /// The ports, by their numbers from 1.
+    pub port: Side,
+    /// Whether they are the broadcast managers of their subnets.
+    pub manages: bool,
 }
 
 /// An absent field.
@@ -118,26 +131,28 @@ fn perhaps_in(format: Format, field: FieldName) -> Side
 
 impl Origin {
     /// A station of the network of a port, of this number.
-    pub fn own(format: Format, number: u64, network: u64) -> Self
-        ensures { result ≡ own format number network }
+    pub fn own(format: Format, number: u64, network: u64, manages: bool) -> Self
+        ensures { result ≡ own format number network manages }
     {
         Origin {
             port: only(number),
             network: only(network),
             key: some(FieldName::SourceKey),
             sender: some_in(format, FieldName::Sender),
+            manages,
         }
     }
 
-    /// A station of another network, by any of so many ports.
-    pub fn foreign(format: Format, ports: u64, networks: &Side) -> Self
-        ensures { result ≡ foreign format ports networks.now }
+    /// A station of another network, by such ports.
+    pub fn foreign(format: Format, by: &Entrance, networks: &Side) -> Self
+        ensures { result ≡ foreign format by.now networks.now }
     {
         Origin {
-            port: numbers(1, ports),
+            port: by.port,
             network: *networks,
             key: perhaps(FieldName::SourceKey),
             sender: some_in(format, FieldName::Sender),
+            manages: by.manages,
         }
     }
 }
@@ -201,9 +216,9 @@ pub fn aimed(format: Format, shape: &Shape) -> Shape
     }
 }
 
-/// Frames that read or change a table of their port (Annex J.2); one that deletes names a station.
-fn table_shapes(format: Format, from: &Origin) -> [Shape; 5]
-    ensures { result ≡ table_shapes format from.now }
+/// Frames that read or change a table of a broadcast manager (Annex J.2); one that deletes names a station.
+fn frame_shapes(format: Format, from: &Origin) -> [Shape; 5]
+    ensures { result ≡ frame_shapes format from.now }
 {
     [
         plain(from, Operation::WriteTable, only(769)),
@@ -228,12 +243,10 @@ fn near_shapes(from: &Origin) -> [Shape; 2]
     ]
 }
 
-/// What a message raises: broadcasts, routing, the question for routers, and requests to the device on this
-/// network, of which lists are of Object_Name, and of the device's Object_Identifier.
-fn message_shapes(format: Format, device: u64, from: &Origin) -> [Shape; 10]
-    ensures { result ≡ message_shapes format device from.now }
+/// Broadcasts that a broadcast manager distributes.
+fn broadcast_shapes(format: Format, from: &Origin) -> [Shape; 2]
+    ensures { result ≡ broadcast_shapes format from.now }
 {
-    let here = only(device);
     let anywhere = perhaps(FieldName::DestinationNetwork);
     [
         aimed(
@@ -241,6 +254,16 @@ fn message_shapes(format: Format, device: u64, from: &Origin) -> [Shape; 10]
             &bound(from, Operation::Cast, REQUEST_OR_MESSAGE, anywhere),
         ),
         aimed(format, &bound(from, Operation::Cast, ANSWER, anywhere)),
+    ]
+}
+
+/// What a message raises beside that: routing, the question for routers, and requests to the device on this
+/// network, of which lists are of Object_Name, and of the device's Object_Identifier.
+fn message_shapes(format: Format, device: u64, from: &Origin) -> [Shape; 8]
+    ensures { result ≡ message_shapes format device from.now }
+{
+    let here = only(device);
+    [
         aimed(
             format,
             &bound(from, Operation::Route, REQUEST_OR_MESSAGE, NETWORK),
@@ -310,6 +333,18 @@ fn push_passed(
     out.extend_from_slice(&passed_writes(format, destination, from))
 }
 
+/// Where requests from there go that are judged by what they name, in format 3: in a broadcast that is distributed
+/// anywhere, and else to a network.
+fn passed_to(from: &Origin) -> Side
+    ensures { result ≡ passed_to from.now }
+{
+    if from.manages {
+        perhaps(FieldName::DestinationNetwork)
+    } else {
+        NETWORK
+    }
+}
+
 /// Appends the shapes of requests that are judged by what they name: in format 1 none that are passed
 /// on, in format 2 those that are routed, in format 3 those in broadcasts too.
 fn push_requests(out: &mut Vec<Shape>, format: Format, from: &Origin) -> Result<(), AllocError>
@@ -318,11 +353,28 @@ fn push_requests(out: &mut Vec<Shape>, format: Format, from: &Origin) -> Result<
     match format {
         Format::One => Ok(()),
         Format::Two => push_passed(out, Format::Two, NETWORK, from),
-        Format::Three => {
-            let anywhere = perhaps(FieldName::DestinationNetwork);
-            push_passed(out, Format::Three, anywhere, from)
-        }
+        Format::Three => push_passed(out, Format::Three, passed_to(from), from),
     }
+}
+
+/// Appends the shapes of broadcasts that are distributed, if the ports are broadcast managers.
+fn push_cast(out: &mut Vec<Shape>, format: Format, from: &Origin) -> Result<(), AllocError>
+    ensures { OnOk result (out.new.items ≡ out.old.items ++ cast_shapes format from.now) }
+{
+    if !from.manages {
+        return Ok(());
+    }
+    out.extend_from_slice(&broadcast_shapes(format, from))
+}
+
+/// Appends the shapes of frames that read or change a table, if the ports are broadcast managers.
+fn push_table(out: &mut Vec<Shape>, format: Format, from: &Origin) -> Result<(), AllocError>
+    ensures { OnOk result (out.new.items ≡ out.old.items ++ table_shapes format from.now) }
+{
+    if !from.manages {
+        return Ok(());
+    }
+    out.extend_from_slice(&frame_shapes(format, from))
 }
 
 /// Appends the shapes of what messages from there raise.
@@ -334,6 +386,7 @@ fn push_from(
 ) -> Result<(), AllocError>
     ensures { OnOk result (out.new.items ≡ out.old.items ++ shapes_from format device from.now) }
 {
+    push_cast(out, format, from)?;
     out.extend_from_slice(&message_shapes(format, device, from))?;
     push_requests(out, format, from)
 }
@@ -369,7 +422,7 @@ fn push_within(
 ) -> Result<(), AllocError>
     ensures { OnOk result (out.new.items ≡ out.old.items ++ shapes_within format device from.now) }
 {
-    out.extend_from_slice(&table_shapes(format, from))?;
+    push_table(out, format, from)?;
     push_enter(out, format, from)?;
     out.extend_from_slice(&near_shapes(from))?;
     push_from(out, format, device, from)
@@ -388,6 +441,13 @@ fn push_beyond(
     push_from(out, format, device, from)
 }
 
+/// Whether a port is the broadcast manager of its subnet: it has no other one beside it.
+pub fn is_manager(port: &Port) -> bool
+    ensures { result ≡ is_manager port.now }
+{
+    port.bbmd.is_none()
+}
+
 /// Appends the shapes of what comes from each port's own network.
 fn push_own(
     out: &mut Vec<Shape>,
@@ -399,7 +459,8 @@ fn push_own(
     ensures { OnOk result (out.new.items ≡ out.old.items ++ own_shapes format device 1 ports.now) }
 {
     for (place, port) in ports.iter().enumerate() {
-        let from = Origin::own(format, place as u64 + 1, u64::from(port.network.get()));
+        let network = u64::from(port.network.get());
+        let from = Origin::own(format, place as u64 + 1, network, is_manager(port));
         push_within(out, format, device, &from)?;
     }
     Ok(())
@@ -450,24 +511,81 @@ fn gaps(alloc: Global, device: u64, ports: &[Port]) -> Result<Vec<Side>, AllocEr
     Ok(sides)
 }
 
-/// Appends the shapes of what comes from other networks, by any of so many ports.
+/// Each port by itself.
+fn entrances_apart(alloc: Global, ports: &[Port]) -> Result<Vec<Entrance>, AllocError>
+    requires { length ports.now ≤ 8 }
+    ensures { IfOk result (λ list. list.items ≡ entrances_from 1 ports.now) }
+{
+    let mut entrances = Vec::new(alloc);
+    for (place, port) in ports.iter().enumerate() {
+        entrances.push(Entrance {
+            port: only(place as u64 + 1),
+            manages: is_manager(port),
+        })?;
+    }
+    Ok(entrances)
+}
+
+/// Whether all ports are broadcast managers.
+fn are_managers(ports: &[Port]) -> bool
+    ensures { result ≡ list_all is_manager ports.now }
+{
+    ports.iter().all(|port| is_manager(port))
+}
+
+/// All ports together.
+fn entrances_together(alloc: Global, ports: &[Port]) -> Result<Vec<Entrance>, AllocError>
+    ensures { IfOk result (λ list. list.items ≡ any_entrance ports.now ∷ []) }
+{
+    let any = Entrance {
+        port: numbers(1, ports.len() as u64),
+        manages: true,
+    };
+    Ok(vec![in alloc; any]?)
+}
+
+/// By which ports other networks reach the gateway: by any, if all are managers, and else by each.
+fn entrances(alloc: Global, ports: &[Port]) -> Result<Vec<Entrance>, AllocError>
+    requires { length ports.now ≤ 8 }
+    ensures { IfOk result (λ list. list.items ≡ entrances ports.now) }
+{
+    if are_managers(ports) {
+        entrances_together(alloc, ports)
+    } else {
+        entrances_apart(alloc, ports)
+    }
+}
+
+/// Appends the shapes of what comes from such networks, by each of these entrances.
+fn push_by(
+    out: &mut Vec<Shape>,
+    format: Format,
+    device: u64,
+    entrances: &[Entrance],
+    networks: &Side,
+) -> Result<(), AllocError>
+    ensures { OnOk result (out.new.items ≡
+        out.old.items ++ foreign_shapes format device entrances.now networks.now) }
+{
+    for by in entrances {
+        push_beyond(out, format, device, &Origin::foreign(format, by, networks))?;
+    }
+    Ok(())
+}
+
+/// Appends the shapes of what comes from other networks, by each of these entrances.
 fn push_foreign(
     out: &mut Vec<Shape>,
     format: Format,
     device: u64,
-    ports: u64,
+    entrances: &[Entrance],
     networks: &[Side],
 ) -> Result<(), AllocError>
     ensures { OnOk result (out.new.items ≡
-        out.old.items ++ flat_map (foreign_shapes format device ports) networks.now) }
+        out.old.items ++ flat_map (foreign_shapes format device entrances.now) networks.now) }
 {
     for network in networks {
-        push_beyond(
-            out,
-            format,
-            device,
-            &Origin::foreign(format, ports, network),
-        )?;
+        push_by(out, format, device, entrances, network)?;
     }
     Ok(())
 }
@@ -481,8 +599,9 @@ pub fn shapes_of(alloc: Global, config: &Config) -> Result<Vec<Shape>, AllocErro
     let device = u64::from(config.device().network.get());
     let ports = config.ports();
     let networks = gaps(alloc, device, ports)?;
+    let entrances = entrances(alloc, ports)?;
     let mut out = Vec::new(alloc);
     push_own(&mut out, format, device, ports)?;
-    push_foreign(&mut out, format, device, ports.len() as u64, &networks)?;
+    push_foreign(&mut out, format, device, &entrances, &networks)?;
     Ok(out)
 }

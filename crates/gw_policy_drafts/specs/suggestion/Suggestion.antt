@@ -45,6 +45,7 @@ pub record HasInFront (old : Configuration) (suggested : List Rule) (c : Configu
   pub notes : c.notes ≡ each (length suggested) [] ++ old.notes
   pub audits : c.audits ≡ each (length suggested) false ++ old.audits
   pub format : c.format ≡ old.format
+  pub announce : c.announce ≡ old.announce
   pub device : c.device ≡ old.device
   pub ports : c.ports ≡ old.ports
   pub routes : c.routes ≡ old.routes

@@ -54,6 +54,7 @@ fn is_migrated(config: &Config, back: &Config) -> bool
     ensures { IsTrue result → back.now ≡ in_format_three config.now }
 {
     back.format().names_stations()
+        && config.announces().is_same(&back.announces())
         && config.device().is_same(back.device())
         && are_same(config.ports(), back.ports())
         && are_same(config.routes(), back.routes())

@@ -107,12 +107,14 @@ fn are_all_false(flags: &[bool]) -> bool
 /// Whether two configurations are the same but for their rules and sets.
 fn are_same_beside(old: &Config, config: &Config) -> bool
     ensures format { IsTrue result → config.now.format ≡ old.now.format }
+    ensures announce { IsTrue result → config.now.announce ≡ old.now.announce }
     ensures device { IsTrue result → config.now.device ≡ old.now.device }
     ensures ports { IsTrue result → config.now.ports ≡ old.now.ports }
     ensures routes { IsTrue result → config.now.routes ≡ old.now.routes }
     ensures objects { IsTrue result → config.now.objects ≡ old.now.objects }
 {
     config.format().is_same(&old.format())
+        && config.announces().is_same(&old.announces())
         && config.device().is_same(old.device())
         && are_same(config.ports(), old.ports())
         && are_same(config.routes(), old.routes())

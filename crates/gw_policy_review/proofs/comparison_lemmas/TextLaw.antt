@@ -1,5 +1,5 @@
 -- What the text of a comparison says is true of each ask.
-use Rattle.std.proofs.Common.{◌≡◌, ◌≢◌, ◌∙◌, inl, inr, ap, refl, ℕ, Bool, true, false, ◌&&◌, ◌||◌, ◌==◌, List, [], ◌∷◌, length, None}
+use Rattle.std.proofs.Common.{◌≡◌, ◌≢◌, ◌∙◌, inl, inr, ap, refl, sym, ℕ, Bool, true, false, ◌&&◌, ◌||◌, ◌==◌, List, [], ◌∷◌, length, None}
 use Rattle.std.specs.Prelude.{if◌then◌else◌}
 use Rattle.std.proofs.lemmas.Bool.{and_parts, both_ways, eqb-true}
 use Rattle.gw_configuration.specs.Configuration.{Configuration}
@@ -14,8 +14,8 @@ use Rattle.gw_rules.specs.declared.field.FieldName.{FieldName}
 use Rattle.gw_rules.specs.RuleList.{allows}
 use Rattle.gw_rules.proofs.EachAsk.{each_weaker}
 use Rattle.gw_policy_review.specs.comparison.Asks.{asks_of}
-use Rattle.gw_policy_review.specs.comparison.Comparison.{compared_by}
-use Rattle.gw_policy_review.specs.comparison.Laws.{AlikeIsAlike, FoundIsAll, IsAskOf, LinesAreTrue, LinesHaveAsks, NoneHasAsk}
+use Rattle.gw_policy_review.specs.comparison.Comparison.{alike_by, compared_by}
+use Rattle.gw_policy_review.specs.comparison.Laws.{AlikeIsAlike, FoundIsAll, IsAskOf, LinesAreTrue, LinesHaveAsks, NoneHasAsk, says_alike}
 use Rattle.gw_policy_review.specs.declared.comparison.comparison.Compared.{Compared}
 use Rattle.gw_policy_review.specs.declared.comparison.comparison.Compared.TheVariants as compared
 use Rattle.gw_policy_review.proofs.comparison_lemmas.AskLaw.{all_asks}
@@ -27,27 +27,30 @@ none_by_length [] e = refl
 none_by_length (x ∷ xs) e = absurd cc
 
 -- unless it isn't finished, nothing is left
-nothing_left : (found left : ℕ) (made : Compared) → made ≡ compared_by found left → made ≢ compared.Unfinished → left ≡ 0
-nothing_left found left made e finished = by (left == 0) refl
+nothing_left : (differ found left : ℕ) (made : Compared) → made ≡ compared_by differ found left → made ≢ compared.Unfinished → left ≡ 0
+nothing_left differ found left made e finished = by (left == 0) refl
   where
     by : (b : Bool) → (left == 0) ≡ b → left ≡ 0
     by true is = eqb-true left 0 is
-    by false is = absurd (finished (e ∙ ap (λ (b : Bool). if b then (if found == 0 then compared.Alike else compared.Different) else compared.Unfinished) is))
+    by false is = absurd (finished (e ∙ ap (λ (b : Bool). if b then (if found == 0 then alike_by differ else compared.Different) else compared.Unfinished) is))
 
--- if the two are alike, nothing is found
-nothing_found : (found left : ℕ) → compared.Alike ≡ compared_by found left → found ≡ 0
-nothing_found found left e = by (left == 0) (found == 0) refl refl
+unsaid : (a b : Compared) → a ≡ b → says_alike a ≡ true → says_alike b ≡ false → ⊥
+unsaid a b e is isnt = both_ways (says_alike b) isnt (ap says_alike (sym e) ∙ is)
+
+-- if the two decide alike, nothing is found
+nothing_found : (differ found left : ℕ) (made : Compared) → made ≡ compared_by differ found left → says_alike made ≡ true → found ≡ 0
+nothing_found differ found left made e alike = by (left == 0) (found == 0) refl refl
   where
     by : (b c : Bool) → (left == 0) ≡ b → (found == 0) ≡ c → found ≡ 0
     by b true is isnt = eqb-true found 0 isnt
-    by true false is isnt = absurd (differ (e ∙ ap (λ (b : Bool). if b then (if found == 0 then compared.Alike else compared.Different) else compared.Unfinished) is ∙ ap (λ (b : Bool). if b then compared.Alike else compared.Different) isnt))
-      where
-        differ : compared.Alike ≡ compared.Different → ⊥
-        differ d = cc
-    by false false is isnt = absurd (differ (e ∙ ap (λ (b : Bool). if b then (if found == 0 then compared.Alike else compared.Different) else compared.Unfinished) is))
-      where
-        differ : compared.Alike ≡ compared.Unfinished → ⊥
-        differ d = cc
+    by true false is isnt =
+        absurd (unsaid made compared.Different (e ∙ ap (λ (b : Bool). if b then (if found == 0 then alike_by differ else compared.Different) else compared.Unfinished) is
+        ∙ ap (λ (b : Bool). if b then alike_by differ else compared.Different) isnt) alike refl)
+    by false false is isnt =
+        absurd (unsaid made compared.Unfinished (e ∙ ap (λ (b : Bool). if b then (if found == 0 then alike_by differ else compared.Different) else compared.Unfinished) is) alike refl)
+
+finished_then : (made : Compared) → says_alike made ≡ true → made ≢ compared.Unfinished
+finished_then made alike e = both_ways (says_alike made) (ap says_alike e) alike
 
 -- ---- the laws
 
@@ -61,7 +64,7 @@ plain false c = refl
 
 pub found_is_all : FoundIsAll
 found_is_all old new most made text written finished ask is =
-    let none : written.left ≡ [] = none_by_length written.left (nothing_left (length written.found) (length written.left) made written.verdict finished) in
+    let none : written.left ≡ [] = none_by_length written.left (nothing_left (length written.differ) (length written.found) (length written.left) made written.verdict finished) in
     written.summary.exact ask (there old new ask is)
     ∙ ap (λ (left : List Region). is_found written.found ask || (lies_in_one left ask && differs old.rules new.rules ask)) none
     ∙ plain (is_found written.found ask) (differs old.rules new.rules ask)
@@ -73,10 +76,11 @@ same false true e = absurd (both_ways true e refl)
 same false false e = refl
 
 pub alike_is_alike : AlikeIsAlike
-alike_is_alike old new most text written ask is =
-    let none : written.found ≡ [] = none_by_length written.found (nothing_found (length written.found) (length written.left) written.verdict) in
+alike_is_alike old new most made text written alike ask is =
+    let none : written.found ≡ [] = none_by_length written.found
+    (nothing_found (length written.differ) (length written.found) (length written.left) made written.verdict alike) in
     same (allows old.rules ask) (allows new.rules ask)
-    (found_is_all old new most compared.Alike text written (λ e. cc) ask is ∙ ap (λ (found : List Found). is_found found ask) none)
+    (found_is_all old new most made text written (finished_then made alike) ask is ∙ ap (λ (found : List Found). is_found found ask) none)
 
 pub lines_are_true : LinesAreTrue
 lines_are_true old new most made text written =

@@ -1,5 +1,5 @@
 -- An ask of a shape is allowed only by a rule that may allow some of the shape and to which the asks of the shape come.
-use Rattle.std.proofs.Common.{◌≡◌, ◌∙◌, inl, inr, ℕ, ◌+◌, ◌-◌, ◌<◌, ◌≤◌, zero, suc, Bool, true, false, not, ◌&&◌, List, [], ◌∷◌, Option, Some, None, ap, arith, get_or, length, refl, slice_get, sym, take}
+use Rattle.std.proofs.Common.{◌≡◌, ◌∙◌, inl, inr, ℕ, ◌+◌, ◌-◌, ◌<◌, ◌≤◌, zero, suc, Bool, true, false, not, List, [], ◌∷◌, Option, Some, None, ap, arith, get_or, length, refl, slice_get, take}
 use Rattle.std.specs.List.{list_any, position}
 use Rattle.std.specs.Option.{option_map_or}
 use Rattle.std.proofs.lemmas.Bool.{and_from, and_parts, both_ways, cases_order, or_left, or_right}
@@ -19,7 +19,7 @@ use Rattle.gw_ask_sets.specs.shapes.Shape.{LiesIn, Shape}
 use Rattle.gw_ask_sets.proofs.shapes_lemmas.Covering.{negated, sided}
 use Rattle.gw_ask_sets.proofs.shapes_lemmas.Narrowing.{met}
 use Rattle.gw_policy_review.specs.permissions.Laws.{EachAskIsAllowed, IsListed, NoAskIsAllowed, OnlyListedAllow}
-use Rattle.gw_policy_review.specs.permissions.Passing.{decides_all, matches_all, may_allow, may_pass, reached}
+use Rattle.gw_policy_review.specs.permissions.Passing.{matches_all, may_allow, may_pass, reached}
 
 -- a test that holds of an item holds of one of the items up to it
 any_taken : {A : Type 0} (test : A → Bool) (items : List A) (place count : ℕ) (item : A) → slice_get items place ≡ Some item → place < count

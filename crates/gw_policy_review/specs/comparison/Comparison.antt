@@ -8,7 +8,9 @@ use Rattle.gw_ask_sets.specs.regions.Regions.{Region}
 use Rattle.gw_ask_sets.specs.declared.regions.comparison.Found.{Found}
 use Rattle.gw_policy_review.specs.comparison.Asks.{asks_of}
 use Rattle.gw_policy_review.specs.comparison.Groups.{regions_text}
-use Rattle.gw_policy_review.specs.comparison.Notes.{AreNotes}
+use Rattle.gw_policy_review.specs.comparison.PartLines.{details}
+use Rattle.gw_policy_review.specs.comparison.Parts.{AreDifferences}
+use Rattle.gw_policy_review.specs.declared.comparison.parts.Part.{Part}
 use Rattle.gw_policy_review.specs.declared.comparison.comparison.Compared.{Compared}
 use Rattle.gw_policy_review.specs.declared.comparison.comparison.Compared.TheVariants as compared
 
@@ -16,10 +18,13 @@ use Rattle.gw_policy_review.specs.declared.comparison.comparison.Compared.TheVar
 abbrev pub rank : Found → ℕ
 rank f = if f.allows then 0 else 1
 
--- alike, if nothing is left and nothing found
-abbrev pub compared_by : ℕ → ℕ → Compared
-compared_by found left =
-    if left == 0 then (if found == 0 then compared.Alike else compared.Different) else compared.Unfinished
+-- alike, if nothing is left, nothing found, and no other part differs
+abbrev pub alike_by : ℕ → Compared
+alike_by differ = if differ == 0 then compared.Alike else compared.OtherParts
+
+abbrev pub compared_by : (differ found left : ℕ) → Compared
+compared_by differ found left =
+    if left == 0 then (if found == 0 then alike_by differ else compared.Different) else compared.Unfinished
 
 -- ---- the end
 
@@ -32,6 +37,7 @@ kinds_text count =
 -- the last line
 abbrev pub ending_text : Compared → ℕ → List ℕ
 ending_text compared.Alike count = codes "no ask is decided otherwise" ++ 10 ∷ []
+ending_text compared.OtherParts count = codes "the rules decide alike, but other parts differ" ++ 10 ∷ []
 ending_text compared.Different count = kinds_text count ++ (codes ", and no other" ++ 10 ∷ [])
 ending_text compared.Unfinished count =
     (if count == 1 then codes "not finished: at least this " else codes "not finished: at least these ")
@@ -39,18 +45,18 @@ ending_text compared.Unfinished count =
 
 -- ---- the whole
 
--- A text compares two configurations: it has the lines of regions in which what the old and the new rules decide
--- otherwise is summed up, over all asks that a gateway of either may raise.
+-- A text compares two configurations: it has the lines of the parts in which they differ, and those of regions in which
+-- what the old and the new rules decide otherwise is summed up, over all asks that a gateway of either may raise.
 pub record IsComparisonText (old new : Configuration) (most : ℕ) (made : Compared) (text : List ℕ) : Type 0 where
-  pub notes : List ℕ
-  pub are_notes : AreNotes old new notes
+  pub differ : List Part
+  pub are_differences : AreDifferences old new differ
   pub found : List Found
   pub left : List Region
   pub summary : IsSummary (asks_of old new) old.rules new.rules found left
   pub or_none : OrNoneIsMeant (asks_of old new) found
   pub in_order : IsNonDecreasingBy rank found
-  pub verdict : made ≡ compared_by (length found) (length left)
-  pub written : text ≡ notes ++ (regions_text old.rules new.rules most found ++ ending_text made (length found))
+  pub verdict : made ≡ compared_by (length differ) (length found) (length left)
+  pub written : text ≡ details old new differ ++ (regions_text old.rules new.rules most found ++ ending_text made (length found))
 
 -- such a text is after what a buffer held
 abbrev pub AppendsComparison : Configuration → Configuration → ℕ → Compared → List ℕ → List ℕ → Type 0

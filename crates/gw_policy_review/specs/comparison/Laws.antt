@@ -1,5 +1,5 @@
 -- What the text of a comparison says of the asks of two configurations.
-use Rattle.std.specs.Prelude.{◌≡◌, ◌≢◌, ◌⊎◌, ℕ, true, false, count_by, List, None}
+use Rattle.std.specs.Prelude.{◌≡◌, ◌≢◌, ◌⊎◌, ℕ, Bool, true, false, count_by, List, [], None}
 use Rattle.std.specs.List.{AllByRecursion}
 use Rattle.gw_configuration.specs.Configuration.{Configuration}
 use Rattle.gw_ask_sets.specs.regions.Comparing.{IsDecided, differs, is_found}
@@ -14,6 +14,7 @@ use Rattle.gw_ask_sets.specs.shapes.Shape.{LiesInOne}
 use Rattle.gw_ask_sets.specs.shapes.Shapes.{shapes}
 use Rattle.gw_policy_review.specs.comparison.Comparison.{IsComparisonText}
 use Rattle.gw_policy_review.specs.comparison.Groups.{firsts, is_like}
+use Rattle.gw_policy_review.specs.comparison.Parts.{AreDifferences, AreLike}
 use Rattle.gw_policy_review.specs.declared.comparison.comparison.Compared.{Compared}
 use Rattle.gw_policy_review.specs.declared.comparison.comparison.Compared.TheVariants as compared
 
@@ -27,10 +28,25 @@ FoundIsAll = (old new : Configuration) (most : ℕ) (made : Compared) (text : Li
     (written : IsComparisonText old new most made text) → made ≢ compared.Unfinished
     → (ask : Ask) → IsAskOf old new ask → differs old.rules new.rules ask ≡ is_found written.found ask
 
--- If the text says that no ask is decided otherwise, the two decide each of them alike.
+-- the text says that no ask is decided otherwise, or that only other parts differ
+abbrev pub says_alike : Compared → Bool
+says_alike compared.Alike = true
+says_alike compared.OtherParts = true
+says_alike compared.Different = false
+says_alike compared.Unfinished = false
+
+-- Then the two decide each of them alike.
 abbrev pub AlikeIsAlike : Type 0
-AlikeIsAlike = (old new : Configuration) (most : ℕ) (text : List ℕ) → IsComparisonText old new most compared.Alike text
-    → (ask : Ask) → IsAskOf old new ask → allows old.rules ask ≡ allows new.rules ask
+AlikeIsAlike = (old new : Configuration) (most : ℕ) (made : Compared) (text : List ℕ) → IsComparisonText old new most made text
+    → says_alike made ≡ true → (ask : Ask) → IsAskOf old new ask → allows old.rules ask ≡ allows new.rules ask
+
+-- If no part differs, all that has an effect is the same, but for what the rules decide.
+abbrev pub NoneDiffers : Type 0
+NoneDiffers = (old new : Configuration) → AreDifferences old new [] → AreLike old new
+
+-- So it is if the text says that no ask is decided otherwise.
+abbrev pub AlikeIsLike : Type 0
+AlikeIsLike = (old new : Configuration) (most : ℕ) (text : List ℕ) → IsComparisonText old new most compared.Alike text → AreLike old new
 
 -- Finished or not: such an ask that lies in a region that was found is decided as the line of the region says, and by
 -- rules that it names.

@@ -132,10 +132,10 @@ trust_notes c number rule = source_note c number rule ++ reach_note c number rul
 abbrev pub lets_broadcasts : List Shape → List Rule → Bool
 lets_broadcasts shapes rules = list_any (λ shape. is_cast shape && is_some (opener rules shape)) shapes
 
--- where no rule allows them
+-- where some are distributed, and no rule allows them
 abbrev pub cast_note : List Shape → Configuration → List ℕ
 cast_note shapes c =
-    if lets_broadcasts shapes c.rules then []
+    if not (list_any is_cast shapes) || lets_broadcasts shapes c.rules then []
     else codes "note: look at cast: no rule allows it, so no broadcast reaches a peer or a foreign device" ++ 10 ∷ []
 
 -- ---- all of them

@@ -15,7 +15,7 @@ use Rattle.gw_ask_sets.specs.shapes.Cover.{takes_side}
 use Rattle.gw_ask_sets.specs.shapes.Meeting.{has_number, meets}
 use Rattle.gw_ask_sets.specs.shapes.Pieces.{numbers}
 use Rattle.gw_ask_sets.specs.shapes.Shape.{Shape}
-use Rattle.gw_ask_sets.specs.shapes.Shapes.{aimed, bound, only, own}
+use Rattle.gw_ask_sets.specs.shapes.Shapes.{aimed, bound, is_manager, only, own}
 use Rattle.gw_ask_sets.specs.declared.shapes.side.Side.{Side}
 
 -- in each field that the rule names, one of its ranges holds all that the shape has there
@@ -40,7 +40,7 @@ opener rules shape =
 -- messages with these services that are routed from the network of a port, of this number, to another network
 abbrev pub routed : Format → ℕ → Port → ℕ → Side → Shape
 routed format number from to services =
-    aimed format (bound (own format number from.network) operations.Route services (only to))
+    aimed format (bound (own format number from.network (is_manager from)) operations.Route services (only to))
 
 -- requests that are answered, by their confirmed services (clause 21)
 abbrev pub requests : Format → ℕ → Port → ℕ → Shape

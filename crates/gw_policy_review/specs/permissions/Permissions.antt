@@ -1,10 +1,11 @@
 -- Who may do what under a configuration: the lines that `bacgwctl explain` has of it. In format 3 they are about its ports, its
 -- networks, what rules let others do, its objects and its rules' notes; in formats 1 and 2 about its objects alone.
-use Rattle.std.specs.Prelude.{ℕ, ◌-◌, ◌==◌, Bool, if◌then◌else◌, List, [], ◌++◌, length, map, take, slice_get}
-use Rattle.std.specs.Prelude.{codes, decimal}
+use Rattle.std.specs.Prelude.{ℕ, ◌-◌, ◌==◌, Bool, if◌then◌else◌, List, [], ◌++◌, length, take, slice_get}
+use Rattle.std.specs.Prelude.{codes, decimal, Option, Some, None}
 use Rattle.std.specs.List.{flat_map}
 use Rattle.std.specs.Option.{option_map_or}
 use Rattle.gw_addr.specs.Address.{text_of}
+use Rattle.gw_addr.specs.declared.bip.BipAddr.{BipAddr}
 use Rattle.gw_configuration.specs.Configuration.{Configuration}
 use Rattle.gw_configuration.specs.Kinds.{type_number}
 use Rattle.gw_configuration.specs.Shown.{shown}
@@ -66,10 +67,28 @@ grant_lines deed shape rules =
 abbrev pub subnet_words : Subnet → List ℕ
 subnet_words subnet = subnet_text subnet ++ codes ", "
 
-abbrev pub stations_words : List Subnet → List ℕ
-stations_words stations =
-    if length stations == 0 then codes ": everyone is a station\n"
-    else codes ": stations are " ++ flat_map subnet_words stations ++ codes "and registered foreign devices\n"
+-- where another broadcast manager is beside the port
+abbrev pub manager_words : BipAddr → List ℕ
+manager_words manager = codes "and nobody registers: " ++ text_of manager ++ codes " is the broadcast manager\n"
+
+abbrev pub managed_words : List ℕ → BipAddr → List ℕ
+managed_words text manager = text ++ manager_words manager
+
+abbrev pub everyone_words : Option BipAddr → List ℕ
+everyone_words None = codes ": everyone is a station\n"
+everyone_words (Some manager) = managed_words (codes ": everyone is a station, ") manager
+
+abbrev pub foreign_words : Option BipAddr → List ℕ
+foreign_words None = codes "and registered foreign devices\n"
+foreign_words (Some manager) = managed_words [] manager
+
+abbrev pub named_words : List Subnet → Option BipAddr → List ℕ
+named_words stations manager = codes ": stations are " ++ flat_map subnet_words stations ++ foreign_words manager
+
+abbrev pub stations_words : Port → List ℕ
+stations_words port =
+    if length port.stations == 0 then everyone_words port.bbmd
+    else named_words port.stations port.bbmd
 
 -- strangers enter where the port names its stations
 abbrev pub entry_lines : List Rule → ℕ → Port → List ℕ
@@ -78,7 +97,7 @@ entry_lines rules number port =
 
 abbrev pub port_lines : List Rule → ℕ → Port → List ℕ
 port_lines rules number port =
-    codes "port " ++ decimal number ++ stations_words port.stations ++ entry_lines rules number port
+    codes "port " ++ decimal number ++ stations_words port ++ entry_lines rules number port
 
 -- ---- networks
 

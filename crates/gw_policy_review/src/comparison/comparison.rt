@@ -5,11 +5,13 @@ ghost use Rattle.gw_policy_review.specs.comparison.Asks.{asks_of};
 ghost use Rattle.gw_policy_review.specs.comparison.Comparison.{AppendsComparison, IsComparisonText, compared_by, ending_text, kinds_text, rank};
 ghost use Rattle.gw_ask_sets.specs.regions.Comparing.{IsComparison, IsSummary};
 ghost use Rattle.gw_ask_sets.specs.regions.Presence.{OrNoneIsMeant};
+ghost use Rattle.gw_policy_review.specs.comparison.PartLines.{details};
 ghost use Rattle.gw_rules.specs.declared.rule.Rule.{Rule as SpecRule};
 
 use crate::comparison::Comparing;
+use crate::comparison::details::put_details;
 use crate::comparison::groups::{Listing, put_regions};
-use crate::comparison::notes::notes;
+use crate::comparison::parts::{Part, differing_parts};
 use gw_addr::{keep_whole, put_decimal, put_slice};
 use gw_ask_sets::regions::{Comparison, Found, MAX_STEPS, Region, Summary};
 use gw_configuration::Config;
@@ -18,8 +20,10 @@ use std::alloc::{AllocError, Global};
 /// How the policies of two configurations compare.
 #[derive(Clone, Copy)]
 pub enum Compared {
-    /// They decide each ask that a gateway of either may raise alike.
+    /// They decide each ask that a gateway of either may raise alike, and no other part of them differs.
     Alike,
+    /// They decide each alike, but other parts differ.
+    OtherParts,
     /// They decide some otherwise, which are all found.
     Different,
     /// The steps were used up: they decide those that were found otherwise, and perhaps others.
@@ -38,12 +42,13 @@ impl Drop for ComparisonText {
     }
 }
 
-/// Appends what two configurations decide otherwise, over all asks that a gateway of either may raise:
-/// a line for each kind of them, what is newly allowed first, at most `most` lines; and a last line that says
-/// whether these are all. In front is a note for each part beside the rules that isn't the same.
+/// Appends in which parts two configurations differ, and what they decide otherwise, over all asks that a gateway of
+/// either may raise: lines for each part that isn't the same; a line for each kind of asks, what is newly allowed first,
+/// at most `most` lines; and a last line that says whether these are all.
 ///
 /// ```text
-/// note: the ports differ; only the rules are compared
+/// port 1: 10.9.0.0/24 is a station now
+/// rule panel is new
 /// now allowed: write, type 5 binary-value, instance 1, property 85 present-value, priority 1..7, from network 2, by panel (was denied by no-writes)
 /// now denied: list, from network 1, by quiet (was allowed by find)
 /// 2 kinds of asks are decided otherwise, and no other
@@ -76,6 +81,20 @@ pub(crate) fn put_whole(out: &mut Vec<u8>, text: &[u8]) -> Result<(), AllocError
     keep_whole(out, len, put)
 }
 
+/// The lines of these parts.
+fn details_of(
+    alloc: Global,
+    old: &Config,
+    new: &Config,
+    differ: &[Part],
+) -> Result<Vec<u8>, AllocError>
+    ensures { IfOk result (λ text. text.items ≡ details old.now new.now differ.now) }
+{
+    let mut text = Vec::new(alloc);
+    put_details(&mut text, old, new, differ)?;
+    Ok(text)
+}
+
 /// What there is to say of what two configurations decide otherwise.
 pub(crate) fn comparison_of(
     alloc: Global,
@@ -90,8 +109,9 @@ pub(crate) fn comparison_of(
         IsNonDecreasingBy rank summary.now.found.items →
         IsComparisonText old.now new.now most written.made written.text.items) }
 {
-    let mut text = notes(alloc, old, new)?;
-    let made = compared_by(summary.found.len(), summary.left.len());
+    let differ = differing_parts(alloc, old, new)?;
+    let mut text = details_of(alloc, old, new, &differ)?;
+    let made = compared_by(differ.len(), summary.found.len(), summary.left.len());
     let listing = Listing {
         found: &summary.found,
         old: old.rules().rules(),
@@ -136,13 +156,16 @@ fn sort_found(found: &mut Vec<Found>) -> Result<(), AllocError>
     Ok(())
 }
 
-fn compared_by(found: usize, left: usize) -> Compared
-    ensures { result ≡ compared_by found left }
+/// How two policies compare, by how many other parts differ, how many regions were found, and how many are left.
+pub fn compared_by(differ: usize, found: usize, left: usize) -> Compared
+    ensures { result ≡ compared_by differ found left }
 {
     if left != 0 {
         Compared::Unfinished
     } else if found != 0 {
         Compared::Different
+    } else if differ != 0 {
+        Compared::OtherParts
     } else {
         Compared::Alike
     }
@@ -154,6 +177,9 @@ fn put_ending(out: &mut Vec<u8>, made: Compared, count: usize) -> Result<(), All
 {
     match made {
         Compared::Alike => out.extend_from_slice(b"no ask is decided otherwise\n"),
+        Compared::OtherParts => {
+            out.extend_from_slice(b"the rules decide alike, but other parts differ\n")
+        }
         Compared::Different => put_finished(out, count),
         Compared::Unfinished => {
             out.extend_from_slice(unfinished_words(count).as_bytes())?;

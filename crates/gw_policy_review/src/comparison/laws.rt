@@ -1,7 +1,7 @@
 //! What the text of a comparison says of the asks of two configurations. The functions do nothing: their
 //! contracts are the laws.
 ghost use Rattle.std.specs.Prelude.{◌≡◌};
-ghost use Rattle.gw_policy_review.specs.comparison.Laws.{AlikeIsAlike, EachHasOneGroup, FoundIsAll, LinesAreTrue, LinesHaveAsks, NoneHasAsk};
+ghost use Rattle.gw_policy_review.specs.comparison.Laws.{AlikeIsAlike, AlikeIsLike, EachHasOneGroup, FoundIsAll, LinesAreTrue, LinesHaveAsks, NoneDiffers, NoneHasAsk};
 
 use crate::comparison::MOST_UNGROUPED;
 
@@ -14,6 +14,13 @@ pub fn comparisons()
     ensures lines { LinesAreTrue }
     ensures asks { LinesHaveAsks }
     ensures or_none { NoneHasAsk }
+{}
+
+/// What isn't among the parts that differ is the same: if there is none, all that has an effect is, but for what the rules
+/// decide; and so it is if a text says that no ask is decided otherwise.
+pub fn parts()
+    ensures none { NoneDiffers }
+    ensures alike { AlikeIsLike }
 {}
 
 /// If the regions that were found are grouped by the rules that decide, each is in one group.

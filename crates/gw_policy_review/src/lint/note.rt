@@ -359,11 +359,18 @@ fn lets_broadcasts(shapes: &[Shape], rules: &RuleList) -> bool
         .any(|shape| is_cast(shape) && opener(rules, shape).is_some())
 }
 
-/// Appends a note where no rule allows broadcasts.
+/// Whether some broadcasts are among these shapes.
+fn has_broadcasts(shapes: &[Shape]) -> bool
+    ensures { result ≡ list_any is_cast shapes.now }
+{
+    shapes.iter().any(|shape| is_cast(shape))
+}
+
+/// Appends a note where some broadcasts are distributed, and no rule allows them.
 fn put_cast_note(out: &mut Vec<u8>, shapes: &[Shape], config: &Config) -> Result<(), AllocError>
     ensures { OnOk result (out.new.items ≡ out.old.items ++ cast_note shapes.now config.now) }
 {
-    if lets_broadcasts(shapes, config.rules()) {
+    if !has_broadcasts(shapes) || lets_broadcasts(shapes, config.rules()) {
         return Ok(());
     }
     out.extend_from_slice(

@@ -6,7 +6,7 @@ ghost use Rattle.gw_policy_review.specs.lint.Passage.{opens_beyond, requests, ro
 use crate::lint::text::allows_at;
 use gw_addr::NetNum;
 use gw_ask_sets::shapes::{
-    Origin, Shape, Side, aimed, bound, has_number, meets, numbers, only, takes_side,
+    Origin, Shape, Side, aimed, bound, has_number, is_manager, meets, numbers, only, takes_side,
 };
 use gw_configuration::Port;
 use gw_rules::{FieldName, Format, Operation, Rule, RuleList};
@@ -66,7 +66,12 @@ pub(crate) fn opener(rules: &RuleList, shape: &Shape) -> Option<u16>
 fn routed(format: Format, number: u16, from: &Port, to: u16, services: Side) -> Shape
     ensures { result ≡ routed format number from.now to services }
 {
-    let own = Origin::own(format, u64::from(number), u64::from(from.network.get()));
+    let own = Origin::own(
+        format,
+        u64::from(number),
+        u64::from(from.network.get()),
+        is_manager(from),
+    );
     let shape = bound(&own, Operation::Route, services, only(u64::from(to)));
     aimed(format, &shape)
 }

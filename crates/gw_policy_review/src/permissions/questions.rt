@@ -1,8 +1,8 @@
 //! The shapes of the asks of which a line says who may raise them.
 ghost use Rattle.std.specs.Prelude.{◌≡◌};
-ghost use Rattle.gw_policy_review.specs.permissions.Questions.{claiming, entering, reading};
+ghost use Rattle.gw_policy_review.specs.permissions.Questions.{any_of, claiming, entering, reading};
 
-use gw_ask_sets::shapes::{Origin, Shape, Side, bound, numbers, only};
+use gw_ask_sets::shapes::{Entrance, Origin, Shape, Side, bound, numbers, only};
 use gw_rules::{Format, Operation, Range};
 
 /// A property of an object, by its type and instance.
@@ -31,11 +31,21 @@ const ANY_NETWORK: Side = Side {
     },
 };
 
+/// Any of so many ports.
+fn any_of(ports: u64) -> Entrance
+    ensures { result ≡ any_of ports }
+{
+    Entrance {
+        port: numbers(1, ports),
+        manages: true,
+    }
+}
+
 /// Asks to enter by the port of this number, which has this network.
 pub(crate) fn entering(number: u64, network: u64) -> Shape
     ensures { result ≡ entering number network }
 {
-    let from = Origin::own(Format::Three, number, network);
+    let from = Origin::own(Format::Three, number, network, true);
     bound(&from, Operation::Enter, NOTHING, NOTHING)
 }
 
@@ -43,7 +53,7 @@ pub(crate) fn entering(number: u64, network: u64) -> Shape
 pub(crate) fn claiming(ports: u64) -> Shape
     ensures { result ≡ claiming ports }
 {
-    let from = Origin::foreign(Format::Three, ports, &ANY_NETWORK);
+    let from = Origin::foreign(Format::Three, &any_of(ports), &ANY_NETWORK);
     bound(&from, Operation::Claim, NOTHING, NOTHING)
 }
 
@@ -52,7 +62,7 @@ pub(crate) fn claiming(ports: u64) -> Shape
 pub(crate) fn reading(ports: u64, device: u64, network: u64, point: Point) -> Shape
     ensures { result ≡ reading ports device network point }
 {
-    let from = Origin::foreign(Format::Three, ports, &only(network));
+    let from = Origin::foreign(Format::Three, &any_of(ports), &only(network));
     Shape {
         object_type: only(point.kind),
         instance: only(point.instance),

@@ -1,6 +1,6 @@
 use Rattle.gw_json.proofs.Checks.{checks_read, faults_read}
 use Rattle.gw_json.proofs.Reading.{answers_read, denials_read, others_read}
-use Rattle.gw_json.proofs.Shallow.{comparisons_read, summaries_read}
+use Rattle.gw_json.proofs.Shallow.{comparisons_read, differences_read, summaries_read}
 use Rattle.gw_json.proofs.laws.reading.Goals as goal
 
 pub returns-clause-denials : goal.returns-clause-denials
@@ -17,6 +17,9 @@ returns-clause-comparisons c = comparisons_read
 
 pub returns-clause-summaries : goal.returns-clause-summaries
 returns-clause-summaries c = summaries_read
+
+pub returns-clause-differences : goal.returns-clause-differences
+returns-clause-differences c = differences_read
 
 pub returns-clause-checks : goal.returns-clause-checks
 returns-clause-checks c = checks_read

@@ -1,5 +1,5 @@
-use Rattle.std.proofs.Common.{refl}
+use Rattle.gw_verdicts.proofs.PeerLaw.{peers_raise_the_ask}
 use Rattle.gw_verdicts.proofs.laws.registrations.Goals as goal
 
 pub returns : goal.returns
-returns c = λ format place port peer time_to_live. refl
+returns c = peers_raise_the_ask

@@ -1,0 +1,256 @@
+-- What isn't among the parts that differ is the same.
+use Rattle.std.proofs.Common.{◌≡◌, ◌∙◌, ap, append_assoc, arith, refl, subst, sym, ℕ, ◌+◌, ◌<◌, Bool, true, false, List, [], ◌∷◌, ◌++◌, length, map, Some, slice_get, suc, zero}
+use Rattle.std.proofs.lemmas.List.{append-nil, length-append}
+use Rattle.std.specs.Prelude.{◌==◌, ◌||◌, IsTrue, if◌then◌else◌}
+use Rattle.std.proofs.lemmas.Bool.{both_ways, eqb-true}
+use Rattle.std.specs.List.{list_any}
+use Rattle.gw_ask_sets.specs.regions.Tidying.{tidy}
+use Rattle.gw_ask_sets.proofs.regions_lemmas.TidyLaw.{tidy_has_the_same}
+use Rattle.gw_configuration.specs.Subnet.{Subnet, keys_of}
+use Rattle.gw_configuration.specs.declared.port.Port.{Port}
+use Rattle.gw_rules.specs.Range.{holds}
+use Rattle.gw_rules.specs.declared.range.Range.{Range}
+use Rattle.gw_policy_review.specs.comparison.Comparison.{compared_by}
+use Rattle.gw_policy_review.specs.comparison.Laws.{AlikeIsLike, NoneDiffers}
+use Rattle.gw_policy_review.specs.comparison.Parts.{AreDifferences, AreLikePorts, ArePortParts, HaveSameStations, IsPortSameness, frame_parts, has_key, parts_of_port, port_parts, rest_parts, unless}
+use Rattle.gw_policy_review.specs.declared.comparison.parts.Part.{Part}
+use Rattle.gw_policy_review.specs.declared.comparison.parts.Part.TheVariants as parts
+use Rattle.gw_policy_review.specs.declared.comparison.parts.PortPart.TheVariants as of_port
+use Rattle.gw_policy_review.specs.declared.comparison.parts.PortSameness.{PortSameness}
+use Rattle.gw_policy_review.specs.declared.comparison.parts.Sameness.{Sameness}
+use Rattle.gw_policy_review.specs.declared.comparison.comparison.Compared.{Compared}
+use Rattle.gw_policy_review.specs.declared.comparison.comparison.Compared.TheVariants as compared
+
+-- ---- stations
+
+keyed : (stations : List Subnet) (key : ℕ) → has_key stations key ≡ list_any (holds key) (map keys_of stations)
+keyed [] key = refl
+keyed (s ∷ stations) key = ap (λ (b : Bool). holds key (keys_of s) || b) (keyed stations key)
+
+-- by the same keys in order two ports have the same stations
+pub same_stations : (stations others : List Subnet) → (length stations == 0) ≡ (length others == 0)
+    → tidy (map keys_of stations) ≡ tidy (map keys_of others) → HaveSameStations stations others
+same_stations stations others named e = record {
+  named = named;
+  addresses = λ key. keyed stations key ∙ sym (tidy_has_the_same (map keys_of stations) key)
+      ∙ ap (λ (ranges : List Range). list_any (holds key) ranges) e
+      ∙ tidy_has_the_same (map keys_of others) key ∙ sym (keyed others key);
+}
+
+-- ---- no part
+
+front_none : {A : Type 0} (xs ys : List A) → xs ++ ys ≡ [] → xs ≡ []
+front_none [] ys e = refl
+front_none (x ∷ xs) ys e = absurd cc
+
+rest_none : {A : Type 0} (xs ys : List A) → xs ++ ys ≡ [] → ys ≡ []
+rest_none [] ys e = e
+rest_none (x ∷ xs) ys e = absurd cc
+
+is_same : (same : Bool) (part : Part) → unless same part ≡ [] → IsTrue same
+is_same true part e = refl
+is_same false part e = absurd cc
+
+-- ---- the frame and the rest
+
+record FrameSame (same : Sameness) : Type 0 where
+  format : IsTrue same.format
+  announce : IsTrue same.announce
+  device : IsTrue same.device
+  count : IsTrue same.count
+
+frame_same : (same : Sameness) → frame_parts same ≡ [] → FrameSame same
+frame_same same e =
+    let format = unless same.format parts.Format in
+    let announce = unless same.announce parts.Announce in
+    let device = unless same.device parts.Device in
+    let count = unless same.count parts.Ports in
+    let f = rest_none format (announce ++ (device ++ count)) e in
+    let g = rest_none announce (device ++ count) f in
+    record {
+      format = is_same same.format parts.Format (front_none format (announce ++ (device ++ count)) e);
+      announce = is_same same.announce parts.Announce (front_none announce (device ++ count) f);
+      device = is_same same.device parts.Device (front_none device count g);
+      count = is_same same.count parts.Ports (rest_none device count g);
+    }
+
+record RestSame (same : Sameness) : Type 0 where
+  routes : IsTrue same.routes
+  objects : IsTrue same.objects
+  audits : IsTrue same.audits
+  notes : IsTrue same.notes
+  names : IsTrue same.names
+
+rest_same : (same : Sameness) → rest_parts same ≡ [] → RestSame same
+rest_same same e =
+    let routes = unless same.routes parts.Routes in
+    let objects = unless same.objects parts.Objects in
+    let audits = unless same.audits parts.Audits in
+    let notes = unless same.notes parts.Notes in
+    let names = unless same.names parts.RuleNames in
+    let f = rest_none routes (objects ++ (audits ++ (notes ++ names))) e in
+    let g = rest_none objects (audits ++ (notes ++ names)) f in
+    let h = rest_none audits (notes ++ names) g in
+    record {
+      routes = is_same same.routes parts.Routes (front_none routes (objects ++ (audits ++ (notes ++ names))) e);
+      objects = is_same same.objects parts.Objects (front_none objects (audits ++ (notes ++ names)) f);
+      audits = is_same same.audits parts.Audits (front_none audits (notes ++ names) g);
+      notes = is_same same.notes parts.Notes (front_none notes names h);
+      names = is_same same.names parts.RuleNames (rest_none notes names h);
+    }
+
+-- ---- ports
+
+like_ports : (number : ℕ) (a b : Port) (same : PortSameness) → parts_of_port number same ≡ [] → IsPortSameness a b same → AreLikePorts a b
+like_ports number a b same e is =
+    let network = unless same.network (parts.OfPort number of_port.Network) in
+    let address = unless same.address (parts.OfPort number of_port.Address) in
+    let broadcast = unless same.broadcast (parts.OfPort number of_port.Broadcast) in
+    let stations = unless same.stations (parts.OfPort number of_port.Stations) in
+    let manager = unless same.manager (parts.OfPort number of_port.Manager) in
+    let peers = unless same.peers (parts.OfPort number of_port.Peers) in
+    let links = front_none (network ++ (address ++ broadcast)) (stations ++ (manager ++ peers)) e in
+    let others = rest_none (network ++ (address ++ broadcast)) (stations ++ (manager ++ peers)) e in
+    let after_network = rest_none network (address ++ broadcast) links in
+    let after_stations = rest_none stations (manager ++ peers) others in
+    record {
+      network = is.network (is_same same.network _ (front_none network (address ++ broadcast) links));
+      address = is.address (is_same same.address _ (front_none address broadcast after_network));
+      broadcast = is.broadcast (is_same same.broadcast _ (rest_none address broadcast after_network));
+      stations = is.stations (is_same same.stations _ (front_none stations (manager ++ peers) others));
+      manager = is.manager (is_same same.manager _ (front_none manager peers after_stations));
+      peers = is.peers (is_same same.peers _ (rest_none manager peers after_stations));
+    }
+
+-- the number of a port whose parts are none
+record NoPart (same : PortSameness) : Type 0 where
+  number : ℕ
+  none : parts_of_port number same ≡ []
+
+no_part : (number : ℕ) (sames : List PortSameness) (place : ℕ) (same : PortSameness) → port_parts number sames ≡ []
+    → slice_get sames place ≡ Some same → NoPart same
+no_part number [] place same e there = absurd cc
+no_part number (s ∷ sames) zero same e there =
+    let is : s ≡ same = cc in
+    record { number = number; none = subst (λ (x : PortSameness). parts_of_port number x ≡ []) is (front_none (parts_of_port number s) (port_parts (number + 1) sames) e) }
+no_part number (s ∷ sames) (suc place) same e there =
+    no_part (number + 1) sames place same (rest_none (parts_of_port number s) (port_parts (number + 1) sames) e) there
+
+some_at : {A : Type 0} (xs : List A) (place : ℕ) → place < length xs → (x : A) × (slice_get xs place ≡ Some x)
+some_at [] place within = absurd (omega (arith, within))
+some_at (x ∷ xs) zero within = (x, refl)
+some_at (x ∷ xs) (suc place) within = some_at xs place (omega (arith, within))
+
+within_at : {A : Type 0} (xs : List A) (place : ℕ) (x : A) → slice_get xs place ≡ Some x → place < length xs
+within_at [] place x e = absurd cc
+within_at (y ∷ xs) zero x e = omega arith
+within_at (y ∷ xs) (suc place) x e = omega (arith, within_at xs place x e)
+
+each_like : (olds news : List Port) (before after : List Part) → (are : ArePortParts olds news before after) → port_parts 1 are.sames ≡ []
+    → (place : ℕ) (a b : Port) → slice_get olds place ≡ Some a → slice_get news place ≡ Some b → AreLikePorts a b
+each_like olds news before after are none place a b here there =
+    let first = within_at olds place a here in
+    let second = within_at news place b there in
+    let within : place < length are.sames = omega (arith, first, second, are.count) in
+    let same = some_at are.sames place within in
+    let no = no_part 1 are.sames place same.0 none same.1 in
+    like_ports no.number a b same.0 no.none (are.each place a b same.0 here there same.1)
+
+-- ---- all
+
+pub none_differs : NoneDiffers
+none_differs old new are =
+    let both = sym are.listed in
+    let ahead = front_none are.ahead (rest_parts are.same) both in
+    let ports = sym are.ports.listed ∙ ahead in
+    let frame = frame_same are.same (front_none (frame_parts are.same) (port_parts 1 are.ports.sames) ports) in
+    let rest = rest_same are.same (rest_none are.ahead (rest_parts are.same) both) in
+    record {
+      format = are.is_so.format frame.format;
+      announce = are.is_so.announce frame.announce;
+      device = are.is_so.device frame.device;
+      count = are.is_so.count frame.count;
+      ports = each_like old.ports new.ports (frame_parts are.same) are.ahead are.ports
+          (rest_none (frame_parts are.same) (port_parts 1 are.ports.sames) ports);
+      routes = are.is_so.routes rest.routes;
+      objects = are.is_so.objects rest.objects;
+      audits = are.is_so.audits rest.names rest.audits;
+      notes = are.is_so.notes rest.names rest.notes;
+      names = are.is_so.names rest.names;
+    }
+
+none_by_length : {A : Type 0} (xs : List A) → length xs ≡ 0 → xs ≡ []
+none_by_length [] e = refl
+none_by_length (x ∷ xs) e = absurd cc
+
+-- by the words of a comparison
+abbrev is_alike : Compared → Bool
+is_alike compared.Alike = true
+is_alike _ = false
+
+no_differ : (differ found left : ℕ) → compared.Alike ≡ compared_by differ found left → differ ≡ 0
+no_differ differ found left e = by (left == 0) (found == 0) (differ == 0) refl (ap is_alike (sym e))
+  where
+    by : (b c d : Bool) → (differ == 0) ≡ d → is_alike (if b then (if c then (if d then compared.Alike else compared.OtherParts) else compared.Different) else compared.Unfinished) ≡ true → differ ≡ 0
+    by true true true is all = eqb-true differ 0 is
+    by true true false is all = absurd (both_ways false refl all)
+    by true false d is all = absurd (both_ways false refl all)
+    by false c d is all = absurd (both_ways false refl all)
+
+pub alike_is_like : AlikeIsLike
+alike_is_like old new most text written =
+    none_differs old new (subst (λ (differ : List Part). AreDifferences old new differ)
+    (none_by_length written.differ (no_differ (length written.differ) (length written.found) (length written.left) written.verdict))
+    written.are_differences)
+
+-- ---- the parts of one port more
+
+each_more : (sames : List PortSameness) (same : PortSameness) (P : ℕ → PortSameness → Type 0)
+    → ((place : ℕ) (s : PortSameness) → slice_get sames place ≡ Some s → P place s) → P (length sames) same
+    → (place : ℕ) (s : PortSameness) → slice_get (sames ++ same ∷ []) place ≡ Some s → P place s
+each_more [] same P front last zero s e =
+    let is : same ≡ s = cc in
+    subst (P 0) is last
+each_more [] same P front last (suc place) s e = absurd cc
+each_more (x ∷ sames) same P front last zero s e = front zero s e
+each_more (x ∷ sames) same P front last (suc place) s e =
+    each_more sames same (λ n. P (suc n)) (λ n. front (suc n)) last place s e
+
+parts_more : (number : ℕ) (sames : List PortSameness) (same : PortSameness)
+    → port_parts number (sames ++ same ∷ []) ≡ port_parts number sames ++ parts_of_port (length sames + number) same
+parts_more number [] same =
+    let same_number : number ≡ 0 + number = omega arith in
+    append-nil (parts_of_port number same) ∙ ap (λ n. parts_of_port n same) same_number
+parts_more number (x ∷ sames) same =
+    let next : length sames + (number + 1) ≡ suc (length sames) + number = omega arith in
+    ap (λ (xs : List Part). parts_of_port number x ++ xs) (parts_more (number + 1) sames same
+    ∙ ap (λ n. port_parts (number + 1) sames ++ parts_of_port n same) next)
+    ∙ sym (append_assoc (parts_of_port number x) (port_parts (number + 1) sames) (parts_of_port (suc (length sames) + number) same))
+
+abbrev pub Listed : List Port → List Port → List Part → ℕ → List Part → Type 0
+Listed olds news start place out =
+    (sames : List PortSameness) × (length sames ≡ place)
+    × ((at : ℕ) (a b : Port) (same : PortSameness) → slice_get olds at ≡ Some a → slice_get news at ≡ Some b
+    → slice_get sames at ≡ Some same → IsPortSameness a b same)
+    × (out ≡ start ++ port_parts 1 sames)
+
+pub listed_more : (olds news : List Port) (start out more : List Part) (place : ℕ) (a b : Port) (same : PortSameness)
+    → slice_get olds place ≡ Some a → slice_get news place ≡ Some b → IsPortSameness a b same
+    → more ≡ out ++ parts_of_port (place + 1) same → Listed olds news start place out → Listed olds news start (place + 1) more
+listed_more olds news start out more place a b same here there is grown (sames, count, each, listed) = (
+  sames ++ same ∷ [],
+  omega (arith, count, length-append sames (same ∷ [])),
+  λ at x y s first second e.
+      each_more sames same (λ n s. (x y : Port) → slice_get olds n ≡ Some x → slice_get news n ≡ Some y → IsPortSameness x y s)
+      (λ n s e x y first second. each n x y s first second e)
+      (λ x y first second.
+      let one : Some a ≡ Some x = sym here ∙ ap (slice_get olds) (sym count) ∙ first in
+      let two : Some b ≡ Some y = sym there ∙ ap (slice_get news) (sym count) ∙ second in
+      let is_a : a ≡ x = cc in
+      let is_b : b ≡ y = cc in
+      subst (λ (z : Port). IsPortSameness z y same) is_a (subst (λ (z : Port). IsPortSameness a z same) is_b is))
+      at s e x y first second,
+  grown ∙ ap (λ (xs : List Part). xs ++ parts_of_port (place + 1) same) listed
+      ∙ append_assoc start (port_parts 1 sames) (parts_of_port (place + 1) same)
+      ∙ ap (λ (xs : List Part). start ++ xs) (sym (parts_more 1 sames same ∙ ap (λ n. port_parts 1 sames ++ parts_of_port (n + 1) same) count)),
+)
