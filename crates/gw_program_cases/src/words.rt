@@ -67,7 +67,9 @@ pub fn status_text(code: ExitCode) -> &'static str {
         "1"
     } else if code == ExitCode::from(2) {
         "2"
+    } else if code == ExitCode::from(3) {
+        "3"
     } else {
-        "neither 0 nor 1 nor 2"
+        "none of 0 to 3"
     }
 }

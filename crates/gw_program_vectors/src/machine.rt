@@ -12,6 +12,7 @@ use gw_cases::MemWriter;
 use gw_configuration::Port;
 use gw_log_words::{Calendar, Moment, moment_after};
 use gw_program_cases::{Left, MemFiles, Program, Section, UNREADABLE, put, put_left, put_lines};
+use gw_script::append_send;
 use gw_shell::{FailedStep, Host, LogFailure, Obstacle, Reason, SocketFailure, Step, run};
 use gw_system::{ReadFailure, Requests};
 use gw_wire::{Got, RECEIVE_ROOM, Store, StoreFault, Wire, WireFault};
@@ -35,18 +36,36 @@ const DENIED_READ: [u8; 22] = [
     0x01, 0x40, 0x00, 0x02, 0x19, 0x55,
 ];
 
-/// A wire in memory: a denied read first, and then a tick at each receive.
+/// A wire in memory: a denied read first, and then a tick at each receive. The send of one number, from 0, may fail. It shows
+/// its calls, if that is asked for.
 #[derive(Drop)]
 pub struct MemSockets {
     ports: u8,
     receives: u64,
     sends: u64,
+    failures: u128,
+    failing: Option<u64>,
+    calls: Option<Vec<u8>>,
+}
+
+/// Shows a receive, if calls are shown.
+fn show_receive(calls: &mut Option<Vec<u8>>) {
+    if let Some(calls) = calls {
+        let _ = calls.extend_from_slice(b"receive\n");
+    }
+}
+
+/// Shows a send, if calls are shown.
+fn show_send(calls: &mut Option<Vec<u8>>, port: u8, to: BipAddr, octets: &[u8]) {
+    if let Some(calls) = calls {
+        let _ = append_send(calls, port, to, octets);
+    }
 }
 
 impl Wire for MemSockets {
     ghost port_count = { λ s. s.ports };
 
-    ghost failure_count = { λ _. 0 };
+    ghost failure_count = { λ s. s.failures };
 
     ghost calls = { λ _. None };
 
@@ -55,11 +74,12 @@ impl Wire for MemSockets {
     }
 
     fn failures(&self) -> u128 {
-        0
+        self.failures
     }
 
     fn recv(&mut self, buf: &mut [u8; RECEIVE_ROOM]) -> Result<Got, WireFault> {
         self.receives = self.receives.wrapping_add(1);
+        show_receive(&mut self.calls);
         if self.receives != 1 || self.ports == 0 {
             return Ok(Got::Tick);
         }
@@ -77,8 +97,14 @@ impl Wire for MemSockets {
         })
     }
 
-    fn send(&mut self, _port: u8, _to: BipAddr, _octets: &[u8]) -> Result<(), WireFault> {
+    fn send(&mut self, port: u8, to: BipAddr, octets: &[u8]) -> Result<(), WireFault> {
+        let number = self.sends;
         self.sends = self.sends.wrapping_add(1);
+        show_send(&mut self.calls, port, to, octets);
+        if self.failing == Some(number) {
+            self.failures += 1;
+            return Err(WireFault::Failed);
+        }
         Ok(())
     }
 }
@@ -162,6 +188,8 @@ struct MemHost<'a> {
     trial: Option<Vec<u8>>,
     is_cut: bool,
     failing: Option<usize>,
+    failing_send: Option<usize>,
+    shows_calls: bool,
     routes: bool,
     state: Option<Vec<u8>>,
     unkept: Option<StoreFault>,
@@ -226,7 +254,7 @@ impl<'a> Host for MemHost<'a> {
         self.routes
     }
 
-    fn open_sockets(&self, _alloc: Global, ports: &[Port]) -> Result<MemSockets, SocketFailure> {
+    fn open_sockets(&self, alloc: Global, ports: &[Port]) -> Result<MemSockets, SocketFailure> {
         match self.failing {
             Some(port) if 1 <= port && port <= ports.len() => {
                 Err(SocketFailure::Failed(FailedStep {
@@ -240,6 +268,13 @@ impl<'a> Host for MemHost<'a> {
                 ports: ports.len() as u8,
                 receives: 0,
                 sends: 0,
+                failures: 0,
+                failing: self.failing_send.map(|number| number as u64),
+                calls: if self.shows_calls {
+                    Some(Vec::new(alloc))
+                } else {
+                    None
+                },
             }),
         }
     }
@@ -334,8 +369,20 @@ fn text_if(alloc: Global, is_there: bool, text: &str) -> Result<Option<Vec<u8>>,
     }
 }
 
+/// The text of a state with a peer and a foreign device of each of two ports.
+const TABLES: &str = "bacgw state 1
+counts 5 5 0
+port 1 192.168.1.10:47808
+entry 192.168.4.1:47808 255.255.255.255
+device 192.168.3.9:47808 60 89
+port 2 192.168.2.10:47808
+entry 192.168.5.1:47808 255.255.255.255
+device 192.168.3.8:47808 60 89
+end
+";
+
 /// The text of the state that a section has: one that is cut, one with more after its end, one whose counts and port
-/// are none, or none.
+/// are none, one with tables of both ports, or none.
 fn state_of(alloc: Global, section: &Section<'_>) -> Result<Option<Vec<u8>>, AllocError> {
     if section.has("state more") {
         return text_if(alloc, true, "bacgw state 1\ncounts 0 0 0\nend\nmore");
@@ -346,6 +393,9 @@ fn state_of(alloc: Global, section: &Section<'_>) -> Result<Option<Vec<u8>>, All
             true,
             "bacgw state 1\ncounts 2 1 0\nport 1 nowhere\nend\n",
         );
+    }
+    if section.has("state tables") {
+        return text_if(alloc, true, TABLES);
     }
     text_if(alloc, section.has("state cut"), "bacgw state 1\n")
 }
@@ -389,7 +439,14 @@ fn trial_of(
     text_if(alloc, section.has("trial same"), config)
 }
 
-/// The text that a section's request has: that of the configuration, one that is none, or nothing if it can't be read.
+/// The stations of the first port, and what comes after them.
+const STATIONS: &str = "stations = [\"192.168.1.0/24\"]\n";
+
+/// The same, and a broadcast manager beside the port.
+const MANAGED: &str = "stations = [\"192.168.1.0/24\"]\nbbmd = \"192.168.1.3:47808\"\n";
+
+/// The text that a section's request has: that of the configuration, also with a broadcast manager beside its first port or
+/// without it, one that is none, or nothing if it can't be read.
 fn reload_of(
     alloc: Global,
     section: &Section<'_>,
@@ -397,6 +454,12 @@ fn reload_of(
 ) -> Result<Option<Vec<u8>>, AllocError> {
     if section.has("reload same") {
         return text_if(alloc, true, config);
+    }
+    if section.has("reload manager") {
+        return text_with(alloc, config, STATIONS, MANAGED);
+    }
+    if section.has("reload no manager") {
+        return text_with(alloc, config, MANAGED, STATIONS);
     }
     if section.has("reload faulty") {
         return text_if(alloc, true, "x");
@@ -437,6 +500,8 @@ fn run_with(
         trial: trial_of(alloc, section, config)?,
         is_cut: section.has("cut log"),
         failing: section.number("failing port "),
+        failing_send: section.number("failing send "),
+        shows_calls: section.has("calls"),
         routes: section.has("routes ip"),
         state: state_of(alloc, section)?,
         unkept: if section.has("store full") {
@@ -506,11 +571,14 @@ pub fn machine(alloc: Global, config: &str, text: &str, out: &mut Vec<u8>) -> io
     }
 }
 
-/// The log in a file, and how often the wire was called.
+/// The log in a file, the calls of the wire if they are shown, and how often it was called.
 fn put_closed(closed: &Closed, out: &mut Vec<u8>) -> Result<(), AllocError> {
     let (sockets, log) = closed;
     if let Some(log) = log {
         put_lines("log ", log.held(), out)?;
+    }
+    if let Some(calls) = &sockets.calls {
+        put_lines("wire ", calls, out)?;
     }
     put(out, &["receives ", Buffer::new().format(sockets.receives)])?;
     put(out, &[" sends ", Buffer::new().format(sockets.sends), "\n"])

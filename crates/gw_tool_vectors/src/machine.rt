@@ -2,6 +2,9 @@
 
 ghost use Rattle.std.specs.Prelude.{⊤};
 
+use gw_cases::{MemReader, edited};
+use gw_ending::Fault;
+use gw_ending::reading::ConfigFiles;
 use gw_log_words::{Calendar, Moment, moment_after};
 use gw_program_cases::{Left, MemFiles, Program, Section, put_left};
 use gw_system::ReadFailure;
@@ -66,6 +69,59 @@ impl Machine for MemMachine {
     }
 }
 
+/// Files in memory: those of a section, and the configuration before its edits.
+#[derive(Drop)]
+struct ToolFiles<'a> {
+    now: &'a str,
+    was: &'a str,
+}
+
+impl<'a> ToolFiles<'a> {
+    /// The files of the section.
+    fn files(&self) -> MemFiles<'a> {
+        MemFiles { text: self.now }
+    }
+}
+
+impl<'a> ConfigFiles for ToolFiles<'a> {
+    type Log = MemReader<'a>;
+
+    ghost ReadsLog = { λ _ _ _. ⊤ };
+
+    fn open_log(&self, name: &str) -> Result<MemReader<'a>, Fault> {
+        self.files().open_log(name)
+    }
+
+    ghost Reads = { λ _ _ _. ⊤ };
+
+    fn read(&self, alloc: Global, name: &str) -> Result<Vec<u8>, Fault> {
+        if name == "was" {
+            return Ok(Vec::from_slice(alloc, self.was.as_bytes())?);
+        }
+        self.files().read(alloc, name)
+    }
+
+    ghost ReadsState = { λ _ _ _. ⊤ };
+
+    fn read_state(&self, alloc: Global, name: &str) -> Result<Vec<u8>, Fault> {
+        self.files().read_state(alloc, name)
+    }
+}
+
+/// The configuration with the edits of a section's lines, as `edit network = 1 | network = 5`. One that doesn't fit is left
+/// out.
+fn edited_text(alloc: Global, config: &str, section: &Section<'_>) -> Result<String, AllocError> {
+    let mut text = String::from_str(alloc, config)?;
+    for line in section.lines.lines() {
+        if let Some(edit) = line.strip_prefix("edit ") {
+            if let Ok(made) = edited(alloc, text.as_str(), edit) {
+                text = made;
+            }
+        }
+    }
+    Ok(text)
+}
+
 /// A text, if there is one.
 fn text_if(alloc: Global, is_there: bool, text: &str) -> Result<Option<Vec<u8>>, AllocError> {
     if is_there {
@@ -109,7 +165,11 @@ impl Program for Bacgwctl {
         };
         let mut output = section.output(alloc, room)?;
         let mut errors = section.errors(alloc)?;
-        let files = MemFiles { text: config };
+        let now = edited_text(alloc, config, section)?;
+        let files = ToolFiles {
+            now: now.as_str(),
+            was: config,
+        };
         let code = run(
             alloc,
             words,
