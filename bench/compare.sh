@@ -9,7 +9,7 @@
 #     - the last line and the exit status are right;
 #     - more than 40 lines are in groups by the rules that decide, and the line of each group counts them.
 #
-# And each example, written in format 3 by `migrate`, is compared with itself: no ask is decided otherwise.
+# And each example, written in format 3 by `migrate`, is compared with itself: the rules decide alike.
 #
 #     bench/compare.sh           # 200 pairs
 #     bench/compare.sh 5 9       # 5 pairs, from the seed 9
@@ -336,9 +336,18 @@ def compare(old, new, *words):
     return done.returncode, done.stdout.splitlines(), done.stderr
 
 
-def ending(count):
+OTHER_PARTS = "the rules decide alike, but other parts differ"
+
+
+def of_names(old, new):
+    """The lines on rules that are new or gone."""
+    olds, news = [it["name"] for it in old], [it["name"] for it in new]
+    return [f"rule {it} is new" for it in news if it not in olds] + [f"rule {it} is gone" for it in olds if it not in news]
+
+
+def ending(count, parts=()):
     if count == 0:
-        return "no ask is decided otherwise"
+        return OTHER_PARTS if parts else "no ask is decided otherwise"
     return ("1 kind of asks is" if count == 1 else f"{count} kinds of asks are") + " decided otherwise, and no other"
 
 
@@ -351,9 +360,12 @@ def judge(room, dice, number):
         path.write_text(text_of(rules, form), encoding="utf-8")
     status, said, wrong = compare(*files)
     where = f"pair {number}, format {form}"
-    assert not wrong and status in (0, 1), f"{where}: {status} {wrong}"
+    assert not wrong and status in (0, 1, 3), f"{where}: {status} {wrong}"
+    parts = of_names(old, new)
+    assert said[:len(parts)] == parts, f"{where}: {said}"
+    said = said[len(parts):]
     lines = [line_of(it) for it in without_heads(said[:-1])]
-    assert said[-1] == ending(len(lines)) and status == (1 if lines else 0), f"{where}: {said[-1]}"
+    assert said[-1] == ending(len(lines), parts) and status == (1 if lines else 3 if parts else 0), f"{where}: {said[-1]}"
     assert [it[0] for it in lines] == sorted((it[0] for it in lines), reverse=True), f"{where}: the order"
     has, lacked, count = [False] * len(lines), set(), 0
     for ask in asks_of(form, [it[1] for it in lines], old, new):
@@ -387,9 +399,9 @@ def judge_pairs(room, pairs, seed):
         third = room / "third.toml"
         third.write_text(made.stdout, encoding="utf-8")
         status, said, _ = compare(path, third)
-        assert (status, said) == (0, ["note: the formats differ; only the rules are compared", ending(0)]), f"{path.name}: {said}"
+        assert (status, len(said), said[-1]) == (3, 2, OTHER_PARTS) and said[0].startswith("format: 3, was "), f"{path.name}: {said}"
         examples += 1
-    print(f"{examples} examples, each with itself in format 3: no ask is decided otherwise")
+    print(f"{examples} examples, each with itself in format 3: the rules decide alike")
 
 
 # ---- lists as a site has them
@@ -486,7 +498,7 @@ def measure(room, dice, length, edit, lists):
         start = time.monotonic()
         status, said, wrong = compare(*files)
         seconds.append(time.monotonic() - start)
-        assert status in (0, 1) and not wrong, f"{length} rules, {edit}: {status} {wrong}"
+        assert status in (0, 1, 3) and not wrong, f"{length} rules, {edit}: {status} {wrong}"
         count = re.search(r"(\d+) kinds? of asks", said[-1])
         kinds.append(int(count[1]) if count else 0)
         unfinished += said[-1].startswith("not finished")

@@ -203,6 +203,13 @@ refused_alone() {
     status=$?
     agrees "words: ${called##*/} $*" 2 /dev/null "$work/refusal"
 }
+# refused_why LINE WORDS...: the words are refused, and the line below says why
+refused_why() {
+    "$called" "${@:2}" < /dev/null > "$work/out" 2> "$work/err"
+    status=$?
+    echo "$1" | cat "$work/refusal" - > "$work/refusal.why"
+    agrees "words: ${called##*/} ${*:2}" 2 /dev/null "$work/refusal.why"
+}
 # none WORDS..: the last of the words is out of range, and the line says so
 none() {
     refused "$@"
@@ -232,9 +239,9 @@ none run --config a --turns 9223372036854775808
 value=SECONDS most=4294967295
 none run --config a --stats 0
 none run --config a --stats 4294967296
-refused_alone run --config a --trial b
-refused_alone run --config a --trial-log c
-refused_alone run --config a --stamp
+refused_why '--trial and --trial-log go together' run --config a --trial b
+refused_why '--trial and --trial-log go together' run --config a --trial-log c
+refused_why '--stamp needs --log' run --config a --stamp
 refused run --config a --audit
 refused run --config a --explain
 refused replay --config
@@ -275,9 +282,10 @@ refused why
 refused why --config a --explain
 refused log site.log other.log
 refused log --start
-refused_alone log --start 2026-11-25T08:00:00
-refused_alone log --start 2026-11-25T08:00:60Z
-refused_alone log --start now
+moment='--start takes a moment, as 2026-11-25T08:00:00+01:00'
+refused_why "$moment" log --start 2026-11-25T08:00:00
+refused_why "$moment" log --start 2026-11-25T08:00:60Z
+refused_why "$moment" log --start now
 value=N most=9223372036854775807
 none compare --config a --with b --most 0
 none reload --config a --reload b --was c --most 0
@@ -335,6 +343,7 @@ accepts() {
 }
 accepts two_subnets.toml 'ok 2 ports 1 objects 4 rules'
 accepts workstation.toml 'ok 1 ports 1 objects 7 rules'
+accepts neighbours.toml 'ok 2 ports 0 objects 3 rules'
 accepts plant_room.toml 'ok 1 ports 4 objects 3 rules'
 accepts routed.toml 'ok 2 ports 0 objects 9 rules'
 accepts recipes.toml 'ok 2 ports 2 objects 0 rules'
@@ -531,7 +540,7 @@ if "$program" run --help | grep -q -e --metrics; then
     timeout 3 "$program" run --config "$work/served.toml" --metrics "$work/bacgw.prom" --turns 200 < /dev/null > "$work/out" 2> "$work/err"
     same 'the ticks of metrics' "$(sed -n 's/^bacgw_ticks_total //p' "$work/bacgw.prom")" 1
     same 'the ports of metrics' "$(grep -c '^bacgw_foreign_devices{' "$work/bacgw.prom")" 2
-    same 'the families of metrics' "$(grep -c '^# TYPE ' "$work/bacgw.prom")" 16
+    same 'the families of metrics' "$(grep -c '^# TYPE ' "$work/bacgw.prom")" 18
     if command -v promtool > /dev/null; then
         promtool check metrics < "$work/bacgw.prom" > "$work/out" 2>&1
         same 'promtool reads the metrics' "$?" 0
@@ -556,7 +565,7 @@ reload refused: configuration: NotToml: '"$("$program" check --config "$work/cha
 127.3.0.10 810A001801080064010130200C0C0140000219553E91003F'
 
 # What is no request stays where it is, and a request that names another text is refused.
-python3 "$here/loopback.py" requests "$program" "$work/new.toml" "$work/request" > "$work/out" 2>&1
+python3 "$here/loopback.py" requests "$program" "$work/new.toml" "$work/asked" > "$work/out" 2>&1
 same 'requests, and what is none' "$(cat "$work/out")" \
     "a text stays
 two lines stays
@@ -594,14 +603,14 @@ sed 's/127\.4\.0\.255/127.4.0.254/' "$work/audited.toml" > "$work/other_ports.to
 # untried STATUS REASON FILE: the rules of this file can't be on trial, and nothing is opened
 untried() {
     ran "$1" "bacgw: trial: $2" --config "$work/audited.toml" --audit "$work/unmade" \
-        --trial "$3" --trial-log "$work/unmade" --turns 1
+        --trial "$3" --trial-log "$work/unmade.trial" --turns 1
 }
 untried 1 "cannot read configuration $work/nowhere.toml: no such file" "$work/nowhere.toml"
 untried 1 "cannot read configuration $work/folder: is a directory" "$work/folder"
 untried 2 'configuration: NotToml' "$work/faulty.toml"
 untried 2 "it isn't of the configuration's format" "$work/served.toml"
 untried 2 "its ports aren't the configuration's" "$work/other_ports.toml"
-same 'no log of a trial that is none' "$(ls "$work/unmade" 2> /dev/null)" ''
+same 'no log of a trial that is none' "$(ls "$work/unmade" "$work/unmade.trial" 2> /dev/null)" ''
 ran 1 'bacgw: trial: log failed' --config "$work/audited.toml" --audit "$work/unmade" --trial "$work/trial.toml" \
     --trial-log "$work/folder" --turns 1
 ran 1 'bacgw: audit failed' --config "$work/audited.toml" --audit "$work/folder" --turns 1

@@ -15,6 +15,7 @@ LIMITED = ("gw_configuration/src", "gw_policy_text/src/keys", "gw_rules/src")
 for file in [file for folder in LIMITED for file in glob.glob(f"crates/{folder}/*.rt")] + ["crates/gw_addr/src/lib.rt"]:
     for name, value, shift in re.findall(r"const (MAX_\w+): \w+ = ([\d_]+)(?: << (\d+))?;", open(file).read()):
         LIMITS[name] = str(int(value) << int(shift or 0))
+TEXTS = dict(re.findall(r'const (\w+): &str = "(\w+)";', TABLES))
 SHAPES = dict(re.findall(r"const (\w+): (?:Shape|Scalar) = (.*?);", TABLES, re.S))
 # What a rule may name for a field: a number within its bounds, which may end later in format 3, or what the words of a field say.
 FIELDS = open("crates/gw_rules/src/field.rt").read()
@@ -85,6 +86,7 @@ def scalar(of, counted):
         "Scalar::RuleName": rf"a text of 1 to {LIMITS['MAX_NAME']} of a to z, 0 to 9 and \-, and not default".replace("_", ""),
         "Scalar::Boolean": "true or false",
         "Scalar::Address": "an address and its UDP port, as 10.0.1.255:47808",
+        "Scalar::Manager": "an address and its UDP port, as 10.0.1.3:47808, other than the port's own and its broadcast address, at a port without peers",
         "Scalar::Mask": "a mask, as 255.255.255.0",
         "Scalar::Subnet": "a subnet, as 10.0.1.0/24",
         "Scalar::Item": "a text, a whole number or a list of two",
@@ -119,6 +121,7 @@ def fields_of(function, counted=""):
     """The keys of the fields of a function in their order, each with its words."""
     body = re.search(rf"fn {function}\(.*?\n\}}\n", TABLES, re.S)[0]
     body = re.sub(r"ranges\(format, FieldName::(\w+)\)", lambda found: f'Field::may("{KEYS[found[1]]}", ranges({found[1]}))', body)
+    body = re.sub(r"Field::(needs|may)\((\w+),", lambda found: f'Field::{found[1]}("{TEXTS[found[2]]}",', body)
     found = re.findall(r'Field::(needs|may)\(\s*"(\w+)",\s*(.*?),?\s*\),?\n(?=\s+Field|\s+\])', body, re.S)
     assert len(found) == body.count("Field::") and found, function
     shapes = [(need, key, plain(shape)) for need, key, shape in found]
@@ -129,7 +132,7 @@ def fields(table):
     """The keys of a table in their order, those of format 3 too, each with its words."""
     counted = {"route": "ports", "multi_state": "states"}.get(table, "")
     plain_keys = keys = fields_of(f"{table}_fields", counted)
-    longer = re.search(rf"fn ({table}_fields_with_\w+)\(", TABLES)
+    longer = re.search(rf"fn (long_{table}_fields)\(", TABLES)
     common = re.search(rf"const COMMON_{table.upper()}_FIELDS: usize = (\d+);", TABLES)
     if longer:
         keys = fields_of(longer[1], counted)
