@@ -17,6 +17,7 @@ NOTES = {
     "gw_log_words": "words and times of a log",
     "gw_tables": "peers, routes, slots",
     "gw_core": "one event in, effects out",
+    "gw_text_laws": "texts without later keys",
     "gw_core_laws": "what holds of every gateway",
     "gw_decisions": "how often rules decide",
     "gw_state_text": "a saved state as a text",
