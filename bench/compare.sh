@@ -11,16 +11,23 @@
 #
 # And each example, written in format 3 by `migrate`, is compared with itself: the rules decide alike.
 #
+# `traffic` looks at datagrams in the place of asks: random sites and edits of any part of them (rules, stations, peers, routes, objects, a
+# broadcast manager, who announces, notes, names), and the same random events under both, played by `bacgw replay`. Where one line of what
+# comes of them differs, but for the name of a rule, `compare` says that something differs; an edit that has no effect, such as another
+# spelling of the same stations, has status 0.
+#
 #     bench/compare.sh           # 200 pairs
 #     bench/compare.sh 5 9       # 5 pairs, from the seed 9
 #     bench/compare.sh lists     # lists as a site has them, of 3 to 512 rules, after an edit: how many lines, and in what time
 #     bench/compare.sh lists 3   # the same, with 3 lists of each length and edit in the place of 10
+#     bench/compare.sh traffic 2000 7   # 2,000 pairs of sites, from the seed 7, with 60 events each
 #
-# It wants python3 and the program built, as `./bacgw prove` leaves it; BACGWCTL names another program, with its words.
+# It wants python3 and the programs built, as `./bacgw prove` leaves them; BACGWCTL and BACGW name other ones, with their words.
 set -euo pipefail
 
 top=$(cd "$(dirname "$0")/.." && pwd)
-exec python3 - "$top" "${BACGWCTL:-$top/crates/bacgwctl/out/bacgwctl}" "${1:-200}" "${@:2}" <<'PYTHON'
+exec python3 - "$top" "${BACGWCTL:-$top/crates/bacgwctl/out/bacgwctl}" "${BACGW:-$top/crates/bacgw/out/bacgw}" "${1:-200}" "${@:2}" <<'PYTHON'
+import copy
 import itertools
 import random
 import re
@@ -32,7 +39,7 @@ import time
 from collections import Counter
 from pathlib import Path
 
-top, program, mode = Path(sys.argv[1]), sys.argv[2].split(), sys.argv[3]
+top, program, player, mode, more = Path(sys.argv[1]), sys.argv[2].split(), sys.argv[3].split(), sys.argv[4], sys.argv[5:]
 # How many regions are printed without groups at most.
 UNGROUPED = 40
 MOST = 2**64 - 1
@@ -518,9 +525,201 @@ def measure_lists(room, lists, seed):
             print(f"{length} rules, not finished: " + ", ".join(left), file=sys.stderr)
 
 
+# ---- what comes of datagrams
+
+
+def random_site(dice):
+    """A site of two subnets in format 3, with a router to a network at each port."""
+    ports = [{"stations": [f"10.{it}.0.0/17"], "bbmd": None, "peers": []} for it in PORTS]
+    for number, port in enumerate(ports, 1):
+        if dice.random() < 0.4:
+            port["stations"].append(dice.choice([f"10.{number}.128.0/17", f"10.{number + 4}.0.0/16", "172.16.0.0/12"]))
+        if dice.random() < 0.3:
+            port["bbmd"] = f"10.{number}.1.3:47808"
+        elif dice.random() < 0.5:
+            port["peers"] = [[f"10.{number + 4}.1.1:47808", dice.choice(["255.255.255.255", "255.255.0.0"])]]
+    rules = [random_rule(dice, it, 3) for it in range(dice.randint(1, 4))] + [{"name": "rest", "allow": dice.random() < 0.8, "ranges": {}}]
+    return {
+        "name": "gateway", "announce": dice.random() < 0.5, "ports": ports, "rules": rules, "notes": {}, "audits": [],
+        "routes": [[300, 1, "10.1.1.20:47808"]] if dice.random() < 0.6 else [],
+        "objects": [[5, 1, "point", 1], [45, 1, "level", 3]][: dice.randint(0, 2)],
+    }
+
+
+def edit_rules(dice, site):
+    rules = other_policy(dice, site["rules"], 3)
+    for rule in rules:
+        site["notes"].pop(rule["name"], None)
+    site["rules"], site["audits"] = rules, []
+
+
+def edit_stations(dice, site):
+    stations = dice.choice(site["ports"])["stations"]
+    if len(stations) > 1 and dice.random() < 0.5:
+        stations.pop()
+    else:
+        stations.append(dice.choice(["10.7.0.0/16", "10.1.1.5/32", "192.168.0.0/16"]))
+
+
+def spell_stations(dice, site):
+    """The same addresses as two halves."""
+    for port in site["ports"]:
+        address, length = port["stations"][0].split("/")
+        octets = [int(it) for it in address.split(".")]
+        half = int.from_bytes(octets, "big") + (1 << (31 - int(length)))
+        halves = [address, ".".join(str(it) for it in half.to_bytes(4, "big"))]
+        port["stations"][0:1] = [f"{it}/{int(length) + 1}" for it in dice.sample(halves, 2)]
+
+
+def spell_rules(dice, site):
+    """A range as its two halves: the same asks."""
+    for rule in site["rules"]:
+        for field, ranges in rule["ranges"].items():
+            low, high = ranges[0]
+            if field != "operation" and high > low:
+                ranges[0:1] = [(low, low), (low + 1, high)]
+
+
+def edit_manager(dice, site):
+    number = dice.choice(PORTS)
+    port = site["ports"][number - 1]
+    port["peers"], port["bbmd"] = [], dice.choice([it for it in (None, f"10.{number}.1.3:47808", f"10.{number}.1.4:47808") if it != port["bbmd"]])
+
+
+def edit_peers(dice, site):
+    number = dice.choice(PORTS)
+    port = site["ports"][number - 1]
+    if port["bbmd"] is None:
+        port["peers"] = [] if port["peers"] else [[f"10.{number + 4}.1.1:47808", "255.255.255.255"]]
+
+
+def edit_routes(dice, site):
+    site["routes"] = dice.choice([[], [[300, 1, "10.1.1.20:47808"]], [[300, 2, "10.2.1.20:47808"]], [[300, 1, "10.1.1.21:47808"]]])
+
+
+def edit_objects(dice, site):
+    if site["objects"] and dice.random() < 0.5:
+        dice.choice(site["objects"])[3] ^= 1
+    else:
+        site["objects"] = [] if site["objects"] else [[5, 1, "point", 0]]
+
+
+def edit_small(dice, site):
+    kind = dice.choice(["name", "announce", "note", "audit"])
+    if kind == "name":
+        site["name"] = "another"
+    elif kind == "announce":
+        site["announce"] = not site["announce"]
+    elif kind == "note":
+        site["notes"][dice.choice(site["rules"])["name"]] = "why"
+    else:
+        site["audits"] = [dice.choice(site["rules"])["name"]]
+
+
+# Each edit, and whether it leaves what has an effect as it was.
+SITE_EDITS = [
+    (edit_rules, False), (edit_stations, False), (edit_manager, False), (edit_peers, False), (edit_routes, False), (edit_objects, False),
+    (edit_small, False), (spell_stations, True), (spell_rules, True),
+]
+
+
+def site_text(site):
+    lines = [f"format = 3\nannounce = {str(site['announce']).lower()}\n[device]\nnetwork = {DEVICE}\ninstance = 7\nname = \"{site['name']}\""]
+    lines.append('vendor = 1\nvendor_name = "x"\nmodel = "x"\nfirmware = "x"\nsoftware = "x"\nrevision = 12\ndatabase = 1')
+    for number, port in enumerate(site["ports"], 1):
+        lines.append(f'[[port]]\nnetwork = {number}\naddress = "10.{number}.1.1:47808"\nbroadcast = "10.{number}.127.255:47808"')
+        lines.append("stations = [" + ", ".join(f'"{it}"' for it in port["stations"]) + "]")
+        if port["bbmd"]:
+            lines.append(f'bbmd = "{port["bbmd"]}"')
+        for address, mask in port["peers"]:
+            lines.append(f'[[port.peer]]\naddress = "{address}"\nmask = "{mask}"')
+    for network, port, hop in site["routes"]:
+        lines.append(f'[[route]]\nnetwork = {network}\nport = {port}\nnext = "{hop}"')
+    for kind, instance, name, default in site["objects"]:
+        unit = "\nunits = 95" if kind == 45 else ""
+        lines.append(f'[[object]]\ntype = {kind}\ninstance = {instance}\nname = "{name}"\ndefault = {default}{unit}')
+    for rule in site["rules"]:
+        lines.append(f'[[rule]]\nname = "{rule["name"]}"\nallow = {str(rule["allow"]).lower()}')
+        if rule["name"] in site["notes"]:
+            lines.append(f'note = "{site["notes"][rule["name"]]}"')
+        if rule["name"] in site["audits"]:
+            lines.append("audit = true")
+        for field, ranges in rule["ranges"].items():
+            if field == "operation":
+                said = ", ".join(end_text(field, low) for low, _ in ranges)
+            else:
+                said = ", ".join(f"[{end_text(field, low)}, {end_text(field, high)}]" for low, high in ranges)
+            lines.append(f"{field} = [{said}]")
+    return "\n".join(lines) + "\n"
+
+
+def random_event(dice):
+    """A line of a script: a request or an answer, who asks for a network or tells of one, or a frame for the tables."""
+    if dice.random() < 0.05:
+        return "tick"
+    port = dice.choice(PORTS)
+    sender = dice.choice([f"10.{port}.1.5", f"10.{port}.1.20", f"10.{port}.200.9", f"10.{port + 4}.1.1", f"10.{port}.1.3", f"10.{3 - port}.1.9", "172.16.0.9"])
+    other = f"0A0{3 - port}0109BAC0"
+    target = dice.choice(["00640101FF", f"{3 - port:04X}06{other}FF", "012C0107FF", "FFFF00FF", f"{3 - port:04X}00FF", ""])
+    source = dice.choice(["", "", "", "012C0107", f"{3 - port:04X}06{other}"])
+    control = (0x20 if target else 0) | (0x08 if source else 0)
+    named = dice.choice(["0C01400001", "0C0B400001", "0C02000007"])
+    bodies = [f"00050{dice.randrange(8)}0C{named}1955", f"00050{dice.randrange(8)}0F{named}19553E91013F4908", "1008", "1000C4020000072205C4910322" + "0001"]
+    bodies += [f"30{dice.randrange(8):02X}0C{named}19553E91013F", f"20{dice.randrange(8):02X}0F"]
+    body = dice.choice(bodies)
+    if target:
+        npdu = f"01{control:02X}{target[:-2]}{source}FF{body}"
+    else:
+        npdu = f"01{control:02X}{source}{body}"
+    if dice.random() < 0.15:
+        npdu = dice.choice(["018000", "0180000064", "0180010258", "018001012C", "018012"])
+    frames = [("0A", npdu), ("0B", npdu), ("09", npdu), ("04", f"0A0{port}0105BAC0{npdu}")]
+    frames += [("05", "003C"), ("02", ""), ("06", ""), ("01", "0A050101BAC0FFFFFFFF"), ("08", f"0A0{port}01C8BAC0")]
+    function, content = dice.choices(frames, (40, 25, 4, 6, 3, 1, 1, 1, 1))[0]
+    return f"{port} {sender}:47808 81{function}{len(content) // 2 + 4:04X}{content}"
+
+
+def played(path, script):
+    """What comes of the events, a line each, without the names of rules."""
+    done = subprocess.run([*player, "replay", "--config", str(path)], input=script, capture_output=True, text=True)
+    assert done.returncode == 0, f"{done.stderr}{path.read_text(encoding='utf-8')}"
+    return [re.sub(r" rule=\S+", "", it) for it in done.stdout.splitlines()]
+
+
+def judge_site(room, dice, number):
+    """Whether the traffic of a pair of sites differs, and the status of the comparison."""
+    old = random_site(dice)
+    new, edits = copy.deepcopy(old), dice.sample(SITE_EDITS, dice.choice([1, 1, 2]))
+    for edit, _ in edits:
+        edit(dice, new)
+    files = [room / "old.toml", room / "new.toml"]
+    for path, site in zip(files, [old, new]):
+        path.write_text(site_text(site), encoding="utf-8")
+    script = "".join(random_event(dice) + "\n" for _ in range(60))
+    differs = played(files[0], script) != played(files[1], script)
+    status, said, wrong = compare(*files)
+    where = f"site {number}, {', '.join(edit.__name__ for edit, _ in edits)}"
+    assert not wrong and status in (0, 1, 3), f"{where}: {status} {wrong}"
+    assert not differs or status != 0, f"{where}: the traffic differs\n" + "\n".join(said)
+    assert status == 0 or not all(same for _, same in edits), f"{where}: {status}\n" + "\n".join(said)
+    return differs, status
+
+
+def judge_sites(room, sites, seed):
+    dice, found = random.Random(seed), Counter()
+    for number in range(sites):
+        differs, status = judge_site(room, dice, number)
+        found[status, differs] += 1
+    for (status, differs), count in sorted(found.items()):
+        print(f"status {status}, the traffic {'differs' if differs else 'is alike'}: {count}")
+    print(f"{sites} pairs of sites: where the traffic differs compare says so")
+
+
 with tempfile.TemporaryDirectory() as folder:
     if mode == "lists":
-        measure_lists(Path(folder), int(sys.argv[4]) if len(sys.argv) > 4 else 10, 1)
+        measure_lists(Path(folder), int(more[0]) if more else 10, 1)
+    elif mode == "traffic":
+        judge_sites(Path(folder), int(more[0]) if more else 200, int(more[1]) if len(more) > 1 else 1)
     else:
-        judge_pairs(Path(folder), int(mode), int(sys.argv[4]) if len(sys.argv) > 4 else 1)
+        judge_pairs(Path(folder), int(mode), int(more[0]) if more else 1)
 PYTHON
