@@ -1,6 +1,7 @@
 //! Answers cases of a configuration, of its objects, and of a gateway under it: its scripts, its wires and whose turn it is.
 #![tactic(auto)]
 
+mod announcing;
 mod configurations;
 mod keeping;
 mod objects;
@@ -29,6 +30,7 @@ impl Kinds for GatewayKinds {
             "edits" => configurations::edit(alloc, config, line, out),
             "octets" => configurations::octets(alloc, line, out),
             "streams" => streams::stream(alloc, config, line, out),
+            "announce" => announcing::moments(alloc, config, line, out),
             "keep" => keeping::keeping(alloc, config, line, out),
             "trial" => watching::watched(alloc, config, line, out),
             "serve" => serving::call(alloc, config, line, out),

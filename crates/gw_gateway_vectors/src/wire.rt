@@ -136,6 +136,33 @@ impl<'a> MemWire<'a> {
         }
     }
 
+    /// Of each call after so many: the letter, and of a send the number of its port behind it.
+    ///
+    /// # Errors
+    ///
+    /// Those of [`MemWire::letters`].
+    pub fn letters_after(&self, alloc: Global, count: usize) -> Result<Vec<u8>, AllocError> {
+        let mut letters = Vec::new(alloc);
+        let Some(calls) = &self.calls else {
+            return Err(AllocError);
+        };
+        for call in calls.iter().skip(count) {
+            letters.push(letter(call))?;
+            if let Call::Departure { port, .. } | Call::FailedSend { port, .. } = call {
+                letters.push(b'0'.saturating_add(*port))?;
+            }
+        }
+        Ok(letters)
+    }
+
+    /// How many calls it reports.
+    pub fn count(&self) -> usize {
+        match &self.calls {
+            Some(calls) => calls.len(),
+            None => 0,
+        }
+    }
+
     /// Whether the call that begins now is the one that fails.
     fn is_failing(&mut self) -> bool
         ensures failures { self.new.failures ≡ self.old.failures }

@@ -1,51 +1,93 @@
--- What a gateway announces beside its turns: at the start, and once another configuration is in force.
-use Rattle.std.specs.Prelude.{◌≡◌, ◌⊎◌, ℕ, ◌+◌, ◌-◌, ◌^◌, min, Bool, true, false, List, [], map, Option}
+-- What a gateway announces beside its turns: at the start, once another configuration is in force, and again on a port of which a send
+-- failed.
+use Rattle.std.specs.Prelude.{◌≡◌, ◌⊎◌, ℕ, zero, suc, ◌+◌, ◌-◌, ◌^◌, ◌<◌, min, Bool, true, false, nat_lt, List, [], map, replicate, slice_index_or, slice_set, Option}
+use Rattle.gw_addr.specs.declared.TheConstants.{MAX_PORTS}
 use Rattle.gw_core.specs.State.{State}
-use Rattle.gw_relay.specs.Announcement.{announcements}
+use Rattle.gw_relay.specs.Announcement.{announcement_at}
 use Rattle.gw_turns.specs.Serve.{Try, failures, successes, try_call}
 use Rattle.gw_turns.specs.declared.announcing.Announcing.{Announcing}
 use Rattle.gw_wire.specs.Wire.{Call, Records}
 
--- an announcement is due, and none was made
-abbrev pub first_announcing : Announcing
-first_announcing = record { is_due = true; sends = 0; send_failures = 0 }
+-- ---- what is due
 
--- the same, and one is due
+-- an announcement is due on each port
+abbrev pub all_due : List Bool
+all_due = replicate MAX_PORTS true
+
+-- so it is at the start, and none was tried
+abbrev pub first_announcing : Announcing
+first_announcing = record { due = all_due; sends = 0; send_failures = 0; put_off = 0 }
+
+-- the same, and one is due on each port
 abbrev pub with_due : Announcing → Announcing
-with_due a = record a { is_due = true }
+with_due a = record a { due = all_due }
+
+-- whether one is due on the port at a place, from 0
+abbrev pub is_due_at : Announcing → ℕ → Bool
+is_due_at a place = slice_index_or a.due place false
+
+-- ---- on one port
 
 -- the sum of two counts, which doesn't pass the end of 128 bits
 abbrev pub counted_to : ℕ → ℕ → ℕ
 counted_to count more = min (count + more) (2 ^ 128 - 1)
 
--- the counts once these were tried
-abbrev pub with_tries : Announcing → List Try → Announcing
-with_tries a tries = record {
-  is_due = false;
+-- once these were tried on the port at a place: it is due again there exactly if one failed, and each is counted
+abbrev pub with_tries : Announcing → ℕ → List Try → Announcing
+with_tries a place tries = record a {
+  due = slice_set a.due place (nat_lt 0 (failures tries));
   sends = counted_to a.sends (successes tries);
   send_failures = counted_to a.send_failures (failures tries);
 }
 
--- What was due is announced: exactly the announcements of the gateway were tried, once and in order, and counted.
-pub record IsAnnounced (a : Announcing) (w : State) (recorded : Option (List Call)) (b : Announcing) (records : Option (List Call))
-    : Type 0 where
-  pub due : a.is_due ≡ true
-  pub tries : List Try
-  pub are : map (λ t. t.sending) tries ≡ announcements w.relay
-  pub calls : Records recorded records (map try_call tries)
-  pub counts : b ≡ with_tries a tries
+-- once one that was due wasn't tried
+abbrev pub put_off : Announcing → Announcing
+put_off a = record a { put_off = counted_to a.put_off 1 }
 
--- Nothing is announced.
-pub record IsUnannounced (a : Announcing) (recorded : Option (List Call)) (b : Announcing) (records : Option (List Call)) : Type 0 where
-  pub same : b ≡ a
+-- What was due on the port at a place is announced: exactly the announcement of the gateway on that port was tried, once, and counted.
+pub record IsAnnounced (place : ℕ) (a : Announcing) (w : State) (recorded : Option (List Call)) (b : Announcing)
+    (records : Option (List Call)) : Type 0 where
+  pub tries : List Try
+  pub are : map (λ t. t.sending) tries ≡ announcement_at w.relay (place + 1)
+  pub calls : Records recorded records (map try_call tries)
+  pub counts : b ≡ with_tries a place tries
+
+-- It isn't: there was no memory for it, or too many calls of the wire had failed. It stays due, and that is counted.
+pub record IsPutOff (a : Announcing) (recorded : Option (List Call)) (b : Announcing) (records : Option (List Call)) : Type 0 where
+  pub counts : b ≡ put_off a
   pub calls : records ≡ recorded
 
--- what comes of it
+-- by whether one is due there; where none is, nothing is done
+abbrev pub AnnouncesBy : Bool → ℕ → Announcing → State → Option (List Call) → Announcing → Option (List Call) → Type 0
+AnnouncesBy true place a w recorded b records = IsAnnounced place a w recorded b records ⊎ IsPutOff a recorded b records
+AnnouncesBy false place a w recorded b records = (b ≡ a) × (records ≡ recorded)
+
+abbrev pub AnnouncesAt : ℕ → Announcing → State → Option (List Call) → Announcing → Option (List Call) → Type 0
+AnnouncesAt place a w recorded b records = AnnouncesBy (is_due_at a place) place a w recorded b records
+
+-- ---- on each port
+
+-- on so many ports, one after the other
+unfoldable pub AreAnnounced : ℕ → Announcing → State → Option (List Call) → Announcing → Option (List Call) → Type 0
+AreAnnounced zero a w recorded b records = (b ≡ a) × (records ≡ recorded)
+AreAnnounced (suc place) a w recorded b records =
+    (so_far : Announcing) × (then : Option (List Call)) × AreAnnounced place a w recorded so_far then
+    × AnnouncesAt place so_far w then b records
+
+-- what comes of it: each port at which an announcement is due has it tried, or put off and counted
 abbrev pub Announces : Announcing → State → Option (List Call) → Announcing → Option (List Call) → Type 0
-Announces a w recorded b records = IsAnnounced a w recorded b records ⊎ IsUnannounced a recorded b records
+Announces a w recorded b records = AreAnnounced MAX_PORTS a w recorded b records
+
+-- ---- the laws
 
 -- A gateway that doesn't announce calls the wire for no announcement.
 abbrev pub UnannouncedIsSilent : Type 0
 UnannouncedIsSilent =
     (a b : Announcing) (w : State) (recorded records : Option (List Call)) → w.relay.announce ≡ false
     → Announces a w recorded b records → Records recorded records []
+
+-- Where none is due nothing is done.
+abbrev pub NothingDueNothingDone : Type 0
+NothingDueNothingDone =
+    (a b : Announcing) (w : State) (recorded records : Option (List Call)) → ((place : ℕ) → is_due_at a place ≡ false)
+    → Announces a w recorded b records → (b ≡ a) × (records ≡ recorded)

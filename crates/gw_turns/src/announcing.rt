@@ -1,13 +1,15 @@
 //! The announcements of a gateway: at the start and once another configuration is in force it tells each port which networks it
-//! leads to.
+//! leads to, and a port of which a send failed once more.
 
-ghost use Rattle.std.specs.Prelude.{◌≡◌, ℕ};
-ghost use Rattle.gw_turns.specs.Announcing.{Announces, first_announcing, with_due};
+ghost use Rattle.std.specs.Prelude.{◌≡◌, ◌<◌, ℕ};
+ghost use Rattle.gw_addr.specs.declared.TheConstants.{MAX_PORTS};
+ghost use Rattle.gw_turns.specs.Announcing.{Announces, AnnouncesAt, first_announcing, put_off, with_due};
 ghost use Rattle.gw_turns.specs.Stretch.{CanCount};
 ghost use Rattle.gw_turns.specs.declared.serving.Served.{Served as Counts};
 ghost use Rattle.gw_turns.specs.declared.tally.Tally.{Tally};
 
 use crate::serving::{Served, try_sends};
+use gw_addr::MAX_PORTS;
 use gw_core::Gateway;
 use gw_wire::Wire;
 use std::alloc::Global;
@@ -15,42 +17,47 @@ use std::alloc::Global;
 /// With how many failed calls of the wire something is announced at most, so that each later turn can still be counted.
 const MOST_FAILURES: u128 = (1 << 127) - (1 << 64);
 
-/// Whether an announcement is due, and what came of those that were made.
+/// On which ports an announcement is due, and what came of those that were tried.
 #[derive(Clone, Copy)]
 pub struct Announcing {
-    /// Whether one is due: at the start, and after a configuration was taken over.
-    pub is_due: bool,
+    /// For each port, in order, whether one is due: at the start, after a configuration was taken over, and where a send of the last
+    /// one failed.
+    pub due: [bool; MAX_PORTS],
     /// How many of their sends succeeded. It stays at 2^128 - 1.
     pub sends: u128,
     /// How many of their sends failed. It stays at 2^128 - 1.
     pub send_failures: u128,
+    /// How often one that was due wasn't tried: memory was refused for it, or nearly 2^127 calls of the wire had failed. It stays at
+    /// 2^128 - 1.
+    pub put_off: u128,
 }
 
 impl Announcing {
-    /// At the start: one is due, and none was made.
+    /// At the start: one is due on each port, and none was tried.
     pub fn first() -> Self
         ensures { result ≡ first_announcing }
     {
         Announcing {
-            is_due: true,
+            due: [true; MAX_PORTS],
             sends: 0,
             send_failures: 0,
+            put_off: 0,
         }
     }
 
-    /// The same, and one is due.
+    /// The same, and one is due on each port.
     pub fn with_due(self) -> Self
         ensures { result ≡ with_due self }
     {
         Announcing {
-            is_due: true,
+            due: [true; MAX_PORTS],
             ..self
         }
     }
 
-    /// If an announcement is due, tries to send each of its datagrams once, those of each port in order of ports, and counts what
-    /// came of it. A gateway that doesn't announce sends nothing. It stays due if there is no memory for it, or if nearly 2^127
-    /// calls of the wire failed.
+    /// On each port at which an announcement is due, in order of ports, tries to send its datagrams once, and counts what came of it. It
+    /// is due there again if one of them wasn't sent, and stays due if there is no memory for it, or if nearly 2^127 calls of the wire
+    /// failed, which is counted. A gateway that doesn't announce sends nothing.
     pub fn announce<W: Wire>(&mut self, alloc: Global, gateway: &Gateway, wire: &mut W)
         ensures announces { Announces self.old gateway.now (W.calls wire.old) self.new (W.calls wire.new) }
         // As many turns can still be counted.
@@ -58,16 +65,39 @@ impl Announcing {
             CanCount served tally (W.failure_count wire.old) more → CanCount served tally (W.failure_count wire.new) more }
         ensures ports { W.port_count wire.new ≡ W.port_count wire.old }
     {
-        if !self.is_due || wire.failures() > MOST_FAILURES {
+        for place in 0..MAX_PORTS {
+            self.announce_at(alloc, gateway, wire, place);
+        }
+    }
+
+    /// The same on the port at this place, from 0.
+    fn announce_at<W: Wire>(&mut self, alloc: Global, gateway: &Gateway, wire: &mut W, place: usize)
+        requires { place < MAX_PORTS }
+        ensures announces { AnnouncesAt place self.old gateway.now (W.calls wire.old) self.new (W.calls wire.new) }
+        ensures counted { (served : Counts) (tally : Tally) (more : ℕ) →
+            CanCount served tally (W.failure_count wire.old) more → CanCount served tally (W.failure_count wire.new) more }
+        ensures ports { W.port_count wire.new ≡ W.port_count wire.old }
+    {
+        if !self.due[place] {
             return;
         }
-        let Ok(sends) = gateway.announcements(alloc) else {
-            return;
+        if wire.failures() > MOST_FAILURES {
+            return self.put_off();
+        }
+        let Ok(sends) = gateway.announce(alloc, place as u8 + 1) else {
+            return self.put_off();
         };
         let mut tried = Served::default();
         try_sends(wire, &sends, &mut tried);
-        self.is_due = false;
+        self.due[place] = tried.send_failures > 0;
         self.sends = self.sends.saturating_add(tried.sends);
         self.send_failures = self.send_failures.saturating_add(tried.send_failures);
+    }
+
+    /// Counts one that was due and wasn't tried.
+    fn put_off(&mut self)
+        ensures { self.new ≡ put_off self.old }
+    {
+        self.put_off = self.put_off.saturating_add(1);
     }
 }

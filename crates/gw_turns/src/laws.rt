@@ -1,6 +1,6 @@
 //! Laws of serving. The functions do nothing: their contracts are the laws.
 
-ghost use Rattle.gw_turns.specs.Announcing.{UnannouncedIsSilent};
+ghost use Rattle.gw_turns.specs.Announcing.{NothingDueNothingDone, UnannouncedIsSilent};
 ghost use Rattle.gw_turns.specs.Both.{GoOnUnderSecond, IsUnderFirst};
 ghost use Rattle.gw_turns.specs.Keeping.{AlikeButTicksIsEqual, AlikeIsEqual, EqualIsAlike, TicksKeepRecent};
 ghost use Rattle.gw_turns.specs.Served.{StopsAreServed, TurnsAreServed};
@@ -26,9 +26,11 @@ pub fn keeping<S: Store>()
     ensures recent { TicksKeepRecent S.held }
 {}
 
-/// A gateway of a configuration that doesn't announce calls the wire for no announcement.
+/// A gateway of a configuration that doesn't announce calls the wire for no announcement; and where no announcement is due nothing
+/// is done.
 pub fn unannounced()
-    ensures { UnannouncedIsSilent }
+    ensures silent { UnannouncedIsSilent }
+    ensures nothing_due { NothingDueNothingDone }
 {}
 
 /// Under two guards: if the second lets all go, a stretch is one under the first alone, which knows nothing of the second; and
