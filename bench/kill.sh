@@ -10,7 +10,8 @@
 # memory (`bacgw replay`) after all acknowledged writes. If strace is there, the gateway is then killed at each of the first 60 calls of
 # the system that a kept state takes (openat, write, fsync, rename). If a tmpfs can be mounted, the state is kept on one of 1 MiB that is
 # then filled: a granted write gets no answer, a read does, and once there is room again all that was written outlives a kill. If strace is
-# there, each fsync then takes two seconds and fails: each read must be answered within three, also while the state is tried. The last
+# there, each fsync then takes two seconds and fails: each read must be answered within three, also while the state is tried, and it is
+# tried after 1, 2, 4, 8 and 16 seconds alone. Of 600 granted writes at once those beyond 64 in a second get no answer. The last
 # line says how many starts there were, how many acknowledged writes, how many were missing, and how many reads were compared and
 # differed; the status is 0 if none was missing, refused or other.
 #
@@ -315,7 +316,7 @@ def fill(folder):
     is_so("a read is answered", read(1) == 1000)
     is_so("the old state stays", state.read_bytes() == kept)
     (folder / "filler").unlink()
-    is_so("the gateway says that it is kept again", told(gateway, "bacgw: state is kept again"))
+    is_so("the gateway says that it is kept again", told(gateway, "bacgw: state is kept again", 20))
     is_so("a write is acknowledged again", write(3, 3000))
     kill(gateway)
     gateway = start()
@@ -341,7 +342,8 @@ def slow(folder):
     """A state on a disk whose fsync takes two seconds and fails, from the first write on: the start takes two calls."""
     global state
     state = folder / "state"
-    front = ["strace", "-f", "-o", "/dev/null", "-e", "trace=fsync", "-e", "inject=fsync:delay_enter=2000000:error=EIO:when=3+"]
+    calls = folder / "fsyncs"
+    front = ["strace", "-f", "-o", str(calls), "-e", "trace=fsync", "-e", "inject=fsync:delay_enter=2000000:error=EIO:when=3+"]
     gateway = start(front)
     if gateway is None:
         return
@@ -350,9 +352,37 @@ def slow(folder):
     while time.monotonic() < until:
         is_so("a read is answered", read(1, 3) is not None, "slow")
         time.sleep(0.5)
+    # At the write, and then after 1, 2, 4, 8 and 16 seconds.
+    is_so("the disk rests", calls.read_text().count("fsync(") <= 2 + 6, "slow")
+    is_so("a write while it rests gets no answer at once", not write(2, 2000), "slow")
     kill(gateway)
 
 
+def flood(folder):
+    """Granted writes by the hundred: from one second to the next at most 64 are kept, and all else is answered."""
+    global state
+    state = folder / "state"
+    gateway = start()
+    if gateway is None:
+        return
+    writes = [write_of(1, value)[0] for value in range(2, 602)]
+    for octets in writes:
+        line.sendto(octets, (GATEWAY, UDP))
+    is_so("a read is answered", read(2, 3) is not None, "flood")
+    is_so("the gateway says so", told(gateway, "bacgw: state isn't kept: too many changes"), "flood")
+    is_so("the gateway says that it is kept again", told(gateway, "bacgw: state is kept again"), "flood")
+    line.settimeout(0.2)
+    try:
+        while True:
+            line.recv(1508)
+    except OSError:
+        pass
+    is_so("a write is acknowledged again", write(1, 1000), "flood")
+    kill(gateway)
+
+
+counts["flood"] = 0
+flood(work)
 counts["slow"] = 0
 if shutil.which("strace"):
     slow(work)

@@ -58,6 +58,7 @@ store_words store.NotPermitted = codes "not permitted"
 store_words store.ReadOnly = codes "read-only"
 store_words store.Memory = codes "out of memory"
 store_words store.System = codes "refused by the system"
+store_words store.TooMany = codes "too many changes"
 
 -- why a policy isn't on trial
 abbrev pub trial_words : TrialFault → List ℕ

@@ -264,6 +264,7 @@ pub fn store_words(fault: StoreFault) -> &'static str
         StoreFault::ReadOnly => "read-only",
         StoreFault::Memory => "out of memory",
         StoreFault::System => "refused by the system",
+        StoreFault::TooMany => "too many changes",
     }
 }
 

@@ -1,6 +1,6 @@
 //! A wire over memory, whose calls fail at the choice of a case, and which reports each call with its answer.
 
-ghost use Rattle.std.specs.Prelude.{◌≡◌, ◌∷◌, [], None, IfOk, IfErr, if◌then◌else◌};
+ghost use Rattle.std.specs.Prelude.{◌≡◌, ◌∷◌, [], None, false, IfOk, IfErr, if◌then◌else◌};
 ghost use Rattle.gw_wire.specs.Wire.{Records, arrival, departure, failed_send};
 ghost use Rattle.gw_relay.specs.Sends.{sending};
 ghost use Rattle.gw_script.specs.Event.{Datagram};
@@ -221,12 +221,18 @@ impl Wire for MemWire<'_> {
 
     ghost calls = { λ wire. calls_of wire.calls };
 
+    ghost behind = { λ _. false };
+
     fn ports(&self) -> u8 {
         PORTS
     }
 
     fn failures(&self) -> u128 {
         self.failures
+    }
+
+    fn is_behind(&self) -> bool {
+        false
     }
 
     fn recv(&mut self, buf: &mut [u8; RECEIVE_ROOM]) -> Result<Got, WireFault> {

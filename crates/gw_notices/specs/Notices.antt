@@ -17,6 +17,7 @@ reason_of store.NotPermitted = codes "not permitted"
 reason_of store.ReadOnly = codes "read-only"
 reason_of store.Memory = codes "out of memory"
 reason_of store.System = codes "refused by the system"
+reason_of store.TooMany = codes "too many changes"
 
 -- the line of a state that isn't kept
 abbrev pub unkept_line : StoreFault → List ℕ

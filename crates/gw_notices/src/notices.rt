@@ -19,6 +19,7 @@ fn unkept_line(fault: StoreFault) -> &'static str
         StoreFault::ReadOnly => "bacgw: state isn't kept: read-only\n",
         StoreFault::Memory => "bacgw: state isn't kept: out of memory\n",
         StoreFault::System => "bacgw: state isn't kept: refused by the system\n",
+        StoreFault::TooMany => "bacgw: state isn't kept: too many changes\n",
     }
 }
 

@@ -69,8 +69,14 @@ impl Wire for MemSockets {
 
     ghost calls = { λ _. None };
 
+    ghost behind = { λ _. false };
+
     fn ports(&self) -> u8 {
         self.ports
+    }
+
+    fn is_behind(&self) -> bool {
+        false
     }
 
     fn failures(&self) -> u128 {

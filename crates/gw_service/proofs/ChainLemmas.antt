@@ -227,16 +227,16 @@ chained_none manner o first Never held =
 
 -- what comes of a stretch, from each configuration of this origin
 abbrev pub Advanced : {K : Type 0} → Manner K → ℕ → Origin → (Configuration → Stage K) → Result (Unit {0}) ServeFault → Origin
-    → (Configuration → Stage K) → (Never : Type 0) → (held holds : Option (List ℕ)) → Type 0
-Advanced manner count p now result q next Never held holds =
+    → (Configuration → Stage K) → (behind : Bool) → (Never : Type 0) → (held holds : Option (List ℕ)) → Type 0
+Advanced manner count p now result q next behind Never held holds =
     (c : Configuration) → p ≡ origin_of c → (d : Configuration) × (text : List ℕ) × (q ≡ origin_of d)
-    × Advances manner count (now c) result text (next d) × (Never → Appends held holds text)
+    × Advances manner count (now c) result text (next d) behind × (Never → Appends held holds text)
 
 pub chained_more : {K : Type 0} (manner : Manner K) (count : ℕ) (o p q : Origin) (first now next : Configuration → Stage K) (done : Unit {0})
-    (Never Then : Type 0) (held middle holds : Option (List ℕ)) → Chained manner o first p now Never held middle
-    → Advanced manner count p now (Ok done) q next Then middle holds → (Never → Then)
+    (behind : Bool) (Never Then : Type 0) (held middle holds : Option (List ℕ)) → Chained manner o first p now Never held middle
+    → Advanced manner count p now (Ok done) q next behind Then middle holds → (Never → Then)
     → Chained manner o first q next Never held holds
-chained_more manner count o p q first now next done Never Then held middle holds chain advance lasts = λ c is.
+chained_more manner count o p q first now next done behind Never Then held middle holds chain advance lasts = λ c is.
     let before = chain c is in
     let after = advance before.0 before.2 in
     let link = after.3.0 in (
@@ -265,11 +265,11 @@ ran_whole manner count o p first last done Never held holds chain all = λ c is.
     (led.0, led.1, led.2, record { chain = led.3; turns = all c led.0 }, led.4)
 
 pub ran_until : {K : Type 0} (manner : Manner K) (count left : ℕ) (o p q : Origin) (first now last : Configuration → Stage K) (fault : ServeFault)
-    (Never Then : Type 0) (held middle holds : Option (List ℕ)) → Chained manner o first p now Never held middle
-    → Advanced manner left p now (Err fault) q last Then middle holds → (Never → Then)
+    (behind : Bool) (Never Then : Type 0) (held middle holds : Option (List ℕ)) → Chained manner o first p now Never held middle
+    → Advanced manner left p now (Err fault) q last behind Then middle holds → (Never → Then)
     → ((c d : Configuration) → (now d).now.served.turns + left ≡ (first c).now.served.turns + count)
     → Ran manner count o first (Err fault) q last Never held holds
-ran_until manner count left o p q first now last fault Never Then held middle holds chain advance lasts most = λ c is.
+ran_until manner count left o p q first now last fault behind Never Then held middle holds chain advance lasts most = λ c is.
     let before = chain c is in
     let after = advance before.0 before.2 in
     let text : after.1 ≡ [] = after.3.1 in (

@@ -1,6 +1,6 @@
 -- What a run is that keeps its state or reads its configuration again: a chain of stretches of serving, with what is done
 -- between two of them.
-use Rattle.std.specs.Prelude.{◌≡◌, ℕ, ◌+◌, Bool, true, List, [], ◌∷◌, ◌++◌, Option, Some, Result, Ok, Err}
+use Rattle.std.specs.Prelude.{◌≡◌, ◌⊎◌, ⊤, ℕ, ◌+◌, Bool, true, false, List, [], ◌∷◌, ◌++◌, Option, Some, Result, Ok, Err}
 use Rattle.std.specs.Io.KnownBytes.{Appends}
 use Rattle.std.specs.List.{flat_map}
 use Rattle.gw_configuration.specs.Configuration.{Configuration}
@@ -287,7 +287,15 @@ abbrev pub Runs : {K : Type 0} → Manner K → ℕ → Stage K → Result (Unit
 Runs manner count first (Ok done) links last = RunsWhole manner count first links last
 Runs manner count first (Err fault) links last = RunsUntil manner fault count first links last
 
--- what comes of a stretch of at most so many turns and of what is done after it, with what is reported then
-abbrev pub Advances : {K : Type 0} → Manner K → ℕ → Stage K → Result (Unit {0}) ServeFault → List ℕ → Stage K → Type 0
-Advances manner count s (Ok done) text t = (link : Link) × IsLink manner s link t × (text ≡ link_text link)
-Advances manner count s (Err fault) text t = EndsSo manner count fault s t × (text ≡ [])
+-- What is due at a tick is done, unless another tick is due already at the wire, and is done then only if none is. (Turns that were served
+-- alone took no tick, or a next one was due.)
+abbrev pub DoesDue : {K : Type 0} → Stage K → Link → Stage K → Bool → Type 0
+DoesDue s (served turns) t behind = (t.now.scene.gateway.ticks ≡ s.now.scene.gateway.ticks) ⊎ (behind ≡ true)
+DoesDue s (ticked turns look text) t behind = behind ≡ false
+DoesDue s (withheld turns event text) t behind = ⊤
+
+-- what comes of a stretch of at most so many turns and of what is done after it, with what is reported then, by whether the wire has a
+-- tick that is due already
+abbrev pub Advances : {K : Type 0} → Manner K → ℕ → Stage K → Result (Unit {0}) ServeFault → List ℕ → Stage K → Bool → Type 0
+Advances manner count s (Ok done) text t behind = (link : Link) × IsLink manner s link t × (text ≡ link_text link) × DoesDue s link t behind
+Advances manner count s (Err fault) text t behind = EndsSo manner count fault s t × (text ≡ [])

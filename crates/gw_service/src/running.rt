@@ -178,7 +178,8 @@ impl<K: StateKeeper, Q: Requests, M: Store + Drop> Running<K, Q, M> {
         self.look(alloc, log, errors);
     }
 
-    /// Serves a stretch of at most so many turns, and does what is due after it: after a tick also what is to be announced.
+    /// Serves a stretch of at most so many turns, and does what is due after it: after a tick also what is to be announced. If
+    /// another tick is due already, what is due is left to that one.
     /// Faults: those of serving.
     fn advance<W: Wire, L: Notes, E: OctetSink>(
         &mut self,
@@ -198,6 +199,7 @@ impl<K: StateKeeper, Q: Requests, M: Store + Drop> Running<K, Q, M> {
             (due_stats K.unkept K.more (reporting_by schedule.now))) turns before result text
             (stage d (moment (scene self.new.gateway (L.held log.new) (W.calls wire.new)) self.new.keeper
             self.new.state.served self.new.state.tally) (Q.recorded self.new.requests) self.new.counts self.new.announcing self.new.said)
+            (W.behind wire.new)
             × (E.NeverFails errors.old → Appends (E.held errors.old) (E.held errors.new) text) }
         ensures rest { (rest : ℕ) → self.new.state.served.turns + rest ≤ self.old.state.served.turns + turns →
             CanCount self.new.state.served self.new.state.tally (W.failure_count wire.new) rest }
@@ -212,6 +214,9 @@ impl<K: StateKeeper, Q: Requests, M: Store + Drop> Running<K, Q, M> {
         {
             Ok(Pause::Turns) => {}
             Ok(Pause::Tick) => {
+                if wire.is_behind() {
+                    return Ok(());
+                }
                 self.at_tick(alloc, log, errors);
                 self.announcing.announce(alloc, &self.gateway, wire);
                 self.said = self.notice(errors);
@@ -235,8 +240,8 @@ impl<K: StateKeeper, Q: Requests, M: Store + Drop> Running<K, Q, M> {
         Ok(())
     }
 
-    /// Serves a wire for so many turns, by stretches. After each tick the keeper does what is due, and a request is looked
-    /// for; if there is one the configuration is read again, and the gateway goes on by it, or as it is. If an announcement is
+    /// Serves a wire for so many turns, by stretches. After each tick behind which no other is due already the keeper does what is
+    /// due, and a request is looked for; if there is one the configuration is read again, and the gateway goes on by it, or as it is. If an announcement is
     /// due, it is made then. It reports as the schedule asks, and its metrics are put into their store when that is due.
     ///
     /// # Errors

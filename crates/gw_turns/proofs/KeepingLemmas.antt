@@ -6,14 +6,15 @@ use Rattle.gw_state.specs.Saved.{Origin, Saved}
 use Rattle.gw_core.specs.Resumed.{saved_of}
 use Rattle.gw_core.specs.State.{State}
 use Rattle.gw_turns.specs.Keeping.{IsRecent, KeepsChanged, Keeping, KeptBy, TicksBy, TicksKeepRecent, alike_but_ticks, is_due, is_kept}
+use Rattle.gw_turns.specs.declared.pace.Pace.{Pace}
 use Rattle.gw_turns.specs.declared.alike.Part.TheVariants.{AllButTicks}
 use Rattle.gw_wire.specs.declared.store.StoreFault.{StoreFault}
 use Rattle.gw_turns.proofs.AlikeLemmas.{alike_but_ticks_is_equal}
 
 -- a text that isn't due is of a state fewer than ten ticks ago
-not_due : (kept : Result Saved StoreFault) (due : Saved) → is_due kept due.counts.ticks ≡ false → IsRecent kept due
-not_due (Ok s) due e = inl (leb-false (s.counts.ticks + 10) due.counts.ticks e)
-not_due (Err fault) due e = tt
+not_due : (kept : Result Saved StoreFault) (pace : Pace) (due : Saved) → is_due kept pace due.counts.ticks ≡ false → IsRecent kept due
+not_due (Ok s) pace due e = inl (leb-false (s.counts.ticks + 10) due.counts.ticks e)
+not_due (Err fault) pace due e = tt
 
 -- one that differs only in its ticks needs no other
 differs : (kept : Result Saved StoreFault) (due : Saved) → is_kept AllButTicks kept due ≡ true → IsRecent kept due
@@ -37,12 +38,14 @@ kept_by held k l w false is kept =
 changed_by : {S : Type 0} (held : S → Option (List ℕ)) (k l : Keeping S) (w : State) (kept : Bool)
     → KeepsChanged AllButTicks held k (saved_of k.origin w) l kept → IsRecent l.kept (saved_of l.origin w)
 changed_by held k l w true p = kept_by held k l w (is_kept AllButTicks k.kept (saved_of k.origin w)) refl p
-changed_by held k l w false p = subst (λ (r : Result Saved StoreFault). IsRecent r (saved_of l.origin w)) (sym p.kept) tt
+changed_by held k l w false p = subst (λ (r : Result Saved StoreFault). IsRecent r (saved_of l.origin w)) (sym p.unkept.kept) tt
 
-ticks_by : {S : Type 0} (held : S → Option (List ℕ)) (k l : Keeping S) (w : State) (is : Bool) → is_due k.kept w.ticks ≡ is
+ticks_by : {S : Type 0} (held : S → Option (List ℕ)) (k l : Keeping S) (w : State) (is : Bool) → is_due k.kept k.pace w.ticks ≡ is
     → TicksBy is held k (saved_of k.origin w) l → IsRecent l.kept (saved_of l.origin w)
 ticks_by held k l w true is p = changed_by held k l w p.0 p.1
-ticks_by held k l w false is same = known k l w same (not_due k.kept (saved_of k.origin w) is)
+ticks_by {S} held k l w false is same =
+    subst (λ (j : Keeping S). IsRecent j.kept (saved_of j.origin w)) (sym same) (not_due k.kept k.pace (saved_of k.origin w) is)
 
 pub ticks_keep_recent : {S : Type 0} (held : S → Option (List ℕ)) → TicksKeepRecent held
-ticks_keep_recent held k l w p = ticks_by held k l w (is_due k.kept w.ticks) refl p
+ticks_keep_recent {S} held k l w p =
+    subst (λ (j : Keeping S). IsRecent j.kept (saved_of j.origin w)) (sym p.2) (ticks_by held k p.0 w (is_due k.kept k.pace w.ticks) refl p.1)

@@ -6,4 +6,5 @@ pub mod BothLemmas
 pub mod GuardLemmas
 pub mod AlikeLemmas
 pub mod KeepingLemmas
+pub mod PaceLemmas
 pub mod AnnouncingLemmas

@@ -1,5 +1,5 @@
 -- What is kept of a gateway in a store: the text of its state, before what lasts is answered, and each ten ticks.
-use Rattle.std.specs.Prelude.{◌≡◌, ◌⊎◌, ℕ, ◌+◌, ◌-◌, ◌<◌, ◌^◌, ◌&&◌, Bool, true, false, if◌then◌else◌, nat_eq, nat_le, nat_lt, not, length, List, [], map, Option, Some, None, ⊤}
+use Rattle.std.specs.Prelude.{◌≡◌, ◌⊎◌, ℕ, ◌+◌, ◌-◌, ◌<◌, ◌≤◌, ◌^◌, ◌&&◌, Bool, true, false, if◌then◌else◌, nat_eq, nat_le, nat_lt, not, length, List, [], map, Option, Some, None, ⊤}
 use Rattle.std.specs.Prelude.{Result, Ok, Err}
 use Rattle.std.specs.Cmp.Lexicographic.{pointwise}
 use Rattle.std.specs.List.{list_any}
@@ -16,11 +16,13 @@ use Rattle.gw_core.specs.History.{next}
 use Rattle.gw_core.specs.Lasting.{lasts}
 use Rattle.gw_core.specs.Resumed.{saved_of}
 use Rattle.gw_core.specs.State.{State}
+use Rattle.gw_turns.specs.Pace.{fresh_pace, is_resting, may_try, one_more, paced, rested, ticked}
+use Rattle.gw_turns.specs.declared.pace.Pace.{Pace}
 use Rattle.gw_turns.specs.declared.alike.Part.{Part}
 use Rattle.gw_turns.specs.declared.alike.Part.TheVariants.{Lasting, AllButTicks}
 use Rattle.gw_wire.specs.Store.{Holds}
 use Rattle.gw_wire.specs.declared.store.StoreFault.{StoreFault}
-use Rattle.gw_wire.specs.declared.store.StoreFault.TheVariants.{Memory}
+use Rattle.gw_wire.specs.declared.store.StoreFault.TheVariants.{Memory, TooMany}
 
 -- ---- what lasts
 
@@ -105,17 +107,18 @@ AlikeButTicksIsEqual = (a b : Saved) → alike_but_ticks a b ≡ true → but_ti
 
 -- ---- a keeper
 
--- the store; what was configured of the gateway; what the store holds the text of, or why the last try failed; and how many
--- tries failed so far
+-- the store; what was configured of the gateway; what the store holds the text of, or why the last try failed; how many tries failed
+-- so far; and how often the store is tried
 pub record Keeping (S : Type 0) : Type 0 where
   pub store : S
   pub origin : Origin
   pub kept : Result Saved StoreFault
   pub unkept : ℕ
+  pub pace : Pace
 
 -- a keeper that kept nothing yet
 abbrev pub nothing_kept : {S : Type 0} → S → Origin → Keeping S
-nothing_kept store origin = record { store = store; origin = origin; kept = Err Memory; unkept = 0 }
+nothing_kept store origin = record { store = store; origin = origin; kept = Err Memory; unkept = 0; pace = fresh_pace }
 
 -- what a store holds, if the last try didn't fail
 abbrev pub IsHeld : Option (List ℕ) → Result Saved StoreFault → Type 0
@@ -127,16 +130,13 @@ abbrev pub failing_of : Result Saved StoreFault → Option StoreFault
 failing_of (Ok s) = None
 failing_of (Err fault) = Some fault
 
--- A count of 64 bits, which doesn't pass its end.
-abbrev pub one_more : ℕ → ℕ
-one_more n = if nat_lt n (2 ^ 64 - 1) then n + 1 else n
-
 -- A try to keep this: the store holds its text then, or it failed, and the store holds its text or what it held before.
 pub record IsKept {S : Type 0} (held : S → Option (List ℕ)) (k : Keeping S) (due : Saved) (l : Keeping S) : Type 0 where
   pub kept : l.kept ≡ Ok due
   pub text : Holds (held l.store) (state_text due)
   pub origin : l.origin ≡ k.origin
   pub unkept : l.unkept ≡ k.unkept
+  pub pace : l.pace ≡ paced true k.pace
 
 pub record IsUnkept {S : Type 0} (held : S → Option (List ℕ)) (k : Keeping S) (due : Saved) (l : Keeping S) : Type 0 where
   pub fault : StoreFault
@@ -145,10 +145,15 @@ pub record IsUnkept {S : Type 0} (held : S → Option (List ℕ)) (k : Keeping S
   pub origin : l.origin ≡ k.origin
   pub unkept : l.unkept ≡ one_more k.unkept
 
+-- A try that failed, after which the store rests.
+pub record HasFailed {S : Type 0} (held : S → Option (List ℕ)) (k : Keeping S) (due : Saved) (l : Keeping S) : Type 0 where
+  pub unkept : IsUnkept held k due l
+  pub pace : l.pace ≡ paced false k.pace
+
 -- what a try does, by whether the state is kept then
 abbrev pub Tries : {S : Type 0} → (S → Option (List ℕ)) → Keeping S → Saved → Keeping S → Bool → Type 0
 Tries held k due l true = IsKept held k due l
-Tries held k due l false = IsUnkept held k due l
+Tries held k due l false = HasFailed held k due l
 
 -- a try to keep a state
 abbrev pub IsTried : {S : Type 0} → (S → Option (List ℕ)) → Keeping S → State → Keeping S → Type 0
@@ -174,33 +179,52 @@ KeptBy false held k due l = IsKept held k due l
 -- A state is kept if this of it differs from what is kept, by whether it is kept then.
 abbrev pub KeepsChanged : {S : Type 0} → Part → (S → Option (List ℕ)) → Keeping S → Saved → Keeping S → Bool → Type 0
 KeepsChanged part held k due l true = KeptBy (is_kept part k.kept due) held k due l
-KeepsChanged part held k due l false = IsUnkept held k due l
+KeepsChanged part held k due l false = HasFailed held k due l
 
 -- ---- at an event
 
+-- why what lasts is withheld without a try: what the last try failed by, or there were too many
+abbrev pub spared_by : Result Saved StoreFault → StoreFault
+spared_by (Ok s) = TooMany
+spared_by (Err fault) = fault
+
+-- without a try, which counts as one that failed
+abbrev pub spared : {S : Type 0} → Keeping S → Keeping S
+spared k = record k { kept = Err (spared_by k.kept); unkept = one_more k.unkept }
+
+-- what lasts is kept, by whether the store may be tried; if it may not, it isn't called, and what lasts is withheld
+abbrev pub KeepsBy : {S : Type 0} → Bool → (S → Option (List ℕ)) → Keeping S → Saved → Keeping S → Bool → Type 0
+KeepsBy true held k due l passes = KeepsChanged Lasting held k due l passes
+KeepsBy false held k due l passes = (l ≡ spared k) × (passes ≡ false)
+
 abbrev pub PassesBy : {S : Type 0} → Bool → (S → Option (List ℕ)) → Keeping S → Saved → Keeping S → Bool → Type 0
-PassesBy true held k due l passes = KeepsChanged Lasting held k due l passes
+PassesBy true held k due l passes = KeepsBy (may_try k.pace) held k due l passes
 PassesBy false held k due l passes = (l ≡ k) × (passes ≡ true)
 
 -- What a keeper does about an event: nothing if it doesn't last; else what lasts of the state after it is kept, or the
--- event isn't answered.
+-- event isn't answered. While the store rests, and after 64 tries since the last tick, it isn't answered, and the store isn't called.
 abbrev pub HasPassed : {S : Type 0} → (S → Option (List ℕ)) → Keeping S → State → Event → Keeping S → Bool → Type 0
 HasPassed held k w event l passes = PassesBy (lasts w event) held k (saved_of k.origin (next w event)) l passes
 
 -- ---- at a tick
 
--- the last try failed, or the text is that of a state ten ticks ago
-abbrev pub is_due : Result Saved StoreFault → ℕ → Bool
-is_due (Ok s) ticks = nat_le (s.counts.ticks + 10) ticks
-is_due (Err fault) ticks = true
+-- the text is that of a state ten ticks ago; or the last try failed, and the rest after it ends with this tick
+abbrev pub is_due : Result Saved StoreFault → Pace → ℕ → Bool
+is_due (Ok s) pace ticks = nat_le (s.counts.ticks + 10) ticks
+is_due (Err fault) pace ticks = nat_le pace.left 1
 
+-- by whether it is due; if not, it rests one tick less
 abbrev pub TicksBy : {S : Type 0} → Bool → (S → Option (List ℕ)) → Keeping S → Saved → Keeping S → Type 0
 TicksBy true held k due l = (kept : Bool) × KeepsChanged AllButTicks held k due l kept
-TicksBy false held k due l = l ≡ k
+TicksBy false held k due l = l ≡ record k { pace = rested k.pace }
 
--- what a keeper does at a tick, in this state: if one is due, it keeps the state unless only its ticks differ
+-- what is due at a tick, in this state: if one is due, it keeps the state unless only its ticks differ
+abbrev pub KeepsDue : {S : Type 0} → (S → Option (List ℕ)) → Keeping S → State → Keeping S → Type 0
+KeepsDue held k w l = TicksBy (is_due k.kept k.pace w.ticks) held k (saved_of k.origin w) l
+
+-- what a keeper does at a tick, in this state: what is due, and from then on tries are counted anew
 abbrev pub KeepsAtTick : {S : Type 0} → (S → Option (List ℕ)) → Keeping S → State → Keeping S → Type 0
-KeepsAtTick held k w l = TicksBy (is_due k.kept w.ticks) held k (saved_of k.origin w) l
+KeepsAtTick {S} held k w l = (done : Keeping S) × KeepsDue held k w done × (l ≡ record done { pace = ticked done.pace })
 
 -- The text is that of a state fewer than ten ticks ago, or of one that differs only in its ticks; or the last try failed.
 abbrev pub IsRecent : Result Saved StoreFault → Saved → Type 0
@@ -210,3 +234,31 @@ IsRecent (Err fault) due = ⊤
 -- so it is after each tick
 abbrev pub TicksKeepRecent : {S : Type 0} → (S → Option (List ℕ)) → Type 0
 TicksKeepRecent {S} held = (k l : Keeping S) (w : State) → KeepsAtTick held k w l → IsRecent l.kept (saved_of l.origin w)
+
+-- ---- how often the store is tried
+
+-- An event leaves the store as it was, and the count of tries; or it tries it once, and there were fewer than 64 tries since the last
+-- tick.
+abbrev pub EventsTryFew : {S : Type 0} → (S → Option (List ℕ)) → Type 0
+EventsTryFew {S} held = (k l : Keeping S) (w : State) (event : Event) (passes : Bool) → HasPassed held k w event l passes →
+    ((l.store ≡ k.store) × (l.pace.replaces ≡ k.pace.replaces))
+    ⊎ ((k.pace.replaces < 64) × (l.pace.replaces ≡ k.pace.replaces + 1))
+
+-- So between two ticks there are at most 64 of them.
+abbrev pub TicksBeginAnew : {S : Type 0} → (S → Option (List ℕ)) → Type 0
+TicksBeginAnew {S} held = (k l : Keeping S) (w : State) → KeepsAtTick held k w l → l.pace.replaces ≡ 0
+
+-- While the store rests, it isn't called at an event that lasts, and the event isn't answered.
+abbrev pub FailingIsSpared : {S : Type 0} → (S → Option (List ℕ)) → Type 0
+FailingIsSpared {S} held = (k l : Keeping S) (w : State) (event : Event) (passes : Bool) → HasPassed held k w event l passes →
+    lasts w event ≡ true → is_resting k.pace ≡ true → (l.store ≡ k.store) × (l.pace ≡ k.pace) × (passes ≡ false)
+
+-- Nor is it called at a tick while more than one tick of its rest is left, and then one less is left.
+abbrev pub RestsAtTicks : {S : Type 0} → (S → Option (List ℕ)) → Type 0
+RestsAtTicks {S} held = (k l : Keeping S) (w : State) (fault : StoreFault) → KeepsAtTick held k w l → k.kept ≡ Err fault →
+    1 < k.pace.left → (l.store ≡ k.store) × (l.kept ≡ k.kept) × (l.pace.left + 1 ≡ k.pace.left)
+
+-- At the tick at which its rest ends it is tried: then the state is kept and no rest is left, or it rests longer.
+abbrev pub RestsEnd : {S : Type 0} → (S → Option (List ℕ)) → Type 0
+RestsEnd {S} held = (k l : Keeping S) (w : State) (fault : StoreFault) → KeepsAtTick held k w l → k.kept ≡ Err fault →
+    k.pace.left ≤ 1 → (kept : Bool) × (l.pace ≡ ticked (paced kept k.pace))

@@ -1,6 +1,7 @@
 pub mod Tally
 pub mod Serve
 pub mod ServeTurn
+pub mod Pace
 pub mod Reports
 pub mod Served
 pub mod Stretch

@@ -64,6 +64,7 @@ impl Announcing {
         ensures counted { (served : Counts) (tally : Tally) (more : ℕ) →
             CanCount served tally (W.failure_count wire.old) more → CanCount served tally (W.failure_count wire.new) more }
         ensures ports { W.port_count wire.new ≡ W.port_count wire.old }
+        ensures behind { W.behind wire.new ≡ W.behind wire.old }
     {
         for place in 0..MAX_PORTS {
             self.announce_at(alloc, gateway, wire, place);
@@ -77,6 +78,7 @@ impl Announcing {
         ensures counted { (served : Counts) (tally : Tally) (more : ℕ) →
             CanCount served tally (W.failure_count wire.old) more → CanCount served tally (W.failure_count wire.new) more }
         ensures ports { W.port_count wire.new ≡ W.port_count wire.old }
+        ensures behind { W.behind wire.new ≡ W.behind wire.old }
     {
         if !self.due[place] {
             return;

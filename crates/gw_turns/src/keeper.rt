@@ -3,10 +3,12 @@
 ghost use Rattle.std.specs.Prelude.{◌≡◌, ◌⊎◌, OnOk, OnErr, Err, false};
 ghost use Rattle.gw_core.specs.Resumed.{saved_of};
 ghost use Rattle.gw_state_text.specs.Text.{state_text};
-ghost use Rattle.gw_turns.specs.Keeping.{HasPassed, IsHeld, IsTried, KeepsAtTick, KeepsChanged, Tries, failing_of, is_due, is_kept, nothing_kept, one_more};
+ghost use Rattle.gw_turns.specs.Keeping.{HasPassed, IsHeld, IsTried, KeepsAtTick, KeepsBy, KeepsChanged, KeepsDue, Tries, failing_of, is_due, is_kept, nothing_kept, spared, spared_by};
+ghost use Rattle.gw_turns.specs.Pace.{may_try, one_more, paced, ticked};
 ghost use Rattle.gw_wire.specs.Store.{Holds};
 
 use crate::alike::{Part, is_same};
+use crate::pace::{Pace, one_more};
 use gw_core::{AllAsked, Gateway, Guard, Taken};
 use gw_state::{Origin, Saved};
 use gw_state_text::put_state;
@@ -19,14 +21,16 @@ const KEPT_TICKS: u64 = 10;
 
 /// Keeps the state of a gateway in a store. As a guard it keeps the state after each event that lasts before
 /// anything of it is sent, unless what lasts is kept already; and doesn't let it be answered if that
-/// fails. Contracts see the store, what was configured, what the store holds the text of, or why the last
-/// try failed, and how many tries failed.
+/// fails. A store that failed rests before it is tried again, and between two ticks it is tried at few events ([`Pace`]).
+/// Contracts see the store, what was configured, what the store holds the text of, or why the last
+/// try failed, how many tries failed, and how often the store is tried.
 pub struct Keeper<S: Store + Drop> {
     store: S,
     origin: Origin,
     text: Vec<u8>,
     kept: Result<Saved, StoreFault>,
     unkept: u64,
+    pace: Pace,
 }
 
 // By hand: a derived one is proved part by part wherever one is dropped (docs/GATE.md).
@@ -38,6 +42,7 @@ impl<S: Store + Drop> Drop for Keeper<S> {
             text: _,
             kept: _,
             unkept: _,
+            pace: _,
         } = self;
     }
 }
@@ -47,7 +52,7 @@ impl<S: Store + Drop> Model for Keeper<S> {
 
     ghost Value = { Keeping S };
 
-    ghost view = { λ k. record { store = k.store; origin = k.origin; kept = k.kept; unkept = k.unkept } };
+    ghost view = { λ k. record { store = k.store; origin = k.origin; kept = k.kept; unkept = k.unkept; pace = k.pace } };
 
     ghost invariant = { λ k. IsHeld (S.held k.store) k.kept };
 }
@@ -64,13 +69,6 @@ fn put<S: Store>(store: &mut S, text: &mut Vec<u8>, saved: &Saved) -> Result<(),
     }
 }
 
-/// A count and one more, unless it would pass its end.
-fn one_more(count: u64) -> u64
-    ensures { result ≡ one_more count }
-{
-    if count < u64::MAX { count + 1 } else { count }
-}
-
 impl<S: Store + Drop> Keeper<S> {
     /// Keeps the state of a gateway in this store, and does so at once. The origin is that of the gateway's
     /// configuration ([`Origin::of`]). If that fails, it is [failing](Keeper::failing) then.
@@ -83,19 +81,20 @@ impl<S: Store + Drop> Keeper<S> {
             text: Vec::new(alloc),
             kept: Err(StoreFault::Memory),
             unkept: 0,
+            pace: Pace::fresh(),
         };
         keeper.keep_now(alloc, gateway);
         keeper
     }
 
-    /// Keeps the state at a tick, if the last try failed, or the text is that of a state ten ticks ago or
-    /// more; unless it differs only in its ticks.
+    /// Does what is due at a tick: keeps the state, if the text is that of a state ten ticks ago or more, or if the last try
+    /// failed and the rest after it ends with this tick; unless it differs only in its ticks. From then on tries at events are
+    /// counted anew.
     pub fn keep_at_tick(&mut self, alloc: Global, gateway: &Gateway)
         ensures { KeepsAtTick S.held self.old gateway.now self.new }
     {
-        if self.is_due(gateway) {
-            self.keep_changed(alloc, gateway, Part::AllButTicks);
-        }
+        self.keep_due(alloc, gateway);
+        self.count_anew();
     }
 
     /// Goes on with another gateway, of another configuration, and keeps its state at once.
@@ -131,13 +130,31 @@ impl<S: Store + Drop> Keeper<S> {
         &self.store
     }
 
+    /// How often the store is tried.
+    pub fn pace(&self) -> Pace
+        ensures { result ≡ self.now.pace }
+    {
+        self.pace
+    }
+
     /// Whether a text is due at a tick.
     fn is_due(&self, gateway: &Gateway) -> bool
-        ensures { result ≡ is_due self.now.kept gateway.now.ticks }
+        ensures { result ≡ is_due self.now.kept self.now.pace gateway.now.ticks }
     {
         match &self.kept {
             Ok(kept) => kept.counts().ticks + KEPT_TICKS <= gateway.counts().ticks,
-            Err(_) => true,
+            Err(_) => self.pace.left <= 1,
+        }
+    }
+
+    /// Keeps the state if that is due at a tick, or else rests one tick less.
+    fn keep_due(&mut self, alloc: Global, gateway: &Gateway)
+        ensures { KeepsDue S.held self.old gateway.now self.new }
+    {
+        if self.is_due(gateway) {
+            self.keep_changed(alloc, gateway, Part::AllButTicks);
+        } else {
+            self.pace = self.pace.rested();
         }
     }
 
@@ -151,11 +168,37 @@ impl<S: Store + Drop> Keeper<S> {
         }
     }
 
+    /// Counts tries at events anew.
+    fn count_anew(&mut self)
+        ensures { self.new ≡ record self.old { pace = ticked self.old.pace } }
+    {
+        self.pace = self.pace.ticked();
+    }
+
     /// Counts a try for which memory was refused.
     fn fail(&mut self)
-        ensures { self.new ≡ record self.old { kept = Err StoreFault.Memory; unkept = one_more self.old.unkept } }
+        ensures { self.new ≡ record self.old { kept = Err StoreFault.Memory; unkept = one_more self.old.unkept; pace = paced false self.old.pace } }
     {
         self.kept = Err(StoreFault::Memory);
+        self.unkept = one_more(self.unkept);
+        self.pace = self.pace.paced(false);
+    }
+
+    /// Why what lasts is withheld without a try.
+    fn spared_by(&self) -> StoreFault
+        ensures { result ≡ spared_by self.now.kept }
+    {
+        match &self.kept {
+            Ok(_) => StoreFault::TooMany,
+            Err(fault) => *fault,
+        }
+    }
+
+    /// Withholds what lasts without a try, which is counted as one that failed.
+    fn spare(&mut self)
+        ensures { self.new ≡ spared self.old }
+    {
+        self.kept = Err(self.spared_by());
         self.unkept = one_more(self.unkept);
     }
 
@@ -166,11 +209,13 @@ impl<S: Store + Drop> Keeper<S> {
         match put(&mut self.store, &mut self.text, &saved) {
             Ok(()) => {
                 self.kept = Ok(saved);
+                self.pace = self.pace.paced(true);
                 true
             }
             Err(fault) => {
                 self.kept = Err(fault);
                 self.unkept = one_more(self.unkept);
+                self.pace = self.pace.paced(false);
                 false
             }
         }
@@ -201,6 +246,17 @@ impl<S: Store + Drop> Keeper<S> {
             }
         }
     }
+
+    /// Keeps what lasts of a gateway, if the store may be tried, and says whether it is kept.
+    fn keep_lasting(&mut self, alloc: Global, gateway: &Gateway) -> bool
+        ensures { KeepsBy (may_try self.old.pace) S.held self.old (saved_of self.old.origin gateway.now) self.new result }
+    {
+        if !self.pace.may_try() {
+            self.spare();
+            return false;
+        }
+        self.keep_changed(alloc, gateway, Part::Lasting)
+    }
 }
 
 impl<S: Store + Drop> Guard for Keeper<S> {
@@ -219,6 +275,6 @@ impl<S: Store + Drop> Guard for Keeper<S> {
         taken: &Taken,
         _asked: Option<&AllAsked>,
     ) -> bool {
-        !taken.lasts || self.keep_changed(alloc, gateway, Part::Lasting)
+        !taken.lasts || self.keep_lasting(alloc, gateway)
     }
 }

@@ -1,12 +1,21 @@
 //! Laws of serving. The functions do nothing: their contracts are the laws.
 
+ghost use Rattle.std.specs.Prelude.{◌≡◌};
 ghost use Rattle.gw_turns.specs.Announcing.{NothingDueNothingDone, UnannouncedIsSilent};
 ghost use Rattle.gw_turns.specs.Both.{GoOnUnderSecond, IsUnderFirst};
-ghost use Rattle.gw_turns.specs.Keeping.{AlikeButTicksIsEqual, AlikeIsEqual, EqualIsAlike, TicksKeepRecent};
+ghost use Rattle.gw_turns.specs.Keeping.{AlikeButTicksIsEqual, AlikeIsEqual, EqualIsAlike, EventsTryFew, FailingIsSpared, RestsAtTicks, RestsEnd, TicksBeginAnew, TicksKeepRecent};
+ghost use Rattle.gw_turns.specs.Pace.{PausesGrow};
 ghost use Rattle.gw_turns.specs.Served.{StopsAreServed, TurnsAreServed};
 
+use crate::pace::{LONGEST_PAUSE, MOST_REPLACES};
 use gw_core::Guard;
 use gw_wire::Store;
+
+/// Between two ticks a store is tried at 64 events at most, and it rests 60 ticks at most.
+pub fn limits()
+    ensures tries { MOST_REPLACES ≡ 64 }
+    ensures pause { LONGEST_PAUSE ≡ 60 }
+{}
 
 /// What `serve` promises, in the words of a wire: the turns are the receives; the events that were handed in are those
 /// that the gateway took, those lost to memory, and one at the end of a count; and what was tried to be sent is what the
@@ -24,6 +33,18 @@ pub fn keeping<S: Store>()
     ensures alike { EqualIsAlike }
     ensures but_ticks { AlikeButTicksIsEqual }
     ensures recent { TicksKeepRecent S.held }
+{}
+
+/// How often a keeper tries its store: at most 64 times at events between two ticks. After a try that failed it rests 1, 2, 4, 8, 16,
+/// 32, and then 60 ticks: until then the store isn't called, at events or at ticks, and no event that lasts is answered. At the tick at
+/// which the rest ends it is tried.
+pub fn trying<S: Store>()
+    ensures few { EventsTryFew S.held }
+    ensures anew { TicksBeginAnew S.held }
+    ensures spared { FailingIsSpared S.held }
+    ensures rests { RestsAtTicks S.held }
+    ensures ends { RestsEnd S.held }
+    ensures pauses { PausesGrow }
 {}
 
 /// A gateway of a configuration that doesn't announce calls the wire for no announcement; and where no announcement is due nothing

@@ -295,6 +295,7 @@ pub(crate) fn try_sends<W: Wire>(wire: &mut W, sends: &Sends, served: &mut Serve
         failures (W.failure_count wire.new) }
     ensures few { length sends.now < 2 ^ 64 }
     ensures ports { W.port_count wire.new ≡ W.port_count wire.old }
+    ensures behind { W.behind wire.new ≡ W.behind wire.old }
 {
     for batch in sends.batches() {
         try_batch(wire, batch, served);
@@ -309,6 +310,7 @@ fn try_batch<W: Wire>(wire: &mut W, batch: &Batch, served: &mut Served)
         AreTried (sendings_of batch.now) (W.calls wire.old) (W.calls wire.new) served.old served.new
         failures (W.failure_count wire.new) }
     ensures ports { W.port_count wire.new ≡ W.port_count wire.old }
+    ensures behind { W.behind wire.new ≡ W.behind wire.old }
 {
     for target in batch.targets() {
         match wire.send(batch.port(), *target, batch.octets()) {

@@ -1,6 +1,6 @@
 //! The sockets of all ports, and whose turn it is among them.
 
-ghost use Rattle.std.specs.Prelude.{◌≡◌, ◌∷◌, [], ◌+◌, ◌-◌, ◌≤◌, ◌<◌, ◌^◌, ℕ, length, min, slice_index_or, true, false, IfOk, IfSome, None};
+ghost use Rattle.std.specs.Prelude.{◌≡◌, ◌∷◌, [], ◌+◌, ◌-◌, ◌≤◌, ◌<◌, ◌^◌, ℕ, length, min, nat_lt, slice_index_or, true, false, IfOk, IfSome, None};
 ghost use Rattle.std.specs.Borrow.{sem};
 ghost use Rattle.gw_addr.specs.declared.TheConstants.{MAX_PORTS};
 ghost use Rattle.gw_wire.specs.declared.sock_pair.SockPair.{SockPair};
@@ -253,8 +253,14 @@ impl<S: Sock> Wire for Ports<S> {
 
     ghost calls = { λ _. None };
 
+    ghost behind = { λ ports. nat_lt 0 ports.ticks };
+
     fn ports(&self) -> u8 {
         self.count() as u8
+    }
+
+    fn is_behind(&self) -> bool {
+        self.ticks > 0
     }
 
     fn failures(&self) -> u128 {
@@ -280,6 +286,7 @@ impl<S: Sock> Wire for Ports<S> {
         ensures calls { let call = send_call result
             (record { port = port; to = to; octets = octets.now }) in
             Records None None (call ∷ []) }
+        ensures behind { nat_lt 0 self.new.ticks ≡ nat_lt 0 self.old.ticks }
         ensures failures { self.new.failures ≡ self.old.failures + failures_of result }
     {
         match self.send_on(port, to, octets) {

@@ -23,6 +23,9 @@ pub enum StoreFault {
     /// 5: the system refused it for another reason.
     #[error("refused by the system")]
     System,
+    /// 6: there were too many in a short time, so it wasn't asked.
+    #[error("too many changes")]
+    TooMany,
 }
 
 /// A place that holds one text, which is replaced whole.

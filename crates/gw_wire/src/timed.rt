@@ -1,6 +1,6 @@
 //! The ports and a clock: each second that passes is a tick, and where nothing waits it is waited for.
 
-ghost use Rattle.std.specs.Prelude.{◌≡◌, ◌+◌, ◌-◌, ◌*◌, ◌<◌, ◌^◌, ◌∷◌, ◌||◌, [], length, min, slice_index_or, true, false, IfOk, OnErr, OnOk, None};
+ghost use Rattle.std.specs.Prelude.{◌≡◌, ◌+◌, ◌-◌, ◌*◌, ◌<◌, ◌^◌, ◌∷◌, ◌||◌, [], length, min, nat_lt, slice_index_or, true, false, IfOk, OnErr, OnOk, None};
 ghost use Rattle.std.specs.Duration.{as_nanos, max_nanos};
 ghost use Rattle.gw_wire.specs.Wire.{IsHandedIn, Records, failures_of, receive_answer, receive_call, send_call};
 ghost use Rattle.gw_wire.specs.Ports.{HasSentOn};
@@ -270,8 +270,14 @@ impl<S: Sock, C: Timepiece, P: Waiter> Wire for TimedPorts<S, C, P> {
 
     ghost calls = { λ _. None };
 
+    ghost behind = { λ timed. nat_lt 0 timed.ports.ticks };
+
     fn ports(&self) -> u8 {
         self.ports.ports()
+    }
+
+    fn is_behind(&self) -> bool {
+        self.ports.is_behind()
     }
 
     fn failures(&self) -> u128 {
@@ -309,6 +315,7 @@ impl<S: Sock, C: Timepiece, P: Waiter> Wire for TimedPorts<S, C, P> {
         ensures calls { let call = send_call result
             (record { port = port; to = to; octets = octets.now }) in
             Records None None (call ∷ []) }
+        ensures behind { nat_lt 0 self.new.ports.ticks ≡ nat_lt 0 self.old.ports.ticks }
         ensures failures { self.new.ports.failures
             ≡ self.old.ports.failures + failures_of result }
     {

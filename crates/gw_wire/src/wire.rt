@@ -1,6 +1,6 @@
 //! The wire: where datagrams and ticks come from, and where datagrams go.
 
-ghost use Rattle.std.specs.Prelude.{◌≡◌, ◌+◌, ◌-◌, ◌<◌, ◌^◌, ◌∷◌, [], ℕ, List, Option, IfOk};
+ghost use Rattle.std.specs.Prelude.{◌≡◌, ◌+◌, ◌-◌, ◌<◌, ◌^◌, ◌∷◌, [], ℕ, Bool, List, Option, IfOk};
 ghost use Rattle.gw_wire.specs.Wire.{Call, IsHandedIn, Records, failures_of, receive_call, receive_answer, send_call};
 
 use gw_addr::BipAddr;
@@ -50,6 +50,9 @@ pub trait Wire {
     /// Its calls so far, in order, if it reports them.
     ghost calls: { Self → Option (List Call) };
 
+    /// A tick is due already.
+    ghost behind: { Self → Bool };
+
     /// How many ports it has. No call changes it.
     fn ports(&self) -> u8
         ensures { result ≡ port_count self.now };
@@ -57,6 +60,10 @@ pub trait Wire {
     /// How many receives and sends failed.
     fn failures(&self) -> u128
         ensures { result ≡ failure_count self.now };
+
+    /// Whether a tick is due already, so that what is to be done once a second can wait for it.
+    fn is_behind(&self) -> bool
+        ensures { result ≡ behind self.now };
 
     /// Receives what comes next, a datagram on one of its ports or a tick, or nothing. A fault is
     /// answered only where the count of failures rose, by one.
@@ -69,12 +76,13 @@ pub trait Wire {
         ensures failures { failure_count self.new ≡ failure_count self.old + failures_of result };
 
     /// Sends a datagram on the port of this number. A fault is answered only where the count of
-    /// failures rose, by one.
+    /// failures rose, by one. No tick becomes due by it.
     fn send(&mut self, port: u8, to: BipAddr, octets: &[u8]) -> Result<(), WireFault>
         requires { failure_count self.old < 2 ^ 128 - 1 }
         ensures ports { port_count self.new ≡ port_count self.old }
         ensures calls { let call = send_call result
             (record { port = port; to = to; octets = octets.now }) in
             Records (calls self.old) (calls self.new) (call ∷ []) }
+        ensures behind { behind self.new ≡ behind self.old }
         ensures failures { failure_count self.new ≡ failure_count self.old + failures_of result };
 }

@@ -1,5 +1,5 @@
 -- What is kept stays current, event by event and turn by turn.
-use Rattle.std.proofs.Common.{◌≡◌, ◌∙◌, refl, sym, ap, ap₂, subst, true≢false, ℕ, Bool, true, false, List, [], ◌∷◌, ◌++◌, map, Option, Some, None}
+use Rattle.std.proofs.Common.{◌≡◌, ◌∙◌, refl, sym, ap, ap₂, subst, true≢false, inl, ℕ, Bool, true, false, List, [], ◌∷◌, ◌++◌, map, Option, Some, None}
 use Rattle.std.specs.Prelude.{Result, Ok, Err}
 use Rattle.std.proofs.lemmas.List.Concat.{flat_map-cons}
 use Rattle.gw_addr.specs.declared.entry.BdtEntry.{BdtEntry}
@@ -16,7 +16,8 @@ use Rattle.gw_core.specs.Resumed.{saved_of, saved_ports}
 use Rattle.gw_core.specs.State.{State}
 use Rattle.gw_state_laws.specs.continuity.Laws.{entries_of}
 use Rattle.gw_state_laws.proofs.continuity_lemmas.LastingChanges.{only_lasting_changes}
-use Rattle.gw_turns.specs.Keeping.{HasPassed, IsHeld, IsUnkept, IsUpToDate, KeepsChanged, Keeping, KeptBy, PassesBy, TicksBy, Tries, is_due, is_kept, lasting_of, lasting_port}
+use Rattle.gw_turns.specs.Keeping.{HasPassed, IsHeld, IsUnkept, IsUpToDate, KeepsBy, KeepsChanged, Keeping, KeptBy, PassesBy, TicksBy, Tries, is_due, is_kept, lasting_of, lasting_port, spared, spared_by}
+use Rattle.gw_turns.specs.Pace.{may_try}
 use Rattle.gw_wire.specs.Store.{Holds}
 use Rattle.gw_turns.specs.Serve.{Turn, empty_turn, events_of, failed_turn, lost_event, taken_event, turn_events}
 use Rattle.gw_turns.specs.Stretch.{AreGuarded, GoOn, GuardsTurn, Moment}
@@ -93,13 +94,33 @@ unkept_has held k l due failed = (
   failed.origin,
 )
 
+-- what passes was tried, or was kept
+passed_changed : {S : Type 0} (held : S → Option (List ℕ)) (k l : Keeping S) (due : Saved) (may : Bool) → KeepsBy may held k due l true
+    → KeepsChanged Lasting held k due l true
+passed_changed held k l due true p = p
+passed_changed held k l due false p = absurd (true≢false p.1)
+
+-- what is withheld is so after a try, or without one
+withheld_unkept : {S : Type 0} (held : S → Option (List ℕ)) (k l : Keeping S) (due : Saved) (may : Bool) → KeepsBy may held k due l false
+    → IsUnkept held k due l
+withheld_unkept held k l due true p = p.unkept
+withheld_unkept {S} held k l due false p = record {
+  fault = spared_by k.kept;
+  kept = ap (λ (j : Keeping S). j.kept) p.0;
+  text = inl (ap (λ (j : Keeping S). held j.store) p.0);
+  origin = ap (λ (j : Keeping S). j.origin) p.0;
+  unkept = ap (λ (j : Keeping S). j.unkept) p.0;
+}
+
 pub passed_has : {S : Type 0} (held : S → Option (List ℕ)) (k l : Keeping S) (w : State) (event : Event) (is passes : Bool) → lasts w event ≡ is
     → PassesBy is held k (saved_of k.origin (next w event)) l passes → IsHeld (held k.store) k.kept → LastsAs k.kept (saved_of k.origin w)
     → Has held l (saved_of k.origin (next w event)) × (l.origin ≡ k.origin)
 passed_has held k l w event true true is p has lasted =
     let due = saved_of k.origin (next w event) in
-    kept_has held k l due (is_kept Lasting k.kept due) refl p has
-passed_has held k l w event true false is p has lasted = unkept_has held k l (saved_of k.origin (next w event)) p
+    kept_has held k l due (is_kept Lasting k.kept due) refl (passed_changed held k l due (may_try k.pace) p) has
+passed_has held k l w event true false is p has lasted =
+    let due = saved_of k.origin (next w event) in
+    unkept_has held k l due (withheld_unkept held k l due (may_try k.pace) p)
 passed_has held k l w event false passes is p has lasted =
     let due = saved_of k.origin (next w event) in
     subst (λ (j : Keeping _). Has held j due × (j.origin ≡ k.origin)) (sym p.0)
@@ -119,8 +140,10 @@ held_by : {S : Type 0} (held : S → Option (List ℕ)) (k l : Keeping S) (w : S
     → PassesBy is held k (saved_of k.origin (next w event)) l passes → IsHeld (held k.store) k.kept → IsHeld (held l.store) l.kept
 held_by held k l w event true true p has =
     let due = saved_of k.origin (next w event) in
-    (kept_has held k l due (is_kept Lasting k.kept due) refl p has).0.0
-held_by held k l w event true false p has = (unkept_has held k l (saved_of k.origin (next w event)) p).0.0
+    (kept_has held k l due (is_kept Lasting k.kept due) refl (passed_changed held k l due (may_try k.pace) p) has).0.0
+held_by held k l w event true false p has =
+    let due = saved_of k.origin (next w event) in
+    (unkept_has held k l due (withheld_unkept held k l due (may_try k.pace) p)).0.0
 held_by held k l w event false passes p has = subst (λ (j : Keeping _). IsHeld (held j.store) j.kept) (sym p.0) has
 
 pub held_stays : {S : Type 0} (held : S → Option (List ℕ)) → HeldStays held
@@ -155,8 +178,9 @@ answered_by : {S : Type 0} (held : S → Option (List ℕ)) (k l : Keeping S) (w
 answered_by held k l w event true is so p has =
     let due = saved_of k.origin (next w event) in
     let alike = is_kept Lasting k.kept due in
-    let then = kept_has held k l due alike refl p has in
-    let there = is_there held k l due alike refl p in
+    let changed = passed_changed held k l due (may_try k.pace) p in
+    let then = kept_has held k l due alike refl changed has in
+    let there = is_there held k l due alike refl changed in
     current_is_up_to_date held l (next w event) there.0 there.1
     (record { text = then.0.0; lasts = subst (λ (o : Origin). LastsAs l.kept (saved_of o (next w event))) (sym then.1) then.0.1 })
 answered_by held k l w event false is so p has = absurd (true≢false (sym so))
@@ -166,7 +190,7 @@ answered_is_kept held k l w event p lasting has = answered_by held k l w event (
 
 withheld_by : {S : Type 0} (held : S → Option (List ℕ)) (k l : Keeping S) (w : State) (event : Event) (is : Bool)
     → PassesBy is held k (saved_of k.origin (next w event)) l false → (is ≡ true) × IsUnkept held k (saved_of k.origin (next w event)) l
-withheld_by held k l w event true p = (refl, p)
+withheld_by held k l w event true p = (refl, withheld_unkept held k l (saved_of k.origin (next w event)) (may_try k.pace) p)
 withheld_by held k l w event false p = absurd (true≢false (sym p.1))
 
 pub withheld_is_old_or_new : {S : Type 0} (held : S → Option (List ℕ)) → WithheldIsOldOrNew held
@@ -185,7 +209,7 @@ has_current held k l w has = record {
 tried_by : {S : Type 0} (held : S → Option (List ℕ)) (k l : Keeping S) (w : State) (kept : Bool) → Tries held k (saved_of k.origin w) l kept
     → IsCurrent held l w
 tried_by held k l w true p = has_current held k l w (just_kept held l (saved_of k.origin w) p.kept p.text, p.origin)
-tried_by held k l w false p = has_current held k l w (unkept_has held k l (saved_of k.origin w) p)
+tried_by held k l w false p = has_current held k l w (unkept_has held k l (saved_of k.origin w) p.unkept)
 
 pub tried_is_current : {S : Type 0} (held : S → Option (List ℕ)) → TriedIsCurrent held
 tried_is_current held k l w p = tried_by held k l w p.0 p.1
@@ -205,10 +229,13 @@ ticked_by {S} held k l w true p current = by p.0 p.1
     by : (b : Bool) → KeepsChanged AllButTicks held k (saved_of k.origin w) l b → IsCurrent held l w
     by true q = changed_current held k l w (is_kept AllButTicks k.kept (saved_of k.origin w)) q current
     by false q = tried_by held k l w false q
-ticked_by held k l w false same current = stays_current held k l w same current
+ticked_by {S} held k l w false same current =
+    subst (λ (j : Keeping S). IsCurrent held j w) (sym same) (record { text = current.text; lasts = current.lasts })
 
 pub ticks_keep_current : {S : Type 0} (held : S → Option (List ℕ)) → TicksKeepCurrent held
-ticks_keep_current held k l w p current = ticked_by held k l w (is_due k.kept w.ticks) p current
+ticks_keep_current {S} held k l w p current =
+    let done = ticked_by held k p.0 w (is_due k.kept k.pace w.ticks) p.1 current in
+    subst (λ (j : Keeping S). IsCurrent held j w) (sym p.2) (record { text = done.text; lasts = done.lasts })
 
 -- ---- turn by turn
 

@@ -69,7 +69,7 @@ kept_origin held k l due false kept = kept.origin
 changed_origin : {S : Type 0} (held : S → Option (List ℕ)) (k l : Keeping S) (due : Saved) (kept : Bool)
     → KeepsChanged AllButTicks held k due l kept → l.origin ≡ k.origin
 changed_origin held k l due true p = kept_origin held k l due (is_kept AllButTicks k.kept due) p
-changed_origin held k l due false p = p.origin
+changed_origin held k l due false p = p.unkept.origin
 
 ticked_origin : {S : Type 0} (held : S → Option (List ℕ)) (k l : Keeping S) (due : Saved) (is : Bool) → TicksBy is held k due l
     → l.origin ≡ k.origin
@@ -81,7 +81,8 @@ ticked_keeps : {S : Type 0} (held : S → Option (List ℕ)) (k l : Kept S) (c :
 ticked_keeps held Nowhere l c w p now = absurd (nowhere_keeps now.keeper now.is)
 ticked_keeps held (In k) Nowhere c w p now = absurd p
 ticked_keeps held (In k) (In l) c w p now =
-    keeps held l c w (ticked_origin held k l (saved_of k.origin w) (is_due k.kept w.ticks) p ∙ keeps_origin held k c w now)
+    keeps held l c w (ap (λ (j : Keeping _). j.origin) p.2
+    ∙ ticked_origin held k p.0 (saved_of k.origin w) (is_due k.kept k.pace w.ticks) p.1 ∙ keeps_origin held k c w now)
     (ticks_keep_current held k l w p (keeps_current held k c w now))
 
 -- ---- another configuration
@@ -89,7 +90,7 @@ ticked_keeps held (In k) (In l) c w p now =
 tried_origin : {S : Type 0} (held : S → Option (List ℕ)) (k l : Keeping S) (due : Saved) (kept : Bool) → Tries held k due l kept
     → l.origin ≡ k.origin
 tried_origin held k l due true p = p.origin
-tried_origin held k l due false p = p.origin
+tried_origin held k l due false p = p.unkept.origin
 
 tried_keeps : {S : Type 0} (held : S → Option (List ℕ)) (k l : Keeping S) (c : Configuration) (w : State) → k.origin ≡ origin_of c
     → IsTried held k w l → KeepsCurrent held (In l) c w
@@ -281,7 +282,7 @@ tried_recent : {S : Type 0} (held : S → Option (List ℕ)) (k l : Keeping S) (
 tried_recent held k l w true p =
     subst (λ (r : Result Saved StoreFault). IsRecent r (saved_of l.origin w)) (sym p.kept)
     (subst (λ (o : Origin). IsRecent (Ok (saved_of k.origin w)) (saved_of o w)) (sym p.origin) (inl (omega arith)))
-tried_recent held k l w false p = subst (λ (r : Result Saved StoreFault). IsRecent r (saved_of l.origin w)) (sym p.kept) tt
+tried_recent held k l w false p = subst (λ (r : Result Saved StoreFault). IsRecent r (saved_of l.origin w)) (sym p.unkept.kept) tt
 
 ticked_recent : {S : Type 0} (held : S → Option (List ℕ)) (k l : Kept S) (w : State) → IsKeptAtTick held k w l → IsRecentIn l w
 ticked_recent held k Nowhere w p = λ j same. absurd (nowhere_keeps j same)

@@ -39,6 +39,7 @@ loop-target-preserved g c =
             (w.served-is ∙ ap (λ (x : ℕ). record s { sends = s.sends + 1; send_failures = x }) (sym (add-zero s.send_failures)))
             (c.send.ensures.failures ∙ ap (λ (r : Result Unit WireFault). failed + failures_of r) w.in-Ok.is);
         ports = c.send.ensures.ports ∙ so_far.ports;
+        behind = c.send.ensures.behind ∙ so_far.behind;
       }
       | in-Err w ↦ record {
         tried = tried_more _ _ _ recorded records _ s _ _ _ _ one false so_far.tried split
@@ -46,6 +47,7 @@ loop-target-preserved g c =
             (w.served-is ∙ ap (λ (x : ℕ). record s { sends = x; send_failures = s.send_failures + 1 }) (sym (add-zero s.sends)))
             (c.send.ensures.failures ∙ ap (λ (r : Result Unit WireFault). failed + failures_of r) w.in-Err.is);
         ports = c.send.ensures.ports ∙ so_far.ports;
+        behind = c.send.ensures.behind ∙ so_far.behind;
       }
     ]
 

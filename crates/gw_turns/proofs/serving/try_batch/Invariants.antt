@@ -9,4 +9,5 @@ invariant-loop-target g l =
       tried : AreTried (sendings l.batch.port (take l.target-index l.target-items) l.batch.octets) (wire.calls l.fn.wire) (wire.calls l.wire)
           l.fn.served l.served (wire.failure_count l.fn.wire) (wire.failure_count l.wire);
       ports : wire.port_count l.wire ≡ wire.port_count l.fn.wire;
+      behind : wire.behind l.wire ≡ wire.behind l.fn.wire;
     }

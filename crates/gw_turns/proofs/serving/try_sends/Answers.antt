@@ -55,4 +55,5 @@ loop-batch-preserved g c =
           c.try_batch.new.served (wire.failure_count c.args.wire.now) (wire.failure_count c.try_batch.new.wire)) (sym split)
           (tried_along _ _ _ _ _ _ _ _ _ _ _ so_far.tried c.try_batch.ensures.tried);
       ports = c.try_batch.ensures.ports ∙ so_far.ports;
+      behind = c.try_batch.ensures.behind ∙ so_far.behind;
     }

@@ -10,4 +10,5 @@ invariant-loop-batch g l =
       tried : AreTried (flat_map sendings_of (take l.batch-index l.batch-items)) (wire.calls l.fn.wire) (wire.calls l.wire)
           l.fn.served l.served (wire.failure_count l.fn.wire) (wire.failure_count l.wire);
       ports : wire.port_count l.wire ≡ wire.port_count l.fn.wire;
+      behind : wire.behind l.wire ≡ wire.behind l.fn.wire;
     }

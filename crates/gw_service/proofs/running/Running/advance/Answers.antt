@@ -1,4 +1,4 @@
-use Rattle.std.proofs.Common.{◌+◌, ◌<◌, ◌≤◌, ◌++◌, ◌∷◌, [], ap, refl, subst, sym}
+use Rattle.std.proofs.Common.{◌∙◌, ◌+◌, ◌<◌, ◌≤◌, ◌++◌, ◌∷◌, [], ap, refl, subst, sym, inl, inr}
 use Rattle.std.specs.Io.KnownBytes.{Appends}
 use Rattle.gw_script.specs.Event as event
 use Rattle.gw_turns.specs.Serve.{scene, taken_event}
@@ -25,7 +25,7 @@ returns-in-Ok-Turns-clause-advances g c = λ config is_config.
       config,
       [],
       is_config,
-      (served end.turns, record { went = end.went; config = refl; requests = refl; counts = refl; announcing = refl; said = refl }, refl),
+      (served end.turns, record { went = end.went; config = refl; requests = refl; counts = refl; announcing = refl; said = refl }, refl, inl end.ticks),
       λ never. appends_nothing (g.E.OctetSink.held c.args.errors.now),
     )
 
@@ -45,8 +45,44 @@ returns-in-Ok-Turns-clause-more g c = λ some.
     c.serve_to_tick.new.guard c.serve_to_tick.new.self.served c.serve_to_tick.new.self.tally) c.serve_to_tick.result c.in-Ok-Turns.field-0
     pause.Turns c.in-Ok-Turns.is c.in-Ok-Turns.field-0-is c.serve_to_tick.ensures.end) some
 
-pub returns-in-Ok-Tick-clause-advances : goal.returns-in-Ok-Tick-clause-advances
-returns-in-Ok-Tick-clause-advances g c = λ config is_config.
+pub returns-then-is_behind-clause-advances : goal.returns-then-is_behind-clause-advances
+returns-then-is_behind-clause-advances g c = λ config is_config.
+    let end = ends_as g.K.Guard.Passes c.args.turns
+    (moment (scene c.args.self.now.gateway (g.L.OctetSink.held c.args.log.now) (g.W.Wire.calls c.args.wire.now)) c.args.self.now.keeper
+    c.args.self.now.state.served c.args.self.now.state.tally)
+    (moment (scene c.serve_to_tick.new.gateway (g.L.OctetSink.held c.serve_to_tick.new.log) (g.W.Wire.calls c.serve_to_tick.new.wire))
+    c.serve_to_tick.new.guard c.serve_to_tick.new.self.served c.serve_to_tick.new.self.tally) c.serve_to_tick.result c.in-Ok-Tick.field-0
+    pause.Tick c.in-Ok-Tick.is c.in-Ok-Tick.field-0-is c.serve_to_tick.ensures.end in (
+      config,
+      [],
+      is_config,
+      (
+        served (end.turns ++ taken_event event.Tick end.tries ∷ []),
+        record { went = end.went; config = refl; requests = refl; counts = refl; announcing = refl; said = refl },
+        refl,
+        inr (sym c.is_behind.ensures ∙ c.if-is_behind.true),
+      ),
+      λ never. appends_nothing (g.E.OctetSink.held c.args.errors.now),
+    )
+
+pub returns-then-is_behind-clause-more : goal.returns-then-is_behind-clause-more
+returns-then-is_behind-clause-more g c = λ some.
+    let old = c.args.self.now in
+    let new = c.serve_to_tick.new in
+    let held = g.L.OctetSink.held in
+    let calls = g.W.Wire.calls in
+    more_at_tick g.K.Guard.Passes c.args.turns
+    (moment (scene old.gateway (held c.args.log.now) (calls c.args.wire.now)) old.keeper old.state.served old.state.tally)
+    (moment (scene new.gateway (held new.log) (calls new.wire)) new.guard new.self.served new.self.tally)
+    (ends_as g.K.Guard.Passes c.args.turns
+    (moment (scene c.args.self.now.gateway (g.L.OctetSink.held c.args.log.now) (g.W.Wire.calls c.args.wire.now)) c.args.self.now.keeper
+    c.args.self.now.state.served c.args.self.now.state.tally)
+    (moment (scene c.serve_to_tick.new.gateway (g.L.OctetSink.held c.serve_to_tick.new.log) (g.W.Wire.calls c.serve_to_tick.new.wire))
+    c.serve_to_tick.new.guard c.serve_to_tick.new.self.served c.serve_to_tick.new.self.tally) c.serve_to_tick.result c.in-Ok-Tick.field-0
+    pause.Tick c.in-Ok-Tick.is c.in-Ok-Tick.field-0-is c.serve_to_tick.ensures.end)
+
+pub returns-else-is_behind-clause-advances : goal.returns-else-is_behind-clause-advances
+returns-else-is_behind-clause-advances g c = λ config is_config.
     let end = ends_as g.K.Guard.Passes c.args.turns
     (moment (scene c.args.self.now.gateway (g.L.OctetSink.held c.args.log.now) (g.W.Wire.calls c.args.wire.now)) c.args.self.now.keeper
     c.args.self.now.state.served c.args.self.now.state.tally)
@@ -95,6 +131,7 @@ returns-in-Ok-Tick-clause-advances g c = λ config is_config.
           lines = refl;
         },
         refl,
+        c.announce.ensures.behind ∙ sym c.is_behind.ensures ∙ c.if-is_behind.false,
       ),
       λ never.
           let one = c.at_tick.ensures.lasts never in
@@ -105,15 +142,15 @@ returns-in-Ok-Tick-clause-advances g c = λ config is_config.
           (c.report_due.ensures.said (c.notice-self.ensures.lasts one)),
     )
 
-pub returns-in-Ok-Tick-clause-rest : goal.returns-in-Ok-Tick-clause-rest
-returns-in-Ok-Tick-clause-rest g c = λ rest most.
+pub returns-else-is_behind-clause-rest : goal.returns-else-is_behind-clause-rest
+returns-else-is_behind-clause-rest g c = λ rest most.
     subst (λ (s : ServeState). CanCount s.served s.tally (g.W.Wire.failure_count c.announce.new.wire) rest) (sym c.at_tick.ensures.state)
     (c.announce.ensures.counted _ _ rest
     (c.serve_to_tick.ensures.rest rest
     (subst (λ (s : ServeState). s.served.turns + rest ≤ c.args.self.now.state.served.turns + c.args.turns) c.at_tick.ensures.state most)))
 
-pub returns-in-Ok-Tick-clause-more : goal.returns-in-Ok-Tick-clause-more
-returns-in-Ok-Tick-clause-more g c = λ some.
+pub returns-else-is_behind-clause-more : goal.returns-else-is_behind-clause-more
+returns-else-is_behind-clause-more g c = λ some.
     let old = c.args.self.now in
     let new = c.serve_to_tick.new in
     let held = g.L.OctetSink.held in
@@ -155,6 +192,7 @@ returns-in-Ok-Withheld-clause-advances g c = λ config is_config.
           lines = refl;
         },
         refl,
+        tt,
       ),
       λ never. c.notice-self-in-Ok-Withheld.ensures.text never,
     )

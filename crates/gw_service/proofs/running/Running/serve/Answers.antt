@@ -49,7 +49,8 @@ loop-preserved g c =
           now.keeper now.state.served now.state.tally) (g.Q.Requests.recorded now.requests) now.counts now.announcing now.said)
           (λ (config : Configuration). stage config (moment (scene new.gateway (g.L.OctetSink.held c.advance.new.log) (g.W.Wire.calls c.advance.new.wire))
           new.keeper new.state.served new.state.tally) (g.Q.Requests.recorded new.requests) new.counts new.announcing new.said)
-          c.in_ok-advance.field-0 (g.E.OctetSink.NeverFails c.args.errors.now) (g.E.OctetSink.NeverFails c.loop.errors)
+          c.in_ok-advance.field-0 (g.W.Wire.behind c.advance.new.wire) (g.E.OctetSink.NeverFails c.args.errors.now)
+          (g.E.OctetSink.NeverFails c.loop.errors)
           (g.E.OctetSink.held c.args.errors.now) (g.E.OctetSink.held c.loop.errors) (g.E.OctetSink.held c.advance.new.errors)
           kept.4 c.in_ok-advance.ensures.advances kept.3,
     )
@@ -76,5 +77,5 @@ returns-in_err-advance-clause-runs g c =
     (ran_until how c.args.turns c.loop.left old.origin now.origin new.origin first
     (λ (config : Configuration). stage config (moment (scene now.gateway (g.L.OctetSink.held c.loop.log) (g.W.Wire.calls c.loop.wire))
     now.keeper now.state.served now.state.tally) (g.Q.Requests.recorded now.requests) now.counts now.announcing now.said)
-    last fault (never c.args.errors.now) (never c.loop.errors) (held c.args.errors.now) (held c.loop.errors) (held c.advance.new.errors)
+    last fault (g.W.Wire.behind c.advance.new.wire) (never c.args.errors.now) (never c.loop.errors) (held c.args.errors.now) (held c.loop.errors) (held c.advance.new.errors)
     kept.4 c.in_err-advance.ensures.advances kept.3 (λ a b. kept.1))

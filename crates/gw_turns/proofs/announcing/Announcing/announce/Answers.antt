@@ -8,6 +8,7 @@ loop-place-init g c = record {
   announced = (refl, refl);
   counted = λ served tally more room. room;
   ports = refl;
+  behind = refl;
 }
 
 pub loop-place-preserved : goal.loop-place-preserved
@@ -23,6 +24,7 @@ loop-place-preserved g c =
           (calls c.announce_at.new.wire)) next (c.loop-place.self, calls c.loop-place.wire, so_far.announced, step.announces);
       counted = λ served tally more room. step.counted served tally more (so_far.counted served tally more room);
       ports = step.ports ∙ so_far.ports;
+      behind = step.behind ∙ so_far.behind;
     }
 
 pub returns-clause-announces : goal.returns-clause-announces

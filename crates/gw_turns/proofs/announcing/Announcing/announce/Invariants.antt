@@ -12,4 +12,5 @@ invariant-loop-place g l =
       counted : (served : Served) (tally : Tally) (more : ℕ) → CanCount served tally (wire.failure_count l.fn.wire) more
           → CanCount served tally (wire.failure_count l.wire) more;
       ports : wire.port_count l.wire ≡ wire.port_count l.fn.wire;
+      behind : wire.behind l.wire ≡ wire.behind l.fn.wire;
     }
