@@ -1,6 +1,6 @@
 -- Turns one after the other, and the result of one turn.
 use Rattle.std.proofs.Common.{◌≡◌, ℕ, ◌+◌, ◌-◌, ◌*◌, ◌^◌, ◌<◌, ◌≤◌, List, [], ◌∷◌, ◌++◌, length, map, Option, Some, None, Bool, true}
-use Rattle.std.proofs.Common.{false, not, cond, refl, sym, ap, ap₂, subst, ◌∙◌, append_assoc, add_assoc, add-zero, arith}
+use Rattle.std.proofs.Common.{false, not, cond, refl, sym, ap, ap₂, subst, ◌∙◌, append_assoc, add_assoc, add-zero, arith, inl, inr}
 use Rattle.std.specs.Prelude.{Ok, Err}
 use Rattle.std.specs.List.{flat_map}
 use Rattle.std.specs.Option.{option_map}
@@ -27,7 +27,7 @@ use Rattle.gw_turns.specs.declared.serving.ServeFault.{ServeFault}
 use Rattle.gw_turns.specs.declared.serving.ServeFault.TheVariants.{Log, Memory, CountEnd}
 use Rattle.gw_core.specs.Effects.{effects_at, passes_end}
 use Rattle.gw_core.specs.History.{next, run_from, state_from, log as denials_of_run}
-use Rattle.gw_turns.specs.Serve.{AreTurns, EndsBy, IsTakenLast, IsTurn, Scene, ServesAll, Stops, Try, Turn, LeadTo, count_fault}
+use Rattle.gw_turns.specs.Serve.{AreRefused, AreTurns, EndsBy, IsTakenLast, IsTurn, Scene, ServesAll, Stops, Try, Turn, LeadTo, count_fault}
 use Rattle.gw_turns.specs.Serve.{count_turn, counts_after, turn_events, events_of, failures, lines_of, log_of, zero_counts, successes}
 use Rattle.gw_turns.specs.Serve.{empty_turn, failed_turn, lost_event, taken_event, try_call, turn_calls}
 use Rattle.gw_turns.specs.ServeTurn.{AreTried, HasRoom, LogEnd, TurnEnd, event_answer}
@@ -404,3 +404,14 @@ room_left n count start lost a m s p left few low counted sum =
       sends = omega (arith, counted, left, few);
       failures = omega (arith, counted, left, few, low, sum);
     }
+
+-- ---- what was refused for want of memory
+
+pub refused_none : (s : Served) (refusals : ℕ) → AreRefused s refusals s refusals
+refused_none s refusals = (omega arith, inl (omega arith))
+
+pub refused_along : (s t u : Served) (refusals later last : ℕ) → AreRefused s refusals t later → AreRefused t later u last
+    → AreRefused s refusals u last
+refused_along s t u refusals later last (rises, inl few) (goes_on, inl more) = (omega (arith, rises, goes_on), inl (omega (arith, few, more)))
+refused_along s t u refusals later last (rises, inl few) (goes_on, inr many) = (omega (arith, rises, goes_on), inr many)
+refused_along s t u refusals later last (rises, inr many) (goes_on, more) = (omega (arith, rises, goes_on), inr (omega (arith, many, goes_on)))

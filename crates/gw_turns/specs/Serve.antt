@@ -1,5 +1,5 @@
 -- The result of serving a wire: turn by turn what came, what was taken, logged and sent, and the scene then.
-use Rattle.std.specs.Prelude.{◌≡◌, ℕ, ◌+◌, ◌<◌, Bool, true, false, not, List, [], ◌∷◌, ◌++◌, length, map, count_by}
+use Rattle.std.specs.Prelude.{◌≡◌, ◌⊎◌, ℕ, ◌+◌, ◌-◌, ◌^◌, ◌<◌, ◌≤◌, Bool, true, false, not, List, [], ◌∷◌, ◌++◌, length, map, count_by}
 use Rattle.std.specs.Prelude.{Option, Result, Ok}
 use Rattle.std.specs.Prelude.{Err, ⊤, if◌then◌else◌}
 use Rattle.std.specs.List.{flat_map}
@@ -107,6 +107,12 @@ counts_after s (turn ∷ turns) = counts_after (count_turn s turn) turns
 -- the counts of these turns
 abbrev pub counts_of : List Turn → Served
 counts_of turns = counts_after zero_counts turns
+
+-- At most as many events more were counted as lost to memory as times more the gateway was asked to take one and answered that memory
+-- was refused; or these are too many to be counted.
+abbrev pub AreRefused : Served → ℕ → Served → ℕ → Type 0
+AreRefused s refusals t later =
+    (refusals ≤ later) × ((t.memory_drops + refusals ≤ s.memory_drops + later) ⊎ (2 ^ 64 - 1 ≤ later))
 
 -- each is what a turn may be, in the state that those before it lead to
 unfoldable pub AreTurns : State → List Turn → Type 0

@@ -11,6 +11,9 @@ use Rattle.gw_turns.specs.declared.serving.Served.{Served}
 use Rattle.gw_turns.specs.declared.serving.ServeFault.{ServeFault}
 use Rattle.gw_turns.specs.declared.serving.ServeFault.TheVariants.{Log, Memory, CountEnd}
 use Rattle.gw_core.specs.State.{State}
+use Rattle.gw_core.specs.declared.fault.StepFault.{StepFault}
+use Rattle.gw_core.specs.declared.fault.StepFault.TheVariants as step
+use Rattle.gw_turns.specs.Pace.{one_more}
 use Rattle.gw_turns.specs.Stretch.{GoOn, IsFaulty, IsWithheld, Moment, wire_counts}
 use Rattle.gw_turns.specs.Tally.{tally_from}
 use Rattle.gw_turns.specs.declared.tally.Tally.{Tally}
@@ -22,6 +25,12 @@ use Rattle.gw_turns.specs.Serve.{successes, try_call, turn_events}
 abbrev pub event_answer : Result (Option LentEvent) WireFault → Result (Option Event) WireFault
 event_answer (Ok event) = Ok (option_map event_view event)
 event_answer (Err fault) = Err fault
+
+-- how often memory was refused for an event, after the gateway was asked to take one more
+abbrev pub refusals_after : {A : Type 0} → ℕ → Result A StepFault → ℕ
+refusals_after refusals (Ok taken) = refusals
+refusals_after refusals (Err step.Memory) = one_more refusals
+refusals_after refusals (Err step.CountEnd) = refusals
 
 -- no count passes its end in the next turn
 pub record HasRoom (s : Served) (wire_failures : ℕ) : Type 0 where

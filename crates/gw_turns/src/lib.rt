@@ -17,6 +17,7 @@ pub use announcing::Announcing;
 pub use keeper::Keeper;
 pub use pace::Pace;
 pub use report::{Report, has_gone_on, report_announcing, report_of, try_report};
+pub use seen::Refusals;
 pub use serving::{ServeFault, ServeState, ServeStop, Served, serve};
 pub use stretch::Pause;
 pub use tally::Tally;

@@ -1,16 +1,58 @@
-//! An event that is taken, and what of its asks is seen.
+//! An event that is taken, and what of its asks is seen; and how often memory was refused for one.
 
 ghost use Rattle.std.specs.Prelude.{◌≡◌, IfOk, IsErrOf, IsOk, None, OnErr, true};
+ghost use Rattle.gw_turns.specs.Pace.{one_more};
+ghost use Rattle.gw_turns.specs.ServeTurn.{refusals_after};
 ghost use Rattle.gw_script.specs.Event.{event_view};
 ghost use Rattle.gw_core.specs.Effects.{NeedsNoMemory, passes_end};
 ghost use Rattle.gw_core.specs.Guard.{IsSeen, IsTaken};
 
+use crate::pace::one_more;
 use gw_core::{AllAsked, AllAsks, DenialsAlone, Gateway, StepFault, Taken, take_event};
 use gw_script::Event;
 use std::alloc::Global;
+use std::marker::Model;
+
+/// How often the gateway was asked to take an event and answered that memory was refused. It stays at 2^64 - 1. Only the call that asks
+/// the gateway raises it.
+#[derive(Drop)]
+pub struct Refusals {
+    count: u64,
+}
+
+impl Model for Refusals {
+    ghost use Rattle.std.specs.Prelude.{ℕ};
+
+    ghost Value = { ℕ };
+
+    ghost view = { λ r. r.count };
+}
+
+impl Refusals {
+    /// None so far.
+    pub(crate) fn none() -> Self
+        ensures { result ≡ 0 }
+    {
+        Refusals { count: 0 }
+    }
+
+    /// How many there were.
+    pub fn count(&self) -> u64
+        ensures { result ≡ self.now }
+    {
+        self.count
+    }
+
+    /// One more.
+    fn add(&mut self)
+        ensures { self.new ≡ one_more self.old }
+    {
+        self.count = one_more(self.count);
+    }
+}
 
 /// Has the gateway take an event as [`take_event`] does; and if it is watched, puts what it asks beside. If there is no
-/// memory for what it asks, the event is taken all the same.
+/// memory for what it asks, the event is taken all the same. If there is none for the event, that is counted.
 #[inline(always)]
 pub(crate) fn take_seen(
     alloc: Global,
@@ -18,6 +60,7 @@ pub(crate) fn take_seen(
     event: &Event<'_>,
     is_watched: bool,
     asked: &mut Option<AllAsked>,
+    refusals: &mut Refusals,
 ) -> Result<Taken, StepFault>
     requires none { asked.old ≡ None }
     ensures taken { IfOk result (IsTaken gateway.old (event_view event.now) gateway.new) }
@@ -27,6 +70,7 @@ pub(crate) fn take_seen(
     ensures memory { IsErrOf result StepFault.Memory →
         ¬ (NeedsNoMemory gateway.old (event_view event.now)) }
     ensures err { OnErr result (gateway.new ≡ gateway.old) }
+    ensures refused { refusals.new ≡ refusals_after refusals.old result }
 {
     if is_watched {
         match take_event::<AllAsks>(alloc, gateway, event) {
@@ -40,6 +84,10 @@ pub(crate) fn take_seen(
     }
     match take_event::<DenialsAlone>(alloc, gateway, event) {
         Ok(reported) => Ok(reported.taken),
-        Err(fault) => Err(fault),
+        Err(StepFault::Memory) => {
+            refusals.add();
+            Err(StepFault::Memory)
+        }
+        Err(StepFault::CountEnd) => Err(StepFault::CountEnd),
     }
 }

@@ -4,13 +4,13 @@
 ghost use Rattle.std.specs.Prelude.{◌≡◌, ℕ, ◌+◌, ◌-◌, ◌<◌, ◌≤◌, ◌^◌, ◌∷◌, ◌++◌, [], length, IfOk, IfErr, IsErrOf, OnOk};
 ghost use Rattle.gw_turns.specs.Tally.{IsBelow, no_tally};
 ghost use Rattle.gw_turns.specs.ServeTurn.{AreTried, GuardedEnd, HasRoom, LogEnd, TurnEnd, event_answer};
-ghost use Rattle.gw_turns.specs.Serve.{ServesAll, Stops, counts_of_answer, lines_of, scene, zero_counts};
+ghost use Rattle.gw_turns.specs.Serve.{AreRefused, ServesAll, Stops, counts_of_answer, lines_of, scene, zero_counts};
 ghost use Rattle.gw_turns.specs.Served.{IsServing};
 ghost use Rattle.gw_turns.specs.Stretch.{CanCount, moment, wire_counts};
 ghost use Rattle.gw_wire.specs.Wire.{Records, failures_of, receive_call};
 ghost use Rattle.gw_relay.specs.Sends.{sendings_of};
 
-use crate::seen::take_seen;
+use crate::seen::{Refusals, take_seen};
 use crate::tally::Tally;
 use gw_audit::{Denials, line};
 use gw_core::{Gateway, Guard, StepFault, Unguarded};
@@ -122,6 +122,8 @@ pub struct ServeState {
     pub served: Served,
     /// How many datagrams weren't passed on, in whole turns.
     pub tally: Tally,
+    /// How often the gateway refused an event for want of memory.
+    pub refusals: Refusals,
 }
 
 impl ServeState {
@@ -137,6 +139,7 @@ impl ServeState {
             lines: Vec::new(alloc),
             served: Served::default(),
             tally: Tally::default(),
+            refusals: Refusals::none(),
         }
     }
 
@@ -159,6 +162,7 @@ impl ServeState {
             W.failure_count wire.new + was.recv_failures + was.send_failures
             ≡ W.failure_count wire.old + is.recv_failures + is.send_failures }
         ensures few { wire_counts self.new.served < wire_counts self.old.served + 2 ^ 64 }
+        ensures refused { AreRefused self.old.served self.old.refusals self.new.served self.new.refusals }
         ensures ports { W.port_count wire.new ≡ W.port_count wire.old }
         ensures sure_log { L.NeverFails log.old → ¬ (IsErrOf result ServeFault.Log) }
         ensures lasting_log { L.NeverFails log.old → L.NeverFails log.new }
@@ -196,6 +200,7 @@ impl ServeState {
             W.failure_count wire.new + was.recv_failures + was.send_failures
             ≡ W.failure_count wire.old + is.recv_failures + is.send_failures }
         ensures few { wire_counts self.new.served < wire_counts self.old.served + 2 ^ 64 }
+        ensures refused { AreRefused self.old.served self.old.refusals self.new.served self.new.refusals }
         ensures ports { W.port_count wire.new ≡ W.port_count wire.old }
         ensures sure_log { L.NeverFails log.old → ¬ (IsErrOf result ServeFault.Log) }
         ensures lasting_log { L.NeverFails log.old → L.NeverFails log.new }
@@ -210,7 +215,14 @@ impl ServeState {
             }
         };
         let mut asked = None;
-        let taken = match take_seen(alloc, gateway, &event, guard.watches(), &mut asked) {
+        let taken = match take_seen(
+            alloc,
+            gateway,
+            &event,
+            guard.watches(),
+            &mut asked,
+            &mut self.refusals,
+        ) {
             Ok(taken) => taken,
             Err(StepFault::Memory) => {
                 self.served.memory_drops += 1;

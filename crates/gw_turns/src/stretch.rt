@@ -1,7 +1,7 @@
 //! Serving by stretches, each until a tick was taken.
 
 ghost use Rattle.std.specs.Prelude.{◌≡◌, ℕ, ◌+◌, ◌≤◌, IsErrOf};
-ghost use Rattle.gw_turns.specs.Serve.{scene};
+ghost use Rattle.gw_turns.specs.Serve.{AreRefused, scene};
 ghost use Rattle.gw_turns.specs.Stretch.{CanCount, EndsStretch, moment};
 
 use crate::serving::{ServeFault, ServeState};
@@ -57,6 +57,8 @@ impl ServeState {
             let is = self.new.served in
             W.failure_count wire.new + was.recv_failures + was.send_failures
             ≡ W.failure_count wire.old + is.recv_failures + is.send_failures }
+        // An event counts as lost to memory only if the gateway was asked to take it, and answered so.
+        ensures refused { AreRefused self.old.served self.old.refusals self.new.served self.new.refusals }
         ensures ports { W.port_count wire.new ≡ W.port_count wire.old }
         // A log that never fails doesn't end it.
         ensures sure_log { L.NeverFails log.old → ¬ (IsErrOf result ServeFault.Log) }

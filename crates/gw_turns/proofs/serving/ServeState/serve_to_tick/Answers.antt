@@ -4,6 +4,7 @@ use Rattle.gw_turns.specs.Serve.{scene}
 use Rattle.gw_turns.specs.ServeTurn.{GuardedEnd}
 use Rattle.gw_turns.specs.Stretch.{moment}
 use Rattle.gw_turns.proofs.StretchLemmas.{stretch_faulty, stretch_more, stretch_none, stretch_tick, stretch_withheld, ticks_step}
+use Rattle.gw_turns.proofs.ServeLemmas.{refused_along, refused_none}
 use Rattle.gw_turns.proofs.serving.ServeState.serve_to_tick.Goals as goal
 
 pub loop-init : goal.loop-init
@@ -18,6 +19,7 @@ loop-init g c =
       calls = c.requires.calls;
       failures = refl;
       below = c.requires.below;
+      refused = refused_none c.args.self.now.served c.args.self.now.refusals;
       ports = refl;
       lasting_log = λ never. never;
     }
@@ -82,6 +84,16 @@ loop-preserved g c =
       calls = omega (arith, so_far.calls, this.turns, this.few);
       failures = omega (arith, so_far.failures, this.failures);
       below = this.below;
+      refused = refused_along c.args.self.now.served c.loop.self.served turn.self.served _ _ _ so_far.refused this.refused;
       ports = this.ports ∙ so_far.ports;
       lasting_log = λ never. this.lasting_log (so_far.lasting_log never);
     }
+
+pub returns-in-Err-clause-refused : goal.returns-in-Err-clause-refused
+returns-in-Err-clause-refused g c = refused_along c.args.self.now.served c.loop.self.served c.take_guarded_turn.new.self.served _ _ _ c.loop.invariant.refused c.in-Err.ensures.refused
+
+pub returns-then-not-is_passed-clause-refused : goal.returns-then-not-is_passed-clause-refused
+returns-then-not-is_passed-clause-refused g c = refused_along c.args.self.now.served c.loop.self.served c.take_guarded_turn.new.self.served _ _ _ c.loop.invariant.refused c.in-Ok.ensures.refused
+
+pub returns-then-ticks-counts-clause-refused : goal.returns-then-ticks-counts-clause-refused
+returns-then-ticks-counts-clause-refused g c = refused_along c.args.self.now.served c.loop.self.served c.take_guarded_turn.new.self.served _ _ _ c.loop.invariant.refused c.in-Ok.ensures.refused

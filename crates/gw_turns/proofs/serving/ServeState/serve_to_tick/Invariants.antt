@@ -1,6 +1,6 @@
 use Rattle.std.proofs.Common.{◌≡◌, ◌+◌, ◌-◌, ◌*◌, ◌^◌, ◌≤◌}
 use Rattle.gw_turns.specs.Tally.{IsBelow}
-use Rattle.gw_turns.specs.Serve.{scene}
+use Rattle.gw_turns.specs.Serve.{AreRefused, scene}
 use Rattle.gw_turns.specs.Stretch.{EndsAtTurns, moment, wire_counts}
 use Rattle.gw_turns.proofs.serving.ServeState.serve_to_tick.Given as goal
 
@@ -20,6 +20,7 @@ invariant-loop g l =
       failures : wire.failure_count l.wire + was.recv_failures + was.send_failures
           ≡ wire.failure_count l.fn.wire + is.recv_failures + is.send_failures;
       below : IsBelow is.taken l.self.tally;
+      refused : AreRefused was l.fn.self.refusals is l.self.refusals;
       ports : wire.port_count l.wire ≡ wire.port_count l.fn.wire;
       lasting_log : log.NeverFails l.fn.log → log.NeverFails l.log;
     }
