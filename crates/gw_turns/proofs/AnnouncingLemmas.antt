@@ -1,14 +1,15 @@
 -- An announcement of a gateway that doesn't announce is no call; and where none is due nothing is done.
-use Rattle.std.proofs.Common.{◌≡◌, ◌∙◌, ℕ, zero, suc, ◌+◌, Bool, true, false, true≢false, List, [], ◌∷◌, Option, refl, ap, subst, sym, inl, inr}
+use Rattle.std.proofs.Common.{◌≡◌, ◌∙◌, ℕ, zero, suc, ◌+◌, ◌≤◌, length, arith, Bool, true, false, true≢false, List, [], ◌∷◌, Option, refl, ap, subst, sym, inl, inr}
 use Rattle.std.specs.Prelude.{map, Some, None}
 use Rattle.std.specs.Option.{option_map_or}
 use Rattle.gw_core.specs.State.{State}
 use Rattle.gw_relay.specs.Announcement.{announcement, announcement_at}
 use Rattle.gw_relay.specs.Sends.{Sending}
-use Rattle.gw_relay.specs.State.{Relay, port_at}
+use Rattle.gw_relay.specs.State.{Relay, at_port, port_at}
+use Rattle.std.specs.List.{flat_map, range_with_len}
 use Rattle.gw_relay.specs.declared.port.PortState.{PortState}
 use Rattle.gw_addr.specs.declared.TheConstants.{MAX_PORTS}
-use Rattle.gw_turns.specs.Announcing.{AnnouncesAt, AnnouncesBy, AreAnnounced, NothingDueNothingDone, UnannouncedIsSilent, is_due_at}
+use Rattle.gw_turns.specs.Announcing.{AnnouncesAt, AnnouncesBy, AreAnnounced, NothingDueNothingDone, PortsAreAll, UnannouncedIsSilent, is_due_at}
 use Rattle.gw_turns.specs.Serve.{Try, try_call}
 use Rattle.gw_turns.specs.declared.announcing.Announcing.{Announcing}
 use Rattle.gw_turns.proofs.ServeLemmas.{tells_more, tells_none}
@@ -66,3 +67,20 @@ are_still (suc place) a b w recorded records none are =
 
 pub nothing_due_nothing_done : NothingDueNothingDone
 nothing_due_nothing_done a b w recorded records none are = are_still MAX_PORTS a b w recorded records none are
+
+-- what eight places of a list give is what all of it gives, if it has no more
+eight : (give : PortState → List Sending) (ports : List PortState) → length ports ≤ MAX_PORTS
+    → flat_map (λ (place : ℕ). at_port [] give ports (place + 1)) (range_with_len 0 MAX_PORTS) ≡ flat_map give ports
+eight give [] few = refl
+eight give (a ∷ []) few = refl
+eight give (a ∷ b ∷ []) few = refl
+eight give (a ∷ b ∷ c ∷ []) few = refl
+eight give (a ∷ b ∷ c ∷ d ∷ []) few = refl
+eight give (a ∷ b ∷ c ∷ d ∷ e ∷ []) few = refl
+eight give (a ∷ b ∷ c ∷ d ∷ e ∷ f ∷ []) few = refl
+eight give (a ∷ b ∷ c ∷ d ∷ e ∷ f ∷ g ∷ []) few = refl
+eight give (a ∷ b ∷ c ∷ d ∷ e ∷ f ∷ g ∷ h ∷ []) few = refl
+eight give (a ∷ b ∷ c ∷ d ∷ e ∷ f ∷ g ∷ h ∷ i ∷ more) few = absurd (omega (arith, few))
+
+pub ports_are_all : PortsAreAll
+ports_are_all r few = eight (announcement r) r.ports few

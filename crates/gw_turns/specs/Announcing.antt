@@ -1,9 +1,11 @@
 -- What a gateway announces beside its turns: at the start, once another configuration is in force, and again on a port of which a send
 -- failed.
-use Rattle.std.specs.Prelude.{◌≡◌, ◌⊎◌, ℕ, zero, suc, ◌+◌, ◌-◌, ◌^◌, ◌<◌, min, Bool, true, false, nat_lt, List, [], map, replicate, slice_index_or, slice_set, Option}
+use Rattle.std.specs.Prelude.{◌≡◌, ◌⊎◌, ℕ, zero, suc, ◌+◌, ◌-◌, ◌^◌, ◌<◌, ◌≤◌, min, Bool, true, false, nat_lt, List, [], length, map, replicate, slice_index_or, slice_set, Option}
+use Rattle.std.specs.List.{flat_map, range_with_len}
 use Rattle.gw_addr.specs.declared.TheConstants.{MAX_PORTS}
 use Rattle.gw_core.specs.State.{State}
-use Rattle.gw_relay.specs.Announcement.{announcement_at}
+use Rattle.gw_relay.specs.Announcement.{announcement_at, announcements}
+use Rattle.gw_relay.specs.State.{Relay}
 use Rattle.gw_turns.specs.Serve.{Try, failures, successes, try_call}
 use Rattle.gw_turns.specs.declared.announcing.Announcing.{Announcing}
 use Rattle.gw_wire.specs.Wire.{Call, Records}
@@ -91,3 +93,9 @@ abbrev pub NothingDueNothingDone : Type 0
 NothingDueNothingDone =
     (a b : Announcing) (w : State) (recorded records : Option (List Call)) → ((place : ℕ) → is_due_at a place ≡ false)
     → Announces a w recorded b records → (b ≡ a) × (records ≡ recorded)
+
+-- What is announced on all ports, one after the other, is what the gateway announces.
+abbrev pub PortsAreAll : Type 0
+PortsAreAll =
+    (r : Relay) → length r.ports ≤ MAX_PORTS →
+    flat_map (λ place. announcement_at r (place + 1)) (range_with_len 0 MAX_PORTS) ≡ announcements r

@@ -1,7 +1,7 @@
 //! Laws of serving. The functions do nothing: their contracts are the laws.
 
 ghost use Rattle.std.specs.Prelude.{◌≡◌};
-ghost use Rattle.gw_turns.specs.Announcing.{NothingDueNothingDone, UnannouncedIsSilent};
+ghost use Rattle.gw_turns.specs.Announcing.{NothingDueNothingDone, PortsAreAll, UnannouncedIsSilent};
 ghost use Rattle.gw_turns.specs.Both.{GoOnUnderSecond, IsUnderFirst};
 ghost use Rattle.gw_turns.specs.Keeping.{AlikeButTicksIsEqual, AlikeIsEqual, EqualIsAlike, EventsTryFew, FailingIsSpared, RestsAtTicks, RestsEnd, TicksBeginAnew, TicksKeepRecent};
 ghost use Rattle.gw_turns.specs.Pace.{PausesGrow};
@@ -45,6 +45,11 @@ pub fn trying<S: Store>()
     ensures rests { RestsAtTicks S.held }
     ensures ends { RestsEnd S.held }
     ensures pauses { PausesGrow }
+{}
+
+/// What is announced on all ports, one after the other, is what the gateway announces, in order of ports.
+pub fn announced()
+    ensures { PortsAreAll }
 {}
 
 /// A gateway of a configuration that doesn't announce calls the wire for no announcement; and where no announcement is due nothing
