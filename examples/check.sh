@@ -440,6 +440,22 @@ same 'the log has the denials with their ticks behind a line that was cut' \
 1 . 1 1:7F030005BAC0 read dst=100 svc=12 obj=5,2 prop=85 prio=- rule=hide
 2 . 1 1:7F030005BAC0 read dst=100 svc=12 obj=5,2 prop=85 prio=- rule=hide'
 
+# A gateway that is asked to stop keeps its state, answers, and ends well. What is no request stays, and is told of once.
+if "$program" run --help | grep -q -e --reload; then
+    rm -f "$work/stopped.state" "$work/request" "$work/request.answer"
+    printf 'stop\n' > "$work/request"
+    timeout 9 "$program" run --config "$work/served.toml" --state "$work/stopped.state" --reload "$work/request" < /dev/null > "$work/out" 2> "$work/err"
+    same 'a gateway stops' "$? $(cat "$work/request.answer")" '0 stopped'
+    same 'a request to stop is taken away' "$(ls "$work/request" 2> /dev/null)" ''
+    same 'the state of a gateway that stopped' "$(sed -n 's/^counts [0-9]* \([0-9]*\) .*/\1/p' "$work/stopped.state")" 1
+    printf 'halt\n' > "$work/request"
+    timeout 5 "$program" run --config "$work/served.toml" --reload "$work/request" < /dev/null > "$work/out" 2> "$work/err"
+    same 'what is no request stays, and is told of once' "$(cat "$work/request" "$work/err")" \
+        "halt
+bacgw: request isn't taken: it is none, or can't be read or taken away"
+    rm -f "$work/request"
+fi
+
 # A log that is copied and cut while it is served goes on at its front. One that is renamed or removed goes on in a new file.
 : > "$work/log"
 python3 "$here/loopback.py" rotate "$program" "$work/served.toml" "$work/log" > "$work/out" 2>&1
@@ -541,6 +557,9 @@ if "$program" run --help | grep -q -e --metrics; then
     same 'the ticks of metrics' "$(sed -n 's/^bacgw_ticks_total //p' "$work/bacgw.prom")" 1
     same 'the ports of metrics' "$(grep -c '^bacgw_foreign_devices{' "$work/bacgw.prom")" 2
     same 'the families of metrics' "$(grep -c '^# TYPE ' "$work/bacgw.prom")" 18
+    same 'the mode of metrics' "$(stat -c %a "$work/bacgw.prom")" 644
+    (umask 077; timeout 3 "$program" run --config "$work/served.toml" --metrics "$work/masked.prom" --turns 3 < /dev/null > "$work/out" 2> "$work/err")
+    same 'their mode under another mask' "$(stat -c %a "$work/masked.prom")" 644
     if command -v promtool > /dev/null; then
         promtool check metrics < "$work/bacgw.prom" > "$work/out" 2>&1
         same 'promtool reads the metrics' "$?" 0

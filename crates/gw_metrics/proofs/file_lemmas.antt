@@ -1,1 +1,2 @@
+pub mod Metered
 pub mod Ticks

@@ -39,5 +39,21 @@ abbrev pub audit_notice : (was is : Bool) → List ℕ
 audit_notice false true = codes "bacgw: audit: lines are lost\n"
 audit_notice _ _ = []
 
+-- Metrics that aren't written are reported once, until they are written again, which is reported too.
+abbrev pub metrics_notice : (was is : Option StoreFault) → List ℕ
+metrics_notice None (Some fault) = codes "bacgw: metrics aren't written: " ++ reason_of fault ++ 10 ∷ []
+metrics_notice (Some fault) None = codes "bacgw: metrics are written again\n"
+metrics_notice None None = []
+metrics_notice (Some a) (Some b) = []
+
+-- what has the name of a request isn't taken
+abbrev pub untaken_line : List ℕ
+untaken_line = codes "bacgw: request isn't taken: it is none, or can't be read or taken away\n"
+
+-- the answer to a request to stop, by why the state isn't kept, if it isn't
+abbrev pub stop_line : Option StoreFault → List ℕ
+stop_line None = codes "stopped\n"
+stop_line (Some fault) = codes "stopped: state isn't kept: " ++ reason_of fault ++ 10 ∷ []
+
 abbrev pub notice_of : (was is : Troubles) → List ℕ
 notice_of was is = state_notice was.state is.state ++ (trial_notice was.trial is.trial ++ audit_notice was.audit is.audit)

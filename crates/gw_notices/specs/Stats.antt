@@ -1,5 +1,5 @@
 -- What is reported of a state that is kept and of a configuration that is read again.
-use Rattle.std.specs.Prelude.{ℕ, Bool, true, false, List, [], ◌∷◌, ◌++◌, codes, decimal}
+use Rattle.std.specs.Prelude.{ℕ, Bool, true, false, List, [], ◌∷◌, ◌++◌, Option, Some, None, codes, decimal}
 use Rattle.gw_notices.specs.declared.reload.ReloadCounts.{ReloadCounts}
 
 -- how often the state couldn't be kept, if it is
@@ -13,3 +13,12 @@ reloads_text false counts = []
 reloads_text true counts =
     codes "stats reloads=" ++ (decimal counts.taken_over ++ (codes " refused=" ++ (decimal counts.refused
     ++ (codes " since=" ++ (decimal counts.since ++ 10 ∷ [])))))
+
+-- how many texts of metrics were lost
+abbrev pub lost_line : ℕ → List ℕ
+lost_line lost = codes "stats lost_metrics=" ++ decimal lost ++ codes "\n"
+
+-- so it is reported if metrics are written
+abbrev pub lost_metrics_text : Option ℕ → List ℕ
+lost_metrics_text None = []
+lost_metrics_text (Some lost) = lost_line lost

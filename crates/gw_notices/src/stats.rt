@@ -2,7 +2,7 @@
 
 ghost use Rattle.std.specs.Prelude.{◌≡◌, ◌++◌, IsOk, OnOk, decimal, true};
 ghost use Rattle.std.specs.Io.KnownBytes.{Appends};
-ghost use Rattle.gw_notices.specs.Stats.{reloads_text, unkept_text};
+ghost use Rattle.gw_notices.specs.Stats.{lost_line, lost_metrics_text, reloads_text, unkept_text};
 
 use crate::reload::ReloadCounts;
 use gw_script::{OctetSink, WriteFailed, write_whole};
@@ -62,5 +62,25 @@ pub fn report_reloads<E: OctetSink>(is_read: bool, counts: ReloadCounts, errors:
 {
     if is_read {
         let _ = write_reloads(counts, errors);
+    }
+}
+
+/// Writes how many texts of metrics were lost.
+fn write_lost_metrics<E: OctetSink>(lost: u64, errors: &mut E) -> Result<(), WriteFailed>
+    ensures ok { OnOk result (Appends (E.held errors.old) (E.held errors.new) (lost_line lost)) }
+    ensures sure { E.NeverFails errors.old → IsOk result }
+    ensures lasts { E.NeverFails errors.old → E.NeverFails errors.new }
+{
+    write_count("stats lost_metrics=", lost, errors)?;
+    write_whole(errors, b"\n")
+}
+
+/// Reports how many texts of metrics were lost, if metrics are written.
+pub fn report_lost_metrics<E: OctetSink>(lost: Option<u64>, errors: &mut E)
+    ensures said { E.NeverFails errors.old → Appends (E.held errors.old) (E.held errors.new) (lost_metrics_text lost) }
+    ensures lasts { E.NeverFails errors.old → E.NeverFails errors.new }
+{
+    if let Some(lost) = lost {
+        let _ = write_lost_metrics(lost, errors);
     }
 }

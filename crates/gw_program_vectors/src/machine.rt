@@ -14,7 +14,7 @@ use gw_log_words::{Calendar, Moment, moment_after};
 use gw_program_cases::{Left, MemFiles, Program, Section, UNREADABLE, put, put_left, put_lines};
 use gw_script::append_send;
 use gw_shell::{FailedStep, Host, LogFailure, Obstacle, Reason, SocketFailure, Step, run};
-use gw_system::{ReadFailure, Requests};
+use gw_system::{ReadFailure, Request, Requests, StoreKind};
 use gw_wire::{Got, RECEIVE_ROOM, Store, StoreFault, Wire, WireFault};
 use itoa::Buffer;
 use std::alloc::{AllocError, Global};
@@ -140,21 +140,17 @@ impl<'a> Store for MemStore<'a> {
     }
 }
 
-/// Requests in memory: one at the first look, for what is read then.
+/// Requests in memory: one at the first look.
 #[derive(Drop)]
 pub struct MemRequests {
-    read: Option<Result<Option<Vec<u8>>, ReadFailure>>,
+    asked: Option<Request>,
 }
 
 impl Requests for MemRequests {
     ghost recorded = { λ _. silent };
 
-    fn take(
-        &mut self,
-        _alloc: Global,
-        _most: usize,
-    ) -> Option<Result<Option<Vec<u8>>, ReadFailure>> {
-        self.read.take()
+    fn take(&mut self, _alloc: Global, _most: usize) -> Option<Request> {
+        self.asked.take()
     }
 
     fn answer(&mut self, _text: &[u8]) {}
@@ -178,6 +174,23 @@ pub struct MemAsked;
 
 /// The text of a request whose configuration isn't there.
 const ABSENT: &[u8] = b"absent";
+
+/// That of a request to stop.
+const STOP: &[u8] = b"stop";
+
+/// That of what isn't taken.
+const UNTAKEN: &[u8] = b"untaken";
+
+/// The request of this text: to read a configuration again, or another one.
+fn request_of(alloc: Global, text: &[u8]) -> Result<Request, AllocError> {
+    match text {
+        STOP => Ok(Request::Stop),
+        UNTAKEN => Ok(Request::Untaken),
+        ABSENT => Ok(Request::Reload(Ok(None))),
+        b"" => Ok(Request::Reload(Err(ReadFailure::Unreadable(Obstacle::Folder)))),
+        _ => Ok(Request::Reload(Ok(Some(Vec::from_slice(alloc, text)?)))),
+    }
+}
 
 /// The wire and the log that a machine closed.
 type Closed = (MemSockets, Option<MemWriter>);
@@ -224,7 +237,7 @@ impl<'a> Host for MemHost<'a> {
 
     ghost LastLines = { λ _ _ _. ⊤ };
 
-    ghost StoreOpens = { λ _ _ _. ⊤ };
+    ghost StoreOpens = { λ _ _ _ _. ⊤ };
 
     ghost ReloadsOpen = { λ _ _ _ _. ⊤ };
 
@@ -309,7 +322,12 @@ impl<'a> Host for MemHost<'a> {
         Ok(None)
     }
 
-    fn open_store(&self, alloc: Global, name: &str) -> Result<MemStore<'a>, StoreFault> {
+    fn open_store(
+        &self,
+        alloc: Global,
+        name: &str,
+        _kind: StoreKind,
+    ) -> Result<MemStore<'a>, StoreFault> {
         let shown = if name == METRICS {
             self.metrics
         } else {
@@ -329,16 +347,10 @@ impl<'a> Host for MemHost<'a> {
         _config: &str,
     ) -> Result<MemRequests, AllocError> {
         match &self.reload {
-            Some(text) if text.is_empty() => Ok(MemRequests {
-                read: Some(Err(ReadFailure::Unreadable(Obstacle::Folder))),
-            }),
-            Some(text) if text.as_slice() == ABSENT => Ok(MemRequests {
-                read: Some(Ok(None)),
-            }),
             Some(text) => Ok(MemRequests {
-                read: Some(Ok(Some(Vec::from_slice(alloc, text)?))),
+                asked: Some(request_of(alloc, text)?),
             }),
-            None => Ok(MemRequests { read: None }),
+            None => Ok(MemRequests { asked: None }),
         }
     }
 
@@ -452,7 +464,7 @@ const STATIONS: &str = "stations = [\"192.168.1.0/24\"]\n";
 const MANAGED: &str = "stations = [\"192.168.1.0/24\"]\nbbmd = \"192.168.1.3:47808\"\n";
 
 /// The text that a section's request has: that of the configuration, also with a broadcast manager beside its first port or
-/// without it, one that is none, or nothing if it can't be read.
+/// without it, one that is none, or nothing if it can't be read; or that of another request.
 fn reload_of(
     alloc: Global,
     section: &Section<'_>,
@@ -475,6 +487,12 @@ fn reload_of(
     }
     if section.has("reload absent") {
         return text_if(alloc, true, "absent");
+    }
+    if section.has("reload stop") {
+        return text_if(alloc, true, "stop");
+    }
+    if section.has("reload untaken") {
+        return text_if(alloc, true, "untaken");
     }
     text_if(alloc, section.has("reload unreadable"), "")
 }

@@ -4,7 +4,7 @@ use Rattle.std.specs.Io.KnownBytes.{Appends, Keeps}
 use Rattle.std.proofs.KnownBytes.{Appends-kept}
 use Rattle.std.proofs.lemmas.List.{append-nil, flat_map_more, length-append}
 use Rattle.std.specs.Option.{option_map_or}
-use Rattle.std.specs.Prelude.{Result, Ok, Err, Bool, IfSome}
+use Rattle.std.specs.Prelude.{Result, Ok, Err, Bool, true, false, IfSome}
 use Rattle.std.specs.Global.{Vec}
 use Rattle.gw_configuration.specs.Configuration.{Configuration}
 use Rattle.gw_core.specs.Resumed.{carried, saved, saved_of}
@@ -25,8 +25,10 @@ use Rattle.gw_turns.specs.declared.tally.Tally.{Tally}
 use Rattle.gw_system.proofs.RequestLemmas.{goes_two}
 use Rattle.gw_system.specs.Requests.{Asking, GoesOn, answered, asked}
 use Rattle.gw_system.specs.declared.reading.ReadFailure.{ReadFailure}
-use Rattle.gw_service.specs.Chain.{Advances, AreLinks, IsLink, IsLooked, IsNotedBy, Link, Look, Looks, Manner, Runs, Stage, chain_text, link_text, look_text}
-use Rattle.gw_service.specs.Chain.{refused, standing, taken_over, unrequested}
+use Rattle.gw_service.specs.Chain.{Advances, AdvancesBy, AreLinks, IsLink, IsLooked, IsNotedBy, IsTicked, Link, Look, Looks, Manner, Runs, Stage, chain_text, is_stopping, link_text, look_text}
+use Rattle.gw_service.specs.Chain.{ended, passed_over, refused, standing, stopping, taken_over, ticked, unrequested}
+use Rattle.gw_service.specs.declared.running.End.{End}
+use Rattle.gw_service.specs.declared.running.End.TheVariants as end
 use Rattle.gw_service.specs.Keeping.{IsSuccessor}
 use Rattle.gw_notices.specs.Reload.{IsRefusalLine, refusal_line, reload_line, with_refused, with_taken_over}
 use Rattle.gw_service.specs.Reload.{IsRefused, IsReloaded}
@@ -74,7 +76,7 @@ pub taken_so : {K : Type 0} (Adopts : K → Configuration → State → K → Ty
     → ((c : Configuration) → IsSuccessor c made.successor → Adopts k c made.gateway l) → GoesOn first middle (asked read ∷ []) → GoesOn middle last (answered line ∷ [])
     → line ≡ made.line.items → then ≡ with_taken_over counts w.ticks → due ≡ with_due announcing → (Never → Appends held holds line)
     → Takes log line written log_then
-    → Looks (IsLooked Adopts) (IsNotedBy Takes log log_then) o (standing w k first counts announcing) made.origin
+    → Looks (IsLooked Adopts) (IsNotedBy Takes log log_then false) o (standing w k first counts announcing) made.origin
     (standing made.gateway l last then due) Never held holds
 taken_so {K} Adopts o w k l (Ok (Some text)) made first middle last line counts then announcing due Never held holds Takes log log_then written is
     adopts asks answers is_line is_counts is_due records noted = λ c is_origin.
@@ -96,7 +98,7 @@ taken_so {K} Adopts o w k l (Ok (Some text)) made first middle last line counts 
         announcing = is_due;
       },
       λ never. subst (λ (t : List ℕ). Appends held holds t) is_text (records never),
-      (written, subst (λ (t : List ℕ). Takes log t written log_then) is_text noted),
+      ((written, subst (λ (t : List ℕ). Takes log t written log_then) is_text noted), refl),
     )
 taken_so Adopts o w k l (Ok None) made first middle last line counts then announcing due Never held holds Takes log log_then written is adopts asks
     answers is_line is_counts is_due records noted =
@@ -113,7 +115,7 @@ pub refused_so : {K : Type 0} (Adopts : K → Configuration → State → K → 
     → IsRefused w read fault → IsRefusalLine read fault line
     → GoesOn first middle (asked read ∷ []) → GoesOn middle last (answered line ∷ []) → then ≡ with_refused counts
     → (Never → Appends held holds line) → Takes log line written log_then
-    → Looks (IsLooked Adopts) (IsNotedBy Takes log log_then) o (standing w k first counts announcing) o (standing w k last then announcing) Never
+    → Looks (IsLooked Adopts) (IsNotedBy Takes log log_then false) o (standing w k first counts announcing) o (standing w k last then announcing) Never
     held holds
 refused_so Adopts o w k read fault first middle last line counts then announcing Never held holds Takes log log_then written is says asks answers
     is_counts records noted = λ c is_origin. (
@@ -128,7 +130,7 @@ refused_so Adopts o w k read fault first middle last line counts then announcing
         counts = is_counts;
       },
       records,
-      (written, noted),
+      ((written, noted), refl),
     )
 
 -- the line without a place says why
@@ -151,17 +153,21 @@ says_why read fault (Some line) is = is
 pub same_text : {K : Type 0} (c : Configuration) (w : State) (k l : K) (q : Asking) (counts : ReloadCounts) (a : Announcing) (look : Look)
     → look_text c (standing w k q counts a) look ≡ look_text c (standing w l q counts a) look
 same_text c w k l q counts a unrequested = refl
+same_text c w k l q counts a passed_over = refl
+same_text c w k l q counts a stopping = refl
 same_text c w k l q counts a (refused read f line) = refl
 same_text c w k l q counts a (taken_over text new) = refl
 
 -- so is what is noted of it
 pub same_note : {K L : Type 0} (c : Configuration) (w : State) (k l : K) (q : Asking) (counts : ReloadCounts) (a : Announcing)
-    (Takes : L → List ℕ → Result (Unit {0}) WriteFailed → L → Type 0) (log log_then : L) (look : Look)
-    → IsNotedBy Takes log log_then look (look_text c (standing w k q counts a) look)
-    → IsNotedBy Takes log log_then look (look_text c (standing w l q counts a) look)
-same_note c w k l q counts a Takes log log_then unrequested noted = noted
-same_note c w k l q counts a Takes log log_then (refused read f line) noted = noted
-same_note c w k l q counts a Takes log log_then (taken_over text new) noted = noted
+    (Takes : L → List ℕ → Result (Unit {0}) WriteFailed → L → Type 0) (log log_then : L) (stops : Bool) (look : Look)
+    → IsNotedBy Takes log log_then stops look (look_text c (standing w k q counts a) look)
+    → IsNotedBy Takes log log_then stops look (look_text c (standing w l q counts a) look)
+same_note c w k l q counts a Takes log log_then stops unrequested noted = noted
+same_note c w k l q counts a Takes log log_then stops passed_over noted = noted
+same_note c w k l q counts a Takes log log_then stops stopping noted = noted
+same_note c w k l q counts a Takes log log_then stops (refused read f line) noted = noted
+same_note c w k l q counts a Takes log log_then stops (taken_over text new) noted = noted
 
 -- ---- how a stretch ended
 
@@ -226,17 +232,17 @@ chained_none manner o first Never held =
     λ c is. (c, [], is, links_none manner (first c), λ never. appends_nothing held)
 
 -- what comes of a stretch, from each configuration of this origin
-abbrev pub Advanced : {K : Type 0} → Manner K → ℕ → Origin → (Configuration → Stage K) → Result (Unit {0}) ServeFault → Origin
+abbrev pub Advanced : {K : Type 0} → Manner K → ℕ → Origin → (Configuration → Stage K) → Result Bool ServeFault → Origin
     → (Configuration → Stage K) → (behind : Bool) → (Never : Type 0) → (held holds : Option (List ℕ)) → Type 0
 Advanced manner count p now result q next behind Never held holds =
     (c : Configuration) → p ≡ origin_of c → (d : Configuration) × (text : List ℕ) × (q ≡ origin_of d)
     × Advances manner count (now c) result text (next d) behind × (Never → Appends held holds text)
 
-pub chained_more : {K : Type 0} (manner : Manner K) (count : ℕ) (o p q : Origin) (first now next : Configuration → Stage K) (done : Unit {0})
+pub chained_more : {K : Type 0} (manner : Manner K) (count : ℕ) (o p q : Origin) (first now next : Configuration → Stage K)
     (behind : Bool) (Never Then : Type 0) (held middle holds : Option (List ℕ)) → Chained manner o first p now Never held middle
-    → Advanced manner count p now (Ok done) q next behind Then middle holds → (Never → Then)
+    → Advanced manner count p now (Ok false) q next behind Then middle holds → (Never → Then)
     → Chained manner o first q next Never held holds
-chained_more manner count o p q first now next done behind Never Then held middle holds chain advance lasts = λ c is.
+chained_more manner count o p q first now next behind Never Then held middle holds chain advance lasts = λ c is.
     let before = chain c is in
     let after = advance before.0 before.2 in
     let link = after.3.0 in (
@@ -250,19 +256,48 @@ chained_more manner count o p q first now next done behind Never Then held middl
     )
 
 -- what a run leads to, from each configuration of this origin
-abbrev pub Ran : {K : Type 0} → Manner K → ℕ → Origin → (Configuration → Stage K) → Result (Unit {0}) ServeFault → Origin
+abbrev pub Ran : {K : Type 0} → Manner K → ℕ → Origin → (Configuration → Stage K) → Result End ServeFault → Origin
     → (Configuration → Stage K) → (Never : Type 0) → (held holds : Option (List ℕ)) → Type 0
 Ran manner count o first result p last Never held holds =
     (c : Configuration) → o ≡ origin_of c → (d : Configuration) × (links : List Link) × (p ≡ origin_of d)
     × Runs manner count (first c) result links (last d) × (Never → Appends held holds (chain_text links))
 
-pub ran_whole : {K : Type 0} (manner : Manner K) (count : ℕ) (o p : Origin) (first last : Configuration → Stage K) (done : Unit {0}) (Never : Type 0)
+pub ran_whole : {K : Type 0} (manner : Manner K) (count : ℕ) (o p : Origin) (first last : Configuration → Stage K) (Never : Type 0)
     (held holds : Option (List ℕ)) → Chained manner o first p last Never held holds
     → ((c d : Configuration) → (last d).now.served.turns ≡ (first c).now.served.turns + count)
-    → Ran manner count o first (Ok done) p last Never held holds
-ran_whole manner count o p first last done Never held holds chain all = λ c is.
+    → Ran manner count o first (Ok end.Turns) p last Never held holds
+ran_whole manner count o p first last Never held holds chain all = λ c is.
     let led = chain c is in
     (led.0, led.1, led.2, record { chain = led.3; turns = all c led.0 }, led.4)
+
+pub ran_to_stop : {K : Type 0} (manner : Manner K) (count left : ℕ) (o p q : Origin) (first now last : Configuration → Stage K)
+    (behind : Bool) (Never Then : Type 0) (held middle holds : Option (List ℕ)) → Chained manner o first p now Never held middle
+    → Advanced manner left p now (Ok true) q last behind Then middle holds → (Never → Then) → Ran manner count o first (Ok end.Stopped) q last Never held holds
+ran_to_stop manner count left o p q first now last behind Never Then held middle holds chain advance lasts = λ c is.
+    let before = chain c is in
+    let after = advance before.0 before.2 in
+    let link = ended after.3.0 after.1 in (
+      after.0,
+      before.1 ++ link ∷ [],
+      after.2,
+      record { then = now before.0; before = before.1; chain = before.3; turns = after.3.0; text = after.1; stops = after.3.1; is = refl },
+      λ never. subst (λ (t : List ℕ). Appends held holds t) (text_more before.1 link)
+          (appends_two held middle holds (chain_text before.1) after.1 (before.4 never) (after.4 (lasts never))),
+    )
+
+-- what was done after a tick, by whether the gateway is to stop
+pub advanced_by : {K : Type 0} (manner : Manner K) (s : Stage K) (turns : List Turn) (look : Look) (text : List ℕ) (t : Stage K) (stops behind : Bool)
+    → stops ≡ is_stopping look → behind ≡ false → IsTicked manner stops s turns look text t → AdvancesBy manner stops s text t behind
+advanced_by manner s turns unrequested text t false behind is due done = (ticked turns unrequested text, done, refl, due)
+advanced_by manner s turns passed_over text t false behind is due done = (ticked turns passed_over text, done, refl, due)
+advanced_by manner s turns (refused read f line) text t false behind is due done = (ticked turns (refused read f line) text, done, refl, due)
+advanced_by manner s turns (taken_over read new) text t false behind is due done = (ticked turns (taken_over read new) text, done, refl, due)
+advanced_by manner s turns stopping text t false behind is due done = absurd cc
+advanced_by manner s turns unrequested text t true behind is due done = absurd cc
+advanced_by manner s turns passed_over text t true behind is due done = absurd cc
+advanced_by manner s turns (refused read f line) text t true behind is due done = absurd cc
+advanced_by manner s turns (taken_over read new) text t true behind is due done = absurd cc
+advanced_by manner s turns stopping text t true behind is due done = (turns, done, due)
 
 pub ran_until : {K : Type 0} (manner : Manner K) (count left : ℕ) (o p q : Origin) (first now last : Configuration → Stage K) (fault : ServeFault)
     (behind : Bool) (Never Then : Type 0) (held middle holds : Option (List ℕ)) → Chained manner o first p now Never held middle

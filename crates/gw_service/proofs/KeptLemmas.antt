@@ -16,44 +16,45 @@ use Rattle.gw_turns.specs.declared.serving.Served.{Served}
 use Rattle.gw_turns.specs.declared.tally.Tally.{Tally}
 use Rattle.gw_system.specs.Requests.{Asking, recorded_by}
 use Rattle.gw_service.specs.Chain.{Begins, Link, Manner, Runs, Stage, chain_text, stage}
-use Rattle.gw_service.specs.Keeping.{troubles_in, unkept_in}
+use Rattle.gw_service.specs.Keeping.{failing_in, troubles_in, unkept_in}
+use Rattle.gw_service.specs.declared.running.End.{End}
 use Rattle.gw_service.specs.Watch.{more_of, troubles_of}
 use Rattle.gw_notices.specs.declared.troubles.Troubles.{Troubles}
-use Rattle.gw_service.specs.Kept.{Given, KeepsFirst, LeavesKept, RunsBy, RunsFrom, manner_of, no_more, outcome_by, reporting_of, unkept_of, watched_manner_of}
+use Rattle.gw_service.specs.Kept.{EndsRun, Given, KeepsFirst, LeavesKept, Rest, RunsBy, RunsFrom, manner_of, no_more, outcome_by, reporting_of, unkept_of, watched_manner_of}
 use Rattle.gw_notices.specs.Notices.{no_troubles, notice_of}
+use Rattle.gw_metrics.specs.file.Writing.{Metering, nothing_written}
+use Rattle.gw_service.specs.Metering.{lost_by, metered}
 use Rattle.gw_service.specs.Serving.{Ends, Service, ends, log_held}
 use Rattle.gw_service.specs.Start.{BeginsAs, counts_of}
 use Rattle.gw_notices.specs.Reload.{counts_since}
 use Rattle.gw_service.specs.Stats.{Reporting, end_stats, reporting}
 use Rattle.gw_service.specs.declared.fault.ServiceFault.{ServiceFault}
 use Rattle.gw_service.specs.declared.fault.ServiceFault.TheVariants as fault
-use Rattle.std.specs.Prelude.{Bool, is_some, ◌||◌}
+use Rattle.std.specs.Prelude.{Bool, is_some, ◌||◌, option_map}
 use Rattle.gw_core.specs.declared.guard.Both.{Both}
 use Rattle.gw_watchers.specs.Watching.{Watching}
 use Rattle.gw_service.specs.declared.keeping.Kept.{Kept}
 use Rattle.gw_notices.specs.declared.reload.ReloadCounts.{ReloadCounts}
 use Rattle.gw_notices.proofs.AppendLemmas.{appends_nothing, appends_two}
 
--- A run reports first what isn't kept or recorded, and last what was done.
-pub ran_from : {K : Type 0} (manner : Manner K) (report : K → ReloadCounts → Announcing → State → Served → Tally → List ℕ) (count : ℕ)
-    (at begun : Troubles → Stage K) (p : Origin) (was is troubles : Troubles) (last : Configuration → Stage K) (answer : Result (Unit {0}) ServeFault) (after : Ends)
-    (Never Then : Type 0) (held middle third holds : Option (List ℕ)) → was ≡ no_troubles → is ≡ troubles → ((t : Troubles) → (at t).said ≡ t)
-    → ((t : Troubles) → Begins (at t) (begun t))
+-- A run reports first what isn't kept or recorded, and last it does what is due at its end.
+pub ran_from : {K : Type 0} (manner : Manner K) (report : K → ReloadCounts → Announcing → Option ℕ → State → Served → Tally → List ℕ)
+    (start : Counts) (count : ℕ) (at begun : Troubles → Stage K) (p : Origin) (was is troubles : Troubles) (last : Configuration → Stage K)
+    (answer : Result End ServeFault) (after : Ends) (left : Rest K) (Never Then Last : Type 0) (held middle third holds : Option (List ℕ))
+    → was ≡ no_troubles → is ≡ troubles → ((t : Troubles) → (at t).said ≡ t) → ((t : Troubles) → Begins (at t) (begun t))
     → ((d : Configuration) × (links : List Link) × (p ≡ origin_of d) × Runs manner count (begun is) answer links (last d)
     × (Then → Appends middle third (chain_text links)))
     → ((d : Configuration) → (last d).now.scene.log ≡ after.log) → ((d : Configuration) → (last d).now.scene.calls ≡ after.calls)
-    → (Never → Appends held middle (notice_of was is)) → (Never → Then)
-    → ((d : Configuration) → Never → Appends third holds
-    (report (last d).now.guard (last d).counts (last d).announcing (last d).now.scene.gateway (last d).now.served (last d).now.tally))
-    → (text : List ℕ) × RunsFrom manner report count (at troubles) answer after text × (Never → Appends held holds text)
-ran_from manner report count at begun p was is troubles last answer after Never Then held middle third holds untold failing records begins led log
-    calls noticed lasts reported =
+    → (Never → Appends held middle (notice_of was is)) → (Never → Then) → (Then → Last)
+    → ((d : Configuration) → (text : List ℕ) × EndsRun manner report start answer (last d) left text × (Last → Appends third holds text))
+    → (text : List ℕ) × RunsFrom manner report start count (at troubles) answer after left text × (Never → Appends held holds text)
+ran_from manner report start count at begun p was is troubles last answer after left Never Then Last held middle third holds untold failing records
+    begins led log calls noticed lasts goes_on ended =
     let notice = notice_of no_troubles troubles in
-    let now = (last led.0).now in
-    let final = report now.guard (last led.0).counts (last led.0).announcing now.scene.gateway now.served now.tally in
+    let final = ended led.0 in
     let same : notice_of was is ≡ notice =
     ap (λ (x : Troubles). notice_of x is) untold ∙ ap (notice_of no_troubles) failing in (
-      (notice ++ chain_text led.1) ++ final,
+      (notice ++ chain_text led.1) ++ final.0,
       record {
         begun = begun troubles;
         begins = begins troubles;
@@ -62,26 +63,31 @@ ran_from manner report count at begun p was is troubles last answer after Never 
         runs = subst (λ (x : Troubles). Runs manner count (begun x) answer led.1 (last led.0)) failing led.3;
         log = log led.0;
         calls = calls led.0;
-        said = ap (λ (x : Troubles). (notice_of no_troubles x ++ chain_text led.1) ++ final) (sym (records troubles));
+        end_text = final.0;
+        ends = final.1;
+        said = ap (λ (x : Troubles). (notice_of no_troubles x ++ chain_text led.1) ++ final.0) (sym (records troubles));
       },
-      λ never. appends_two held third holds (notice ++ chain_text led.1) final
+      λ never. appends_two held third holds (notice ++ chain_text led.1) final.0
           (appends_two held middle third notice (chain_text led.1)
           (subst (λ (x : List ℕ). Appends held middle x) same (noticed never)) (led.4 (lasts never)))
-          (reported led.0 never),
+          (final.2 (goes_on (lasts never))),
     )
 
 -- a run from a stage whose parts are these
-from_start : {K : Type 0} (how : Manner K) (report : K → ReloadCounts → Announcing → State → Served → Tally → List ℕ) (count : ℕ) (c : Configuration) (now : Scene)
-    (k : K) (s z : Served) (t n : Tally) (q r : Asking) (u v : ReloadCounts) (a b : Announcing) (f : Troubles)
-    (answer : Result (Unit {0}) ServeFault) (after : Ends) (text : List ℕ) → s ≡ z → t ≡ n → q ≡ r → u ≡ v → a ≡ b
-    → RunsFrom how report count (stage c (moment now k s t) q u a f) answer after text
-    → RunsFrom how report count (stage c (moment now k z n) r v b f) answer after text
-from_start how report count c now k s z t n q r u v a b f answer after text served tally requests counts announcing runs =
-    subst (λ (x : Served). RunsFrom how report count (stage c (moment now k x n) r v b f) answer after text) served
-    (subst (λ (x : Tally). RunsFrom how report count (stage c (moment now k s x) r v b f) answer after text) tally
-    (subst (λ (x : Asking). RunsFrom how report count (stage c (moment now k s t) x v b f) answer after text) requests
-    (subst (λ (x : ReloadCounts). RunsFrom how report count (stage c (moment now k s t) q x b f) answer after text) counts
-    (subst (λ (x : Announcing). RunsFrom how report count (stage c (moment now k s t) q u x f) answer after text) announcing runs))))
+from_start : {K : Type 0} (how : Manner K) (report : K → ReloadCounts → Announcing → Option ℕ → State → Served → Tally → List ℕ) (start : Counts)
+    (count : ℕ) (c : Configuration) (now : Scene)
+    (k : K) (s z : Served) (t n : Tally) (q r : Asking) (u v : ReloadCounts) (a b : Announcing) (f : Troubles) (m e : Option Metering)
+    (answer : Result End ServeFault) (after : Ends) (left : Rest K) (text : List ℕ) → s ≡ z → t ≡ n → q ≡ r → u ≡ v → a ≡ b → m ≡ e
+    → RunsFrom how report start count (stage c (moment now k s t) q u a f m) answer after left text
+    → RunsFrom how report start count (stage c (moment now k z n) r v b f e) answer after left text
+from_start how report start count c now k s z t n q r u v a b f m e answer after left text served tally requests counts announcing metrics runs =
+    subst (λ (x : Served). RunsFrom how report start count (stage c (moment now k x n) r v b f e) answer after left text) served
+    (subst (λ (x : Tally). RunsFrom how report start count (stage c (moment now k s x) r v b f e) answer after left text) tally
+    (subst (λ (x : Asking). RunsFrom how report start count (stage c (moment now k s t) x v b f e) answer after left text) requests
+    (subst (λ (x : ReloadCounts). RunsFrom how report start count (stage c (moment now k s t) q x b f e) answer after left text) counts
+    (subst (λ (x : Announcing). RunsFrom how report start count (stage c (moment now k s t) q u x f e) answer after left text) announcing
+    (subst (λ (x : Option Metering). RunsFrom how report start count (stage c (moment now k s t) q u a f x) answer after left text) metrics
+    runs)))))
 
 -- the counts of a gateway, one by one
 pub same_counts : (k : Counts) (w : State) → k.ticks ≡ w.ticks → k.denials ≡ w.denials → k ≡ counts_of w
@@ -97,18 +103,19 @@ is_reporting stats start other keeps kept reloads read starts is_kept is_read =
 
 -- A gateway that began so ran so.
 pub ran_kept : {S Q L : Type 0} (given : Given S Q L) (c : Configuration) (how : Service) (start : Counts) (keeps reloads : Bool) (w : State) (k : Kept S)
-    (s : Served) (t : Tally) (q : Asking) (u : ReloadCounts) (a : Announcing) (before after : Ends) (answer : Result (Unit {0}) ServeFault)
-    (outcome : Result (Unit {0}) ServiceFault) (Never : Type 0) (held holds : Option (List ℕ)) → given.watcher ≡ None → start ≡ counts_of w
+    (s : Served) (t : Tally) (q : Asking) (u : ReloadCounts) (a : Announcing) (m : Option Metering) (before after : Ends) (answer : Result End ServeFault)
+    (left : Rest (Kept S)) (outcome : Result (Unit {0}) ServiceFault) (Never : Type 0) (held holds : Option (List ℕ)) → given.watcher ≡ None → start ≡ counts_of w
     → BeginsAs c given.saved given.line w → KeepsFirst given.held given.store c w k → s ≡ zero_counts → t ≡ no_tally
-    → q ≡ recorded_by given.said given.requests → u ≡ counts_since w.ticks → a ≡ first_announcing → keeps ≡ (is_some given.requests || is_some given.store)
-    → reloads ≡ is_some given.requests → outcome ≡ outcome_by answer
+    → q ≡ recorded_by given.said given.requests → u ≡ counts_since w.ticks → a ≡ first_announcing
+    → m ≡ metered (option_map nothing_written given.metrics) → keeps ≡ (is_some given.requests || is_some given.store)
+    → reloads ≡ is_some given.requests → outcome ≡ outcome_by answer (failing_in left.keeper)
     → ((text : List ℕ) × RunsFrom (manner_of given.held (reporting how.stats start keeps reloads))
-    (end_stats unkept_in no_more (reporting how.stats start keeps reloads)) how.turns
-    (stage c (moment (scene w before.log before.calls) k s t) q u a (troubles_in k)) answer after text × (Never → Appends held holds text))
+    (end_stats unkept_in no_more (reporting how.stats start keeps reloads)) start how.turns
+    (stage c (moment (scene w before.log before.calls) k s t) q u a (troubles_in k) m) answer after left text × (Never → Appends held holds text))
     → (text : List ℕ) × LeavesKept given c how before after text outcome × (Never → Appends held holds text)
-ran_kept {S} given c how start keeps reloads w k s t q u a before after answer outcome Never held holds unwatched is_start begins is_kept served tally
-    requests is_counts is_announcing is_keeps is_reloads answers ran =
-    let at = stage c (moment (scene w before.log before.calls) k s t) q u a (troubles_in k) in
+ran_kept {S} given c how start keeps reloads w k s t q u a m before after answer left outcome Never held holds unwatched is_start begins is_kept served tally
+    requests is_counts is_announcing is_metered is_keeps is_reloads answers ran =
+    let at = stage c (moment (scene w before.log before.calls) k s t) q u a (troubles_in k) m in
     let same = is_reporting how.stats start (counts_of w) keeps (is_some given.requests || is_some given.store) reloads (is_some given.requests)
     is_start is_keeps is_reloads in (
       ran.0,
@@ -118,10 +125,14 @@ ran_kept {S} given c how start keeps reloads w k s t q u a before after answer o
         keeper = k;
         keeps = is_kept;
         answer = answer;
-        runs = from_start (manner_of given.held (reporting_of given how w)) (end_stats unkept_in no_more (reporting_of given how w)) how.turns c
+        left = left;
+        runs = from_start (manner_of given.held (reporting_of given how w)) (end_stats unkept_in no_more (reporting_of given how w)) (counts_of w) how.turns c
             (scene w before.log before.calls) k s zero_counts t no_tally q (recorded_by given.said given.requests) u (counts_since w.ticks) a first_announcing (troubles_in k)
-            answer after ran.0 served tally requests is_counts is_announcing
-            (subst (λ (x : Reporting). RunsFrom (manner_of given.held x) (end_stats unkept_in no_more x) how.turns at answer after ran.0) same ran.1);
+            m (metered (option_map nothing_written given.metrics)) answer after left ran.0 served tally requests is_counts is_announcing is_metered
+            (subst (λ (x : Counts). RunsFrom (manner_of given.held (reporting_of given how w)) (end_stats unkept_in no_more (reporting_of given how w)) x how.turns at
+            answer after left ran.0) is_start
+            (subst (λ (x : Reporting). RunsFrom (manner_of given.held x) (end_stats unkept_in no_more x) start how.turns at answer after left ran.0) same
+            ran.1));
         answers = answers;
       })),
       ran.2,
@@ -130,18 +141,20 @@ ran_kept {S} given c how start keeps reloads w k s t q u a before after answer o
 -- So did one that is watched.
 pub ran_watched : {S Q L : Type 0} (given : Given S Q L) (watcher : Watching L L) (c : Configuration) (how : Service) (start : Counts)
     (keeps reloads : Bool) (w : State) (k : Both (Kept S) (Watching L L)) (s : Served) (t : Tally) (q : Asking) (u : ReloadCounts)
-    (a : Announcing) (before after : Ends) (answer : Result (Unit {0}) ServeFault) (outcome : Result (Unit {0}) ServiceFault) (Never : Type 0)
+    (a : Announcing) (m : Option Metering) (before after : Ends) (answer : Result End ServeFault)
+    (left : Rest (Both (Kept S) (Watching L L))) (outcome : Result (Unit {0}) ServiceFault) (Never : Type 0)
     (held holds : Option (List ℕ)) → given.watcher ≡ Some watcher → start ≡ counts_of w
     → BeginsAs c given.saved given.line w → KeepsFirst given.held given.store c w k.first → k.second ≡ watcher → s ≡ zero_counts → t ≡ no_tally
-    → q ≡ recorded_by given.said given.requests → u ≡ counts_since w.ticks → a ≡ first_announcing → keeps ≡ (is_some given.requests || is_some given.store)
-    → reloads ≡ is_some given.requests → outcome ≡ outcome_by answer
+    → q ≡ recorded_by given.said given.requests → u ≡ counts_since w.ticks → a ≡ first_announcing
+    → m ≡ metered (option_map nothing_written given.metrics) → keeps ≡ (is_some given.requests || is_some given.store)
+    → reloads ≡ is_some given.requests → outcome ≡ outcome_by answer (failing_in left.keeper.first)
     → ((text : List ℕ) × RunsFrom (watched_manner_of given.held given.log_held (reporting how.stats start keeps reloads))
-    (end_stats unkept_of more_of (reporting how.stats start keeps reloads)) how.turns
-    (stage c (moment (scene w before.log before.calls) k s t) q u a (troubles_of k)) answer after text × (Never → Appends held holds text))
+    (end_stats unkept_of more_of (reporting how.stats start keeps reloads)) start how.turns
+    (stage c (moment (scene w before.log before.calls) k s t) q u a (troubles_of k) m) answer after left text × (Never → Appends held holds text))
     → (text : List ℕ) × LeavesKept given c how before after text outcome × (Never → Appends held holds text)
-ran_watched {S} given watcher c how start keeps reloads w k s t q u a before after answer outcome Never held holds watched is_start begins is_kept watches
-    served tally requests is_counts is_announcing is_keeps is_reloads answers ran =
-    let at = stage c (moment (scene w before.log before.calls) k s t) q u a (troubles_of k) in
+ran_watched {S} given watcher c how start keeps reloads w k s t q u a m before after answer left outcome Never held holds watched is_start begins is_kept watches
+    served tally requests is_counts is_announcing is_metered is_keeps is_reloads answers ran =
+    let at = stage c (moment (scene w before.log before.calls) k s t) q u a (troubles_of k) m in
     let same = is_reporting how.stats start (counts_of w) keeps (is_some given.requests || is_some given.store) reloads (is_some given.requests)
     is_start is_keeps is_reloads in (
       ran.0,
@@ -152,11 +165,14 @@ ran_watched {S} given watcher c how start keeps reloads w k s t q u a before aft
         keeps = is_kept;
         watches = watches;
         answer = answer;
+        left = left;
         runs = from_start (watched_manner_of given.held given.log_held (reporting_of given how w)) (end_stats unkept_of more_of (reporting_of given how w))
-            how.turns c (scene w before.log before.calls) k s zero_counts t no_tally q (recorded_by given.said given.requests) u (counts_since w.ticks) a
-            first_announcing (troubles_of k) answer after ran.0 served tally requests is_counts is_announcing
-            (subst (λ (x : Reporting). RunsFrom (watched_manner_of given.held given.log_held x) (end_stats unkept_of more_of x) how.turns at answer after
-            ran.0) same ran.1);
+            (counts_of w) how.turns c (scene w before.log before.calls) k s zero_counts t no_tally q (recorded_by given.said given.requests) u (counts_since w.ticks) a
+            first_announcing (troubles_of k) m (metered (option_map nothing_written given.metrics)) answer after left ran.0 served tally requests is_counts is_announcing is_metered
+            (subst (λ (x : Counts). RunsFrom (watched_manner_of given.held given.log_held (reporting_of given how w))
+            (end_stats unkept_of more_of (reporting_of given how w)) x how.turns at answer after left ran.0) is_start
+            (subst (λ (x : Reporting). RunsFrom (watched_manner_of given.held given.log_held x) (end_stats unkept_of more_of x) start how.turns at answer
+            after left ran.0) same ran.1));
         answers = answers;
       })),
       ran.2,

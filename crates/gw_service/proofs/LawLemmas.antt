@@ -24,7 +24,7 @@ use Rattle.gw_script.specs.Event.{Event}
 use Rattle.gw_turns.specs.Serve.{Turn, events_of}
 use Rattle.gw_turns.specs.Stretch.{GoOn, Moment}
 use Rattle.gw_service.specs.Chain.{AreLinks, IsLink, IsLooked, Link, Look, Manner, Stage, Standing}
-use Rattle.gw_service.specs.Chain.{refused, served, taken_over, ticked, unrequested, withheld}
+use Rattle.gw_service.specs.Chain.{ended, passed_over, refused, served, stopping, taken_over, ticked, unrequested, withheld}
 use Rattle.gw_service.specs.Laws.{HasItsRules, NumbersGoOn, RulesAreInForce, RulesStay, Shows}
 
 -- ---- the rules in force
@@ -50,6 +50,10 @@ looked_rules : {K : Type 0} (Adopts : K → Configuration → State → K → Ty
     → s.gateway.rules ≡ c.rules → t.gateway.rules ≡ d.rules
 looked_rules Adopts c d s t unrequested is has =
     ap (λ (w : State). w.rules) is.stays.gateway ∙ has ∙ sym (ap (λ (x : Configuration). x.rules) is.stays.config)
+looked_rules Adopts c d s t passed_over is has =
+    ap (λ (w : State). w.rules) is.stays.gateway ∙ has ∙ sym (ap (λ (x : Configuration). x.rules) is.stays.config)
+looked_rules Adopts c d s t stopping is has =
+    ap (λ (w : State). w.rules) is.stays.gateway ∙ has ∙ sym (ap (λ (x : Configuration). x.rules) is.stays.config)
 looked_rules Adopts c d s t (refused read f line) is has =
     ap (λ (w : State). w.rules) is.stays.gateway ∙ has ∙ sym (ap (λ (x : Configuration). x.rules) is.stays.config)
 looked_rules Adopts c d s t (taken_over text new) is has =
@@ -63,6 +67,7 @@ link_rules manner s t (ticked turns look text) is has =
 link_rules manner s t (withheld turns event text) is has =
     ap (λ (w : State). w.rules) is.last.logged.taken.gateway ∙ next_rules is.then.scene.gateway event
     ∙ went_rules manner.Passes s.now is.then turns is.went ∙ has ∙ sym (ap (λ (x : Configuration). x.rules) is.config)
+link_rules manner s t (ended turns text) is has = absurd is
 
 pub rules_in_force : {K : Type 0} (manner : Manner K) → RulesAreInForce manner
 unfolding AreLinks

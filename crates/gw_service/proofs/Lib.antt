@@ -1,6 +1,8 @@
 mod ChainLemmas
+mod EndLemmas
 mod KeptLemmas
 mod LawLemmas
+mod MeteringLemmas
 mod PlainLemmas
 mod RunLemmas
 mod ServedLemmas

@@ -7,7 +7,7 @@ use Rattle.gw_configuration.specs.Configuration.{Configuration}
 use Rattle.gw_configuration.specs.declared.run_options.RunOptions.{RunOptions}
 use Rattle.gw_core.specs.State.{State}
 use Rattle.gw_core.specs.declared.event.Counts.{Counts}
-use Rattle.gw_notices.specs.Notices.{no_troubles, notice_of}
+use Rattle.gw_notices.specs.Notices.{metrics_notice, no_troubles, notice_of}
 use Rattle.gw_notices.specs.declared.troubles.Troubles.{Troubles}
 use Rattle.gw_state.specs.Saved.{Saved}
 use Rattle.gw_system.specs.Host.{LogOpening}
@@ -17,13 +17,17 @@ use Rattle.gw_system.specs.declared.opening.LogFailure.TheVariants as log_failur
 use Rattle.gw_system.specs.declared.opening.OpenFailure.TheVariants as opening
 use Rattle.gw_system.specs.declared.reading.ReadFailure.{ReadFailure}
 use Rattle.gw_turns.specs.declared.serving.ServeFault.{ServeFault}
+use Rattle.gw_metrics.specs.file.Writing.{Metering, nothing_written}
 use Rattle.gw_wire.specs.declared.store.StoreFault.{StoreFault}
+use Rattle.gw_service.specs.Metering.{MetersDue, failing_by, metered, seconds_of}
 use Rattle.gw_watchers.specs.Watching.{Watching}
 use Rattle.gw_service.specs.Chain.{AreLinks, IsLink, Link, Look, Runs, Stage, Standing, announced_at, chain_text, link_text, look_text, standing_at}
-use Rattle.gw_service.specs.Chain.{served, ticked, unrequested, withheld}
-use Rattle.gw_service.specs.Keeping.{IsKeptFor, troubles_in}
+use Rattle.gw_service.specs.Chain.{ended, served, ticked, unrequested, withheld}
+use Rattle.gw_service.specs.declared.running.End.{End}
+use Rattle.gw_service.specs.declared.running.End.TheVariants as end
+use Rattle.gw_service.specs.Keeping.{IsKeptFor, failing_in, troubles_in}
 use Rattle.gw_service.specs.Kept.{AreRequestsUnder, Given, IsLastLine, IsMetricsUnder, IsStateUnder, IsStoreUnder, IsUnprepared, LeavesKept, LeavesWithState}
-use Rattle.gw_service.specs.Kept.{Names, RunsBy, RunsKept, StateMachine, first_stage, given, is_plain, manner_of, names_of, ran, reporting_of, text_before, unopened, unprepared}
+use Rattle.gw_service.specs.Kept.{Names, RunsBy, RunsKept, StateMachine, StoreOpening, first_stage, given, is_plain, manner_of, names_of, ran, reporting_of, stop_text, text_before, unopened, unprepared}
 use Rattle.gw_service.specs.Serving.{Ends, LeavesServed, Machine, Service, service, shut}
 use Rattle.gw_service.specs.Serving.{served as served_by}
 use Rattle.gw_service.specs.Stats.{Reporting, due_by, end_by}
@@ -32,7 +36,7 @@ use Rattle.gw_service.specs.declared.fault.ServiceFault.{ServiceFault}
 use Rattle.gw_service.specs.declared.fault.ServiceFault.TheVariants as fault
 use Rattle.gw_service.specs.declared.keeping.Kept.{Kept}
 use Rattle.gw_service.specs.declared.keeping.Kept.TheVariants.{Nowhere}
-use Rattle.gw_service.proofs.ServedLemmas.{IsQuiet, as_served, begins_quiet, first_nowhere, link_none, link_serves, looks_none}
+use Rattle.gw_service.proofs.ServedLemmas.{IsQuiet, as_served, begins_quiet, first_nowhere, link_none, link_serves, looks_none, never_stops}
 
 -- ---- nothing is reported
 
@@ -44,53 +48,77 @@ end_none : (seconds : Option ℕ) (text : List ℕ) → seconds ≡ None → end
 end_none None text is = refl
 end_none (Some n) text is = absurd cc
 
--- what is said after a tick, if no request was found, nothing is kept and no report is due
-tick_silent : {S : Type 0} (c : Configuration) (look : Look) (was is : Troubles) (report : List ℕ) → look ≡ unrequested → was ≡ no_troubles
-    → is ≡ no_troubles → report ≡ [] → (s : Standing (Kept S)) → (look_text c s look ++ notice_of was is) ++ report ≡ []
-tick_silent c look was is report unasked no_was no_is none s =
-    ap (λ (l : Look). (look_text c s l ++ notice_of was is) ++ report) unasked
-    ∙ ap (λ (t : Troubles). notice_of t is ++ report) no_was
-    ∙ ap (λ (t : Troubles). notice_of no_troubles t ++ report) no_is
-    ∙ none
+-- where no metrics are put, none are after a tick
+meters_none : (seconds : Option ℕ) (before after : Option Metering) → before ≡ None → MetersDue before seconds after → after ≡ None
+meters_none seconds None after is puts = puts
+meters_none seconds (Some before) after is puts = absurd cc
+
+-- what is said after a tick, if no request was found, nothing is kept, no report is due and no metrics are put
+tick_silent : {S : Type 0} (c : Configuration) (look : Look) (was is : Troubles) (report : List ℕ) (before after : Option Metering)
+    → look ≡ unrequested → was ≡ no_troubles → is ≡ no_troubles → report ≡ [] → before ≡ None → after ≡ None → (s : Standing (Kept S))
+    → ((look_text c s look ++ notice_of was is) ++ report) ++ metrics_notice (failing_by before) (failing_by after) ≡ []
+tick_silent c look was is report before after unasked no_was no_is none no_before no_after s =
+    let put = metrics_notice (failing_by before) (failing_by after) in
+    ap (λ (l : Look). ((look_text c s l ++ notice_of was is) ++ report) ++ put) unasked
+    ∙ ap (λ (t : Troubles). (notice_of t is ++ report) ++ put) no_was
+    ∙ ap (λ (t : Troubles). (notice_of no_troubles t ++ report) ++ put) no_is
+    ∙ ap (λ (x : List ℕ). x ++ put) none
+    ∙ ap (λ (m : Option Metering). metrics_notice (failing_by m) (failing_by after)) no_before
+    ∙ ap (λ (m : Option Metering). metrics_notice None (failing_by m)) no_after
 
 link_silent : {S : Type 0} (held : S → Option (List ℕ)) (how : Reporting) (s t : Stage (Kept S)) (link : Link)
     → IsLink (manner_of held how) s link t → s.requests ≡ nobody → s.now.guard ≡ Nowhere → IsQuiet s.now.scene.gateway → how.seconds ≡ None
-    → s.said ≡ no_troubles → (link_text link ≡ []) × (t.said ≡ no_troubles)
-link_silent held how s t (served turns) is none nowhere quiet unreported said = (refl, is.said ∙ said)
-link_silent held how s t (ticked turns look text) is none nowhere quiet unreported said =
+    → s.said ≡ no_troubles → s.metrics ≡ None → (link_text link ≡ []) × (t.said ≡ no_troubles) × (t.metrics ≡ None)
+link_silent held how s t (served turns) is none nowhere quiet unreported said unmetered = (refl, is.said ∙ said, is.metrics ∙ unmetered)
+link_silent held how s t (ticked turns look text) is none nowhere quiet unreported said unmetered =
     let found = looks_none (IsKeptFor held) s.config t.config _ _ look is.done.looked none in
     let after = link_serves held how s t (ticked turns look text) is none nowhere quiet in
-    let now : t.said ≡ no_troubles = is.said ∙ ap troubles_in after.nowhere in (
-      is.lines ∙ tick_silent s.config look s.said t.said _ found.0 said now
-          (due_none how.seconds how.start t.now.scene.gateway _ unreported) (standing_at is.then s.requests s.counts s.announcing),
+    let now : t.said ≡ no_troubles = is.said ∙ ap troubles_in after.nowhere in
+    let still = meters_none (seconds_of how.start t.now.scene.gateway t.now.served t.now.tally) s.metrics t.metrics unmetered is.metrics in (
+      is.lines ∙ tick_silent s.config look s.said t.said _ s.metrics t.metrics found.0 said now
+          (due_none how.seconds how.start t.now.scene.gateway _ unreported) unmetered still
+          (standing_at is.then s.requests s.counts s.announcing),
       now,
+      still,
     )
-link_silent held how s t (withheld turns event text) is none nowhere quiet unreported said =
+link_silent held how s t (withheld turns event text) is none nowhere quiet unreported said unmetered =
     let after = link_serves held how s t (withheld turns event text) is none nowhere quiet in
     let now : t.said ≡ no_troubles = is.said ∙ ap troubles_in after.nowhere in (
       is.lines ∙ ap (λ (x : Troubles). notice_of x t.said) said ∙ ap (λ (x : Troubles). notice_of no_troubles x) now,
       now,
+      is.metrics ∙ unmetered,
     )
+link_silent held how s t (ended turns text) is none nowhere quiet unreported said unmetered = absurd is
 
 chain_silent : {S : Type 0} (held : S → Option (List ℕ)) (how : Reporting) (s t : Stage (Kept S)) (links : List Link)
     → AreLinks (manner_of held how) s links t → s.requests ≡ nobody → s.now.guard ≡ Nowhere → IsQuiet s.now.scene.gateway
-    → how.seconds ≡ None → s.said ≡ no_troubles → chain_text links ≡ []
+    → how.seconds ≡ None → s.said ≡ no_troubles → s.metrics ≡ None → chain_text links ≡ []
 unfolding AreLinks
-chain_silent held how s t [] chain none nowhere quiet unreported said = refl
-chain_silent held how s t (link ∷ links) chain none nowhere quiet unreported said =
+chain_silent held how s t [] chain none nowhere quiet unreported said unmetered = refl
+chain_silent held how s t (link ∷ links) chain none nowhere quiet unreported said unmetered =
     let still = link_none (manner_of held how) s chain.0 link chain.1 none in
     let after = link_serves held how s chain.0 link chain.1 none nowhere quiet in
-    let first = link_silent held how s chain.0 link chain.1 none nowhere quiet unreported said in
-    let later = chain_silent held how chain.0 t links chain.2 still.2 after.nowhere after.quiet unreported first.1 in
+    let first = link_silent held how s chain.0 link chain.1 none nowhere quiet unreported said unmetered in
+    let later = chain_silent held how chain.0 t links chain.2 still.2 after.nowhere after.quiet unreported first.1 first.2 in
     flat_map-cons link_text link links ∙ ap (λ (x : List ℕ). x ++ chain_text links) first.0 ∙ later
 
-run_silent : {S : Type 0} (held : S → Option (List ℕ)) (how : Reporting) (count : ℕ) (s t : Stage (Kept S)) (answer : Result (Unit {0}) ServeFault)
+run_silent : {S : Type 0} (held : S → Option (List ℕ)) (how : Reporting) (count : ℕ) (s t : Stage (Kept S)) (answer : Result End ServeFault)
     (links : List Link) → Runs (manner_of held how) count s answer links t → s.requests ≡ nobody → s.now.guard ≡ Nowhere
-    → IsQuiet s.now.scene.gateway → how.seconds ≡ None → s.said ≡ no_troubles → chain_text links ≡ []
-run_silent held how count s t (Ok done) links runs none nowhere quiet unreported said =
-    chain_silent held how s t links runs.chain none nowhere quiet unreported said
-run_silent held how count s t (Err f) links runs none nowhere quiet unreported said =
-    chain_silent held how s runs.then links runs.chain none nowhere quiet unreported said
+    → IsQuiet s.now.scene.gateway → how.seconds ≡ None → s.said ≡ no_troubles → s.metrics ≡ None → chain_text links ≡ []
+run_silent held how count s t (Ok end.Stopped) links runs none nowhere quiet unreported said unmetered =
+    absurd (never_stops (manner_of held how) s t links runs none)
+run_silent held how count s t (Ok end.Turns) links runs none nowhere quiet unreported said unmetered =
+    chain_silent held how s t links runs.chain none nowhere quiet unreported said unmetered
+run_silent held how count s t (Err f) links runs none nowhere quiet unreported said unmetered =
+    chain_silent held how s runs.then links runs.chain none nowhere quiet unreported said unmetered
+
+-- nobody asks to stop, so nothing is answered
+no_stop : {S : Type 0} (held : S → Option (List ℕ)) (how : Reporting) (count : ℕ) (s t : Stage (Kept S)) (answer : Result End ServeFault)
+    (failing : Option StoreFault) (links : List Link) → Runs (manner_of held how) count s answer links t → s.requests ≡ nobody
+    → stop_text answer failing ≡ []
+no_stop held how count s t (Ok end.Turns) failing links runs none = refl
+no_stop held how count s t (Ok end.Stopped) failing links runs none = absurd (never_stops (manner_of held how) s t links runs none)
+no_stop held how count s t (Err f) failing links runs none = refl
 
 -- what is said of a whole run, if nothing is kept and no report is asked for
 all_silent : (is : Troubles) (chain report : List ℕ) → is ≡ no_troubles → chain ≡ [] → report ≡ []
@@ -100,10 +128,11 @@ all_silent is chain report no_is no_chain none =
     ∙ ap (λ (x : List ℕ). x ++ report) no_chain
     ∙ none
 
-kept_silent : {S Q L : Type 0} (given : Given S Q L) → given.saved ≡ None → given.line ≡ None → given.store ≡ None → given.requests ≡ None
+kept_silent : {S Q L : Type 0} (given : Given S Q L) → given.saved ≡ None → given.line ≡ None → given.store ≡ None → given.metrics ≡ None
+    → given.requests ≡ None
     → (c : Configuration) (how : Service) (before after : Ends) (text : List ℕ) (outcome : Result (Unit {0}) ServiceFault) → c.announce ≡ false
     → how.stats ≡ None → RunsKept given c how before after text outcome → text ≡ []
-kept_silent given no_saved no_line no_store no_requests c how before after text outcome announces_none unreported runs =
+kept_silent given no_saved no_line no_store no_metrics no_requests c how before after text outcome announces_none unreported runs =
     let reporting = reporting_of given how runs.gateway in
     let nowhere = first_nowhere given.held given.store c runs.gateway runs.keeper no_store runs.keeps in
     let first = first_stage given c runs.gateway runs.keeper (troubles_in runs.keeper) before in
@@ -114,17 +143,23 @@ kept_silent given no_saved no_line no_store no_requests c how before after text 
     let chain = run_silent given.held reporting how.turns begun runs.runs.last runs.answer runs.runs.links runs.runs.runs
     (ap (λ (x : Stage (Kept _)). x.requests) is ∙ ap (recorded_by given.said) no_requests)
     (ap (λ (x : Stage (Kept _)). x.now.guard) is ∙ nowhere) (ap (λ (x : Stage (Kept _)). x.now.scene.gateway.relay.announce) is ∙ quiet)
-    unreported (ap (λ (x : Stage (Kept _)). x.said) is ∙ said) in
-    runs.runs.said ∙ all_silent first.said (chain_text runs.runs.links) _ said chain (end_none how.stats _ unreported)
+    unreported (ap (λ (x : Stage (Kept _)). x.said) is ∙ said)
+    (ap (λ (x : Stage (Kept _)). x.metrics) is ∙ ap (λ (x : Option _). metered (option_map nothing_written x)) no_metrics) in
+    let unasked = ap (λ (x : Stage (Kept _)). x.requests) is ∙ ap (recorded_by given.said) no_requests in
+    let unstopped = no_stop given.held reporting how.turns begun runs.runs.last runs.answer (failing_in runs.left.keeper) runs.runs.links
+    runs.runs.runs unasked in
+    let ended = runs.runs.ends.said ∙ ap (λ (x : List ℕ). x ++ stop_text runs.answer (failing_in runs.left.keeper)) (end_none how.stats _ unreported)
+    ∙ unstopped in
+    runs.runs.said ∙ all_silent first.said (chain_text runs.runs.links) runs.runs.end_text said chain ended
 
-silent : {S Q L : Type 0} (given : Given S Q L) → given.saved ≡ None → given.line ≡ None → given.store ≡ None → given.requests ≡ None
-    → given.watcher ≡ None → (c : Configuration) (how : Service) (before after : Ends) (text : List ℕ)
+silent : {S Q L : Type 0} (given : Given S Q L) → given.saved ≡ None → given.line ≡ None → given.store ≡ None → given.metrics ≡ None
+    → given.requests ≡ None → given.watcher ≡ None → (c : Configuration) (how : Service) (before after : Ends) (text : List ℕ)
     (outcome : Result (Unit {0}) ServiceFault) → c.announce ≡ false → how.stats ≡ None → LeavesKept given c how before after text outcome
     → text ≡ []
-silent given no_saved no_line no_store no_requests no_watcher c how before after text outcome quiet unreported (inl runs) =
-    kept_silent given no_saved no_line no_store no_requests c how before after text outcome quiet unreported
+silent given no_saved no_line no_store no_metrics no_requests no_watcher c how before after text outcome quiet unreported (inl runs) =
+    kept_silent given no_saved no_line no_store no_metrics no_requests c how before after text outcome quiet unreported
     (subst (λ (w : Option (Watching _ _)). RunsBy given w c how before after text outcome) no_watcher runs)
-silent given no_saved no_line no_store no_requests no_watcher c how before after text outcome quiet unreported (inr unbegun) = unbegun.1
+silent given no_saved no_line no_store no_metrics no_requests no_watcher c how before after text outcome quiet unreported (inr unbegun) = unbegun.1
 
 -- ---- what is read and opened before
 
@@ -138,10 +173,15 @@ line_none : (LastLines : List ℕ → Result (Option (List ℕ)) ReadFailure →
 line_none LastLines None log line is under = cc
 line_none LastLines (Some state) log line is under = absurd cc
 
-store_none : {S : Type 0} (StoreOpens : List ℕ → Result S StoreFault → Type 0) (name : Option (List ℕ)) (store : Option S) → name ≡ None
+store_none : {S : Type 0} (StoreOpens : StoreOpening S) (name : Option (List ℕ)) (store : Option S) → name ≡ None
     → IsStoreUnder StoreOpens name (Ok store) → store ≡ None
 store_none StoreOpens None store is under = cc
 store_none StoreOpens (Some name) store is under = absurd cc
+
+metrics_none : {S : Type 0} (StoreOpens : StoreOpening S) (name : Option (List ℕ)) (metrics : Option S) → name ≡ None
+    → IsMetricsUnder StoreOpens name (Ok metrics) → metrics ≡ None
+metrics_none StoreOpens None metrics is under = cc
+metrics_none StoreOpens (Some name) metrics is under = absurd cc
 
 requests_none : {Q : Type 0} (ReloadsOpen : List ℕ → List ℕ → Q → Type 0) (name : Option (List ℕ)) (config : List ℕ) (requests : Option Q)
     → name ≡ None → AreRequestsUnder ReloadsOpen name config requests → requests ≡ None
@@ -172,12 +212,12 @@ no_line_fault : (LastLines : List ℕ → Result (Option (List ℕ)) ReadFailure
 no_line_fault LastLines None log f is under = absurd cc
 no_line_fault LastLines (Some state) log f is under = absurd cc
 
-no_store_fault : {S : Type 0} (StoreOpens : List ℕ → Result S StoreFault → Type 0) (name : Option (List ℕ)) (f : ServiceFault) → name ≡ None
+no_store_fault : {S : Type 0} (StoreOpens : StoreOpening S) (name : Option (List ℕ)) (f : ServiceFault) → name ≡ None
     → IsStoreUnder StoreOpens name (Err f) → f ≡ fault.Memory
 no_store_fault StoreOpens None f is under = absurd cc
 no_store_fault StoreOpens (Some name) f is under = absurd cc
 
-no_metrics_fault : {S : Type 0} (StoreOpens : List ℕ → Result S StoreFault → Type 0) (name : Option (List ℕ)) (f : ServiceFault) → name ≡ None
+no_metrics_fault : {S : Type 0} (StoreOpens : StoreOpening S) (name : Option (List ℕ)) (f : ServiceFault) → name ≡ None
     → IsMetricsUnder StoreOpens name (Err f) → f ≡ fault.Memory
 no_metrics_fault StoreOpens None f is under = absurd cc
 no_metrics_fault StoreOpens (Some name) f is under = absurd cc
@@ -244,11 +284,12 @@ serves_plain m states names held holds c how is_verbose line said outcome none u
     let no_saved = state_none states.FileReads names.state before.saved none.state prepared.saved in
     let no_line = line_none states.LastLines names.state names.log at.line none.state prepared.line in
     let no_store = store_none states.StoreOpens names.state before.store none.state prepared.store in
+    let no_metrics = metrics_none states.StoreOpens names.metrics before.metrics none.metrics prepared.metrics in
     let no_requests = requests_none states.ReloadsOpen names.reload names.config before.requests none.reload prepared.requests in
     let no_watcher = watcher_none states.FileReads states.LastLines m.LogOpens c names.watch before.watcher none.watched prepared.watcher in
     let no_text = prepared.text ∙ text_none names.state is_verbose c before.saved none.state in
     let serves = as_served at no_saved no_line no_store no_requests c how _ _ text outcome quiet leaves in
-    let nothing = silent at no_saved no_line no_store no_requests no_watcher c how _ _ text outcome quiet unreported leaves in
+    let nothing = silent at no_saved no_line no_store no_metrics no_requests no_watcher c how _ _ text outcome quiet unreported leaves in
     served_by log log_then sockets sockets_then output warning opens closes stays serves warns
     (is ∙ ap (λ (x : List ℕ). ((line ++ warning) ++ x) ++ text) no_text ∙ ap (λ (x : List ℕ). ((line ++ warning) ++ []) ++ x) nothing
     ∙ append-nil ((line ++ warning) ++ []) ∙ append-nil (line ++ warning))

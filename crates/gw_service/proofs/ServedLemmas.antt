@@ -21,12 +21,15 @@ use Rattle.gw_wire.specs.Wire.{Call, Records}
 use Rattle.gw_turns.specs.declared.serving.ServeFault.{ServeFault}
 use Rattle.gw_turns.specs.declared.serving.ServeFault.TheVariants as serving
 use Rattle.gw_turns.specs.declared.serving.Served.{Served}
-use Rattle.gw_system.specs.Requests.{Asking, GoesOn, answered, asked, nobody, recorded_by, unasked}
+use Rattle.gw_system.specs.Requests.{Asking, GoesOn, answered, asked, asked_to_stop, nobody, recorded_by, unasked, untaken}
 use Rattle.gw_watchers.specs.Watching.{Watching}
-use Rattle.gw_service.specs.Chain.{AreLinks, IsLink, IsLooked, IsUnrequested, Link, Look, Manner, Runs, Stage, Standing, announced_at}
-use Rattle.gw_service.specs.Chain.{refused, served, taken_over, ticked, unrequested, withheld}
+use Rattle.gw_service.specs.Chain.{AreLinks, IsLink, IsLooked, IsUnrequested, Link, Look, Manner, Runs, RunsToStop, Stage, Standing, announced_at}
+use Rattle.gw_service.specs.Chain.{ended, passed_over, refused, served, stopping, taken_over, ticked, unrequested, withheld}
+use Rattle.gw_service.specs.declared.running.End.{End}
+use Rattle.gw_service.specs.declared.running.End.TheVariants as end
+use Rattle.gw_wire.specs.declared.store.StoreFault.{StoreFault}
 use Rattle.gw_service.specs.Fault.{fault_of_serving}
-use Rattle.gw_service.specs.Keeping.{IsKeptAtTick, IsKeptFor, IsPassed, troubles_in}
+use Rattle.gw_service.specs.Keeping.{IsKeptAtTick, IsKeptFor, IsPassed, failing_in, troubles_in}
 use Rattle.gw_service.specs.Kept.{Given, KeepsFirst, RunsBy, RunsKept, first_stage, manner_of, outcome_by, reporting_of}
 use Rattle.gw_service.specs.Laws.{FindsNone, IsAsServed, NobodyAsks}
 use Rattle.gw_notices.specs.Reload.{reload_line}
@@ -46,6 +49,10 @@ pub looks_none : {K : Type 0} (Adopts : K → Configuration → State → K → 
     → IsLooked Adopts c s look d t → s.requests ≡ nobody → (look ≡ unrequested) × IsUnrequested c s d t × (t.requests ≡ nobody)
 looks_none Adopts c d s t unrequested is none =
     let goes = subst (λ (a : Asking). GoesOn a t.requests (unasked ∷ [])) none is.requests in (refl, is, goes.0)
+looks_none Adopts c d s t passed_over is none =
+    let goes = subst (λ (a : Asking). GoesOn a t.requests (untaken ∷ [])) none is.requests in absurd goes.1.0
+looks_none Adopts c d s t stopping is none =
+    let goes = subst (λ (a : Asking). GoesOn a t.requests (asked_to_stop ∷ [])) none is.requests in absurd goes.1.0
 looks_none Adopts c d s t (refused read f line) is none =
     let goes = subst (λ (a : Asking). GoesOn a t.requests (asked read ∷ answered line ∷ [])) none is.requests in absurd goes.1.0
 looks_none Adopts c d s t (taken_over text new) is none =
@@ -60,6 +67,7 @@ link_none manner s t (ticked turns look text) is none =
     let found = looks_none manner.Adopts s.config t.config _ _ look is.done.looked none in
     (found.0, found.1.stays.config, found.2, found.1.counts)
 link_none manner s t (withheld turns event text) is none = (tt, is.config, is.requests ∙ none, is.counts)
+link_none manner s t (ended turns text) is none = absurd is
 
 chain_none : {K : Type 0} (manner : Manner K) (s t : Stage K) (links : List Link) → AreLinks manner s links t → s.requests ≡ nobody
     → AllByRecursion FindsNone links × (t.config ≡ s.config) × (t.requests ≡ nobody) × (t.counts ≡ s.counts)
@@ -75,8 +83,19 @@ chain_none manner s t (link ∷ links) chain none =
     let later = chain_none manner chain.0 t links chain.2 first.2 in
     ((first.0, later.0), later.1 ∙ first.1, later.2, later.3 ∙ first.3)
 
+-- nobody asks to stop then
+pub never_stops : {K : Type 0} (manner : Manner K) (s t : Stage K) (links : List Link) → RunsToStop manner s links t → s.requests ≡ nobody → ⊥
+never_stops manner s t links runs none =
+    let chain = chain_none manner s runs.then runs.before runs.chain none in
+    let found = looks_none manner.Adopts runs.then.config t.config _ _ stopping runs.stops.done.looked chain.2 in
+    stops_for_none found.0
+  where
+    stops_for_none : stopping ≡ unrequested → ⊥
+    stops_for_none is = absurd cc
+
 pub nobody_asks : {K : Type 0} (manner : Manner K) → NobodyAsks manner
-nobody_asks manner count s t (Ok done) links runs none =
+nobody_asks manner count s t (Ok end.Stopped) links runs none = absurd (never_stops manner s t links runs none)
+nobody_asks manner count s t (Ok end.Turns) links runs none =
     let chain = chain_none manner s t links runs.chain none in record {
       looks = All-from_recursion FindsNone links chain.0;
       config = chain.1;
@@ -201,6 +220,7 @@ link_serves held how s t (withheld turns event text) is none nowhere quiet =
     let guard = turns_nowhere held s.now.scene.gateway turns s.now.guard is.then.guard nowhere is.went.guarded in
     let passed = passed_nowhere held is.then.scene.gateway event false is.then.guard t.now.guard guard is.last.passes in
     absurd (true≢false (sym passed.1))
+link_serves held how s t (ended turns text) is none nowhere quiet = absurd is
 
 chain_serves : {S : Type 0} (held : S → Option (List ℕ)) (how : Reporting) (s t : Stage (Kept S)) (links : List Link)
     → AreLinks (manner_of held how) s links t → s.requests ≡ nobody → s.now.guard ≡ Nowhere → IsQuiet s.now.scene.gateway → AreServed s t
@@ -251,10 +271,13 @@ stopped c count before after moment last turns f event fewer went ends log calls
     })
 
 run_serves : {S : Type 0} (held : S → Option (List ℕ)) (how : Reporting) (count : ℕ) (c : Configuration) (before after : Ends)
-    (s t : Stage (Kept S)) (answer : Result (Unit {0}) ServeFault) (links : List Link) → Runs (manner_of held how) count s answer links t
-    → s.requests ≡ nobody → s.now.guard ≡ Nowhere → IsQuiet s.now.scene.gateway → LeadTo (first_scene c before) [] s.now.scene
-    → t.now.scene.log ≡ after.log → t.now.scene.calls ≡ after.calls → Serves c count before after (outcome_by answer)
-run_serves held how count c before after s t (Ok done) links runs none nowhere quiet at log calls =
+    (s t : Stage (Kept S)) (answer : Result End ServeFault) (failing : Option StoreFault) (links : List Link)
+    → Runs (manner_of held how) count s answer links t → s.requests ≡ nobody → s.now.guard ≡ Nowhere → IsQuiet s.now.scene.gateway
+    → LeadTo (first_scene c before) [] s.now.scene → t.now.scene.log ≡ after.log → t.now.scene.calls ≡ after.calls
+    → Serves c count before after (outcome_by answer failing)
+run_serves held how count c before after s t (Ok end.Stopped) failing links runs none nowhere quiet at log calls =
+    absurd (never_stops (manner_of held how) s t links runs none)
+run_serves held how count c before after s t (Ok end.Turns) failing links runs none nowhere quiet at log calls =
     let led = chain_serves held how s t links runs.chain none nowhere quiet in
     let from = lead_along (first_scene c before) s.now.scene t.now.scene [] led.turns at led.led in
     let same = scene_as t.now.scene t.now.scene.gateway after.log after.calls refl log calls in
@@ -269,7 +292,7 @@ run_serves held how count c before after s t (Ok done) links runs none nowhere q
         counts = refl;
       };
     }
-run_serves held how count c before after s t (Err f) links runs none nowhere quiet at log calls =
+run_serves held how count c before after s t (Err f) failing links runs none nowhere quiet at log calls =
     let led = chain_serves held how s runs.then links runs.chain none nowhere quiet in
     let from = lead_along (first_scene c before) s.now.scene runs.then.now.scene [] led.turns at led.led in
     let end = runs.ends.ends in
@@ -306,7 +329,8 @@ kept_serves given no_state no_line no_store no_requests c how before after text 
     let from = subst (λ (x : Scene). LeadTo (scene runs.gateway before.log before.calls) [] x)
     (sym (ap (λ (x : Stage (Kept _)). x.now.scene) is)) at in
     subst (λ (x : Result (Unit {0}) ServiceFault). Serves c how.turns before after x) (sym runs.answers)
-    (run_serves given.held (reporting_of given how runs.gateway) how.turns c before after begun runs.runs.last runs.answer runs.runs.links
+    (run_serves given.held (reporting_of given how runs.gateway) how.turns c before after begun runs.runs.last runs.answer
+    (failing_in runs.left.keeper) runs.runs.links
     runs.runs.runs (ap (λ (x : Stage (Kept _)). x.requests) is ∙ ap (recorded_by given.said) no_requests)
     (ap (λ (x : Stage (Kept _)). x.now.guard) is ∙ first_nowhere given.held given.store c runs.gateway runs.keeper no_store runs.keeps)
     (ap (λ (x : Stage (Kept _)). x.now.scene.gateway.relay.announce) is ∙ quiet)

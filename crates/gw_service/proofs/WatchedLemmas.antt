@@ -13,14 +13,19 @@ use Rattle.gw_core.specs.declared.guard.Both.{Both}
 use Rattle.gw_turns.specs.declared.serving.ServeFault.{ServeFault}
 use Rattle.gw_turns.proofs.BothLemmas.{under_first}
 use Rattle.gw_watchers.specs.Watching.{HasWatched, Watching}
-use Rattle.gw_service.specs.Chain.{AreLinks, IsLink, IsLooked, Link, Look, Runs, Stage, Standing, chain_text, look_text, stage, standing}
-use Rattle.gw_service.specs.Chain.{refused, served, taken_over, ticked, unrequested, withheld}
-use Rattle.gw_service.specs.Keeping.{IsKeptFor, IsPassed, troubles_in, unkept_in}
-use Rattle.gw_service.specs.Kept.{Given, manner_of, no_more, reporting_of, watched_manner_of}
+use Rattle.gw_service.specs.Chain.{AreLinks, IsLink, IsLooked, IsTicked, Link, Look, Runs, Stage, Standing, chain_text, look_text, stage, standing}
+use Rattle.gw_service.specs.Chain.{ended, passed_over, refused, served, stopping, taken_over, ticked, unrequested, withheld}
+use Rattle.gw_service.specs.Start.{counts_of}
+use Rattle.gw_service.specs.declared.running.End.{End}
+use Rattle.gw_service.specs.declared.running.End.TheVariants as end
+use Rattle.gw_core.specs.declared.event.Counts.{Counts}
+use Rattle.gw_service.specs.Keeping.{IsKeptFor, IsPassed, failing_in, troubles_in, unkept_in}
+use Rattle.gw_service.specs.Kept.{EndsRun, Given, Rest, manner_of, no_more, reporting_of, rest, stop_text, unkept_of, watched_manner_of}
 use Rattle.gw_service.specs.Laws.{IsAsUnwatched}
-use Rattle.gw_notices.specs.Notices.{no_troubles, notice_of, of_state}
+use Rattle.gw_service.specs.Metering.{failing_by, lost_by}
+use Rattle.gw_notices.specs.Notices.{metrics_notice, no_troubles, notice_of, of_state}
 use Rattle.gw_service.specs.Stats.{Reporting, end_stats}
-use Rattle.gw_service.specs.Watch.{IsKeptForBeside}
+use Rattle.gw_service.specs.Watch.{IsKeptForBeside, more_of}
 use Rattle.gw_service.specs.declared.keeping.Kept.{Kept}
 use Rattle.gw_notices.specs.declared.troubles.Troubles.{Troubles}
 
@@ -79,7 +84,7 @@ lets trial audit g h w event p = absurd (true≢false (sym p.0))
 -- ---- without what watches
 
 abbrev unwatched : {S L : Type 0} → Stage (Both (Kept S) (Watching L L)) → Stage (Kept S)
-unwatched s = stage s.config (first_moment s.now) s.requests s.counts s.announcing (of_state s.said.state)
+unwatched s = stage s.config (first_moment s.now) s.requests s.counts s.announcing (of_state s.said.state) s.metrics
 
 abbrev standing_of : {S L : Type 0} → Standing (Both (Kept S) (Watching L L)) → Standing (Kept S)
 standing_of s = standing s.gateway s.keeper.first s.requests s.counts s.announcing
@@ -87,6 +92,26 @@ standing_of s = standing s.gateway s.keeper.first s.requests s.counts s.announci
 looked : {S L : Type 0} (held : S → _) (c d : Configuration) (s t : Standing (Both (Kept S) (Watching L L))) (look : Look)
     → IsLooked (IsKeptForBeside held) c s look d t → IsLooked (IsKeptFor held) c (standing_of s) look d (standing_of t)
 looked held c d s t unrequested is = record {
+  stays = record {
+    config = is.stays.config;
+    gateway = is.stays.gateway;
+    keeper = ap (λ (k : Both _ _). k.first) is.stays.keeper;
+    announcing = is.stays.announcing;
+  };
+  requests = is.requests;
+  counts = is.counts;
+}
+looked held c d s t passed_over is = record {
+  stays = record {
+    config = is.stays.config;
+    gateway = is.stays.gateway;
+    keeper = ap (λ (k : Both _ _). k.first) is.stays.keeper;
+    announcing = is.stays.announcing;
+  };
+  requests = is.requests;
+  counts = is.counts;
+}
+looked held c d s t stopping is = record {
   stays = record {
     config = is.stays.config;
     gateway = is.stays.gateway;
@@ -121,27 +146,20 @@ looked held c d s t (taken_over text new) is = record {
 
 -- ---- a link
 
-linked : {S L : Type 0} (held : S → _) (log_held : L → _) (how : Reporting) (s t : Stage (Both (Kept S) (Watching L L))) (link : Link)
-    → IsLink (watched_manner_of held log_held how) s link t → (other : Link) × IsLink (manner_of held how) (unwatched s) other (unwatched t)
-linked held log_held how s t (served turns) is = (
-  served turns,
-  record {
-    went = first_goes (IsPassed held) (HasWatched log_held log_held) s.now t.now turns is.went;
-    config = is.config;
-    requests = is.requests;
-    counts = is.counts;
-    announcing = is.announcing;
-    said = ap (λ (x : Troubles). of_state x.state) is.said;
-  },
-)
-linked held log_held how s t (ticked turns look text) is =
+-- after a tick, whether the gateway is to stop or not
+ticks : {S L : Type 0} (held : S → _) (log_held : L → _) (how : Reporting) (stops : Bool) (s t : Stage (Both (Kept S) (Watching L L)))
+    (turns : List Turn) (look : Look) (text : List ℕ) → IsTicked (watched_manner_of held log_held how) stops s turns look text t
+    → (other : List ℕ) × IsTicked (manner_of held how) stops (unwatched s) turns look other (unwatched t)
+ticks held log_held how stops s t turns look text is =
     let then = first_moment is.then in
     let manner = manner_of held how in
-    let other = (look_text s.config (standing then.scene.gateway then.guard s.requests s.counts s.announcing) look
+    let other = ((look_text s.config (standing then.scene.gateway then.guard s.requests s.counts s.announcing) look
     ++ notice_of (of_state s.said.state) (of_state t.said.state))
-    ++ manner.report t.now.guard.first t.counts t.announcing t.now.scene.gateway t.now.served t.now.tally in (
-      ticked turns look other,
+    ++ manner.report t.now.guard.first t.counts t.announcing (lost_by s.metrics) t.now.scene.gateway t.now.served t.now.tally)
+    ++ metrics_notice (failing_by s.metrics) (failing_by t.metrics) in (
+      other,
       record {
+        is = is.is;
         before = is.before;
         tries = is.tries;
         tick = is.tick;
@@ -157,9 +175,27 @@ linked held log_held how s t (ticked turns look text) is =
         announced = is.announced;
         rest = record { log = is.rest.log; served = is.rest.served; tally = is.rest.tally };
         said = ap (λ (x : Troubles). of_state x.state) is.said;
+        metrics = is.metrics;
         lines = refl;
       },
     )
+
+linked : {S L : Type 0} (held : S → _) (log_held : L → _) (how : Reporting) (s t : Stage (Both (Kept S) (Watching L L))) (link : Link)
+    → IsLink (watched_manner_of held log_held how) s link t → (other : Link) × IsLink (manner_of held how) (unwatched s) other (unwatched t)
+linked held log_held how s t (served turns) is = (
+  served turns,
+  record {
+    went = first_goes (IsPassed held) (HasWatched log_held log_held) s.now t.now turns is.went;
+    config = is.config;
+    requests = is.requests;
+    counts = is.counts;
+    announcing = is.announcing;
+    metrics = is.metrics;
+    said = ap (λ (x : Troubles). of_state x.state) is.said;
+  },
+)
+linked held log_held how s t (ticked turns look text) is =
+    let other = ticks held log_held how false s t turns look text is in (ticked turns look other.0, other.1)
 linked held log_held how s t (withheld turns event text) is = (
   withheld turns event (notice_of (of_state s.said.state) (of_state t.said.state)),
   record {
@@ -176,10 +212,12 @@ linked held log_held how s t (withheld turns event text) is = (
     requests = is.requests;
     counts = is.counts;
     announcing = is.announcing;
+    metrics = is.metrics;
     said = ap (λ (x : Troubles). of_state x.state) is.said;
     lines = refl;
   },
 )
+linked held log_held how s t (ended turns text) is = absurd is
 
 chained : {S L : Type 0} (held : S → _) (log_held : L → _) (how : Reporting) (s t : Stage (Both (Kept S) (Watching L L))) (links : List Link)
     → AreLinks (watched_manner_of held log_held how) s links t
@@ -194,10 +232,24 @@ chained held log_held how s t (link ∷ links) chain =
 -- ---- a run
 
 ran : {S L : Type 0} (held : S → _) (log_held : L → _) (how : Reporting) (count : ℕ) (s t : Stage (Both (Kept S) (Watching L L)))
-    (answer : Result (Unit {0}) ServeFault) (links : List Link) → Runs (watched_manner_of held log_held how) count s answer links t
+    (answer : Result End ServeFault) (links : List Link) → Runs (watched_manner_of held log_held how) count s answer links t
     → (others : List Link) × Runs (manner_of held how) count (unwatched s) answer others (unwatched t)
-ran held log_held how count s t (Ok done) links runs =
+ran held log_held how count s t (Ok end.Turns) links runs =
     let chain = chained held log_held how s t links runs.chain in (chain.0, record { chain = chain.1; turns = runs.turns })
+ran held log_held how count s t (Ok end.Stopped) links runs =
+    let chain = chained held log_held how s runs.then runs.before runs.chain in
+    let last = ticks held log_held how true runs.then t runs.turns stopping runs.text runs.stops in (
+      chain.0 ++ ended runs.turns last.0 ∷ [],
+      record {
+        then = unwatched runs.then;
+        before = chain.0;
+        chain = chain.1;
+        turns = runs.turns;
+        text = last.0;
+        stops = last.1;
+        is = refl;
+      },
+    )
 ran held log_held how count s t (Err fault) links runs =
     let chain = chained held log_held how s runs.then links runs.chain in (
       chain.0,
@@ -213,25 +265,38 @@ ran held log_held how count s t (Err fault) links runs =
           requests = runs.ends.requests;
           counts = runs.ends.counts;
           announcing = runs.ends.announcing;
+          metrics = runs.ends.metrics;
           said = ap (λ (x : Troubles). of_state x.state) runs.ends.said;
         };
       },
     )
+
+-- what is done at the end
+ends : {S L : Type 0} (held : S → _) (log_held : L → _) (how : Reporting) (start : Counts) (answer : Result End ServeFault)
+    (last : Stage (Both (Kept S) (Watching L L))) (left : Rest (Both (Kept S) (Watching L L))) (text : List ℕ)
+    → EndsRun (watched_manner_of held log_held how) (end_stats unkept_of more_of how) start answer last left text
+    → (other : List ℕ) × EndsRun (manner_of held how) (end_stats unkept_in no_more how) start answer (unwatched last)
+    (rest left.keeper.first left.requests) other
+ends held log_held how start answer last left text is = (
+  end_stats unkept_in no_more how left.keeper.first last.counts last.announcing (lost_by is.metrics) last.now.scene.gateway last.now.served
+      last.now.tally ++ stop_text answer (failing_in left.keeper.first),
+  record { keeps = is.keeps.0; metrics = is.metrics; put = is.put; answers = is.answers; said = refl },
+)
 
 pub as_unwatched : {S Q L : Type 0} (given : Given S Q L) → IsAsUnwatched given
 as_unwatched given w c how before after text outcome runs =
     let reports = reporting_of given how runs.gateway in
     let last = runs.runs.last in
     let other = ran given.held given.log_held reports how.turns _ last runs.answer runs.runs.links runs.runs.runs in
-    let report = end_stats unkept_in no_more reports in
-    let final = report last.now.guard.first last.counts last.announcing last.now.scene.gateway last.now.served last.now.tally in (
-      (notice_of no_troubles (troubles_in runs.keeper.first) ++ chain_text other.0) ++ final,
+    let final = ends given.held given.log_held reports (counts_of runs.gateway) runs.answer last runs.left runs.runs.end_text runs.runs.ends in (
+      (notice_of no_troubles (troubles_in runs.keeper.first) ++ chain_text other.0) ++ final.0,
       record {
         gateway = runs.gateway;
         begins = runs.begins;
         keeper = runs.keeper.first;
         keeps = runs.keeps;
         answer = runs.answer;
+        left = rest runs.left.keeper.first runs.left.requests;
         runs = record {
           begun = unwatched runs.runs.begun;
           begins = record { announced = runs.runs.begins.announced; is = ap unwatched runs.runs.begins.is };
@@ -240,6 +305,8 @@ as_unwatched given w c how before after text outcome runs =
           runs = other.1;
           log = runs.runs.log;
           calls = runs.runs.calls;
+          end_text = final.0;
+          ends = final.1;
           said = refl;
         };
         answers = runs.answers;

@@ -19,11 +19,15 @@ use Rattle.gw_wire.specs.Wire.{Call}
 use Rattle.gw_turns.specs.declared.serving.ServeFault.{ServeFault}
 use Rattle.gw_turns.specs.declared.serving.Served.{Served}
 use Rattle.gw_turns.specs.declared.tally.Tally.{Tally}
-use Rattle.gw_system.specs.Requests.{Asking, GoesOn, answered, asked, unasked}
+use Rattle.gw_system.specs.Requests.{Asking, Exchange, GoesOn, answered, asked, asked_to_stop, unasked, untaken}
 use Rattle.gw_system.specs.declared.reading.ReadFailure.{ReadFailure}
 use Rattle.gw_notices.specs.Reload.{IsRefusalLine, reload_line, with_refused, with_taken_over}
 use Rattle.gw_service.specs.Reload.{IsRefused, have_same_ports}
-use Rattle.gw_notices.specs.Notices.{notice_of}
+use Rattle.gw_metrics.specs.file.Writing.{Metering}
+use Rattle.gw_notices.specs.Notices.{metrics_notice, notice_of, untaken_line}
+use Rattle.gw_service.specs.Metering.{failing_by, lost_by}
+use Rattle.gw_service.specs.declared.running.End.{End}
+use Rattle.gw_service.specs.declared.running.End.TheVariants as end
 use Rattle.gw_notices.specs.declared.reload.ReloadCounts.{ReloadCounts}
 use Rattle.gw_notices.specs.declared.reload.ReloadFault.{ReloadFault}
 use Rattle.gw_notices.specs.declared.troubles.Troubles.{Troubles}
@@ -31,23 +35,28 @@ use Rattle.gw_notices.specs.declared.troubles.Troubles.{Troubles}
 -- ---- what keeps the state
 
 -- What a keeper of states does at an event, at a tick, and if the gateway goes on as one of another configuration; and what
--- isn't kept or recorded; and what is reported after a tick.
+-- isn't kept or recorded; what is reported after a tick; how metrics are put then; and what it does at the end.
 pub record Manner (K : Type 0) : Type 1 where
   pub Passes : K → State → Event → K → Bool → Type 0
   pub Ticks : K → State → K → Type 0
   pub Adopts : K → Configuration → State → K → Type 0
   pub troubles : K → Troubles
-  pub report : K → ReloadCounts → Announcing → State → Served → Tally → List ℕ
+  pub report : K → ReloadCounts → Announcing → Option ℕ → State → Served → Tally → List ℕ
+  pub Meters : State → Served → Tally → (before after : Option Metering) → Type 0
+  pub Lasts : K → State → K → Type 0
 
 abbrev pub manner : {K : Type 0} → (K → State → Event → K → Bool → Type 0) → (K → State → K → Type 0)
-    → (K → Configuration → State → K → Type 0) → (K → Troubles) → (K → ReloadCounts → Announcing → State → Served → Tally → List ℕ)
-    → Manner K
-manner Passes Ticks Adopts troubles report = record {
+    → (K → Configuration → State → K → Type 0) → (K → Troubles)
+    → (K → ReloadCounts → Announcing → Option ℕ → State → Served → Tally → List ℕ)
+    → (State → Served → Tally → (before after : Option Metering) → Type 0) → (K → State → K → Type 0) → Manner K
+manner Passes Ticks Adopts troubles report Meters Lasts = record {
   Passes = Passes;
   Ticks = Ticks;
   Adopts = Adopts;
   troubles = troubles;
   report = report;
+  Meters = Meters;
+  Lasts = Lasts;
 }
 
 -- ---- a request
@@ -69,10 +78,12 @@ standing w keeper requests counts announcing = record {
   announcing = announcing;
 }
 
--- What comes of looking for a request: there is none; there is one, and the configuration isn't taken over, which this line
--- says; or it is.
+-- What comes of looking for a request: there is none; something has its name and isn't taken; there is one to stop; there is one
+-- to read the configuration again, and that isn't taken over, which this line says; or it is.
 pub data Look : Type 0 where
   unrequested : Look
+  passed_over : Look
+  stopping : Look
   refused : (read : Result (Option (List ℕ)) ReadFailure) (fault : ReloadFault) (line : List ℕ) → Look
   taken_over : (text : List ℕ) (config : Configuration) → Look
 
@@ -112,15 +123,33 @@ pub record IsUnrequested {K : Type 0} (c : Configuration) (s : Standing K) (d : 
   pub requests : GoesOn s.requests t.requests (unasked ∷ [])
   pub counts : t.counts ≡ s.counts
 
+-- There was a request, or something of its name, after which all stays as it is.
+pub record IsAskedFor {K : Type 0} (exchange : Exchange) (c : Configuration) (s : Standing K) (d : Configuration) (t : Standing K) : Type 0 where
+  pub stays : Stays c s d t
+  pub requests : GoesOn s.requests t.requests (exchange ∷ [])
+  pub counts : t.counts ≡ s.counts
+
+-- the gateway is to stop
+abbrev pub is_stopping : Look → Bool
+is_stopping unrequested = false
+is_stopping passed_over = false
+is_stopping stopping = true
+is_stopping (refused read fault line) = false
+is_stopping (taken_over text new) = false
+
 abbrev pub IsLooked : {K : Type 0} → (Adopts : K → Configuration → State → K → Type 0) → Configuration → Standing K → Look
     → Configuration → Standing K → Type 0
 IsLooked Adopts c s unrequested d t = IsUnrequested c s d t
+IsLooked Adopts c s passed_over d t = IsAskedFor untaken c s d t
+IsLooked Adopts c s stopping d t = IsAskedFor asked_to_stop c s d t
 IsLooked Adopts c s (refused read fault line) d t = IsRefusedSo c s read fault line d t
 IsLooked Adopts c s (taken_over text new) d t = IsTakenOver Adopts c s text new d t
 
 -- what is said of it
 abbrev pub look_text : {K : Type 0} → Configuration → Standing K → Look → List ℕ
 look_text c s unrequested = []
+look_text c s passed_over = untaken_line
+look_text c s stopping = []
 look_text c s (refused read fault line) = line
 look_text c s (taken_over text new) = reload_line s.gateway.rules new (saved c s.gateway)
 
@@ -131,12 +160,19 @@ pub record AtTick {K : Type 0} (Ticks : K → State → K → Type 0) (Adopts : 
   pub ticks : Ticks s.keeper s.gateway keeper
   pub looked : IsLooked Adopts c (standing s.gateway keeper s.requests s.counts s.announcing) look d t
 
--- The log takes a note of the line of what came of looking for a request, written or not; if there was none it stays as it is.
-abbrev pub IsNotedBy : {L : Type 0} → (Takes : L → List ℕ → Result (Unit {0}) WriteFailed → L → Type 0) → (log log_then : L) → Look → List ℕ
+-- The log takes a note of the line of a configuration that was read again, written or not; else it stays as it is.
+abbrev pub IsNoted : {L : Type 0} → (Takes : L → List ℕ → Result (Unit {0}) WriteFailed → L → Type 0) → (log log_then : L) → Look → List ℕ
     → Type 0
-IsNotedBy Takes log log_then unrequested line = log_then ≡ log
-IsNotedBy Takes log log_then (refused read fault says) line = (written : Result (Unit {0}) WriteFailed) × Takes log line written log_then
-IsNotedBy Takes log log_then (taken_over text new) line = (written : Result (Unit {0}) WriteFailed) × Takes log line written log_then
+IsNoted Takes log log_then unrequested line = log_then ≡ log
+IsNoted Takes log log_then passed_over line = log_then ≡ log
+IsNoted Takes log log_then stopping line = log_then ≡ log
+IsNoted Takes log log_then (refused read fault says) line = (written : Result (Unit {0}) WriteFailed) × Takes log line written log_then
+IsNoted Takes log log_then (taken_over text new) line = (written : Result (Unit {0}) WriteFailed) × Takes log line written log_then
+
+-- So it is, and this says whether the gateway is to stop.
+abbrev pub IsNotedBy : {L : Type 0} → (Takes : L → List ℕ → Result (Unit {0}) WriteFailed → L → Type 0) → (log log_then : L) → (stops : Bool)
+    → Look → List ℕ → Type 0
+IsNotedBy Takes log log_then stops look line = IsNoted Takes log log_then look line × (stops ≡ is_stopping look)
 
 -- What is done about a request, whatever configuration this origin is of: one of these looks, which leads to one of a
 -- configuration of that origin; what is said of it is written, if that never fails; and the log takes a note of it.
@@ -149,8 +185,8 @@ Looks Done Noted o s p t Never held holds =
 -- ---- one stretch, and what is done after it
 
 -- what there is between two stretches: the configuration in force; the gateway, the log, the wire, the keeper and what was
--- counted; what was asked and answered, and how often; what is to be announced; and what was reported last of what isn't kept or
--- recorded
+-- counted; what was asked and answered, and how often; what is to be announced; what was reported last of what isn't kept or
+-- recorded; and how metrics are put, if they are
 pub record Stage (K : Type 0) : Type 0 where
   pub config : Configuration
   pub now : Moment K
@@ -158,15 +194,17 @@ pub record Stage (K : Type 0) : Type 0 where
   pub counts : ReloadCounts
   pub announcing : Announcing
   pub said : Troubles
+  pub metrics : Option Metering
 
-abbrev pub stage : {K : Type 0} → Configuration → Moment K → Asking → ReloadCounts → Announcing → Troubles → Stage K
-stage config now requests counts announcing said = record {
+abbrev pub stage : {K : Type 0} → Configuration → Moment K → Asking → ReloadCounts → Announcing → Troubles → Option Metering → Stage K
+stage config now requests counts announcing said metrics = record {
   config = config;
   now = now;
   requests = requests;
   counts = counts;
   announcing = announcing;
   said = said;
+  metrics = metrics;
 }
 
 abbrev pub standing_at : {K : Type 0} → Moment K → Asking → ReloadCounts → Announcing → Standing K
@@ -179,11 +217,12 @@ pub record IsIdle {K : Type 0} (before after : Moment K) : Type 0 where
   pub tally : after.tally ≡ before.tally
 
 -- Turns that were served; turns to a tick, and what came of looking for a request then; or turns, and an event whose
--- datagrams the keeper withheld. Each with what was reported then.
+-- datagrams the keeper withheld; or turns to a tick, and the gateway was asked to stop. Each with what was reported then.
 pub data Link : Type 0 where
   served : (turns : List Turn) → Link
   ticked : (turns : List Turn) (look : Look) (text : List ℕ) → Link
   withheld : (turns : List Turn) (event : Event) (text : List ℕ) → Link
+  ended : (turns : List Turn) (text : List ℕ) → Link
 
 -- turns were served, and nothing else was done
 pub record IsServed {K : Type 0} (manner : Manner K) (s : Stage K) (turns : List Turn) (t : Stage K) : Type 0 where
@@ -193,9 +232,13 @@ pub record IsServed {K : Type 0} (manner : Manner K) (s : Stage K) (turns : List
   pub counts : t.counts ≡ s.counts
   pub announcing : t.announcing ≡ s.announcing
   pub said : t.said ≡ s.said
+  pub metrics : t.metrics ≡ s.metrics
 
--- turns were served, the last of which took a tick, and what was due then was done, announced and reported
-pub record IsTicked {K : Type 0} (manner : Manner K) (s : Stage K) (turns : List Turn) (look : Look) (text : List ℕ) (t : Stage K) : Type 0 where
+-- turns were served, the last of which took a tick, and what was due then was done, announced and reported; and whether the
+-- gateway is to stop
+pub record IsTicked {K : Type 0} (manner : Manner K) (stops : Bool) (s : Stage K) (turns : List Turn) (look : Look) (text : List ℕ) (t : Stage K)
+    : Type 0 where
+  pub is : stops ≡ is_stopping look
   pub before : List Turn
   pub tries : List Try
   pub tick : turns ≡ before ++ taken_event event.Tick tries ∷ []
@@ -208,8 +251,10 @@ pub record IsTicked {K : Type 0} (manner : Manner K) (s : Stage K) (turns : List
   pub announced : Announces due t.now.scene.gateway then.scene.calls t.announcing t.now.scene.calls
   pub rest : IsIdle then t.now
   pub said : t.said ≡ manner.troubles t.now.guard
-  pub lines : text ≡ (look_text s.config (standing_at then s.requests s.counts s.announcing) look ++ notice_of s.said t.said)
-      ++ manner.report t.now.guard t.counts t.announcing t.now.scene.gateway t.now.served t.now.tally
+  pub metrics : manner.Meters t.now.scene.gateway t.now.served t.now.tally s.metrics t.metrics
+  pub lines : text ≡ ((look_text s.config (standing_at then s.requests s.counts s.announcing) look ++ notice_of s.said t.said)
+      ++ manner.report t.now.guard t.counts t.announcing (lost_by s.metrics) t.now.scene.gateway t.now.served t.now.tally)
+      ++ metrics_notice (failing_by s.metrics) (failing_by t.metrics)
 
 -- The keeper didn't let the datagrams of the last event go, and that was reported.
 pub record IsHeldBack {K : Type 0} (manner : Manner K) (s : Stage K) (turns : List Turn) (event : Event) (text : List ℕ) (t : Stage K)
@@ -221,13 +266,16 @@ pub record IsHeldBack {K : Type 0} (manner : Manner K) (s : Stage K) (turns : Li
   pub requests : t.requests ≡ s.requests
   pub counts : t.counts ≡ s.counts
   pub announcing : t.announcing ≡ s.announcing
+  pub metrics : t.metrics ≡ s.metrics
   pub said : t.said ≡ manner.troubles t.now.guard
   pub lines : text ≡ notice_of s.said t.said
 
+-- After one that was asked to stop there is no other.
 abbrev pub IsLink : {K : Type 0} → Manner K → Stage K → Link → Stage K → Type 0
 IsLink manner s (served turns) t = IsServed manner s turns t
-IsLink manner s (ticked turns look text) t = IsTicked manner s turns look text t
+IsLink manner s (ticked turns look text) t = IsTicked manner false s turns look text t
 IsLink manner s (withheld turns event text) t = IsHeldBack manner s turns event text t
+IsLink manner s (ended turns text) t = ⊥
 
 -- ---- the begin
 
@@ -255,6 +303,7 @@ abbrev pub link_text : Link → List ℕ
 link_text (served turns) = []
 link_text (ticked turns look text) = text
 link_text (withheld turns event text) = text
+link_text (ended turns text) = text
 
 abbrev pub chain_text : List Link → List ℕ
 chain_text links = flat_map link_text links
@@ -272,6 +321,7 @@ pub record EndsSo {K : Type 0} (manner : Manner K) (count : ℕ) (fault : ServeF
   pub counts : last.counts ≡ then.counts
   pub announcing : last.announcing ≡ then.announcing
   pub said : last.said ≡ then.said
+  pub metrics : last.metrics ≡ then.metrics
 
 -- it did so before so many turns were served
 pub record RunsUntil {K : Type 0} (manner : Manner K) (fault : ServeFault) (count : ℕ) (first : Stage K) (links : List Link) (last : Stage K)
@@ -282,9 +332,20 @@ pub record RunsUntil {K : Type 0} (manner : Manner K) (fault : ServeFault) (coun
   pub most : then.now.served.turns + left ≡ first.now.served.turns + count
   pub ends : EndsSo manner left fault then last
 
+-- at a tick it was asked to stop, and nothing was served after that
+pub record RunsToStop {K : Type 0} (manner : Manner K) (first : Stage K) (links : List Link) (last : Stage K) : Type 0 where
+  pub then : Stage K
+  pub before : List Link
+  pub chain : AreLinks manner first before then
+  pub turns : List Turn
+  pub text : List ℕ
+  pub stops : IsTicked manner true then turns stopping text last
+  pub is : links ≡ before ++ ended turns text ∷ []
+
 -- what a run of so many turns leads to, by its answer
-abbrev pub Runs : {K : Type 0} → Manner K → ℕ → Stage K → Result (Unit {0}) ServeFault → List Link → Stage K → Type 0
-Runs manner count first (Ok done) links last = RunsWhole manner count first links last
+abbrev pub Runs : {K : Type 0} → Manner K → ℕ → Stage K → Result End ServeFault → List Link → Stage K → Type 0
+Runs manner count first (Ok end.Turns) links last = RunsWhole manner count first links last
+Runs manner count first (Ok end.Stopped) links last = RunsToStop manner first links last
 Runs manner count first (Err fault) links last = RunsUntil manner fault count first links last
 
 -- What is due at a tick is done, unless another tick is due already at the wire, and is done then only if none is. (Turns that were served
@@ -293,9 +354,15 @@ abbrev pub DoesDue : {K : Type 0} → Stage K → Link → Stage K → Bool → 
 DoesDue s (served turns) t behind = (t.now.scene.gateway.ticks ≡ s.now.scene.gateway.ticks) ⊎ (behind ≡ true)
 DoesDue s (ticked turns look text) t behind = behind ≡ false
 DoesDue s (withheld turns event text) t behind = ⊤
+DoesDue s (ended turns text) t behind = behind ≡ false
 
--- what comes of a stretch of at most so many turns and of what is done after it, with what is reported then, by whether the wire has a
--- tick that is due already
-abbrev pub Advances : {K : Type 0} → Manner K → ℕ → Stage K → Result (Unit {0}) ServeFault → List ℕ → Stage K → Bool → Type 0
-Advances manner count s (Ok done) text t behind = (link : Link) × IsLink manner s link t × (text ≡ link_text link) × DoesDue s link t behind
+-- what is done after a stretch of at most so many turns, by whether the gateway is to stop, and whether the wire has a tick that is
+-- due already
+abbrev pub AdvancesBy : {K : Type 0} → Manner K → (stops : Bool) → Stage K → List ℕ → Stage K → (behind : Bool) → Type 0
+AdvancesBy manner false s text t behind = (link : Link) × IsLink manner s link t × (text ≡ link_text link) × DoesDue s link t behind
+AdvancesBy manner true s text t behind = (turns : List Turn) × IsTicked manner true s turns stopping text t × DoesDue s (ended turns text) t behind
+
+-- what comes of a stretch of at most so many turns and of what is done after it, with what is reported then
+abbrev pub Advances : {K : Type 0} → Manner K → ℕ → Stage K → Result Bool ServeFault → List ℕ → Stage K → (behind : Bool) → Type 0
+Advances manner count s (Ok stops) text t behind = AdvancesBy manner stops s text t behind
 Advances manner count s (Err fault) text t behind = EndsSo manner count fault s t × (text ≡ [])

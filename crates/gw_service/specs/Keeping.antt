@@ -39,6 +39,12 @@ IsKeptFor held Nowhere c w Nowhere = ⊤
 IsKeptFor held (In k) c w (In l) = IsTried held (record k { origin = origin_of c }) w l
 IsKeptFor held _ c w _ = ⊥
 
+-- at the end: its state is kept at once
+abbrev pub IsKeptLast : {S : Type 0} → (S → Option (List ℕ)) → Kept S → State → Kept S → Type 0
+IsKeptLast held Nowhere w Nowhere = ⊤
+IsKeptLast held (In k) w (In l) = IsTried held k w l
+IsKeptLast held _ w _ = ⊥
+
 -- why the last try failed, if it did
 abbrev pub failing_in : {S : Type 0} → Kept S → Option StoreFault
 failing_in Nowhere = None

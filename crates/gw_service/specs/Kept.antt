@@ -1,8 +1,9 @@
 -- What a run leaves: one that may keep its state, read its configuration again, report and be watched.
-use Rattle.std.specs.Prelude.{◌≡◌, ◌⊎◌, ⊤, ℕ, ◌&&◌, ◌||◌, Bool, true, false, is_some, not, List, [], ◌++◌, Option, Some, None, Result, Ok, Err, option_map, string_bytes}
+use Rattle.std.specs.Prelude.{◌≡◌, ◌⊎◌, ⊤, ℕ, ◌&&◌, ◌||◌, Bool, true, false, is_some, not, List, [], ◌∷◌, ◌++◌, Option, Some, None, Result, Ok, Err, option_map, string_bytes}
 use Rattle.std.specs.Global.{Vec}
 use Rattle.gw_configuration.specs.Configuration.{Configuration}
 use Rattle.gw_core.specs.State.{State}
+use Rattle.gw_core.specs.declared.event.Counts.{Counts}
 use Rattle.gw_state.specs.Saved.{Saved, origin_of}
 use Rattle.gw_core.specs.Guard.{PassesBoth}
 use Rattle.gw_turns.specs.Announcing.{first_announcing}
@@ -19,16 +20,22 @@ use Rattle.gw_turns.specs.declared.tally.Tally.{Tally}
 use Rattle.gw_system.specs.Host.{LogOpening}
 use Rattle.gw_watchers.specs.Watching.{HasWatched, Watching}
 use Rattle.gw_system.specs.Opening.{IsNote}
-use Rattle.gw_system.specs.Requests.{Asking, recorded_by}
+use Rattle.gw_system.specs.Requests.{Asking, GoesOn, answered, recorded_by}
 use Rattle.gw_system.specs.declared.opening.OpenFailure.{OpenFailure}
 use Rattle.gw_system.specs.declared.reading.ReadFailure.{ReadFailure}
 use Rattle.gw_system.specs.declared.reading.ReadFailure.TheVariants as reading
+use Rattle.gw_system.specs.declared.store.StoreKind.{StoreKind}
+use Rattle.gw_system.specs.declared.store.StoreKind.TheVariants as kind
 use Rattle.gw_service.specs.Chain.{Begins, Link, Manner, Runs, Stage, chain_text, manner, stage}
+use Rattle.gw_service.specs.declared.running.End.{End}
+use Rattle.gw_service.specs.declared.running.End.TheVariants as end
+use Rattle.gw_metrics.specs.file.Writing.{Metering, nothing_written}
 use Rattle.gw_notices.specs.Startup.{IsWarning, startup_line}
+use Rattle.gw_service.specs.Metering.{MetersLast, lost_by, metered, meters_by, seconds_of}
 use Rattle.gw_service.specs.Fault.{fault_of_opening, fault_of_serving}
-use Rattle.gw_service.specs.Keeping.{IsKeptAtTick, IsKeptFor, IsPassed, troubles_in, unkept_in}
-use Rattle.gw_notices.specs.Notices.{no_troubles, notice_of}
-use Rattle.gw_service.specs.Watch.{IsKeptAtTickBeside, IsKeptForBeside, IsUnwatched, IsWatcherUnder, WatchNames, is_watched, more_of, troubles_of, unaudited_note, watch_names}
+use Rattle.gw_service.specs.Keeping.{IsKeptAtTick, IsKeptFor, IsKeptLast, IsPassed, failing_in, troubles_in, unkept_in}
+use Rattle.gw_notices.specs.Notices.{no_troubles, notice_of, stop_line}
+use Rattle.gw_service.specs.Watch.{IsKeptAtTickBeside, IsKeptForBeside, IsKeptLastBeside, IsUnwatched, IsWatcherUnder, WatchNames, is_watched, more_of, troubles_of, unaudited_note, watch_names}
 use Rattle.gw_service.specs.Serving.{AreOpen, ArentOpen, Ends, LeavesServed, LogStays, Machine, Service, ends, log_held, service}
 use Rattle.gw_service.specs.Start.{BeginsAs, IsStateRead, counts_of, start_text}
 use Rattle.gw_notices.specs.Reload.{counts_since}
@@ -72,25 +79,29 @@ IsLastLine LastLines (Some state) (Some log) outcome =
     (read : Result (Option (List ℕ)) ReadFailure) × LastLines log read × (outcome ≡ line_outcome read)
 IsLastLine LastLines _ _ outcome = outcome ≡ Ok None
 
+-- what opening a store of a name may give, by what it is for
+abbrev pub StoreOpening : Type 0 → Type 1
+StoreOpening S = StoreKind → List ℕ → Result S StoreFault → Type 0
+
 -- the store under this name, if one is named, or why it can't be opened
 abbrev pub store_outcome : {S : Type 0} → Result S StoreFault → Result (Option S) ServiceFault
 store_outcome (Ok store) = Ok (Some store)
 store_outcome (Err f) = Err (fault.Store f)
 
-abbrev pub IsStoreUnder : {S : Type 0} → (List ℕ → Result S StoreFault → Type 0) → Option (List ℕ) → Result (Option S) ServiceFault → Type 0
+abbrev pub IsStoreUnder : {S : Type 0} → StoreOpening S → Option (List ℕ) → Result (Option S) ServiceFault → Type 0
 IsStoreUnder StoreOpens None outcome = outcome ≡ Ok None
 IsStoreUnder {S} StoreOpens (Some name) outcome =
-    (opened : Result S StoreFault) × StoreOpens name opened × (outcome ≡ store_outcome opened)
+    (opened : Result S StoreFault) × StoreOpens kind.Kept name opened × (outcome ≡ store_outcome opened)
 
 -- the store of the metrics under this name, if one is named, or why it can't be opened
 abbrev pub metrics_outcome : {S : Type 0} → Result S StoreFault → Result (Option S) ServiceFault
 metrics_outcome (Ok store) = Ok (Some store)
 metrics_outcome (Err f) = Err (fault.Metrics f)
 
-abbrev pub IsMetricsUnder : {S : Type 0} → (List ℕ → Result S StoreFault → Type 0) → Option (List ℕ) → Result (Option S) ServiceFault → Type 0
+abbrev pub IsMetricsUnder : {S : Type 0} → StoreOpening S → Option (List ℕ) → Result (Option S) ServiceFault → Type 0
 IsMetricsUnder StoreOpens None outcome = outcome ≡ Ok None
 IsMetricsUnder {S} StoreOpens (Some name) outcome =
-    (opened : Result S StoreFault) × StoreOpens name opened × (outcome ≡ metrics_outcome opened)
+    (opened : Result S StoreFault) × StoreOpens kind.Shown name opened × (outcome ≡ metrics_outcome opened)
 
 -- what asks by the file of this name to read this configuration again, if one is named
 abbrev pub AreRequestsUnder : {Q : Type 0} → (List ℕ → List ℕ → Q → Type 0) → Option (List ℕ) → List ℕ → Option Q → Type 0
@@ -114,7 +125,7 @@ KeepsFirst held _ c w _ = ⊥
 -- ---- a run
 
 -- what a store holds, what requests say and what a log beside the log holds; what was saved, the last line of the log, and the
--- store, the requests and what watches, if there are some
+-- store, that of the metrics, the requests and what watches, if there are some
 pub record Given (S Q L : Type 0) : Type 0 where
   pub held : S → Option (List ℕ)
   pub said : Q → Asking
@@ -122,6 +133,7 @@ pub record Given (S Q L : Type 0) : Type 0 where
   pub saved : Option Saved
   pub line : Option (List ℕ)
   pub store : Option S
+  pub metrics : Option S
   pub requests : Option Q
   pub watcher : Option (Watching L L)
 
@@ -133,6 +145,7 @@ given held said log_held before = record {
   saved = before.saved;
   line = option_map (λ line. line.items) before.line;
   store = before.store;
+  metrics = before.metrics;
   requests = before.requests;
   watcher = before.watcher;
 }
@@ -143,7 +156,9 @@ no_more k w = []
 
 -- what keeps the state of a gateway, by a store
 abbrev pub manner_of : {S : Type 0} → (S → Option (List ℕ)) → Reporting → Manner (Kept S)
-manner_of held how = manner (IsPassed held) (IsKeptAtTick held) (IsKeptFor held) troubles_in (due_stats unkept_in no_more how)
+manner_of held how =
+    manner (IsPassed held) (IsKeptAtTick held) (IsKeptFor held) troubles_in (due_stats unkept_in no_more how) (meters_by how.start)
+    (IsKeptLast held)
 
 -- the same, and what watches it
 abbrev pub unkept_of : {S L : Type 0} → Both (Kept S) (Watching L L) → ℕ
@@ -153,18 +168,47 @@ abbrev pub watched_manner_of : {S L : Type 0} → (S → Option (List ℕ)) → 
     → Manner (Both (Kept S) (Watching L L))
 watched_manner_of held log_held how =
     manner (PassesBoth (IsPassed held) (HasWatched log_held log_held)) (IsKeptAtTickBeside held) (IsKeptForBeside held) troubles_of
-    (due_stats unkept_of more_of how)
+    (due_stats unkept_of more_of how) (meters_by how.start) (IsKeptLastBeside held)
+
+-- the outcome of a run that was asked to stop, by why the state isn't kept, if it isn't
+abbrev pub outcome_of_stop : Option StoreFault → Result (Unit {0}) ServiceFault
+outcome_of_stop None = Ok tt
+outcome_of_stop (Some f) = Err (fault.Store f)
 
 -- the outcome of a run, by the answer of serving
-abbrev pub outcome_by : Result (Unit {0}) ServeFault → Result (Unit {0}) ServiceFault
-outcome_by (Ok done) = Ok done
-outcome_by (Err fault) = Err (fault_of_serving fault)
+abbrev pub outcome_by : Result End ServeFault → (failing : Option StoreFault) → Result (Unit {0}) ServiceFault
+outcome_by (Ok end.Turns) failing = Ok tt
+outcome_by (Ok end.Stopped) failing = outcome_of_stop failing
+outcome_by (Err fault) failing = Err (fault_of_serving fault)
+
+-- the gateway was asked to stop
+abbrev pub is_stopped : Result End ServeFault → Bool
+is_stopped (Ok end.Turns) = false
+is_stopped (Ok end.Stopped) = true
+is_stopped (Err fault) = false
+
+-- what is answered and reported at the end, if the gateway was asked to stop
+abbrev pub stop_text : Result End ServeFault → (failing : Option StoreFault) → List ℕ
+stop_text (Ok end.Turns) failing = []
+stop_text (Ok end.Stopped) failing = stop_line failing
+stop_text (Err fault) failing = []
+
+abbrev pub AnswersStop : Result End ServeFault → (failing : Option StoreFault) → (before after : Asking) → Type 0
+AnswersStop (Ok end.Turns) failing before after = after ≡ before
+AnswersStop (Ok end.Stopped) failing before after = GoesOn before after (answered (stop_line failing) ∷ [])
+AnswersStop (Err fault) failing before after = after ≡ before
+
+-- the metrics are put once more then
+abbrev pub MetersEnd : Result End ServeFault → Option Metering → Option ℕ → Option Metering → Type 0
+MetersEnd (Ok end.Turns) before seconds after = after ≡ before
+MetersEnd (Ok end.Stopped) before seconds after = MetersLast before seconds after
+MetersEnd (Err fault) before seconds after = after ≡ before
 
 -- the first stage: nothing was counted, an announcement is due, and it was reported whether the state is kept
 abbrev pub first_stage : {S Q L K : Type 0} → Given S Q L → Configuration → State → K → Troubles → Ends → Stage K
 first_stage given c w keeper troubles ends =
     stage c (moment (scene w ends.log ends.calls) keeper zero_counts no_tally) (recorded_by given.said given.requests) (counts_since w.ticks)
-    first_announcing troubles
+    first_announcing troubles (metered (option_map nothing_written given.metrics))
 
 -- What is reported of such a run, of which a gateway in this state begins: how often its state couldn't be kept, if it is or
 -- requests are looked for, and how often its configuration was read again, if they are.
@@ -172,10 +216,29 @@ abbrev pub reporting_of : {S Q L : Type 0} → Given S Q L → Service → State
 reporting_of given how w =
     reporting how.stats (counts_of w) (is_some given.requests || is_some given.store) (is_some given.requests)
 
+-- what is left of a run: what kept its state, and what was asked and answered
+pub record Rest (K : Type 0) : Type 0 where
+  pub keeper : K
+  pub requests : Asking
+
+abbrev pub rest : {K : Type 0} → K → Asking → Rest K
+rest keeper requests = record { keeper = keeper; requests = requests }
+
+-- what a run does at its end, from the last stage of it: it keeps its state once more, whatever ended it; if it was asked to stop,
+-- it puts its metrics once more; it reports what was done; and if it was asked to stop, it answers that
+pub record EndsRun {K : Type 0} (manner : Manner K) (last_report : K → ReloadCounts → Announcing → Option ℕ → State → Served → Tally → List ℕ)
+    (start : Counts) (answer : Result End ServeFault) (last : Stage K) (left : Rest K) (text : List ℕ) : Type 0 where
+  pub keeps : manner.Lasts last.now.guard last.now.scene.gateway left.keeper
+  pub metrics : Option Metering
+  pub put : MetersEnd answer last.metrics (seconds_of start last.now.scene.gateway last.now.served last.now.tally) metrics
+  pub answers : AnswersStop answer (manner.troubles left.keeper).state last.requests left.requests
+  pub said : text ≡ last_report left.keeper last.counts last.announcing (lost_by metrics) last.now.scene.gateway last.now.served last.now.tally
+      ++ stop_text answer (manner.troubles left.keeper).state
+
 -- A run of so many turns from a stage, by its answer: what isn't kept or recorded is reported first, then what is due is announced,
--- before the first turn, and last it is reported what was done.
-pub record RunsFrom {K : Type 0} (manner : Manner K) (last_report : K → ReloadCounts → Announcing → State → Served → Tally → List ℕ)
-    (turns : ℕ) (first : Stage K) (answer : Result (Unit {0}) ServeFault) (after : Ends) (text : List ℕ) : Type 0 where
+-- before the first turn, and last is what it does at its end.
+pub record RunsFrom {K : Type 0} (manner : Manner K) (last_report : K → ReloadCounts → Announcing → Option ℕ → State → Served → Tally → List ℕ)
+    (start : Counts) (turns : ℕ) (first : Stage K) (answer : Result End ServeFault) (after : Ends) (left : Rest K) (text : List ℕ) : Type 0 where
   pub begun : Stage K
   pub begins : Begins first begun
   pub links : List Link
@@ -183,8 +246,9 @@ pub record RunsFrom {K : Type 0} (manner : Manner K) (last_report : K → Reload
   pub runs : Runs manner turns begun answer links last
   pub log : last.now.scene.log ≡ after.log
   pub calls : last.now.scene.calls ≡ after.calls
-  pub said : text ≡ (notice_of no_troubles first.said ++ chain_text links)
-      ++ last_report last.now.guard last.counts last.announcing last.now.scene.gateway last.now.served last.now.tally
+  pub end_text : List ℕ
+  pub ends : EndsRun manner last_report start answer last left end_text
+  pub said : text ≡ (notice_of no_troubles first.said ++ chain_text links) ++ end_text
 
 -- A gateway of this configuration begins with what was saved, its state is kept at once, and then it runs for so many turns, and
 -- reports what it did.
@@ -194,10 +258,11 @@ pub record RunsKept {S Q L : Type 0} (given : Given S Q L) (c : Configuration) (
   pub begins : BeginsAs c given.saved given.line gateway
   pub keeper : Kept S
   pub keeps : KeepsFirst given.held given.store c gateway keeper
-  pub answer : Result (Unit {0}) ServeFault
+  pub answer : Result End ServeFault
+  pub left : Rest (Kept S)
   pub runs : RunsFrom (manner_of given.held (reporting_of given how gateway)) (end_stats unkept_in no_more (reporting_of given how gateway))
-      how.turns (first_stage given c gateway keeper (troubles_in keeper) before) answer after text
-  pub answers : outcome ≡ outcome_by answer
+      (counts_of gateway) how.turns (first_stage given c gateway keeper (troubles_in keeper) before) answer after left text
+  pub answers : outcome ≡ outcome_by answer (failing_in left.keeper)
 
 -- So does one that is watched, beside what keeps its state.
 pub record RunsWatched {S Q L : Type 0} (given : Given S Q L) (watcher : Watching L L) (c : Configuration) (how : Service) (before after : Ends)
@@ -207,11 +272,12 @@ pub record RunsWatched {S Q L : Type 0} (given : Given S Q L) (watcher : Watchin
   pub keeper : Both (Kept S) (Watching L L)
   pub keeps : KeepsFirst given.held given.store c gateway keeper.first
   pub watches : keeper.second ≡ watcher
-  pub answer : Result (Unit {0}) ServeFault
+  pub answer : Result End ServeFault
+  pub left : Rest (Both (Kept S) (Watching L L))
   pub runs : RunsFrom (watched_manner_of given.held given.log_held (reporting_of given how gateway))
-      (end_stats unkept_of more_of (reporting_of given how gateway)) how.turns
-      (first_stage given c gateway keeper (troubles_of keeper) before) answer after text
-  pub answers : outcome ≡ outcome_by answer
+      (end_stats unkept_of more_of (reporting_of given how gateway)) (counts_of gateway) how.turns
+      (first_stage given c gateway keeper (troubles_of keeper) before) answer after left text
+  pub answers : outcome ≡ outcome_by answer (failing_in left.keeper.first)
 
 -- by whether something watches
 abbrev pub RunsBy : {S Q L : Type 0} → Given S Q L → Option (Watching L L) → Configuration → Service → Ends → Ends → List ℕ
@@ -235,13 +301,13 @@ LeavesKept given c how before after text outcome =
 pub record StateMachine (S Q : Type 0) : Type 1 where
   pub FileReads : List ℕ → Result (Option (List ℕ)) ReadFailure → Type 0
   pub LastLines : List ℕ → Result (Option (List ℕ)) ReadFailure → Type 0
-  pub StoreOpens : List ℕ → Result S StoreFault → Type 0
+  pub StoreOpens : StoreOpening S
   pub ReloadsOpen : List ℕ → List ℕ → Q → Type 0
   pub held : S → Option (List ℕ)
   pub said : Q → Asking
 
 abbrev pub state_machine : {S Q : Type 0} → (List ℕ → Result (Option (List ℕ)) ReadFailure → Type 0)
-    → (List ℕ → Result (Option (List ℕ)) ReadFailure → Type 0) → (List ℕ → Result S StoreFault → Type 0) → (List ℕ → List ℕ → Q → Type 0)
+    → (List ℕ → Result (Option (List ℕ)) ReadFailure → Type 0) → StoreOpening S → (List ℕ → List ℕ → Q → Type 0)
     → (S → Option (List ℕ)) → (Q → Asking) → StateMachine S Q
 state_machine FileReads LastLines StoreOpens ReloadsOpen held said = record {
   FileReads = FileReads;

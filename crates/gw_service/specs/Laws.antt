@@ -10,7 +10,8 @@ use Rattle.gw_script.specs.Event.{Event}
 use Rattle.gw_turns.specs.declared.serving.ServeFault.{ServeFault}
 use Rattle.gw_system.specs.Requests.{nobody}
 use Rattle.gw_service.specs.Chain.{AreLinks, Link, Manner, Runs, Stage}
-use Rattle.gw_service.specs.Chain.{served, ticked, unrequested, withheld}
+use Rattle.gw_service.specs.Chain.{ended, served, ticked, unrequested, withheld}
+use Rattle.gw_service.specs.declared.running.End.{End}
 use Rattle.gw_configuration.specs.Configuration.{Configuration}
 use Rattle.gw_watchers.specs.Watching.{Watching}
 use Rattle.gw_service.specs.Counts.{GoesOnFrom, own_fields}
@@ -56,6 +57,7 @@ abbrev pub FindsNone : Link → Type 0
 FindsNone (served turns) = ⊤
 FindsNone (ticked turns look text) = look ≡ unrequested
 FindsNone (withheld turns event text) = ⊤
+FindsNone (ended turns text) = ⊥
 
 -- Nobody asks: no look finds a request, the configuration in force stays, and none is counted as taken over or refused.
 pub record StaysUnasked {K : Type 0} (s : Stage K) (links : List Link) (t : Stage K) : Type 0 where
@@ -67,7 +69,7 @@ pub record StaysUnasked {K : Type 0} (s : Stage K) (links : List Link) (t : Stag
 -- So is a run, however it ends, if nobody asks at its begin.
 abbrev pub NobodyAsks : {K : Type 0} → Manner K → Type 0
 NobodyAsks {K} manner =
-    (count : ℕ) (s t : Stage K) (answer : Result (Unit {0}) ServeFault) (links : List Link) → Runs manner count s answer links t
+    (count : ℕ) (s t : Stage K) (answer : Result End ServeFault) (links : List Link) → Runs manner count s answer links t
     → s.requests ≡ nobody → StaysUnasked s links t
 
 -- A run that keeps no state, looks for no request and announces nothing, but may report or be watched, is one of `serve` from the

@@ -12,4 +12,5 @@ pub mod Laws
 pub mod Watch
 pub mod WatchedRuns
 pub mod Scheduled
+pub mod Metering
 pub mod Metrics

@@ -7,7 +7,7 @@ use Rattle.gw_metrics.specs.declared.counts.Counts.{Counts}
 use Rattle.gw_metrics.specs.declared.counts.Drops.{Drops}
 use Rattle.gw_metrics.specs.declared.counts.Reloads.{Reloads}
 use Rattle.gw_metrics.specs.declared.counts.StateTries.{StateTries}
-use Rattle.gw_metrics.specs.file.Writing.{Writing, WritesAtTick}
+use Rattle.gw_metrics.specs.file.Writing.{IsTried, Writing, WritesAtTick}
 use Rattle.gw_relay.specs.declared.port.PortState.{PortState}
 use Rattle.gw_rules.specs.declared.rule.Rule.{Rule}
 use Rattle.gw_turns.specs.Reports.{has_gone_on, report_of}
@@ -82,6 +82,18 @@ abbrev pub PutsInto : {S : Type 0} → (S → Option (List ℕ)) → Writing S �
 PutsInto held before m w decisions after =
     (c : Counts) × AreCounts m w.rules decisions (map device_count w.relay.ports) before.lost c
     × WritesAtTick held before m.report.seconds (metrics_text c) after
+
+-- or whether it is due or not
+abbrev pub PutsNow : {S : Type 0} → (S → Option (List ℕ)) → Writing S → Measures → State → Option (List ℕ) → Writing S → Type 0
+PutsNow held before m w decisions after =
+    (c : Counts) × AreCounts m w.rules decisions (map device_count w.relay.ports) before.lost c
+    × IsTried held before m.report.seconds (metrics_text c) after
+
+abbrev pub PutsLast : {S : Type 0} → (S → Option (List ℕ)) → Option (Writing S) → Option Measures → State → Option (List ℕ)
+    → Option (Writing S) → Type 0
+PutsLast held (Some before) (Some m) w decisions (Some after) = PutsNow held before m w decisions after
+PutsLast held (Some before) (Some m) w decisions None = ⊥
+PutsLast held before _ w decisions after = after ≡ before
 
 -- if there is a store
 abbrev pub PutsDue : {S : Type 0} → (S → Option (List ℕ)) → Option (Writing S) → Option Measures → State → Option (List ℕ)

@@ -6,7 +6,7 @@ use Rattle.gw_turns.specs.Reports.{announcing_text, has_gone_on, report_line, re
 use Rattle.gw_turns.specs.declared.announcing.Announcing.{Announcing}
 use Rattle.gw_turns.specs.declared.serving.Served.{Served}
 use Rattle.gw_turns.specs.declared.tally.Tally.{Tally}
-use Rattle.gw_notices.specs.Stats.{reloads_text, unkept_text}
+use Rattle.gw_notices.specs.Stats.{lost_metrics_text, reloads_text, unkept_text}
 use Rattle.gw_notices.specs.declared.reload.ReloadCounts.{ReloadCounts}
 
 -- When what is reported: each so many seconds, if reports are asked for; since a gateway began with these counts; and whether
@@ -21,10 +21,13 @@ abbrev pub reporting : Option ℕ → Counts → (keeps reloads : Bool) → Repo
 reporting seconds start keeps reloads =
     record { seconds = seconds; start = start; keeps = keeps; reloads = reloads }
 
--- how often the state couldn't be kept and the configuration was read again, what was announced, and what else the keeper reports
-abbrev pub tries_text : {K : Type 0} → (K → ℕ) → (K → State → List ℕ) → Reporting → K → ReloadCounts → Announcing → State → List ℕ
-tries_text unkept more how k counts announcing w =
-    unkept_text how.keeps (unkept k) ++ (reloads_text how.reloads counts ++ (announcing_text announcing ++ more k w))
+-- how often the state couldn't be kept and the configuration was read again, how many texts of metrics were lost, what was
+-- announced, and what else the keeper reports
+abbrev pub tries_text : {K : Type 0} → (K → ℕ) → (K → State → List ℕ) → Reporting → K → ReloadCounts → Announcing → Option ℕ → State
+    → List ℕ
+tries_text unkept more how k counts announcing lost w =
+    unkept_text how.keeps (unkept k)
+    ++ (reloads_text how.reloads counts ++ (lost_metrics_text lost ++ (announcing_text announcing ++ more k w)))
 
 -- a report of what was done since then, and these tries
 abbrev pub stats_text : Reporting → State → Served → Tally → (tries : List ℕ) → List ℕ
@@ -40,17 +43,17 @@ abbrev pub end_by : Option ℕ → (text : List ℕ) → List ℕ
 end_by None text = []
 end_by (Some seconds) text = text
 
-abbrev pub end_stats : {K : Type 0} → (K → ℕ) → (K → State → List ℕ) → Reporting → K → ReloadCounts → Announcing → State → Served
+abbrev pub end_stats : {K : Type 0} → (K → ℕ) → (K → State → List ℕ) → Reporting → K → ReloadCounts → Announcing → Option ℕ → State → Served
     → Tally → List ℕ
-end_stats unkept more how k counts announcing w s tally =
-    end_by how.seconds (stats_text how w s tally (tries_text unkept more how k counts announcing w))
+end_stats unkept more how k counts announcing lost w s tally =
+    end_by how.seconds (stats_text how w s tally (tries_text unkept more how k counts announcing lost w))
 
 -- what is reported at a tick: something if a multiple of so many seconds has passed
 abbrev pub due_by : Option ℕ → Counts → State → (text : List ℕ) → List ℕ
 due_by None start w text = []
 due_by (Some seconds) start w text = if is_due start w seconds then text else []
 
-abbrev pub due_stats : {K : Type 0} → (K → ℕ) → (K → State → List ℕ) → Reporting → K → ReloadCounts → Announcing → State → Served
+abbrev pub due_stats : {K : Type 0} → (K → ℕ) → (K → State → List ℕ) → Reporting → K → ReloadCounts → Announcing → Option ℕ → State → Served
     → Tally → List ℕ
-due_stats unkept more how k counts announcing w s tally =
-    due_by how.seconds how.start w (stats_text how w s tally (tries_text unkept more how k counts announcing w))
+due_stats unkept more how k counts announcing lost w s tally =
+    due_by how.seconds how.start w (stats_text how w s tally (tries_text unkept more how k counts announcing lost w))

@@ -15,7 +15,7 @@ use Rattle.gw_watchers.specs.declared.files.fault.WatchFault.{WatchFault}
 use Rattle.gw_watchers.specs.declared.files.fault.WatchFault.TheVariants as watch
 use Rattle.gw_watchers.specs.Watching.{Watching, with_marks}
 use Rattle.gw_watchers.specs.declared.beside.Beside.{Beside}
-use Rattle.gw_service.specs.Keeping.{IsKeptAtTick, IsKeptFor, failing_in}
+use Rattle.gw_service.specs.Keeping.{IsKeptAtTick, IsKeptFor, IsKeptLast, failing_in}
 use Rattle.gw_service.specs.declared.fault.ServiceFault.{ServiceFault}
 use Rattle.gw_service.specs.declared.fault.ServiceFault.TheVariants as fault
 use Rattle.gw_service.specs.declared.keeping.Kept.{Kept}
@@ -116,6 +116,11 @@ IsUnwatched FileReads LastLines LogOpens c names f =
 abbrev pub IsKeptAtTickBeside : {S T A : Type 0} → (S → Option (List ℕ)) → Both (Kept S) (Watching T A) → State → Both (Kept S) (Watching T A)
     → Type 0
 IsKeptAtTickBeside held k w l = IsKeptAtTick held k.first w l.first × (l.second ≡ k.second)
+
+-- So it is at the end.
+abbrev pub IsKeptLastBeside : {S T A : Type 0} → (S → Option (List ℕ)) → Both (Kept S) (Watching T A) → State → Both (Kept S) (Watching T A)
+    → Type 0
+IsKeptLastBeside held k w l = IsKeptLast held k.first w l.first × (l.second ≡ k.second)
 
 -- counts begin anew, if there are some
 abbrev pub BeginAnew : (new : List ℕ) → (before after : Option (List ℕ)) → Type 0

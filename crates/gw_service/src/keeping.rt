@@ -5,7 +5,7 @@ ghost use Rattle.std.specs.Io.KnownBytes.{Appends};
 ghost use Rattle.gw_configuration.specs.Configuration.{Configuration};
 ghost use Rattle.gw_core.specs.State.{State};
 ghost use Rattle.gw_state.specs.Saved.{origin_of};
-ghost use Rattle.gw_service.specs.Keeping.{IsKeptAtTick, IsKeptFor, IsPassed, IsSuccessor, failing_in, no_losses, tries_in, troubles_in, unkept_in};
+ghost use Rattle.gw_service.specs.Keeping.{IsKeptAtTick, IsKeptFor, IsKeptLast, IsPassed, IsSuccessor, failing_in, no_losses, tries_in, troubles_in, unkept_in};
 ghost use Rattle.gw_metrics.specs.declared.counts.StateTries.{StateTries};
 ghost use Rattle.gw_notices.specs.declared.losses.Losses.{Losses};
 ghost use Rattle.gw_notices.specs.declared.troubles.Troubles.{Troubles};
@@ -28,6 +28,9 @@ pub trait StateKeeper: Guard {
 
     /// What it does if a gateway of another configuration goes on in this state.
     ghost Adopts: { Self → Configuration → State → Self → Type 0 };
+
+    /// What it does at the end, in this state of the gateway.
+    ghost Lasts: { Self → State → Self → Type 0 };
 
     /// What isn't kept or recorded.
     ghost troubles: { Self → Troubles };
@@ -54,6 +57,10 @@ pub trait StateKeeper: Guard {
     /// Goes on with another gateway, of whose configuration this is made.
     fn adopt(&mut self, alloc: Global, successor: Successor, gateway: &Gateway)
         ensures { (c : Configuration) → IsSuccessor c successor → Adopts self.old c gateway.now self.new };
+
+    /// Does what is due at the end, whatever ended the run.
+    fn keep_last(&mut self, alloc: Global, gateway: &Gateway)
+        ensures { Lasts self.old gateway.now self.new };
 
     /// What isn't kept or recorded.
     fn troubles(&self) -> Troubles
@@ -119,6 +126,8 @@ impl<S: Store + Drop> StateKeeper for Kept<S> {
 
     ghost Adopts = { IsKeptFor S.held };
 
+    ghost Lasts = { IsKeptLast S.held };
+
     ghost troubles = { troubles_in };
 
     ghost unkept = { unkept_in };
@@ -139,6 +148,10 @@ impl<S: Store + Drop> StateKeeper for Kept<S> {
 
     fn adopt(&mut self, alloc: Global, successor: Successor, gateway: &Gateway) {
         self.keep_for(alloc, successor.origin, gateway);
+    }
+
+    fn keep_last(&mut self, alloc: Global, gateway: &Gateway) {
+        self.keep_once_more(alloc, gateway);
     }
 
     fn troubles(&self) -> Troubles {
@@ -184,6 +197,15 @@ impl<S: Store + Drop> Kept<S> {
     {
         if let Kept::In(keeper) = self {
             keeper.adopt(alloc, origin, gateway);
+        }
+    }
+
+    /// Keeps the state of the gateway at once, whether that is due or not.
+    pub(crate) fn keep_once_more(&mut self, alloc: Global, gateway: &Gateway)
+        ensures { IsKeptLast S.held self.old gateway.now self.new }
+    {
+        if let Kept::In(keeper) = self {
+            keeper.keep_last(alloc, gateway);
         }
     }
 

@@ -13,7 +13,7 @@ ghost use Rattle.gw_turns.specs.Announcing.{first_announcing};
 ghost use Rattle.gw_turns.specs.Serve.{zero_counts};
 ghost use Rattle.gw_turns.specs.Stretch.{CanCount};
 ghost use Rattle.gw_turns.specs.Tally.{no_tally};
-ghost use Rattle.gw_service.specs.Kept.{AreRequestsUnder, IsLastLine, IsMetricsUnder, IsStateUnder, IsStoreUnder, IsUnprepared, KeepsFirst, LeavesKept, LeavesWithState, given, line_read, names_of, outcome_by, state_machine, text_before};
+ghost use Rattle.gw_service.specs.Kept.{AreRequestsUnder, IsLastLine, IsMetricsUnder, IsStateUnder, IsStoreUnder, IsUnprepared, KeepsFirst, LeavesKept, LeavesWithState, given, line_read, names_of, outcome_by, outcome_of_stop, state_machine, text_before};
 ghost use Rattle.gw_notices.specs.Startup.{startup_line};
 ghost use Rattle.gw_notices.specs.Reload.{counts_since};
 ghost use Rattle.gw_service.specs.Serving.{IsFlushedFor, LogStays, ends, log_held, machine, service};
@@ -25,7 +25,7 @@ ghost use Rattle.gw_system.specs.Host.{OpensAtLine};
 use crate::fault::ServiceFault;
 use crate::keeping::{Kept, StateKeeper};
 use crate::metrics::metrics_in;
-use crate::running::Running;
+use crate::running::{End, Running};
 use crate::serving::{Opening, open};
 use crate::start::{MAX_STATE_OCTETS, begin_after, saved_in, start_text};
 use crate::stats::Schedule;
@@ -36,10 +36,10 @@ use gw_log_words::Notes;
 use gw_notices::{ReloadCounts, Troubles, warning_of, write_note};
 use gw_script::OctetSink;
 use gw_state::{Origin, Saved};
-use gw_system::{Host, ReadFailure, Requests, note_of};
+use gw_system::{Host, ReadFailure, Requests, StoreKind, note_of};
 use gw_turns::{Announcing, Keeper, ServeFault, ServeState};
 use gw_watchers::Watcher;
-use gw_wire::{Store, Wire};
+use gw_wire::{Store, StoreFault, Wire};
 use std::alloc::{AllocError, Global};
 use std::io::{BufWriter, Write};
 
@@ -108,7 +108,7 @@ fn store_under<H: Host>(
     ensures { IsStoreUnder (H.StoreOpens host.now) (option_map string_bytes name.now) result }
 {
     match name {
-        Some(name) => match host.open_store(alloc, name) {
+        Some(name) => match host.open_store(alloc, name, StoreKind::Kept) {
             Ok(store) => Ok(Some(store)),
             Err(fault) => Err(ServiceFault::Store(fault)),
         },
@@ -125,7 +125,7 @@ fn metrics_under<H: Host>(
     ensures { IsMetricsUnder (H.StoreOpens host.now) (option_map string_bytes name.now) result }
 {
     match name {
-        Some(name) => match host.open_store(alloc, name) {
+        Some(name) => match host.open_store(alloc, name, StoreKind::Shown) {
             Ok(store) => Ok(Some(store)),
             Err(fault) => Err(ServiceFault::Metrics(fault)),
         },
@@ -289,12 +289,26 @@ fn make_running<S: Store + Drop, Q: Requests + Drop, T: OctetSink + Drop>(
     })
 }
 
-/// The outcome of a run, by the answer of serving.
-fn outcome_of(answer: Result<(), ServeFault>) -> Result<(), ServiceFault>
-    ensures { result ≡ outcome_by answer }
+/// The outcome of a run that was asked to stop, by why its state isn't kept.
+fn outcome_of_stop(failing: Option<StoreFault>) -> Result<(), ServiceFault>
+    ensures { result ≡ outcome_of_stop failing }
+{
+    match failing {
+        None => Ok(()),
+        Some(fault) => Err(ServiceFault::Store(fault)),
+    }
+}
+
+/// The outcome of a run, by the answer of serving, and by why its state isn't kept.
+fn outcome_of(
+    answer: Result<End, ServeFault>,
+    failing: Option<StoreFault>,
+) -> Result<(), ServiceFault>
+    ensures { result ≡ outcome_by answer failing }
 {
     match answer {
-        Ok(()) => Ok(()),
+        Ok(End::Turns) => Ok(()),
+        Ok(End::Stopped) => outcome_of_stop(failing),
         Err(fault) => Err(ServiceFault::from(fault)),
     }
 }
@@ -307,7 +321,7 @@ fn is_kept<S, Q, T: OctetSink + Drop>(before: &Before<S, Q, T>) -> bool
 }
 
 /// Runs a gateway of this configuration on a log, for so many turns, and says at the start if its state isn't kept.
-/// Faults: `Log`, `Memory` and `CountEnd`.
+/// Faults: `Log`, `Memory` and `CountEnd`, and `Store` if it was asked to stop and its state isn't kept.
 fn run_on<
     S: Store + Drop,
     Q: Requests + Drop,
@@ -344,9 +358,13 @@ fn run_on<
     match watcher {
         Some(watcher) => {
             let mut watched = running.watched_by(watcher);
-            outcome_of(watched.run(alloc, sockets, log, errors, &schedule, turns))
+            let answer = watched.run(alloc, sockets, log, errors, &schedule, turns);
+            outcome_of(answer, watched.keeper.troubles().state)
         }
-        None => outcome_of(running.run(alloc, sockets, log, errors, &schedule, turns)),
+        None => {
+            let answer = running.run(alloc, sockets, log, errors, &schedule, turns);
+            outcome_of(answer, running.keeper.troubles().state)
+        }
     }
 }
 

@@ -3,7 +3,8 @@
 ghost use Rattle.std.specs.Prelude.{◌≡◌, ◌≤◌, length, map, option_map};
 ghost use Rattle.gw_addr.specs.declared.TheConstants.{MAX_PORTS};
 ghost use Rattle.gw_metrics.specs.file.Writing.{nothing_written};
-ghost use Rattle.gw_service.specs.Metrics.{AreCounts, PutsDue, PutsInto, device_count, drops_of, reloads_of};
+ghost use Rattle.gw_service.specs.Metering.{failing_by, lost_by, metered};
+ghost use Rattle.gw_service.specs.Metrics.{AreCounts, PutsDue, PutsInto, PutsLast, PutsNow, device_count, drops_of, reloads_of};
 
 use crate::keeping::StateKeeper;
 use arrayvec::ArrayVec;
@@ -16,7 +17,7 @@ use gw_notices::{Losses, ReloadCounts};
 use gw_relay::PortState;
 use gw_rules::RuleList;
 use gw_turns::{Announcing, Report};
-use gw_wire::Store;
+use gw_wire::{Store, StoreFault};
 use std::alloc::Global;
 
 /// What is measured of a run at a moment, beside what each rule decided and what each port has.
@@ -135,6 +136,52 @@ fn put_into<S: Store + Drop>(
     metrics.at_tick(alloc, measures.report.seconds, &counts);
 }
 
+/// Puts the text of what was measured into a store, whether it is due or not.
+fn put_now<S: Store + Drop>(
+    alloc: Global,
+    metrics: &mut Metrics<S>,
+    measures: &Measures,
+    gateway: &Gateway,
+    decisions: &Option<Tally>,
+)
+    ensures { PutsNow S.held metrics.old measures.now gateway.now decisions.now metrics.new }
+{
+    let devices = devices_of(gateway.relay().ports());
+    let lost = metrics.lost();
+    let counts = counts_of(
+        measures,
+        gateway.rules(),
+        decisions,
+        devices.as_slice(),
+        lost,
+    );
+    metrics.put_now(alloc, measures.report.seconds, &counts);
+}
+
+/// Puts the text of what was measured into a store, if there is one and something was measured, whether it is due or not.
+pub(crate) fn put_last<K: StateKeeper, S: Store + Drop>(
+    alloc: Global,
+    metrics: &mut Option<Metrics<S>>,
+    measured: &Option<Measures>,
+    gateway: &Gateway,
+    keeper: &K,
+)
+    ensures { PutsLast S.held metrics.old measured.now gateway.now (K.decisions keeper.now) metrics.new }
+{
+    if let Some(metrics) = metrics {
+        if let Some(measures) = measured {
+            let nothing = None;
+            put_now(
+                alloc,
+                metrics,
+                measures,
+                gateway,
+                keeper.decisions(&nothing),
+            );
+        }
+    }
+}
+
 /// Puts the text of what was measured into a store, if there is one, something was measured and a text is due.
 pub(crate) fn put_due<K: StateKeeper, S: Store + Drop>(
     alloc: Global,
@@ -156,6 +203,26 @@ pub(crate) fn put_due<K: StateKeeper, S: Store + Drop>(
                 keeper.decisions(&nothing),
             );
         }
+    }
+}
+
+/// Why the last try to put metrics failed, if it did.
+pub(crate) fn failing_of<S: Store + Drop>(metrics: &Option<Metrics<S>>) -> Option<StoreFault>
+    ensures { result ≡ failing_by (metered metrics.now) }
+{
+    match metrics {
+        Some(metrics) => metrics.failing(),
+        None => None,
+    }
+}
+
+/// How many texts of metrics were lost, if they are put.
+pub(crate) fn lost_of<S: Store + Drop>(metrics: &Option<Metrics<S>>) -> Option<u64>
+    ensures { result ≡ lost_by (metered metrics.now) }
+{
+    match metrics {
+        Some(metrics) => Some(metrics.lost()),
+        None => None,
     }
 }
 

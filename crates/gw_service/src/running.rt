@@ -1,36 +1,39 @@
 //! A gateway that runs by stretches: each is served to a tick, and then its state is kept, and its configuration read again
 //! if that was asked for.
 
-ghost use Rattle.std.specs.Prelude.{◌≡◌, ◌+◌, ◌≤◌, ◌<◌, ◌^◌, ◌∷◌, [], ℕ, List, IfOk, IsErrOf, Ok, OnOk};
+ghost use Rattle.std.specs.Prelude.{◌≡◌, ◌+◌, ◌≤◌, ◌<◌, ◌^◌, ◌++◌, ◌∷◌, [], ℕ, List, Option, IfOk, IsErrOf, Ok, OnOk, false, true};
 ghost use Rattle.std.specs.Option.{option_map_or};
 ghost use Rattle.std.specs.Io.KnownBytes.{Appends, Keeps};
 ghost use Rattle.gw_configuration.specs.Configuration.{Configuration};
 ghost use Rattle.gw_state.specs.Saved.{origin_of};
 ghost use Rattle.gw_turns.specs.Serve.{scene};
 ghost use Rattle.gw_turns.specs.Stretch.{CanCount, moment};
-ghost use Rattle.gw_system.specs.Requests.{Asking, GoesOn, IsAsking, asked, text_found};
+ghost use Rattle.gw_system.specs.Requests.{Asking, GoesOn, IsAsking, answered, asked, text_found};
 ghost use Rattle.gw_service.specs.Chain.{Advances, AtTick, IsLooked, IsNotedBy, Link, Looks, Runs, chain_text, manner, stage, standing};
-ghost use Rattle.gw_notices.specs.Notices.{no_troubles, notice_of};
+ghost use Rattle.gw_notices.specs.Notices.{no_troubles, notice_of, stop_line};
 ghost use Rattle.gw_notices.specs.Reload.{refusal_line};
-ghost use Rattle.gw_service.specs.Kept.{RunsFrom};
+ghost use Rattle.gw_service.specs.Kept.{EndsRun, RunsFrom, is_stopped, rest};
+ghost use Rattle.gw_service.specs.Metering.{MetersLast, lost_by, metered, meters_by, seconds_of};
 ghost use Rattle.gw_service.specs.Serving.{ends};
+ghost use Rattle.gw_wire.specs.Wire.{Call};
 ghost use Rattle.gw_service.specs.Scheduled.{reporting_by};
 ghost use Rattle.gw_service.specs.Stats.{due_stats, end_stats};
 
 use crate::keeping::StateKeeper;
-use crate::metrics::put_due;
+use crate::metrics::{failing_of, lost_of, put_due, put_last};
 use crate::reload::{Adopted, reloaded};
 use crate::stats::{RunCounts, Schedule};
 use gw_core::{Both, Gateway};
 use gw_log_words::Notes;
 use gw_metrics::file::Metrics;
 use gw_notices::{
-    ReloadCounts, ReloadFault, Troubles, line_with_place, refusal_line, report_notices, write_note,
+    ReloadCounts, ReloadFault, Troubles, line_with_place, refusal_line, report_metrics,
+    report_notices, stop_line, untaken_line, write_note,
 };
 use gw_policy_text::MAX_OCTETS;
 use gw_script::OctetSink;
 use gw_state::Origin;
-use gw_system::{ReadFailure, Requests};
+use gw_system::{ReadFailure, Request, Requests};
 use gw_turns::{Announcing, Pause, ServeFault, ServeState};
 use gw_wire::{Store, Wire};
 use std::alloc::Global;
@@ -75,6 +78,22 @@ impl<K: Drop, Q: Drop, M: Store + Drop> Drop for Running<K, Q, M> {
     }
 }
 
+/// How a run ends that no fault ends.
+#[derive(Clone, Copy)]
+pub enum End {
+    /// All turns were served.
+    Turns,
+    /// It was asked to stop.
+    Stopped,
+}
+
+/// Whether a run was asked to stop, by how it ended.
+fn is_stopped(answer: Result<End, ServeFault>) -> bool
+    ensures { result ≡ is_stopped answer }
+{
+    matches!(answer, Ok(End::Stopped))
+}
+
 /// This line of what isn't taken over, or else that of the fault, which takes no memory.
 fn line_or(line: &Option<Vec<u8>>, fault: ReloadFault) -> &[u8]
     ensures { result.now ≡ option_map_or (λ line. line.items) line.now (refusal_line fault) }
@@ -97,13 +116,14 @@ impl<K: StateKeeper, Q: Requests, M: Store + Drop> Running<K, Q, M> {
         requires { IsAsking (Q.recorded self.old.requests) }
         ensures looked { (first : Asking) →
             GoesOn first (Q.recorded self.old.requests) (asked (text_found read.now) ∷ []) →
-            Looks (IsLooked K.Adopts) (IsNotedBy L.Takes log.old log.new) self.old.origin
+            Looks (IsLooked K.Adopts) (IsNotedBy L.Takes log.old log.new false) self.old.origin
             (standing self.old.gateway self.old.keeper first self.old.counts self.old.announcing)
             self.new.origin (standing self.new.gateway self.new.keeper (Q.recorded self.new.requests) self.new.counts self.new.announcing)
             (E.NeverFails errors.old) (E.held errors.old) (E.held errors.new) }
         ensures log { Keeps (L.held log.old) (L.held log.new) }
         ensures state { self.new.state ≡ self.old.state }
         ensures said { self.new.said ≡ self.old.said }
+        ensures metrics { self.new.metrics ≡ self.old.metrics }
         ensures lasts { E.NeverFails errors.old → E.NeverFails errors.new }
     {
         match reloaded(alloc, &self.gateway, &self.origin, read) {
@@ -135,19 +155,30 @@ impl<K: StateKeeper, Q: Requests, M: Store + Drop> Running<K, Q, M> {
         }
     }
 
-    /// Looks for a request, and if there is one reads the configuration again.
-    fn look<L: Notes, E: OctetSink>(&mut self, alloc: Global, log: &mut L, errors: &mut E)
-        ensures looked { Looks (IsLooked K.Adopts) (IsNotedBy L.Takes log.old log.new) self.old.origin
+    /// Looks for a request, and if there is one to read the configuration again does so. It answers whether there is one to stop.
+    fn look<L: Notes, E: OctetSink>(&mut self, alloc: Global, log: &mut L, errors: &mut E) -> bool
+        ensures looked { Looks (IsLooked K.Adopts) (IsNotedBy L.Takes log.old log.new result) self.old.origin
             (standing self.old.gateway self.old.keeper (Q.recorded self.old.requests) self.old.counts self.old.announcing)
             self.new.origin (standing self.new.gateway self.new.keeper (Q.recorded self.new.requests) self.new.counts self.new.announcing)
             (E.NeverFails errors.old) (E.held errors.old) (E.held errors.new) }
         ensures log { Keeps (L.held log.old) (L.held log.new) }
         ensures state { self.new.state ≡ self.old.state }
         ensures said { self.new.said ≡ self.old.said }
+        ensures metrics { self.new.metrics ≡ self.old.metrics }
+        ensures asking { result ≡ true → IsAsking (Q.recorded self.new.requests) }
         ensures lasts { E.NeverFails errors.old → E.NeverFails errors.new }
     {
-        if let Some(read) = self.requests.take(alloc, MAX_OCTETS) {
-            self.reload(alloc, &read, log, errors);
+        match self.requests.take(alloc, MAX_OCTETS) {
+            None => false,
+            Some(Request::Reload(read)) => {
+                self.reload(alloc, &read, log, errors);
+                false
+            }
+            Some(Request::Stop) => true,
+            Some(Request::Untaken) => {
+                write_note(untaken_line().as_bytes(), errors);
+                false
+            }
         }
     }
 
@@ -163,24 +194,30 @@ impl<K: StateKeeper, Q: Requests, M: Store + Drop> Running<K, Q, M> {
         troubles
     }
 
-    /// Does what is due at a tick: does what is due of the state, and looks for a request.
-    fn at_tick<L: Notes, E: OctetSink>(&mut self, alloc: Global, log: &mut L, errors: &mut E)
-        ensures done { Looks (AtTick K.Ticks K.Adopts) (IsNotedBy L.Takes log.old log.new) self.old.origin
+    /// Does what is due at a tick: does what is due of the state, and looks for a request. It answers whether there is one to stop.
+    fn at_tick<L: Notes, E: OctetSink>(
+        &mut self,
+        alloc: Global,
+        log: &mut L,
+        errors: &mut E,
+    ) -> bool
+        ensures done { Looks (AtTick K.Ticks K.Adopts) (IsNotedBy L.Takes log.old log.new result) self.old.origin
             (standing self.old.gateway self.old.keeper (Q.recorded self.old.requests) self.old.counts self.old.announcing)
             self.new.origin (standing self.new.gateway self.new.keeper (Q.recorded self.new.requests) self.new.counts self.new.announcing)
             (E.NeverFails errors.old) (E.held errors.old) (E.held errors.new) }
         ensures log { Keeps (L.held log.old) (L.held log.new) }
         ensures state { self.new.state ≡ self.old.state }
         ensures said { self.new.said ≡ self.old.said }
+        ensures metrics { self.new.metrics ≡ self.old.metrics }
+        ensures asking { result ≡ true → IsAsking (Q.recorded self.new.requests) }
         ensures lasts { E.NeverFails errors.old → E.NeverFails errors.new }
     {
         self.keeper.keep_at_tick(alloc, &self.gateway);
-        self.look(alloc, log, errors);
+        self.look(alloc, log, errors)
     }
 
     /// Serves a stretch of at most so many turns, and does what is due after it: after a tick also what is to be announced. If
-    /// another tick is due already, what is due is left to that one.
-    /// Faults: those of serving.
+    /// another tick is due already, what is due is left to that one. It answers whether it is to stop. Faults: those of serving.
     fn advance<W: Wire, L: Notes, E: OctetSink>(
         &mut self,
         alloc: Global,
@@ -189,22 +226,23 @@ impl<K: StateKeeper, Q: Requests, M: Store + Drop> Running<K, Q, M> {
         errors: &mut E,
         schedule: &Schedule,
         turns: u64,
-    ) -> Result<(), ServeFault>
+    ) -> Result<bool, ServeFault>
         requires count { CanCount self.old.state.served self.old.state.tally (W.failure_count wire.old) turns }
         ensures advances { (c : Configuration) → self.old.origin ≡ origin_of c →
             let before = stage c (moment (scene self.old.gateway (L.held log.old) (W.calls wire.old)) self.old.keeper
-            self.old.state.served self.old.state.tally) (Q.recorded self.old.requests) self.old.counts self.old.announcing self.old.said in
+            self.old.state.served self.old.state.tally) (Q.recorded self.old.requests) self.old.counts self.old.announcing self.old.said (metered self.old.metrics) in
             (d : Configuration) × (text : List ℕ) × (self.new.origin ≡ origin_of d)
             × Advances (manner K.Passes K.Ticks K.Adopts K.troubles
-            (due_stats K.unkept K.more (reporting_by schedule.now))) turns before result text
+            (due_stats K.unkept K.more (reporting_by schedule.now)) (meters_by schedule.now.start) K.Lasts) turns before result text
             (stage d (moment (scene self.new.gateway (L.held log.new) (W.calls wire.new)) self.new.keeper
-            self.new.state.served self.new.state.tally) (Q.recorded self.new.requests) self.new.counts self.new.announcing self.new.said)
+            self.new.state.served self.new.state.tally) (Q.recorded self.new.requests) self.new.counts self.new.announcing self.new.said (metered self.new.metrics))
             (W.behind wire.new)
             × (E.NeverFails errors.old → Appends (E.held errors.old) (E.held errors.new) text) }
         ensures rest { (rest : ℕ) → self.new.state.served.turns + rest ≤ self.old.state.served.turns + turns →
             CanCount self.new.state.served self.new.state.tally (W.failure_count wire.new) rest }
         ensures more { 0 < turns → OnOk result (self.old.state.served.turns < self.new.state.served.turns) }
         ensures most { self.new.state.served.turns ≤ self.old.state.served.turns + turns }
+        ensures asking { result ≡ Ok true → IsAsking (Q.recorded self.new.requests) }
         ensures lasts { E.NeverFails errors.old → E.NeverFails errors.new }
     {
         let keeper = &mut self.keeper;
@@ -212,20 +250,22 @@ impl<K: StateKeeper, Q: Requests, M: Store + Drop> Running<K, Q, M> {
             .state
             .serve_to_tick(alloc, &mut self.gateway, wire, log, keeper, turns)
         {
-            Ok(Pause::Turns) => {}
+            Ok(Pause::Turns) => Ok(false),
             Ok(Pause::Tick) => {
                 if wire.is_behind() {
-                    return Ok(());
+                    return Ok(false);
                 }
-                self.at_tick(alloc, log, errors);
+                let stops = self.at_tick(alloc, log, errors);
                 self.announcing.announce(alloc, &self.gateway, wire);
                 self.said = self.notice(errors);
                 let counts = RunCounts {
                     reloads: self.counts,
                     announcing: self.announcing,
+                    lost_metrics: lost_of(&self.metrics),
                 };
                 schedule.report_due(&self.gateway, &self.state, &self.keeper, counts, errors);
                 let measured = schedule.measure(&self.gateway, &self.state, &self.keeper, counts);
+                let was = failing_of(&self.metrics);
                 put_due(
                     alloc,
                     &mut self.metrics,
@@ -233,16 +273,21 @@ impl<K: StateKeeper, Q: Requests, M: Store + Drop> Running<K, Q, M> {
                     &self.gateway,
                     &self.keeper,
                 );
+                report_metrics(was, failing_of(&self.metrics), errors);
+                Ok(stops)
             }
-            Ok(Pause::Withheld) => self.said = self.notice(errors),
-            Err(fault) => return Err(fault),
+            Ok(Pause::Withheld) => {
+                self.said = self.notice(errors);
+                Ok(false)
+            }
+            Err(fault) => Err(fault),
         }
-        Ok(())
     }
 
     /// Serves a wire for so many turns, by stretches. After each tick behind which no other is due already the keeper does what is
-    /// due, and a request is looked for; if there is one the configuration is read again, and the gateway goes on by it, or as it is. If an announcement is
-    /// due, it is made then. It reports as the schedule asks, and its metrics are put into their store when that is due.
+    /// due, and a request is looked for; if there is one to read the configuration again, that is done, and the gateway goes on by it, or as it is; after one to
+    /// stop nothing more is served. If an announcement is due, it is made then. It reports as the schedule asks, and its metrics
+    /// are put into their store when that is due.
     ///
     /// # Errors
     ///
@@ -255,33 +300,115 @@ impl<K: StateKeeper, Q: Requests, M: Store + Drop> Running<K, Q, M> {
         errors: &mut E,
         schedule: &Schedule,
         turns: u64,
-    ) -> Result<(), ServeFault>
+    ) -> Result<End, ServeFault>
         requires count { CanCount self.old.state.served self.old.state.tally (W.failure_count wire.old) turns }
         ensures runs { (c : Configuration) → self.old.origin ≡ origin_of c →
             let before = stage c (moment (scene self.old.gateway (L.held log.old) (W.calls wire.old)) self.old.keeper
-            self.old.state.served self.old.state.tally) (Q.recorded self.old.requests) self.old.counts self.old.announcing self.old.said in
+            self.old.state.served self.old.state.tally) (Q.recorded self.old.requests) self.old.counts self.old.announcing self.old.said (metered self.old.metrics) in
             (d : Configuration) × (links : List Link) × (self.new.origin ≡ origin_of d)
             × Runs (manner K.Passes K.Ticks K.Adopts K.troubles
-            (due_stats K.unkept K.more (reporting_by schedule.now))) turns before result links
+            (due_stats K.unkept K.more (reporting_by schedule.now)) (meters_by schedule.now.start) K.Lasts) turns before result links
             (stage d (moment (scene self.new.gateway (L.held log.new) (W.calls wire.new)) self.new.keeper
-            self.new.state.served self.new.state.tally) (Q.recorded self.new.requests) self.new.counts self.new.announcing self.new.said)
+            self.new.state.served self.new.state.tally) (Q.recorded self.new.requests) self.new.counts self.new.announcing self.new.said (metered self.new.metrics))
             × (E.NeverFails errors.old → Appends (E.held errors.old) (E.held errors.new) (chain_text links)) }
+        ensures asking { is_stopped result ≡ true → IsAsking (Q.recorded self.new.requests) }
         ensures lasts { E.NeverFails errors.old → E.NeverFails errors.new }
     {
         let mut left = turns;
         for _ in 0..turns {
             if left == 0 {
-                return Ok(());
+                return Ok(End::Turns);
             }
             let before = self.state.served.turns;
-            self.advance(alloc, wire, log, errors, schedule, left)?;
+            let stops = self.advance(alloc, wire, log, errors, schedule, left)?;
+            if stops {
+                return Ok(End::Stopped);
+            }
             left -= self.state.served.turns - before;
         }
-        Ok(())
+        Ok(End::Turns)
+    }
+
+    /// Reports at the end what was done, if the schedule asks for that.
+    fn report_end<E: OctetSink>(&self, schedule: &Schedule, errors: &mut E)
+        ensures said { E.NeverFails errors.old → Appends (E.held errors.old) (E.held errors.new)
+            (end_stats K.unkept K.more (reporting_by schedule.now) self.now.keeper self.now.counts self.now.announcing
+            (lost_by (metered self.now.metrics)) self.now.gateway self.now.state.served self.now.state.tally) }
+        ensures lasts { E.NeverFails errors.old → E.NeverFails errors.new }
+    {
+        let counts = RunCounts {
+            reloads: self.counts,
+            announcing: self.announcing,
+            lost_metrics: lost_of(&self.metrics),
+        };
+        schedule.report_last(&self.gateway, &self.state, &self.keeper, counts, errors);
+    }
+
+    /// Does what is due at the end of a run that was asked to stop, once its state was kept: puts its metrics once more, reports
+    /// what was done, and answers that it stopped, or why its state isn't kept.
+    fn stop<E: OctetSink>(&mut self, alloc: Global, schedule: &Schedule, errors: &mut E)
+        requires asking { IsAsking (Q.recorded self.old.requests) }
+        ensures keeper { self.new.keeper ≡ self.old.keeper }
+        ensures put { MetersLast (metered self.old.metrics) (seconds_of schedule.now.start self.old.gateway self.old.state.served
+            self.old.state.tally) (metered self.new.metrics) }
+        ensures answers { GoesOn (Q.recorded self.old.requests) (Q.recorded self.new.requests)
+            (answered (stop_line (K.troubles self.old.keeper).state) ∷ []) }
+        ensures said { E.NeverFails errors.old → Appends (E.held errors.old) (E.held errors.new)
+            (end_stats K.unkept K.more (reporting_by schedule.now) self.old.keeper self.old.counts self.old.announcing
+            (lost_by (metered self.new.metrics)) self.old.gateway self.old.state.served self.old.state.tally
+            ++ stop_line (K.troubles self.old.keeper).state) }
+        ensures lasts { E.NeverFails errors.old → E.NeverFails errors.new }
+    {
+        let counts = RunCounts {
+            reloads: self.counts,
+            announcing: self.announcing,
+            lost_metrics: lost_of(&self.metrics),
+        };
+        let measured = schedule.measure(&self.gateway, &self.state, &self.keeper, counts);
+        put_last(
+            alloc,
+            &mut self.metrics,
+            &measured,
+            &self.gateway,
+            &self.keeper,
+        );
+        self.report_end(schedule, errors);
+        let line = stop_line(self.keeper.troubles().state).as_bytes();
+        self.requests.answer(line);
+        write_note(line, errors);
+    }
+
+    /// Does what is due at the end of a run that ended so: keeps its state once more, and reports what was done, and what else is
+    /// due if it was asked to stop.
+    fn end<E: OctetSink>(
+        &mut self,
+        alloc: Global,
+        answer: Result<End, ServeFault>,
+        schedule: &Schedule,
+        errors: &mut E,
+    )
+        requires asking { is_stopped answer ≡ true → IsAsking (Q.recorded self.old.requests) }
+        ensures ends { (c : Configuration) (log : Option (List ℕ)) (calls : Option (List Call)) →
+            let last = stage c (moment (scene self.old.gateway log calls) self.old.keeper self.old.state.served self.old.state.tally)
+            (Q.recorded self.old.requests) self.old.counts self.old.announcing self.old.said (metered self.old.metrics) in
+            let how = reporting_by schedule.now in
+            (text : List ℕ) × EndsRun (manner K.Passes K.Ticks K.Adopts K.troubles (due_stats K.unkept K.more how) (meters_by how.start)
+            K.Lasts) (end_stats K.unkept K.more how) how.start answer last (rest self.new.keeper (Q.recorded self.new.requests)) text
+            × (E.NeverFails errors.old → Appends (E.held errors.old) (E.held errors.new) text) }
+        ensures lasts { E.NeverFails errors.old → E.NeverFails errors.new }
+    {
+        self.keeper.keep_last(alloc, &self.gateway);
+        if is_stopped(answer) {
+            self.stop(alloc, schedule, errors);
+        } else {
+            self.report_end(schedule, errors);
+        }
     }
 
     /// Serves a wire for so many turns as [`Running::serve`] does. Before it reports what isn't kept or recorded, and announces
-    /// the gateway's networks on each port; after it reports what was done, if the schedule asks for that.
+    /// the gateway's networks on each port. After it, whatever ended it, it keeps its state once more; puts its metrics once more
+    /// if it was asked to stop; reports what was done, if the schedule asks for that; and answers that it stopped, or why its state
+    /// isn't kept.
     ///
     /// # Errors
     ///
@@ -294,27 +421,23 @@ impl<K: StateKeeper, Q: Requests, M: Store + Drop> Running<K, Q, M> {
         errors: &mut E,
         schedule: &Schedule,
         turns: u64,
-    ) -> Result<(), ServeFault>
+    ) -> Result<End, ServeFault>
         requires count { CanCount self.old.state.served self.old.state.tally (W.failure_count wire.old) turns }
         requires untold { self.old.said ≡ no_troubles }
         ensures runs { (c : Configuration) → self.old.origin ≡ origin_of c →
             let before = stage c (moment (scene self.old.gateway (L.held log.old) (W.calls wire.old)) self.old.keeper
-            self.old.state.served self.old.state.tally) (Q.recorded self.old.requests) self.old.counts self.old.announcing (K.troubles self.old.keeper) in
+            self.old.state.served self.old.state.tally) (Q.recorded self.old.requests) self.old.counts self.old.announcing (K.troubles self.old.keeper) (metered self.old.metrics) in
             let how = reporting_by schedule.now in
             let after = ends (L.held log.new) (W.calls wire.new) in
-            (text : List ℕ) × RunsFrom (manner K.Passes K.Ticks K.Adopts K.troubles (due_stats K.unkept K.more how))
-            (end_stats K.unkept K.more how) turns before result after text
+            (text : List ℕ) × RunsFrom (manner K.Passes K.Ticks K.Adopts K.troubles (due_stats K.unkept K.more how) (meters_by how.start) K.Lasts)
+            (end_stats K.unkept K.more how) how.start turns before result after (rest self.new.keeper (Q.recorded self.new.requests)) text
             × (E.NeverFails errors.old → Appends (E.held errors.old) (E.held errors.new) text) }
         ensures lasts { E.NeverFails errors.old → E.NeverFails errors.new }
     {
         self.said = self.notice(errors);
         self.announcing.announce(alloc, &self.gateway, wire);
         let answer = self.serve(alloc, wire, log, errors, schedule, turns);
-        let counts = RunCounts {
-            reloads: self.counts,
-            announcing: self.announcing,
-        };
-        schedule.report_last(&self.gateway, &self.state, &self.keeper, counts, errors);
+        self.end(alloc, answer, schedule, errors);
         answer
     }
 

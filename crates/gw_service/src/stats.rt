@@ -9,7 +9,7 @@ ghost use Rattle.gw_service.specs.Stats.{due_stats, end_stats, is_due, reporting
 use crate::keeping::StateKeeper;
 use crate::metrics::Measures;
 use gw_core::{Counts, Gateway};
-use gw_notices::{ReloadCounts, report_reloads, report_unkept};
+use gw_notices::{ReloadCounts, report_lost_metrics, report_reloads, report_unkept};
 use gw_script::OctetSink;
 use gw_turns::{Announcing, ServeState, has_gone_on, report_announcing, report_of, try_report};
 
@@ -20,6 +20,8 @@ pub(crate) struct RunCounts {
     pub reloads: ReloadCounts,
     /// What is to be announced, and what was.
     pub announcing: Announcing,
+    /// How many texts of metrics were lost, if they are put.
+    pub lost_metrics: Option<u64>,
 }
 
 /// When a report is due: the counts of the gateway at first, and the seconds from one to the next, if reports are asked for;
@@ -46,8 +48,8 @@ fn is_due(start: Counts, gateway: &Gateway, seconds: u64) -> bool
 }
 
 impl Schedule {
-    /// Reports how often the state couldn't be kept, if it is, how often the configuration was read again, if it is, what was
-    /// announced, if anything was, and what else the keeper reports.
+    /// Reports how often the state couldn't be kept, if it is, how often the configuration was read again, if it is, how many
+    /// texts of metrics were lost, if they are put, what was announced, if anything was, and what else the keeper reports.
     fn report_tries<K: StateKeeper, E: OctetSink>(
         &self,
         gateway: &Gateway,
@@ -57,11 +59,12 @@ impl Schedule {
     )
         ensures said { let how = reporting self.now.seconds self.now.start self.now.keeps self.now.reloads in
             E.NeverFails errors.old → Appends (E.held errors.old) (E.held errors.new)
-            (tries_text K.unkept K.more how keeper.now counts.reloads counts.announcing gateway.now) }
+            (tries_text K.unkept K.more how keeper.now counts.reloads counts.announcing counts.lost_metrics gateway.now) }
         ensures lasts { E.NeverFails errors.old → E.NeverFails errors.new }
     {
         report_unkept(self.keeps, keeper.unkept(), errors);
         report_reloads(self.reloads, counts.reloads, errors);
+        report_lost_metrics(counts.lost_metrics, errors);
         report_announcing(counts.announcing, errors);
         keeper.report_more(gateway, errors);
     }
@@ -78,7 +81,7 @@ impl Schedule {
         ensures said { let how = reporting self.now.seconds self.now.start self.now.keeps self.now.reloads in
             E.NeverFails errors.old → Appends (E.held errors.old) (E.held errors.new)
             (stats_text how gateway.now state.now.served state.now.tally
-            (tries_text K.unkept K.more how keeper.now counts.reloads counts.announcing gateway.now)) }
+            (tries_text K.unkept K.more how keeper.now counts.reloads counts.announcing counts.lost_metrics gateway.now)) }
         ensures lasts { E.NeverFails errors.old → E.NeverFails errors.new }
     {
         if has_gone_on(self.start, gateway, &state.served) {
@@ -123,7 +126,7 @@ impl Schedule {
     )
         ensures said { let how = reporting self.now.seconds self.now.start self.now.keeps self.now.reloads in
             E.NeverFails errors.old → Appends (E.held errors.old) (E.held errors.new)
-            (due_stats K.unkept K.more how keeper.now counts.reloads counts.announcing gateway.now state.now.served state.now.tally) }
+            (due_stats K.unkept K.more how keeper.now counts.reloads counts.announcing counts.lost_metrics gateway.now state.now.served state.now.tally) }
         ensures lasts { E.NeverFails errors.old → E.NeverFails errors.new }
     {
         if let Some(seconds) = self.seconds {
@@ -144,7 +147,7 @@ impl Schedule {
     )
         ensures said { let how = reporting self.now.seconds self.now.start self.now.keeps self.now.reloads in
             E.NeverFails errors.old → Appends (E.held errors.old) (E.held errors.new)
-            (end_stats K.unkept K.more how keeper.now counts.reloads counts.announcing gateway.now state.now.served state.now.tally) }
+            (end_stats K.unkept K.more how keeper.now counts.reloads counts.announcing counts.lost_metrics gateway.now state.now.served state.now.tally) }
         ensures lasts { E.NeverFails errors.old → E.NeverFails errors.new }
     {
         if self.seconds.is_some() {

@@ -1,7 +1,7 @@
 //! A gateway whose state may be kept, and which is watched.
 
 ghost use Rattle.std.specs.Prelude.{◌≡◌};
-ghost use Rattle.gw_service.specs.Watch.{BeginAnew, IsKeptAtTickBeside, IsKeptForBeside, counted_of, has_lost, log_count, losses_of, lost_of, more_of, troubles_of};
+ghost use Rattle.gw_service.specs.Watch.{BeginAnew, IsKeptAtTickBeside, IsKeptForBeside, IsKeptLastBeside, counted_of, has_lost, log_count, losses_of, lost_of, more_of, troubles_of};
 ghost use Rattle.gw_service.specs.Keeping.{tries_in, unkept_in};
 
 use crate::keeping::{Kept, StateKeeper};
@@ -75,6 +75,8 @@ impl<S: Store + Drop, T: OctetSink + Drop, A: OctetSink + Drop> StateKeeper
 
     ghost Adopts = { IsKeptForBeside S.held };
 
+    ghost Lasts = { IsKeptLastBeside S.held };
+
     ghost troubles = { troubles_of };
 
     ghost unkept = { λ both. unkept_in both.first };
@@ -100,6 +102,10 @@ impl<S: Store + Drop, T: OctetSink + Drop, A: OctetSink + Drop> StateKeeper
         self.first.keep_for(alloc, origin, gateway);
         let counts = begun_anew(self.second.counts(), counts);
         self.second.go_on(marks, counts);
+    }
+
+    fn keep_last(&mut self, alloc: Global, gateway: &Gateway) {
+        self.first.keep_once_more(alloc, gateway);
     }
 
     fn troubles(&self) -> Troubles {

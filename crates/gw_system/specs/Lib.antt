@@ -7,3 +7,4 @@ pub mod Waiting
 pub mod Request
 pub mod Requests
 pub mod StampedHost
+pub mod Store

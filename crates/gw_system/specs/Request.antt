@@ -16,9 +16,20 @@ reload_request text = codes "reload " ++ (decimal (length text) ++ (codes " " ++
 abbrev pub is_line : List ℕ → Bool
 is_line text = ends_with nat_eq text (10 ∷ []) && not (list_any (λ o. o == 10) (take (length text - 1) text))
 
--- A request is nothing, or a line that names the text of a configuration.
+-- A request to read the configuration again is nothing, or a line that names the text of one.
+abbrev pub is_reload : List ℕ → Bool
+is_reload text = (length text == 0) || (starts_with nat_eq text (codes "reload ") && is_line text)
+
+-- the line of a request to stop
+abbrev pub stop_request : List ℕ
+stop_request = codes "stop\n"
+
+abbrev pub is_stop : List ℕ → Bool
+is_stop text = pointwise nat_eq text stop_request
+
+-- a text is one of both
 abbrev pub is_request : List ℕ → Bool
-is_request text = (length text == 0) || (starts_with nat_eq text (codes "reload ") && is_line text)
+is_request text = is_reload text || is_stop text
 
 -- what is given of a text that was read if a request names one: that text alone
 abbrev pub checked_text : (request text : List ℕ) → Result (Option (List ℕ)) ReadFailure

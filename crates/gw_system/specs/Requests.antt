@@ -1,13 +1,18 @@
--- What asks a running gateway to read its configuration again, and what it is answered.
+-- What a running gateway is asked for, and what it answers.
 use Rattle.std.specs.Prelude.{◌≡◌, ⊤, ℕ, List, ◌++◌, Option, Some, None, Result, Ok, Err}
 use Rattle.std.specs.List.{AllByRecursion}
 use Rattle.std.specs.Global.{Vec}
 use Rattle.gw_system.specs.declared.reading.ReadFailure.{ReadFailure}
+use Rattle.gw_system.specs.declared.request.Request.{Request}
+use Rattle.gw_system.specs.declared.request.Request.TheVariants as request
 
--- no request was there; one was, and the text of the configuration, if it is there, or why it can't be read; and an answer
+-- no request was there; one to read the configuration again was, and its text, if it is there, or why it can't be read; one to
+-- stop; something that isn't taken; and an answer
 pub data Exchange : Type 0 where
   unasked : Exchange
   asked : (text : Result (Option (List ℕ)) ReadFailure) → Exchange
+  asked_to_stop : Exchange
+  untaken : Exchange
   answered : (text : List ℕ) → Exchange
 
 -- What is known of what asks: that nobody does; nothing; or what was asked and answered so far, in order.
@@ -20,6 +25,8 @@ pub data Asking : Type 0 where
 abbrev pub IsUnasked : Exchange → Type 0
 IsUnasked unasked = ⊤
 IsUnasked (asked text) = ⊥
+IsUnasked asked_to_stop = ⊥
+IsUnasked untaken = ⊥
 IsUnasked (answered text) = ⊥
 
 -- What was known goes on by these, or is no more known.
@@ -48,9 +55,14 @@ text_found (Ok (Some text)) = Ok (Some text.items)
 text_found (Err failure) = Err failure
 
 -- what looking for a request found
-abbrev pub asked_by : Option (Result (Option (Vec ℕ)) ReadFailure) → Exchange
+abbrev pub asked_for : Request → Exchange
+asked_for (request.Reload text) = asked (text_found text)
+asked_for request.Stop = asked_to_stop
+asked_for request.Untaken = untaken
+
+abbrev pub asked_by : Option Request → Exchange
 asked_by None = unasked
-asked_by (Some text) = asked (text_found text)
+asked_by (Some request) = asked_for request
 
 -- what is known of what asks, if something does
 abbrev pub recorded_by : {Q : Type 0} → (Q → Asking) → Option Q → Asking

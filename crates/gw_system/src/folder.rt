@@ -1,7 +1,9 @@
 //! Files by their names, as requests and their answers use them.
 
-ghost use Rattle.std.specs.Prelude.{◌≡◌, ◌≢◌, Some, None, Ok, false, true, List, ℕ, IfOk, OnOk};
+ghost use Rattle.std.specs.Prelude.{◌≡◌, ◌≢◌, ⊤, Some, None, Ok, Result, false, true, List, ℕ, IfOk, OnOk};
 ghost use Rattle.gw_system.specs.Folder.{Holds, IsTakenAway, Known, octets_of};
+ghost use Rattle.gw_system.specs.declared.store.Access.{Access};
+ghost use Rattle.gw_wire.specs.declared.store.StoreFault.{StoreFault};
 
 use crate::reading::{ReadFailure, read_file};
 use crate::store::{Access, replace_file, store_fault};
@@ -14,6 +16,10 @@ use std::rt::Files;
 pub trait Folder {
     /// What is known of the file of a name.
     ghost known: { Self → List ℕ → Known };
+
+    /// What replacing the file of a name may do: the names of the file and of the one beside it, who may read it, its text,
+    /// and whether it was done.
+    ghost Replaces: { Self → List ℕ → List ℕ → Access → List ℕ → Result (Unit {0}) StoreFault → Self → Type 0 };
 
     /// Whether there may be a file of this name.
     fn has(&self, name: &str) -> bool
@@ -42,6 +48,7 @@ pub trait Folder {
         access: Access,
         octets: &[u8],
     ) -> Result<(), StoreFault>
+        ensures replaces { Replaces self.old name.now beside.now access octets.now result self.new }
         ensures made { OnOk result (Holds (known self.new name.now) (Some octets.now)) }
         ensures others { (other : List ℕ) → other ≢ name.now → other ≢ beside.now →
             known self.new other ≡ known self.old other };
@@ -56,6 +63,8 @@ pub struct SystemFolder<'a, R> {
 
 impl<R: Files> Folder for SystemFolder<'_, R> {
     ghost known = { λ _ _. None };
+
+    ghost Replaces = { λ _ _ _ _ _ _ _. ⊤ };
 
     fn has(&self, name: &str) -> bool {
         match self.rt.symlink_metadata(name) {

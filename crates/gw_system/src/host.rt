@@ -3,10 +3,14 @@
 ghost use Rattle.std.specs.Prelude.{◌≡◌, ◌≤◌, ℕ, Bool, List, length, ⊤, Result, Option, IfOk, IfErr, IfSome, string_bytes};
 ghost use Rattle.gw_addr.specs.declared.TheConstants.{MAX_PORTS};
 ghost use Rattle.gw_configuration.specs.declared.port.Port.{Port};
+ghost use Rattle.gw_system.specs.FileRequests.{AreFilesOf};
 ghost use Rattle.gw_system.specs.Host.{IsSocketFailure, OpensAtLine};
+ghost use Rattle.gw_system.specs.declared.folder.SystemFolder.{SystemFolder};
 ghost use Rattle.gw_system.specs.declared.opening.LogFailure.{LogFailure};
 ghost use Rattle.gw_system.specs.declared.opening.SocketFailure.{SocketFailure};
 ghost use Rattle.gw_system.specs.Requests.{text_found};
+ghost use Rattle.gw_system.specs.Store.{IsStoreOf};
+ghost use Rattle.gw_system.specs.declared.store.StoreKind.{StoreKind};
 ghost use Rattle.gw_system.specs.declared.reading.ReadFailure.{ReadFailure};
 ghost use Rattle.gw_wire.specs.declared.store.StoreFault.{StoreFault};
 
@@ -16,7 +20,7 @@ use crate::opening::{LogFailure, SocketFailure, Step};
 use crate::poll_waiter::PollWaiter;
 use crate::reading::{ReadFailure, read_file, read_last_line};
 use crate::requests::{AskedFile, FileRequests, Requests, make_request, wait_for_answer};
-use crate::store::FileStore;
+use crate::store::{FileStore, StoreKind};
 use crate::system_clock::SystemClock;
 use crate::udp::{UdpSock, open_pairs};
 use gw_configuration::Port;
@@ -38,7 +42,7 @@ pub trait Host {
     /// A wire over the sockets of some ports.
     type Sockets: Wire + Drop;
 
-    /// A place that holds a state.
+    /// A place that holds a state, or metrics.
     type StateStore: Store + Drop;
 
     /// What asks to read the configuration again.
@@ -62,8 +66,8 @@ pub trait Host {
     /// What looking for the last whole line of the log of a name may give.
     ghost LastLines: { Self → List ℕ → Result (Option (List ℕ)) ReadFailure → Type 0 };
 
-    /// What opening the store of a name may give.
-    ghost StoreOpens: { Self → List ℕ → Result Self.StateStore StoreFault → Type 0 };
+    /// What opening the store of a name may give, by what it is for.
+    ghost StoreOpens: { Self → StoreKind → List ℕ → Result Self.StateStore StoreFault → Type 0 };
 
     /// What asks by the file of a name to read the configuration of another name, if there is memory for it.
     ghost ReloadsOpen: { Self → List ℕ → List ℕ → Self.Reloads → Type 0 };
@@ -124,10 +128,15 @@ pub trait Host {
     fn last_line(&self, alloc: Global, name: &str) -> Result<Option<Vec<u8>>, ReadFailure>
         ensures { LastLines self.now name.now (text_found result) };
 
-    /// Opens the place that holds a state under this name, without reading or making anything. Faults:
+    /// Opens the place that holds a text under this name for that, without reading or making anything. Faults:
     /// `NotPermitted` if it is a symbolic link, and those of the system.
-    fn open_store(&self, alloc: Global, name: &str) -> Result<Self::StateStore, StoreFault>
-        ensures { StoreOpens self.now name.now result };
+    fn open_store(
+        &self,
+        alloc: Global,
+        name: &str,
+        kind: StoreKind,
+    ) -> Result<Self::StateStore, StoreFault>
+        ensures { StoreOpens self.now kind name.now result };
 
     /// What asks by the file of this name to read that configuration again. The only fault is want of memory.
     fn open_reloads(
@@ -257,9 +266,10 @@ impl<'a, R: Files + Net + Clock> Host for SystemHost<'a, R> {
 
     ghost LastLines = { λ _ _ _. ⊤ };
 
-    ghost StoreOpens = { λ _ _ _. ⊤ };
+    ghost StoreOpens = { λ _ kind name opened. IfOk opened (IsStoreOf name kind) };
 
-    ghost ReloadsOpen = { λ _ _ _ _. ⊤ };
+    ghost ReloadsOpen = { λ host request config.
+        let folder : SystemFolder R = record { rt = host.rt } in AreFilesOf folder request config };
 
     ghost LogOpens = { λ _ _ _. ⊤ };
 
@@ -314,8 +324,13 @@ impl<'a, R: Files + Net + Clock> Host for SystemHost<'a, R> {
         read_last_line(self.rt, alloc, name)
     }
 
-    fn open_store(&self, alloc: Global, name: &str) -> Result<FileStore<'a, R>, StoreFault> {
-        FileStore::open(self.rt, alloc, name)
+    fn open_store(
+        &self,
+        alloc: Global,
+        name: &str,
+        kind: StoreKind,
+    ) -> Result<FileStore<'a, R>, StoreFault> {
+        FileStore::open(self.rt, alloc, name, kind)
     }
 
     fn open_reloads(

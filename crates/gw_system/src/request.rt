@@ -2,7 +2,7 @@
 
 ghost use Rattle.std.specs.Prelude.{◌≡◌, ◌-◌, ◌==◌, length, take, IfOk};
 ghost use Rattle.std.specs.List.{list_any};
-ghost use Rattle.gw_system.specs.Request.{IsChecked, IsGiven, is_line, is_request, reload_request};
+ghost use Rattle.gw_system.specs.Request.{IsChecked, IsGiven, is_line, is_reload, is_request, is_stop, reload_request};
 ghost use Rattle.gw_system.specs.Requests.{text_found};
 
 use crate::obstacle::Obstacle;
@@ -43,11 +43,40 @@ fn is_line(text: &[u8]) -> bool
     text.ends_with(b"\n") && !has_feed(front)
 }
 
-/// Whether a text is a request: nothing, or a line that names the text of a configuration.
+/// What a running gateway is asked for.
+#[derive(Drop)]
+pub enum Request {
+    /// To read its configuration again, of which this is the text, or `Ok(None)` if its file isn't there, or why that can't
+    /// be read, or isn't what the request asks for.
+    Reload(Result<Option<Vec<u8>>, ReadFailure>),
+    /// To stop.
+    Stop,
+    /// Nothing: what has the name of a request isn't taken, since it is none, or can't be read or taken away.
+    Untaken,
+}
+
+/// The text of a request to stop.
+pub const STOP_REQUEST: &[u8] = b"stop\n";
+
+/// Whether a text is a request to read the configuration again: nothing, or a line that names the text of one.
+fn is_reload(text: &[u8]) -> bool
+    ensures { result ≡ is_reload text.now }
+{
+    text.is_empty() || (text.starts_with(b"reload ") && is_line(text))
+}
+
+/// Whether a text is a request to stop.
+pub(crate) fn is_stop(text: &[u8]) -> bool
+    ensures { result ≡ is_stop text.now }
+{
+    text == STOP_REQUEST
+}
+
+/// Whether a text is a request.
 pub(crate) fn is_request(text: &[u8]) -> bool
     ensures { result ≡ is_request text.now }
 {
-    text.is_empty() || (text.starts_with(b"reload ") && is_line(text))
+    is_reload(text) || is_stop(text)
 }
 
 /// A text that was read, if it is the one that a request names. Faults: `Unreadable` with `Changed`, and `Memory`.

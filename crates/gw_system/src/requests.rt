@@ -1,32 +1,32 @@
-//! What asks a running gateway to read its configuration again.
+//! What asks a running gateway to read its configuration again, or to stop.
 
-ghost use Rattle.std.specs.Prelude.{◌≡◌, ◌≢◌, ◌++◌, ◌∷◌, [], ℕ, Some, None, true, codes, string_bytes, IfOk, IfSome};
+ghost use Rattle.std.specs.Prelude.{◌≡◌, ◌≢◌, ◌++◌, ◌∷◌, [], ℕ, Some, None, true, false, if◌then◌else◌, codes, string_bytes, IfOk, IfSome};
 ghost use Rattle.gw_system.specs.Folder.{Holds, IsAnswer, IsTakenAway};
-ghost use Rattle.gw_system.specs.FileRequests.{IsTakenFor};
+ghost use Rattle.gw_system.specs.FileRequests.{AreFilesOf, HasSameNames, IsAnswered, IsTaken, IsTakenBy, IsTakenSo, IsTold, RequestFiles};
 ghost use Rattle.gw_system.specs.Request.{is_request};
-ghost use Rattle.gw_system.specs.Requests.{Asking, GoesOn, IsAsking, answered, asked_by, silent, recorded_by, text_found};
+ghost use Rattle.gw_system.specs.Requests.{Asking, GoesOn, IsAsking, answered, asked_by, silent, recorded_by};
 
 use crate::folder::Folder;
 use crate::obstacle::Obstacle;
 use crate::reading::ReadFailure;
-use crate::request::{MAX_REQUEST, given_by, is_request};
+use crate::request::{MAX_REQUEST, Request, given_by, is_request, is_stop};
 use crate::store::{Access, name_with};
 use gw_wire::StoreFault;
 use mio::{Events, Poll};
 use std::alloc::{AllocError, Global};
 use std::io;
+use std::marker::Model;
 use std::net::Net;
 use std::time::Duration;
 
-/// What asks a running gateway to read its configuration again, and is answered.
+/// What asks a running gateway to read its configuration again or to stop, and is answered.
 pub trait Requests {
     /// What is known of it: that nobody asks, nothing, or what it asked and was answered so far, in order.
     ghost recorded: { Self → Asking };
 
-    /// Takes a request away. If there was one, it gives the text of the configuration, of which there are at
-    /// most so many octets, or `Ok(None)` if its file isn't there, or why that can't be read, or isn't what the request
-    /// asks for; and `None` if there was no request.
-    fn take(&mut self, alloc: Global, most: usize) -> Option<Result<Option<Vec<u8>>, ReadFailure>>
+    /// Takes a request away, and says what it asks for: if that is to read the configuration again, with its text, of which
+    /// there are at most so many octets. `None` if there was no request. What has its name and isn't taken is told of once.
+    fn take(&mut self, alloc: Global, most: usize) -> Option<Request>
         ensures { GoesOn (recorded self.old) (recorded self.new) (asked_by result ∷ []) };
 
     /// Answers the request that was taken last. An answer that can't be given is left out.
@@ -39,7 +39,7 @@ pub trait Requests {
 impl<Q: Requests> Requests for Option<Q> {
     ghost recorded = { recorded_by Q.recorded };
 
-    fn take(&mut self, alloc: Global, most: usize) -> Option<Result<Option<Vec<u8>>, ReadFailure>> {
+    fn take(&mut self, alloc: Global, most: usize) -> Option<Request> {
         match self {
             Some(requests) => requests.take(alloc, most),
             None => None,
@@ -81,13 +81,31 @@ impl AskedFile {
     }
 }
 
-/// Requests by a file in a folder. It is looked for at each call and taken away, and the answer is a file too.
+/// Requests by a file in a folder. It is looked for at each call and taken away, and the answer is a file too. Contracts see
+/// the folder, the names of these files and of the configuration, and whether it was told that a request isn't taken.
 #[derive(Drop)]
 pub struct FileRequests<F> {
     folder: F,
     asked: AskedFile,
     beside: String,
     config: String,
+    told: bool,
+}
+
+impl<F> Model for FileRequests<F> {
+    ghost use Rattle.gw_system.specs.FileRequests.{RequestFiles};
+    ghost use Rattle.std.specs.Prelude.{string_bytes};
+
+    ghost Value = { RequestFiles F };
+
+    ghost view = { λ r. record {
+      folder = r.folder;
+      request = string_bytes r.asked.request;
+      answer = string_bytes r.asked.answer;
+      beside = string_bytes r.beside;
+      config = string_bytes r.config;
+      told = r.told;
+    } };
 }
 
 /// The text of the file of a request, if that is a regular one whose whole text is a request. Anything else stays where it is.
@@ -104,12 +122,15 @@ fn find_request<F: Folder>(folder: &F, alloc: Global, name: &str) -> Option<Vec<
     }
 }
 
-/// Takes the file of a request away, and before it the answer to an older one; and answers whether there was one.
+/// Takes the file of a request away, and before it the answer to an older one; and answers whether both were done.
 fn take_request<F: Folder>(folder: &mut F, asked: &AskedFile) -> bool
     ensures taken { result ≡ true → IsTakenAway (F.known folder.old (string_bytes asked.now.request))
         (F.known folder.new (string_bytes asked.now.request)) }
+    ensures unanswered { result ≡ true → Holds (F.known folder.new (string_bytes asked.now.answer)) None }
 {
-    let _ = folder.take_away(&asked.answer);
+    if folder.take_away(&asked.answer).is_err() {
+        return false;
+    }
     match folder.take_away(&asked.request) {
         Ok(was_there) => was_there,
         Err(_) => false,
@@ -118,44 +139,97 @@ fn take_request<F: Folder>(folder: &mut F, asked: &AskedFile) -> bool
 
 impl<F: Folder + Drop> FileRequests<F> {
     /// The requests by the file of this name to read that configuration. The only fault is want of memory.
-    pub fn new(folder: F, alloc: Global, request: &str, config: &str) -> Result<Self, AllocError> {
+    pub fn new(folder: F, alloc: Global, request: &str, config: &str) -> Result<Self, AllocError>
+        ensures { IfOk result (AreFilesOf folder request.now config.now) }
+    {
         Ok(FileRequests {
             folder,
             asked: AskedFile::of(alloc, request)?,
             beside: name_with(alloc, request, ".answer.new")?,
             config: name_with(alloc, config, "")?,
+            told: false,
         })
     }
 }
 
 impl<F: Folder> FileRequests<F> {
-    /// Takes a request of this text away, and reads the configuration for it. `None` if it can't be taken away.
-    fn take_for(
-        &mut self,
-        alloc: Global,
-        request: &[u8],
-        most: usize,
-    ) -> Option<Result<Option<Vec<u8>>, ReadFailure>>
-        requires held { Holds (F.known self.old.folder (string_bytes self.old.asked.request)) (Some request.now) }
-        requires one { is_request request.now ≡ true }
-        ensures { IfSome result (λ given. IsTakenFor (F.known self.old.folder) (F.known self.new.folder)
-            (string_bytes self.old.asked.request) (string_bytes self.old.config) (text_found given)) }
+    /// Reads the configuration for a request of this text that was taken away.
+    fn read_for(&self, alloc: Global, line: &[u8], most: usize) -> Request
+        requires one { is_request line.now ≡ true }
+        ensures { (before : RequestFiles F) → IsTaken F.known before self.now line.now → HasSameNames before self.now →
+            self.now.told ≡ false → IsTakenSo F.known before self.now result }
     {
-        if !take_request(&mut self.folder, &self.asked) {
-            return None;
+        if is_stop(line) {
+            return Request::Stop;
         }
         let read = self.folder.read(alloc, &self.config, most);
-        Some(given_by(alloc, request, read))
+        Request::Reload(given_by(alloc, line, read))
+    }
+
+    /// Takes a request of this text away, and answers whether that was done.
+    fn take_line(&mut self, line: &[u8]) -> bool
+        requires held { Holds (F.known self.old.folder self.old.request) (Some line.now) }
+        ensures taken { result ≡ true → IsTaken F.known self.old self.new line.now }
+        ensures names { HasSameNames self.old self.new }
+        ensures told { self.new.told ≡ (if result then false else self.old.told) }
+    {
+        let taken = take_request(&mut self.folder, &self.asked);
+        if taken {
+            self.told = false;
+        }
+        taken
+    }
+
+    /// Says whether something has the name of a request, which isn't taken then, unless that was told before.
+    fn tell(&mut self) -> Option<Request>
+        ensures told { IsTold F.known self.old self.new result }
+        ensures names { HasSameNames self.old self.new }
+    {
+        let was_told = self.told;
+        self.told = self.folder.has(&self.asked.request);
+        if self.told && !was_told {
+            Some(Request::Untaken)
+        } else {
+            None
+        }
+    }
+
+    /// The text of a request, if there is one.
+    fn find(&self, alloc: Global) -> Option<Vec<u8>>
+        ensures held { IfSome result (λ line. Holds (F.known self.now.folder self.now.request) (Some line.items)) }
+        ensures one { IfSome result (λ line. is_request line.items ≡ true) }
+    {
+        find_request(&self.folder, alloc, &self.asked.request)
+    }
+
+    /// Takes a request away, if there is one, and gives its text.
+    fn take_found(&mut self, alloc: Global) -> Option<Vec<u8>>
+        ensures taken { IfSome result (λ line. IsTaken F.known self.old self.new line.items) }
+        ensures one { IfSome result (λ line. is_request line.items ≡ true) }
+        ensures names { HasSameNames self.old self.new }
+        ensures told { IfSome result (λ _. self.new.told ≡ false) }
+        ensures untold { result ≡ None → self.new.told ≡ self.old.told }
+    {
+        match self.find(alloc) {
+            Some(line) => {
+                if self.take_line(&line) {
+                    Some(line)
+                } else {
+                    None
+                }
+            }
+            None => None,
+        }
     }
 
     /// Looks for a request, and takes it away if its whole text is one.
-    fn look(&mut self, alloc: Global, most: usize) -> Option<Result<Option<Vec<u8>>, ReadFailure>>
-        ensures { IfSome result (λ given. IsTakenFor (F.known self.old.folder) (F.known self.new.folder)
-            (string_bytes self.old.asked.request) (string_bytes self.old.config) (text_found given)) }
+    fn look(&mut self, alloc: Global, most: usize) -> Option<Request>
+        ensures taken { IsTakenBy F.known self.old self.new result }
+        ensures names { HasSameNames self.old self.new }
     {
-        match find_request(&self.folder, alloc, &self.asked.request) {
-            Some(text) => self.take_for(alloc, &text, most),
-            _ => None,
+        match self.take_found(alloc) {
+            Some(line) => Some(self.read_for(alloc, &line, most)),
+            None => self.tell(),
         }
     }
 }
@@ -163,11 +237,16 @@ impl<F: Folder> FileRequests<F> {
 impl<F: Folder> Requests for FileRequests<F> {
     ghost recorded = { λ _. silent };
 
-    fn take(&mut self, alloc: Global, most: usize) -> Option<Result<Option<Vec<u8>>, ReadFailure>> {
+    fn take(&mut self, alloc: Global, most: usize) -> Option<Request>
+        ensures taken { IsTakenBy F.known self.old self.new result }
+        ensures names { HasSameNames self.old self.new }
+    {
         self.look(alloc, most)
     }
 
-    fn answer(&mut self, text: &[u8]) {
+    fn answer(&mut self, text: &[u8])
+        ensures { IsAnswered F.known F.Replaces self.old self.new text.now }
+    {
         let _ = self
             .folder
             .replace(&self.asked.answer, &self.beside, Access::Owner, text);

@@ -8,6 +8,7 @@ ghost use Rattle.gw_system.specs.declared.opening.LogFailure.TheVariants as fail
 use crate::host::{Host, open_at_line};
 use crate::opening::{LogFailure, SocketFailure};
 use crate::reading::ReadFailure;
+use crate::store::StoreKind;
 use gw_configuration::Port;
 use gw_log_words::{Calendar, Noted, Notes, Stamped};
 use gw_wire::StoreFault;
@@ -113,8 +114,13 @@ impl<H: Host> Host for StampedHost<'_, H> {
         self.host.last_line(alloc, name)
     }
 
-    fn open_store(&self, alloc: Global, name: &str) -> Result<H::StateStore, StoreFault> {
-        self.host.open_store(alloc, name)
+    fn open_store(
+        &self,
+        alloc: Global,
+        name: &str,
+        kind: StoreKind,
+    ) -> Result<H::StateStore, StoreFault> {
+        self.host.open_store(alloc, name, kind)
     }
 
     fn open_reloads(

@@ -1,24 +1,45 @@
-//! The file of a state.
+//! The files of a state and of metrics.
 
 ghost use Rattle.std.specs.Prelude.{◌≡◌, ◌++◌, string_bytes, IfOk};
+ghost use Rattle.gw_system.specs.Store.{IsStoreOf};
 
 use crate::host::{MODE, is_link};
 use gw_wire::{Store, StoreFault};
 use std::alloc::{AllocError, Global};
 use std::fs::{File, OpenFile, Permissions};
 use std::io::{ErrorKind, Write};
+use std::marker::Model;
 use std::os::unix::fs::{OpenOptionsExt, PermissionsExt};
 use std::rt::Files;
 use std::{fs, io};
 
+/// What a file that is replaced is for.
+#[derive(Clone, Copy)]
+pub enum StoreKind {
+    /// Its owner alone may read it, and a text is on the disk before it counts as written.
+    Kept,
+    /// Everybody may read it. A text needn't be on the disk: after a power cut it may be an older one, or cut.
+    Shown,
+}
+
 /// A file that is replaced whole. The new text is written to a file beside it, whose name has `.new` after its
-/// name, and is on the disk before that file gets its name.
+/// name, before that file gets its name. Contracts see the names of both, and what it is for.
 #[derive(Drop)]
 pub struct FileStore<'a, R: Files> {
     rt: &'a R,
     name: String,
     beside: String,
+    kind: StoreKind,
     folder: R::File,
+}
+
+impl<'a, R: Files> Model for FileStore<'a, R> {
+    ghost use Rattle.gw_system.specs.Store.{StoreFile};
+    ghost use Rattle.std.specs.Prelude.{string_bytes};
+
+    ghost Value = { StoreFile };
+
+    ghost view = { λ s. record { name = string_bytes s.name; beside = string_bytes s.beside; kind = s.kind } };
 }
 
 /// Why a text isn't kept, by the error of the system.
@@ -112,7 +133,9 @@ pub(crate) fn replace_file<R: Files>(
 impl<'a, R: Files> FileStore<'a, R> {
     /// The store of this file, whose folder it opens. The file itself is neither made nor read. An `Err` if
     /// the folder can't be opened, or the file is a symbolic link, which it would replace.
-    pub fn open(rt: &'a R, alloc: Global, name: &str) -> Result<Self, StoreFault> {
+    pub fn open(rt: &'a R, alloc: Global, name: &str, kind: StoreKind) -> Result<Self, StoreFault>
+        ensures { IfOk result (IsStoreOf name.now kind) }
+    {
         if is_link(rt, name) {
             return Err(StoreFault::NotPermitted);
         }
@@ -128,6 +151,7 @@ impl<'a, R: Files> FileStore<'a, R> {
             rt,
             name,
             beside,
+            kind,
             folder,
         })
     }
@@ -137,6 +161,16 @@ impl<'a, R: Files> FileStore<'a, R> {
         write_new(self.rt, &self.beside, Access::Owner, octets)?.sync_all()?;
         self.rt.rename(&self.beside, &self.name)?;
         self.folder.sync_all()
+    }
+
+    /// Replaces the file by a text, as its kind asks.
+    fn write(&self, octets: &[u8]) -> io::Result<()> {
+        match self.kind {
+            StoreKind::Kept => self.settle(octets),
+            StoreKind::Shown => {
+                replace_file(self.rt, &self.name, &self.beside, Access::Everyone, octets)
+            }
+        }
     }
 }
 
@@ -148,7 +182,7 @@ impl<R: Files> Store for FileStore<'_, R> {
     ghost NeverFails = { λ _. ⊥ };
 
     fn replace(&mut self, octets: &[u8]) -> Result<(), StoreFault> {
-        match self.settle(octets) {
+        match self.write(octets) {
             Ok(()) => Ok(()),
             Err(error) => Err(store_fault(&error)),
         }

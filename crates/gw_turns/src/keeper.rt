@@ -105,6 +105,13 @@ impl<S: Store + Drop> Keeper<S> {
         self.keep_now(alloc, gateway);
     }
 
+    /// Keeps the state of the gateway at once, whether that is due or not, as at the end of a run.
+    pub fn keep_last(&mut self, alloc: Global, gateway: &Gateway)
+        ensures { IsTried S.held self.old gateway.now self.new }
+    {
+        self.keep_now(alloc, gateway);
+    }
+
     /// Why the last try failed, if it did.
     pub fn failing(&self) -> Option<StoreFault>
         ensures { result ≡ failing_of self.now.kept }

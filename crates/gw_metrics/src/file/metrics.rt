@@ -3,7 +3,7 @@
 ghost use Rattle.std.specs.Prelude.{◌≡◌, ◌⊎◌, OnErr, OnOk};
 ghost use Rattle.gw_metrics.specs.Text.{metrics_text};
 ghost use Rattle.gw_wire.specs.Store.{Holds};
-ghost use Rattle.gw_metrics.specs.file.Writing.{Tries, WritesAtTick, is_due, nothing_written};
+ghost use Rattle.gw_metrics.specs.file.Writing.{IsTried, Tries, WritesAtTick, is_due, nothing_written};
 
 use crate::{Counts, put_metrics};
 use gw_wire::{Store, StoreFault};
@@ -13,12 +13,14 @@ use std::marker::Model;
 /// After how many ticks metrics are written again.
 const WRITTEN_TICKS: u64 = 10;
 
-/// Writes metrics into a store. Contracts see the store, the tick of the last try, and how many tries failed.
+/// Writes metrics into a store. Contracts see the store, the tick of the last try, how many tries failed, and why the last one
+/// did, if it did.
 #[derive(Drop)]
 pub struct Metrics<S: Store + Drop> {
     store: S,
     last: Option<u64>,
     lost: u64,
+    failing: Option<StoreFault>,
 }
 
 impl<S: Store + Drop> Model for Metrics<S> {
@@ -26,7 +28,7 @@ impl<S: Store + Drop> Model for Metrics<S> {
 
     ghost Value = { Writing S };
 
-    ghost view = { λ m. record { store = m.store; last = m.last; lost = m.lost } };
+    ghost view = { λ m. record { store = m.store; last = m.last; lost = m.lost; failing = m.failing } };
 }
 
 /// Puts the text of metrics into a store. `Memory` if a growth was refused; the store then wasn't asked.
@@ -51,6 +53,7 @@ impl<S: Store + Drop> Metrics<S> {
             store,
             last: None,
             lost: 0,
+            failing: None,
         }
     }
 
@@ -74,6 +77,20 @@ impl<S: Store + Drop> Metrics<S> {
         }
     }
 
+    /// Replaces the text at a tick, of which this is the number, whether one is due or not.
+    pub fn put_now(&mut self, alloc: Global, ticks: u64, counts: &Counts<'_>)
+        ensures { IsTried S.held self.old ticks (metrics_text counts.now) self.new }
+    {
+        self.try_at(alloc, ticks, counts);
+    }
+
+    /// Why the last try failed, if it did.
+    pub fn failing(&self) -> Option<StoreFault>
+        ensures { result ≡ self.now.failing }
+    {
+        self.failing
+    }
+
     /// How many tries failed so far. It stays at 2^64 - 1.
     pub fn lost(&self) -> u64
         ensures { result ≡ self.now.lost }
@@ -94,8 +111,12 @@ impl<S: Store + Drop> Metrics<S> {
     {
         self.last = Some(ticks);
         match put(alloc, &mut self.store, counts) {
-            Ok(()) => true,
-            Err(_) => {
+            Ok(()) => {
+                self.failing = None;
+                true
+            }
+            Err(fault) => {
+                self.failing = Some(fault);
                 self.lost = self.lost.saturating_add(1);
                 false
             }

@@ -18,13 +18,15 @@ use Rattle.gw_wire.specs.declared.store.StoreFault.{StoreFault}
 use Rattle.gw_turns.proofs.KeepingLemmas.{ticks_keep_recent}
 use Rattle.gw_turns.proofs.ServeLemmas.{state_along}
 use Rattle.gw_service.specs.Chain.{AreLinks, Begins, IsLink, IsLooked, IsTicked, Link, Look, Manner, Runs, Stage, Standing}
-use Rattle.gw_service.specs.Chain.{refused, served, taken_over, ticked, unrequested, withheld}
-use Rattle.gw_service.specs.Keeping.{IsKeptAtTick, IsKeptFor, IsPassed, failing_in}
+use Rattle.gw_service.specs.Chain.{ended, passed_over, refused, served, stopping, taken_over, ticked, unrequested, withheld}
+use Rattle.gw_service.specs.declared.running.End.{End}
+use Rattle.gw_service.specs.declared.running.End.TheVariants as end
+use Rattle.gw_service.specs.Keeping.{IsKeptAtTick, IsKeptFor, IsKeptLast, IsPassed, failing_in}
 use Rattle.gw_service.specs.Kept.{Given, KeepsFirst, manner_of, reporting_of, watched_manner_of}
 use Rattle.gw_service.specs.Stats.{Reporting}
 use Rattle.gw_service.specs.declared.keeping.Kept.{Kept}
 use Rattle.gw_service.specs.declared.keeping.Kept.TheVariants.{Nowhere, In}
-use Rattle.gw_state_laws.specs.keeping.Laws.{FirstIsCurrent, IsCurrent, IsRecentIn, KeepsAt, KeepsAtEnd, KeepsCurrent, KeptIsUpToDate, RunsEndCurrent, RunsKeepCurrent, RunsKeepRecent, WatchedRunsEndCurrent, WatchedRunsKeepCurrent, WatchedRunsKeepRecent, first_part, itself}
+use Rattle.gw_state_laws.specs.keeping.Laws.{FirstIsCurrent, IsCurrent, IsCurrentIn, IsRecentIn, KeepsAt, KeepsAtEnd, KeepsCurrent, KeptIsUpToDate, RunsEndCurrent, RunsKeepCurrent, RunsKeepLast, RunsKeepRecent, WatchedRunsEndCurrent, WatchedRunsKeepCurrent, WatchedRunsKeepLast, WatchedRunsKeepRecent, first_part, itself}
 use Rattle.gw_state_laws.proofs.keeping_lemmas.Currency.{current_is_up_to_date, event_current, passed_has, ticks_keep_current, tried_is_current}
 
 -- ---- a keeper of the configuration in force
@@ -173,6 +175,10 @@ looked_keeps : {S K : Type 0} (held : S → Option (List ℕ)) (part : K → Kep
     → KeepsCurrent held (part s.keeper) c s.gateway → KeepsCurrent held (part t.keeper) d t.gateway
 looked_keeps held part manner is c d s t unrequested p now =
     stays_so held part c d s.keeper t.keeper s.gateway t.gateway p.stays.config p.stays.keeper p.stays.gateway now
+looked_keeps held part manner is c d s t passed_over p now =
+    stays_so held part c d s.keeper t.keeper s.gateway t.gateway p.stays.config p.stays.keeper p.stays.gateway now
+looked_keeps held part manner is c d s t stopping p now =
+    stays_so held part c d s.keeper t.keeper s.gateway t.gateway p.stays.config p.stays.keeper p.stays.gateway now
 looked_keeps held part manner is c d s t (refused read fault line) p now =
     stays_so held part c d s.keeper t.keeper s.gateway t.gateway p.stays.config p.stays.keeper p.stays.gateway now
 looked_keeps held part manner is c d s t (taken_over text new) p now =
@@ -181,17 +187,23 @@ looked_keeps held part manner is c d s t (taken_over text new) p now =
 
 -- ---- link by link
 
-link_keeps : {S K : Type 0} (held : S → Option (List ℕ)) (part : K → Kept S) (manner : Manner K) → IsPart held part manner → (s t : Stage K)
-    (link : Link) → IsLink manner s link t → KeepsAt held part s → KeepsAt held part t
-link_keeps held part manner is s t (served turns) p now =
-    subst (λ (c : Configuration). KeepsCurrent held (part t.now.guard) c t.now.scene.gateway) (sym p.config)
-    (went_keeps held part manner is s.config s.now t.now turns p.went now)
-link_keeps held part manner is s t (ticked turns look text) p now =
+tick_keeps : {S K : Type 0} (held : S → Option (List ℕ)) (part : K → Kept S) (manner : Manner K) → IsPart held part manner → (stops : Bool)
+    (s t : Stage K) (turns : List Turn) (look : Look) (text : List ℕ) → IsTicked manner stops s turns look text t → KeepsAt held part s
+    → KeepsAt held part t
+tick_keeps held part manner is stops s t turns look text p now =
     let then = p.then in
     let went = went_keeps held part manner is s.config s.now then turns p.went now in
     let ticked = is.ticks then.guard p.done.keeper then.scene.gateway p.done.ticks in
     looked_keeps held part manner is s.config t.config _ _ look p.done.looked
     (ticked_keeps held (part then.guard) (part p.done.keeper) s.config then.scene.gateway ticked went)
+
+link_keeps : {S K : Type 0} (held : S → Option (List ℕ)) (part : K → Kept S) (manner : Manner K) → IsPart held part manner → (s t : Stage K)
+    (link : Link) → IsLink manner s link t → KeepsAt held part s → KeepsAt held part t
+link_keeps held part manner is s t (served turns) p now =
+    subst (λ (c : Configuration). KeepsCurrent held (part t.now.guard) c t.now.scene.gateway) (sym p.config)
+    (went_keeps held part manner is s.config s.now t.now turns p.went now)
+link_keeps held part manner is s t (ticked turns look text) p now = tick_keeps held part manner is false s t turns look text p now
+link_keeps held part manner is s t (ended turns text) p now = absurd p
 link_keeps held part manner is s t (withheld turns event text) p now =
     let then = p.then in
     let went = went_keeps held part manner is s.config s.now then turns p.went now in
@@ -218,9 +230,12 @@ watched_runs_keep_current held log_held how s t links p now =
 -- ---- at the end
 
 end_keeps : {S K : Type 0} (held : S → Option (List ℕ)) (part : K → Kept S) (manner : Manner K) → IsPart held part manner → (count : ℕ)
-    (s t : Stage K) (answer : Result (Unit {0}) ServeFault) (links : List Link) → (runs : Runs manner count s answer links t)
+    (s t : Stage K) (answer : Result End ServeFault) (links : List Link) → (runs : Runs manner count s answer links t)
     → KeepsAt held part s → KeepsAtEnd held part manner count s answer links t runs
-end_keeps held part manner is count s t (Ok done) links runs now = links_keep held part manner is s t links runs.chain now
+end_keeps held part manner is count s t (Ok end.Turns) links runs now = links_keep held part manner is s t links runs.chain now
+end_keeps held part manner is count s t (Ok end.Stopped) links runs now =
+    tick_keeps held part manner is true runs.then t runs.turns stopping runs.text runs.stops
+    (links_keep held part manner is s runs.then runs.before runs.chain now)
 end_keeps held part manner is count s t (Err fault) links runs now =
     let then = runs.then in
     let ends = runs.ends.ends in
@@ -258,6 +273,36 @@ watched_runs_end_current given store same watcher c how before after text outcom
     how.turns _ run.runs.last run.answer run.runs.links run.runs.runs
     (begun_keeps given.held first_part _ run.runs.begun run.runs.begins
     (given_keeps given.held given.store store c run.gateway run.keeper.first same run.keeps))
+
+-- ---- what is kept last
+
+keeps_in : {S : Type 0} (held : S → Option (List ℕ)) (k l : Kept S) (j : Keeping S) (w : State) → k ≡ In j → IsKeptLast held k w l
+    → IsCurrentIn held w l
+keeps_in held Nowhere l j w same p = absurd (nowhere_keeps j same)
+keeps_in held (In k) Nowhere j w same p = absurd p
+keeps_in held (In k) (In l) j w same p = record { keeper = l; is = refl; current = tried_is_current held k l w p }
+
+-- what is kept at the end of a run is kept in a store, however that ended
+kept_at_end : {S K : Type 0} (held : S → Option (List ℕ)) (part : K → Kept S) (manner : Manner K) (count : ℕ) (first last : Stage K)
+    (answer : Result End ServeFault) (links : List Link) (runs : Runs manner count first answer links last)
+    → KeepsAtEnd held part manner count first answer links last runs → (j : Keeping S) × (part last.now.guard ≡ In j)
+kept_at_end held part manner count first last (Ok end) links runs now = (now.keeper, now.is)
+kept_at_end held part manner count first last (Err fault) links runs now = (now.keeper, now.is)
+
+pub runs_keep_last : {S Q L : Type 0} (given : Given S Q L) → RunsKeepLast given
+runs_keep_last given store same c how before after text outcome run =
+    let reports = reporting_of given how run.gateway in
+    let there = kept_at_end given.held itself (manner_of given.held reports) how.turns _ run.runs.last run.answer run.runs.links run.runs.runs
+    (runs_end_current given store same c how before after text outcome run) in
+    keeps_in given.held run.runs.last.now.guard run.left.keeper there.0 run.runs.last.now.scene.gateway there.1 run.runs.ends.keeps
+
+pub watched_runs_keep_last : {S Q L : Type 0} (given : Given S Q L) → WatchedRunsKeepLast given
+watched_runs_keep_last given store same watcher c how before after text outcome run =
+    let reports = reporting_of given how run.gateway in
+    let there = kept_at_end given.held first_part (watched_manner_of given.held given.log_held reports) how.turns _ run.runs.last run.answer
+    run.runs.links run.runs.runs (watched_runs_end_current given store same watcher c how before after text outcome run) in
+    keeps_in given.held run.runs.last.now.guard.first run.left.keeper.first there.0 run.runs.last.now.scene.gateway there.1
+    run.runs.ends.keeps.0
 
 -- ---- in the store
 
@@ -304,25 +349,29 @@ looked_recent : {S K : Type 0} (held : S → Option (List ℕ)) (part : K → Ke
     → IsRecentIn (part t.keeper) t.gateway
 looked_recent held part manner is c d s t unrequested p recent =
     stays_recent (part s.keeper) (part t.keeper) s.gateway t.gateway (ap part p.stays.keeper) p.stays.gateway recent
+looked_recent held part manner is c d s t passed_over p recent =
+    stays_recent (part s.keeper) (part t.keeper) s.gateway t.gateway (ap part p.stays.keeper) p.stays.gateway recent
+looked_recent held part manner is c d s t stopping p recent =
+    stays_recent (part s.keeper) (part t.keeper) s.gateway t.gateway (ap part p.stays.keeper) p.stays.gateway recent
 looked_recent held part manner is c d s t (refused read fault line) p recent =
     stays_recent (part s.keeper) (part t.keeper) s.gateway t.gateway (ap part p.stays.keeper) p.stays.gateway recent
 looked_recent held part manner is c d s t (taken_over text new) p recent =
     adopted_recent held (part s.keeper) (part t.keeper) new t.gateway (is.adopts s.keeper t.keeper new t.gateway p.keeper)
 
 tick_recent : {S K : Type 0} (held : S → Option (List ℕ)) (part : K → Kept S) (manner : Manner K) → IsPart held part manner
-    → (s t : Stage K) (turns : List Turn) (look : Look) (text : List ℕ) → IsTicked manner s turns look text t
+    → (stops : Bool) (s t : Stage K) (turns : List Turn) (look : Look) (text : List ℕ) → IsTicked manner stops s turns look text t
     → IsRecentIn (part t.now.guard) t.now.scene.gateway
-tick_recent held part manner is s t turns look text p =
+tick_recent held part manner is stops s t turns look text p =
     let then = p.then in
     looked_recent held part manner is s.config t.config _ _ look p.done.looked
     (ticked_recent held (part then.guard) (part p.done.keeper) then.scene.gateway
     (is.ticks then.guard p.done.keeper then.scene.gateway p.done.ticks))
 
 pub runs_keep_recent : {S : Type 0} (held : S → Option (List ℕ)) → RunsKeepRecent held
-runs_keep_recent held how s t turns look text p =
-    tick_recent held itself (manner_of held how) (whole held how) s t turns look text p
+runs_keep_recent held how stops s t turns look text p =
+    tick_recent held itself (manner_of held how) (whole held how) stops s t turns look text p
 
 pub watched_runs_keep_recent : {S L : Type 0} (held : S → Option (List ℕ)) (log_held : L → Option (List ℕ))
     → WatchedRunsKeepRecent held log_held
-watched_runs_keep_recent held log_held how s t turns look text p =
-    tick_recent held first_part (watched_manner_of held log_held how) (first held log_held how) s t turns look text p
+watched_runs_keep_recent held log_held how stops s t turns look text p =
+    tick_recent held first_part (watched_manner_of held log_held how) (first held log_held how) stops s t turns look text p

@@ -17,6 +17,7 @@ use Rattle.gw_turns.specs.declared.stretch.Pause.{Pause}
 use Rattle.gw_watchers.specs.Watching.{Watching}
 use Rattle.gw_service.specs.Chain.{AreLinks, IsTicked, Link, Look, Manner, Runs, Stage}
 use Rattle.gw_service.specs.Keeping.{failing_in}
+use Rattle.gw_service.specs.declared.running.End.{End}
 use Rattle.gw_service.specs.Kept.{Given, KeepsFirst, RunsKept, RunsWatched, manner_of, reporting_of, watched_manner_of}
 use Rattle.gw_service.specs.Serving.{Ends, Service}
 use Rattle.gw_service.specs.Stats.{Reporting}
@@ -98,8 +99,8 @@ KeepsAt held part s = KeepsCurrent held (part s.now.guard) s.config s.now.scene.
 
 -- So it is at the end of a run. If its last event ended in a fault, the state is that before this event, of which nothing was sent.
 abbrev pub KeepsAtEnd : {S K : Type 0} → (S → Option (List ℕ)) → (K → Kept S) → (manner : Manner K) → (count : ℕ) → (first : Stage K)
-    → (answer : Result (Unit {0}) ServeFault) → (links : List Link) → (last : Stage K) → Runs manner count first answer links last → Type 0
-KeepsAtEnd held part manner count first (Ok done) links last runs = KeepsAt held part last
+    → (answer : Result End ServeFault) → (links : List Link) → (last : Stage K) → Runs manner count first answer links last → Type 0
+KeepsAtEnd held part manner count first (Ok end) links last runs = KeepsAt held part last
 KeepsAtEnd held part manner count first (Err fault) links last runs =
     KeepsCurrent held (part last.now.guard) last.config runs.ends.ends.then.scene.gateway
 
@@ -138,6 +139,24 @@ WatchedRunsEndCurrent {S} {Q} {L} given = (store : S) → given.store ≡ Some s
     KeepsAtEnd given.held first_part (watched_manner_of given.held given.log_held (reporting_of given how run.gateway)) how.turns _
     run.answer run.runs.links run.runs.last run.runs.runs
 
+-- A keeper that is current in this state keeps it in a store.
+pub record IsCurrentIn {S : Type 0} (held : S → Option (List ℕ)) (w : State) (kept : Kept S) : Type 0 where
+  pub keeper : Keeping S
+  pub is : kept ≡ In keeper
+  pub current : IsCurrent held keeper w
+
+-- Whatever ends such a run, it tries to keep its last state: the store is up to date in that state then, or the try failed.
+abbrev pub RunsKeepLast : {S Q L : Type 0} → Given S Q L → Type 0
+RunsKeepLast {S} given = (store : S) → given.store ≡ Some store → (c : Configuration) (how : Service) (before after : Ends)
+    (text : List ℕ) (outcome : Result (Unit {0}) ServiceFault) → (run : RunsKept given c how before after text outcome) →
+    IsCurrentIn given.held run.runs.last.now.scene.gateway run.left.keeper
+
+abbrev pub WatchedRunsKeepLast : {S Q L : Type 0} → Given S Q L → Type 0
+WatchedRunsKeepLast {S} {Q} {L} given = (store : S) → given.store ≡ Some store → (watcher : Watching L L) (c : Configuration)
+    (how : Service) (before after : Ends) (text : List ℕ) (outcome : Result (Unit {0}) ServiceFault) →
+    (run : RunsWatched given watcher c how before after text outcome) →
+    IsCurrentIn given.held run.runs.last.now.scene.gateway run.left.keeper.first
+
 -- Where it is current and no last try failed, the store is up to date, as that of a gateway of the configuration in force.
 abbrev pub KeptIsUpToDate : {S : Type 0} → (S → Option (List ℕ)) → Type 0
 KeptIsUpToDate {S} held = (kept : Kept S) (c : Configuration) (w : State) → (now : KeepsCurrent held kept c w) →
@@ -149,10 +168,10 @@ abbrev pub IsRecentIn : {S : Type 0} → Kept S → State → Type 0
 IsRecentIn {S} kept w = (k : Keeping S) → kept ≡ In k → IsRecent k.kept (saved_of k.origin w)
 
 abbrev pub RunsKeepRecent : {S : Type 0} → (S → Option (List ℕ)) → Type 0
-RunsKeepRecent {S} held = (how : Reporting) (s t : Stage (Kept S)) (turns : List Turn) (look : Look) (text : List ℕ) →
-    IsTicked (manner_of held how) s turns look text t → IsRecentIn t.now.guard t.now.scene.gateway
+RunsKeepRecent {S} held = (how : Reporting) (stops : Bool) (s t : Stage (Kept S)) (turns : List Turn) (look : Look) (text : List ℕ) →
+    IsTicked (manner_of held how) stops s turns look text t → IsRecentIn t.now.guard t.now.scene.gateway
 
 abbrev pub WatchedRunsKeepRecent : {S L : Type 0} → (S → Option (List ℕ)) → (L → Option (List ℕ)) → Type 0
-WatchedRunsKeepRecent {S} {L} held log_held = (how : Reporting) (s t : Stage (Both (Kept S) (Watching L L))) (turns : List Turn)
-    (look : Look) (text : List ℕ) → IsTicked (watched_manner_of held log_held how) s turns look text t →
+WatchedRunsKeepRecent {S} {L} held log_held = (how : Reporting) (stops : Bool) (s t : Stage (Both (Kept S) (Watching L L))) (turns : List Turn)
+    (look : Look) (text : List ℕ) → IsTicked (watched_manner_of held log_held how) stops s turns look text t →
     IsRecentIn t.now.guard.first t.now.scene.gateway

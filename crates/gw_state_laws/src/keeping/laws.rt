@@ -1,6 +1,6 @@
 //! Laws of a keeper that guards a gateway, over any store. The functions do nothing: their contracts are the laws.
 ghost use Rattle.gw_service.specs.Kept.{Given};
-ghost use Rattle.gw_state_laws.specs.keeping.Laws.{AnsweredIsKept, CurrentIsUpToDate, FaultsKeep, FirstIsCurrent, HeldStays, KeptIsUpToDate, PausesKeep, RunsEndCurrent, RunsKeepCurrent, RunsKeepRecent, TicksKeepCurrent, TriedIsCurrent, WatchedRunsEndCurrent, WatchedRunsKeepCurrent, WatchedRunsKeepRecent, WithheldIsOldOrNew};
+ghost use Rattle.gw_state_laws.specs.keeping.Laws.{AnsweredIsKept, CurrentIsUpToDate, FaultsKeep, FirstIsCurrent, HeldStays, KeptIsUpToDate, PausesKeep, RunsEndCurrent, RunsKeepCurrent, RunsKeepLast, RunsKeepRecent, TicksKeepCurrent, TriedIsCurrent, WatchedRunsEndCurrent, WatchedRunsKeepCurrent, WatchedRunsKeepLast, WatchedRunsKeepRecent, WithheldIsOldOrNew};
 
 use gw_script::OctetSink;
 use gw_system::Requests;
@@ -42,8 +42,11 @@ pub fn over_a_run<S: Store, L: OctetSink>()
 {}
 
 /// What a store holds at the end of a run that keeps its state there, watched or not: it is up to date, or the last try failed. If the
-/// run ends in a fault, it is so before the last event, of which nothing was sent.
+/// run ends in a fault, it is so before the last event, of which nothing was sent. Then the last state is kept, whatever ended the
+/// run: the store is up to date in it, or that try failed.
 pub fn at_each_end<S: Store + Drop, Q: Requests + Drop, L: OctetSink + Drop>()
     ensures ended { (given : Given S Q L) → RunsEndCurrent given }
     ensures watched { (given : Given S Q L) → WatchedRunsEndCurrent given }
+    ensures last { (given : Given S Q L) → RunsKeepLast given }
+    ensures watched_last { (given : Given S Q L) → WatchedRunsKeepLast given }
 {}

@@ -7,7 +7,9 @@ use Rattle.gw_service.specs.declared.keeping.Kept.{Kept}
 use Rattle.std.specs.Io.KnownBytes.{Appends}
 use Rattle.gw_script.proofs.Passing.{passes_on}
 use Rattle.gw_system.specs.Requests.{recorded_by}
-use Rattle.gw_service.specs.Kept.{KeepsFirst, LeavesKept, given}
+use Rattle.gw_service.specs.Kept.{KeepsFirst, LeavesKept, given, outcome_by, rest}
+use Rattle.gw_notices.specs.declared.troubles.Troubles.{Troubles}
+use Rattle.gw_service.specs.Metering.{metered}
 use Rattle.gw_service.specs.Serving.{ends, service}
 use Rattle.gw_service.specs.declared.fault.ServiceFault.{ServiceFault}
 use Rattle.gw_service.specs.declared.fault.ServiceFault.TheVariants as fault
@@ -33,13 +35,15 @@ returns-in-None-clause-ran g c =
     let said = recorded_by g.Q.Requests.recorded in
     ran_kept (given g.S.Store.held g.Q.Requests.recorded g.T.OctetSink.held c.args.before) c.args.config
     (service c.args.options.now.turns c.args.options.now.stats) c.counts.result c.is_kept-keeps.result c.is_some-reloads.result run.gateway run.keeper
-    run.state.served run.state.tally (said run.requests) run.counts run.announcing
+    run.state.served run.state.tally (said run.requests) run.counts run.announcing (metered run.metrics)
     (ends (g.L.OctetSink.held c.args.log.now) (g.X.Wire.calls c.args.sockets.now))
-    (ends (g.L.OctetSink.held c.run-in-None.new.log) (g.X.Wire.calls c.run-in-None.new.wire)) c.run-in-None.result c.outcome_of-in-None.result
-    (g.E.OctetSink.NeverFails c.args.errors.now) (held c.args.errors.now) (held c.run-in-None.new.errors)
+    (ends (g.L.OctetSink.held c.run-answer-in-None.new.log) (g.X.Wire.calls c.run-answer-in-None.new.wire)) c.run-answer-in-None.result
+    (rest c.run-answer-in-None.new.self.keeper (said c.run-answer-in-None.new.self.requests)) c.outcome_of-in-None.result
+    (g.E.OctetSink.NeverFails c.args.errors.now) (held c.args.errors.now) (held c.run-answer-in-None.new.errors)
     (sym c.take-watcher.ensures.value ∙ c.in-None.is)
     (same_counts c.counts.result run.gateway c.counts.ensures.ticks c.counts.ensures.denials) is.begins is.keeps is.served is.tally
-    (ap said is.requests) is.counts is.announcing c.is_kept-keeps.ensures c.is_some-reloads.ensures c.outcome_of-in-None.ensures (c.run-in-None.ensures.runs c.args.config is.origin)
+    (ap said is.requests) is.counts is.announcing (ap metered is.metrics) c.is_kept-keeps.ensures c.is_some-reloads.ensures (c.outcome_of-in-None.ensures ∙ ap (λ (t : Troubles). outcome_by c.run-answer-in-None.result t.state) c.troubles-in-None.ensures)
+    (c.run-answer-in-None.ensures.runs c.args.config is.origin)
 
 pub returns-in-Some-clause-ran : goal.returns-in-Some-clause-ran
 returns-in-Some-clause-ran g c =
@@ -52,10 +56,11 @@ returns-in-Some-clause-ran g c =
     let from = given g.S.Store.held g.Q.Requests.recorded g.T.OctetSink.held c.args.before in
     ran_watched from c.in-Some.watcher c.args.config
     (service c.args.options.now.turns c.args.options.now.stats) c.counts.result c.is_kept-keeps.result c.is_some-reloads.result watched.gateway watched.keeper
-    watched.state.served watched.state.tally (said watched.requests) watched.counts watched.announcing
+    watched.state.served watched.state.tally (said watched.requests) watched.counts watched.announcing (metered watched.metrics)
     (ends (g.L.OctetSink.held c.args.log.now) (g.X.Wire.calls c.args.sockets.now))
-    (ends (g.L.OctetSink.held c.run.new.log) (g.X.Wire.calls c.run.new.wire)) c.run.result c.outcome_of.result
-    (g.E.OctetSink.NeverFails c.args.errors.now) (held c.args.errors.now) (held c.run.new.errors)
+    (ends (g.L.OctetSink.held c.run-answer.new.log) (g.X.Wire.calls c.run-answer.new.wire)) c.run-answer.result
+    (rest c.run-answer.new.self.keeper (said c.run-answer.new.self.requests)) c.outcome_of.result
+    (g.E.OctetSink.NeverFails c.args.errors.now) (held c.args.errors.now) (held c.run-answer.new.errors)
     (sym c.take-watcher.ensures.value ∙ c.in-Some.is)
     (same_counts c.counts.result run.gateway c.counts.ensures.ticks c.counts.ensures.denials ∙ ap counts_of (sym by.gateway))
     (subst (λ (w : State). BeginsAs c.args.config from.saved from.line w) (sym by.gateway) is.begins)
@@ -63,4 +68,5 @@ returns-in-Some-clause-ran g c =
     (subst (λ (w : State). KeepsFirst from.held from.store c.args.config w run.keeper) (sym by.gateway) is.keeps))
     by.second (ap (λ (x : ServeState). x.served) by.state ∙ is.served) (ap (λ (x : ServeState). x.tally) by.state ∙ is.tally)
     (ap said by.requests ∙ ap said is.requests) (by.counts ∙ is.counts ∙ ap (λ (w : State). counts_since w.ticks) (sym by.gateway))
-    (by.announcing ∙ is.announcing) c.is_kept-keeps.ensures c.is_some-reloads.ensures c.outcome_of.ensures (c.run.ensures.runs c.args.config (by.origin ∙ is.origin))
+    (by.announcing ∙ is.announcing) (ap metered by.metrics ∙ ap metered is.metrics) c.is_kept-keeps.ensures c.is_some-reloads.ensures (c.outcome_of.ensures ∙ ap (λ (t : Troubles). outcome_by c.run-answer.result t.state) c.troubles.ensures)
+    (c.run-answer.ensures.runs c.args.config (by.origin ∙ is.origin))

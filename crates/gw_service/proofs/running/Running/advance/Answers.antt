@@ -1,4 +1,4 @@
-use Rattle.std.proofs.Common.{◌∙◌, ◌+◌, ◌<◌, ◌≤◌, ◌++◌, ◌∷◌, [], ap, refl, subst, sym, inl, inr}
+use Rattle.std.proofs.Common.{◌∙◌, ◌+◌, ◌<◌, ◌≤◌, ◌++◌, ◌∷◌, [], ℕ, List, Option, ap, refl, subst, sym, inl, inr}
 use Rattle.std.specs.Io.KnownBytes.{Appends}
 use Rattle.gw_script.specs.Event as event
 use Rattle.gw_turns.specs.Serve.{scene, taken_event}
@@ -6,11 +6,16 @@ use Rattle.gw_turns.specs.Stretch.{CanCount, moment}
 use Rattle.gw_turns.specs.declared.serving.ServeState.{ServeState}
 use Rattle.gw_notices.specs.declared.troubles.Troubles.{Troubles}
 use Rattle.gw_turns.specs.declared.stretch.Pause.TheVariants as pause
-use Rattle.gw_service.specs.Chain.{look_text, served, standing, ticked, withheld}
-use Rattle.gw_notices.specs.Notices.{notice_of}
+use Rattle.gw_service.specs.Chain.{look_text, manner, served, stage, standing, withheld}
+use Rattle.gw_notices.specs.Notices.{metrics_notice, notice_of}
+use Rattle.gw_wire.specs.declared.store.StoreFault.{StoreFault}
+use Rattle.gw_service.specs.Metering.{failing_by, lost_by, metered, meters_by}
+use Rattle.gw_metrics.specs.file.Writing.{Writing}
+use Rattle.gw_service.specs.Metrics.{PutsDue}
+use Rattle.gw_service.proofs.MeteringLemmas.{puts_metered}
 use Rattle.gw_service.specs.Scheduled.{reporting_by}
 use Rattle.gw_service.specs.Stats.{due_stats}
-use Rattle.gw_service.proofs.ChainLemmas.{ends_as, more_at_tick, more_at_turns, more_withheld, went_kept}
+use Rattle.gw_service.proofs.ChainLemmas.{advanced_by, ends_as, more_at_tick, more_at_turns, more_withheld, went_kept}
 use Rattle.gw_notices.proofs.AppendLemmas.{appends_nothing, appends_two}
 use Rattle.gw_service.proofs.running.Running.advance.Goals as goal
 
@@ -25,7 +30,7 @@ returns-in-Ok-Turns-clause-advances g c = λ config is_config.
       config,
       [],
       is_config,
-      (served end.turns, record { went = end.went; config = refl; requests = refl; counts = refl; announcing = refl; said = refl }, refl, inl end.ticks),
+      (served end.turns, record { went = end.went; config = refl; requests = refl; counts = refl; announcing = refl; said = refl; metrics = refl }, refl, inl end.ticks),
       λ never. appends_nothing (g.E.OctetSink.held c.args.errors.now),
     )
 
@@ -58,7 +63,7 @@ returns-then-is_behind-clause-advances g c = λ config is_config.
       is_config,
       (
         served (end.turns ++ taken_event event.Tick end.tries ∷ []),
-        record { went = end.went; config = refl; requests = refl; counts = refl; announcing = refl; said = refl },
+        record { went = end.went; config = refl; requests = refl; counts = refl; announcing = refl; said = refl; metrics = refl },
         refl,
         inr (sym c.is_behind.ensures ∙ c.if-is_behind.true),
       ),
@@ -92,62 +97,83 @@ returns-else-is_behind-clause-advances g c = λ config is_config.
     let held = g.E.OctetSink.held in
     let old = c.args.self.now in
     let stretch = c.serve_to_tick.new in
-    let done = c.at_tick.ensures.done config is_config in
+    let done = c.at_tick-stops.ensures.done config is_config in
     let look = look_text config (standing stretch.gateway stretch.guard (g.Q.Requests.recorded old.requests) old.counts old.announcing) done.1 in
     let notice = notice_of old.said c.notice-self.result in
-    let after = c.at_tick.new.self in
-    let report = due_stats g.K.StateKeeper.unkept g.K.StateKeeper.more
-    (reporting_by c.args.schedule.now) after.keeper after.counts c.announce.new.self after.gateway
+    let after = c.at_tick-stops.new.self in
+    let metrics = metered old.metrics in
+    let put = metered c.put_due.new.metrics in
+    let report_of_lost : Option ℕ → List ℕ = λ lost. due_stats g.K.StateKeeper.unkept g.K.StateKeeper.more
+    (reporting_by c.args.schedule.now) after.keeper after.counts c.announce.new.self lost after.gateway
     after.state.served after.state.tally in
+    let report = report_of_lost (lost_by metrics) in
+    let lines = metrics_notice (failing_by metrics) (failing_by put) in
     let turns = end.turns ++ taken_event event.Tick end.tries ∷ [] in
     let calls = g.W.Wire.calls stretch.wire in
-    let noted = g.L.OctetSink.held c.at_tick.new.log in
+    let noted = g.L.OctetSink.held c.at_tick-stops.new.log in
     let then = moment (scene stretch.gateway noted calls) stretch.guard stretch.self.served stretch.self.tally in
     let went = went_kept g.K.Guard.Passes
     (moment (scene old.gateway (g.L.OctetSink.held c.args.log.now) (g.W.Wire.calls c.args.wire.now)) old.keeper old.state.served old.state.tally)
     turns stretch.gateway (g.L.OctetSink.held stretch.log) noted calls stretch.guard stretch.self.served stretch.self.tally end.went
-    c.at_tick.ensures.log in (
+    c.at_tick-stops.ensures.log in (
       done.0,
-      (look ++ notice) ++ report,
+      ((look ++ notice) ++ report) ++ lines,
       done.2,
-      (
-        ticked turns done.1 ((look ++ notice) ++ report),
-        record {
-          before = end.turns;
-          tries = end.tries;
-          tick = refl;
-          then = then;
-          went = went;
-          ticks = end.ticks;
-          due = after.announcing;
-          done = done.3;
-          announced = c.announce.ensures.announces;
-          rest = record {
-            log = refl;
-            served = ap (λ (s : ServeState). s.served) c.at_tick.ensures.state;
-            tally = ap (λ (s : ServeState). s.tally) c.at_tick.ensures.state;
-          };
-          said = c.notice-self.ensures.troubles;
-          lines = refl;
-        },
-        refl,
-        c.announce.ensures.behind ∙ sym c.is_behind.ensures ∙ c.if-is_behind.false,
-      ),
+      advanced_by (manner g.K.Guard.Passes g.K.StateKeeper.Ticks g.K.StateKeeper.Adopts g.K.StateKeeper.troubles
+          (due_stats g.K.StateKeeper.unkept g.K.StateKeeper.more (reporting_by c.args.schedule.now)) (meters_by c.args.schedule.now.start)
+          g.K.StateKeeper.Lasts)
+          (stage config (moment (scene old.gateway (g.L.OctetSink.held c.args.log.now) (g.W.Wire.calls c.args.wire.now)) old.keeper
+          old.state.served old.state.tally) (g.Q.Requests.recorded old.requests) old.counts old.announcing old.said metrics)
+          turns done.1 (((look ++ notice) ++ report) ++ lines) _ c.at_tick-stops.result (g.W.Wire.behind c.announce.new.wire) done.5.1
+          (c.announce.ensures.behind ∙ sym c.is_behind.ensures ∙ c.if-is_behind.false)
+          (record {
+            is = done.5.1;
+            before = end.turns;
+            tries = end.tries;
+            tick = refl;
+            then = then;
+            went = went;
+            ticks = end.ticks;
+            due = after.announcing;
+            done = done.3;
+            announced = c.announce.ensures.announces;
+            rest = record {
+              log = refl;
+              served = ap (λ (s : ServeState). s.served) c.at_tick-stops.ensures.state;
+              tally = ap (λ (s : ServeState). s.tally) c.at_tick-stops.ensures.state;
+            };
+            said = c.notice-self.ensures.troubles;
+            metrics = puts_metered g.M.Store.held old.metrics c.put_due.new.metrics c.args.schedule.now.start after.gateway after.state.served
+                after.state.tally after.counts c.announce.new.self (g.K.StateKeeper.losses after.keeper) (g.K.StateKeeper.tries after.keeper)
+                (g.K.StateKeeper.decisions after.keeper) c.measure-measured.result c.measure-measured.ensures
+              (subst (λ (m : Option (Writing _)). PutsDue g.M.Store.held m c.measure-measured.result after.gateway
+              (g.K.StateKeeper.decisions after.keeper) c.put_due.new.metrics) c.at_tick-stops.ensures.metrics c.put_due.ensures);
+            lines = refl;
+          }),
       λ never.
-          let one = c.at_tick.ensures.lasts never in
-          appends_two (held c.args.errors.now) (held c.notice-self.new.errors) (held c.report_due.new.errors) (look ++ notice) report
-          (appends_two (held c.args.errors.now) (held c.at_tick.new.errors) (held c.notice-self.new.errors) look notice (done.4 never)
-          (subst (λ (f : Troubles). Appends (held c.at_tick.new.errors) (held c.notice-self.new.errors) (notice_of f c.notice-self.result))
-          c.at_tick.ensures.said (c.notice-self.ensures.text one)))
-          (c.report_due.ensures.said (c.notice-self.ensures.lasts one)),
+          let one = c.at_tick-stops.ensures.lasts never in
+          let two = c.notice-self.ensures.lasts one in
+          appends_two (held c.args.errors.now) (held c.report_due.new.errors) (held c.report_metrics.new.errors) ((look ++ notice) ++ report) lines
+          (appends_two (held c.args.errors.now) (held c.notice-self.new.errors) (held c.report_due.new.errors) (look ++ notice) report
+          (appends_two (held c.args.errors.now) (held c.at_tick-stops.new.errors) (held c.notice-self.new.errors) look notice (done.4 never)
+          (subst (λ (f : Troubles). Appends (held c.at_tick-stops.new.errors) (held c.notice-self.new.errors) (notice_of f c.notice-self.result))
+          c.at_tick-stops.ensures.said (c.notice-self.ensures.text one)))
+          (subst (λ (lost : Option ℕ). Appends (held c.notice-self.new.errors) (held c.report_due.new.errors) (report_of_lost lost))
+          (c.lost_of.ensures ∙ ap (λ (m : Option (Writing _)). lost_by (metered m)) c.at_tick-stops.ensures.metrics)
+          (c.report_due.ensures.said two)))
+          (subst (λ (is : Option StoreFault). Appends (held c.report_due.new.errors) (held c.report_metrics.new.errors)
+          (metrics_notice (failing_by metrics) is)) c.failing_of.ensures
+          (subst (λ (was : Option StoreFault). Appends (held c.report_due.new.errors) (held c.report_metrics.new.errors)
+          (metrics_notice was c.failing_of.result)) (c.failing_of-was.ensures ∙ ap (λ (m : Option (Writing _)). failing_by (metered m)) c.at_tick-stops.ensures.metrics)
+          (c.report_metrics.ensures.said (c.report_due.ensures.lasts two)))),
     )
 
 pub returns-else-is_behind-clause-rest : goal.returns-else-is_behind-clause-rest
 returns-else-is_behind-clause-rest g c = λ rest most.
-    subst (λ (s : ServeState). CanCount s.served s.tally (g.W.Wire.failure_count c.announce.new.wire) rest) (sym c.at_tick.ensures.state)
+    subst (λ (s : ServeState). CanCount s.served s.tally (g.W.Wire.failure_count c.announce.new.wire) rest) (sym c.at_tick-stops.ensures.state)
     (c.announce.ensures.counted _ _ rest
     (c.serve_to_tick.ensures.rest rest
-    (subst (λ (s : ServeState). s.served.turns + rest ≤ c.args.self.now.state.served.turns + c.args.turns) c.at_tick.ensures.state most)))
+    (subst (λ (s : ServeState). s.served.turns + rest ≤ c.args.self.now.state.served.turns + c.args.turns) c.at_tick-stops.ensures.state most)))
 
 pub returns-else-is_behind-clause-more : goal.returns-else-is_behind-clause-more
 returns-else-is_behind-clause-more g c = λ some.
@@ -155,7 +181,7 @@ returns-else-is_behind-clause-more g c = λ some.
     let new = c.serve_to_tick.new in
     let held = g.L.OctetSink.held in
     let calls = g.W.Wire.calls in
-    subst (λ (s : ServeState). old.state.served.turns < s.served.turns) (sym c.at_tick.ensures.state)
+    subst (λ (s : ServeState). old.state.served.turns < s.served.turns) (sym c.at_tick-stops.ensures.state)
     (more_at_tick g.K.Guard.Passes c.args.turns
     (moment (scene old.gateway (held c.args.log.now) (calls c.args.wire.now)) old.keeper old.state.served old.state.tally)
     (moment (scene new.gateway (held new.log) (calls new.wire)) new.guard new.self.served new.self.tally)
@@ -188,6 +214,7 @@ returns-in-Ok-Withheld-clause-advances g c = λ config is_config.
           requests = refl;
           counts = refl;
           announcing = refl;
+          metrics = refl;
           said = c.notice-self-in-Ok-Withheld.ensures.troubles;
           lines = refl;
         },

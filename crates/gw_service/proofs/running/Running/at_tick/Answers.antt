@@ -15,5 +15,5 @@ returns-clause-done g c = λ config is_config.
       λ never. subst (λ (t : List ℕ). Appends (held c.args.errors.now) (held c.look.new.errors) t)
           (same_text config old.gateway c.keep_at_tick.new.self old.keeper (g.Q.Requests.recorded old.requests) old.counts old.announcing looked.1) (looked.4 never),
       same_note config old.gateway c.keep_at_tick.new.self old.keeper (g.Q.Requests.recorded old.requests) old.counts old.announcing g.L.Notes.Takes
-          c.args.log.now c.look.new.log looked.1 looked.5,
+          c.args.log.now c.look.new.log c.look.result looked.1 looked.5,
     )

@@ -4,6 +4,8 @@ use Rattle.gw_turns.specs.Stretch.{moment}
 use Rattle.gw_configuration.specs.Configuration.{Configuration}
 use Rattle.gw_service.specs.Chain.{manner, stage}
 use Rattle.gw_service.specs.Serving.{ends}
+use Rattle.gw_service.specs.Kept.{rest}
+use Rattle.gw_service.specs.Metering.{metered, meters_by}
 use Rattle.gw_service.specs.Scheduled.{reporting_by}
 use Rattle.gw_service.specs.Stats.{due_stats, end_stats}
 use Rattle.gw_notices.specs.declared.troubles.Troubles.{Troubles}
@@ -17,20 +19,22 @@ returns-clause-runs g c = λ config is_config.
     let how = reporting_by c.args.schedule.now in
     let held = g.E.OctetSink.held in
     let never = g.E.OctetSink.NeverFails in
+    let log = g.L.OctetSink.held c.serve-answer.new.log in
+    let calls = g.W.Wire.calls c.serve-answer.new.wire in
     ran_from (manner g.K.Guard.Passes g.K.StateKeeper.Ticks g.K.StateKeeper.Adopts g.K.StateKeeper.troubles
-    (due_stats g.K.StateKeeper.unkept g.K.StateKeeper.more how))
-    (end_stats g.K.StateKeeper.unkept g.K.StateKeeper.more how) c.args.turns
+    (due_stats g.K.StateKeeper.unkept g.K.StateKeeper.more how) (meters_by how.start) g.K.StateKeeper.Lasts)
+    (end_stats g.K.StateKeeper.unkept g.K.StateKeeper.more how) how.start c.args.turns
     (λ (t : Troubles). stage config (moment (scene old.gateway (g.L.OctetSink.held c.args.log.now) (g.W.Wire.calls c.args.wire.now)) old.keeper
-    old.state.served old.state.tally) (g.Q.Requests.recorded old.requests) old.counts old.announcing t)
+    old.state.served old.state.tally) (g.Q.Requests.recorded old.requests) old.counts old.announcing t (metered old.metrics))
     (λ (t : Troubles). stage config (moment (scene old.gateway (g.L.OctetSink.held c.args.log.now) (g.W.Wire.calls c.announce.new.wire)) old.keeper
-    old.state.served old.state.tally) (g.Q.Requests.recorded old.requests) old.counts c.announce.new.self t)
+    old.state.served old.state.tally) (g.Q.Requests.recorded old.requests) old.counts c.announce.new.self t (metered old.metrics))
     new.origin old.said c.notice-self.result (g.K.StateKeeper.troubles old.keeper)
-    (λ (d : Configuration). stage d (moment (scene new.gateway (g.L.OctetSink.held c.serve-answer.new.log) (g.W.Wire.calls c.serve-answer.new.wire))
-    new.keeper new.state.served new.state.tally) (g.Q.Requests.recorded new.requests) new.counts new.announcing new.said)
-    c.serve-answer.result (ends (g.L.OctetSink.held c.serve-answer.new.log) (g.W.Wire.calls c.serve-answer.new.wire))
-    (never c.args.errors.now) (never c.notice-self.new.errors) (held c.args.errors.now) (held c.notice-self.new.errors)
-    (held c.serve-answer.new.errors) (held c.report_last.new.errors) c.requires.untold c.notice-self.ensures.troubles (λ t. refl)
-    (λ t. record { announced = c.announce.ensures.announces; is = refl })
+    (λ (d : Configuration). stage d (moment (scene new.gateway log calls)
+    new.keeper new.state.served new.state.tally) (g.Q.Requests.recorded new.requests) new.counts new.announcing new.said (metered new.metrics))
+    c.serve-answer.result (ends log calls) (rest c.end.new.self.keeper (g.Q.Requests.recorded c.end.new.self.requests))
+    (never c.args.errors.now) (never c.notice-self.new.errors) (never c.serve-answer.new.errors) (held c.args.errors.now)
+    (held c.notice-self.new.errors) (held c.serve-answer.new.errors) (held c.end.new.errors) c.requires.untold
+    c.notice-self.ensures.troubles (λ t. refl) (λ t. record { announced = c.announce.ensures.announces; is = refl })
     (c.serve-answer.ensures.runs config is_config) (λ d. refl) (λ d. refl)
-    c.notice-self.ensures.text c.notice-self.ensures.lasts
-    (λ d is_never. c.report_last.ensures.said (c.serve-answer.ensures.lasts (c.notice-self.ensures.lasts is_never)))
+    c.notice-self.ensures.text c.notice-self.ensures.lasts c.serve-answer.ensures.lasts
+    (λ d. c.end.ensures.ends d log calls)

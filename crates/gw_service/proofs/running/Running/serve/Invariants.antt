@@ -3,6 +3,7 @@ use Rattle.gw_configuration.specs.Configuration.{Configuration}
 use Rattle.gw_turns.specs.Serve.{scene}
 use Rattle.gw_turns.specs.Stretch.{CanCount, moment}
 use Rattle.gw_service.specs.Chain.{manner, stage}
+use Rattle.gw_service.specs.Metering.{metered, meters_by}
 use Rattle.gw_service.specs.Scheduled.{reporting_by}
 use Rattle.gw_service.specs.Stats.{due_stats}
 use Rattle.gw_service.proofs.ChainLemmas.{Chained}
@@ -16,10 +17,11 @@ invariant-loop g l =
     × CanCount l.self.state.served l.self.state.tally (g.W.Wire.failure_count l.wire) l.left
     × (g.E.OctetSink.NeverFails l.fn.errors → g.E.OctetSink.NeverFails l.errors)
     × Chained (manner g.K.Guard.Passes g.K.StateKeeper.Ticks g.K.StateKeeper.Adopts g.K.StateKeeper.troubles
-    (due_stats g.K.StateKeeper.unkept g.K.StateKeeper.more (reporting_by l.fn.schedule))) l.fn.self.origin
+    (due_stats g.K.StateKeeper.unkept g.K.StateKeeper.more (reporting_by l.fn.schedule)) (meters_by l.fn.schedule.start)
+    g.K.StateKeeper.Lasts) l.fn.self.origin
     (λ (c : Configuration). stage c (moment (scene l.fn.self.gateway (g.L.OctetSink.held l.fn.log) (g.W.Wire.calls l.fn.wire)) l.fn.self.keeper
-    l.fn.self.state.served l.fn.self.state.tally) (g.Q.Requests.recorded l.fn.self.requests) l.fn.self.counts l.fn.self.announcing l.fn.self.said)
+    l.fn.self.state.served l.fn.self.state.tally) (g.Q.Requests.recorded l.fn.self.requests) l.fn.self.counts l.fn.self.announcing l.fn.self.said (metered l.fn.self.metrics))
     l.self.origin
     (λ (c : Configuration). stage c (moment (scene l.self.gateway (g.L.OctetSink.held l.log) (g.W.Wire.calls l.wire)) l.self.keeper
-    l.self.state.served l.self.state.tally) (g.Q.Requests.recorded l.self.requests) l.self.counts l.self.announcing l.self.said)
+    l.self.state.served l.self.state.tally) (g.Q.Requests.recorded l.self.requests) l.self.counts l.self.announcing l.self.said (metered l.self.metrics))
     (g.E.OctetSink.NeverFails l.fn.errors) (g.E.OctetSink.held l.fn.errors) (g.E.OctetSink.held l.errors)
