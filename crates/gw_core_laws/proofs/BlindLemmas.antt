@@ -1,5 +1,5 @@
 -- Every ask of an event carries its claim, so whoever may not read an object raises no ask to read it that is allowed.
-use Rattle.std.proofs.Common.{◌≡◌, sym, refl, subst, ℕ, Bool, true, false, List, [], ◌∷◌, ◌++◌, Option, Some, None, Result, Ok, Err}
+use Rattle.std.proofs.Common.{◌≡◌, sym, refl, subst, ℕ, Bool, true, false, List, [], ◌∷◌, ◌++◌, Option, Some, None, Result, Ok, Err, take}
 use Rattle.std.specs.Prelude.{not, if◌then◌else◌, IfSome}
 use Rattle.std.specs.List.{AllByRecursion, Contains, list_all}
 use Rattle.std.specs.Option.{option_map_or}
@@ -43,7 +43,9 @@ use Rattle.gw_core.specs.Receive.{Received, admit, barred, comes_in, dropped, ma
 use Rattle.gw_core.specs.Reply.{apdu_for, context_of}
 use Rattle.gw_core.specs.State.{State, device_network}
 use Rattle.gw_core.proofs.RespondLemmas.{four_none}
-use Rattle.gw_core_laws.proofs.WriteLemmas.{writes_are_unread}
+use Rattle.gw_core_laws.proofs.WriteLemmas.{writes_are_unread, writes_go_unread}
+use Rattle.gw_core_laws.specs.Onward.{WritesGoHidden}
+use Rattle.gw_core.specs.History.{next, state_from}
 
 -- ---- the claim of a message
 
@@ -289,3 +291,22 @@ writes_are_hidden c k sources o marks l blind out place e there claims =
     (each_weaker (λ ask. AsksToRead o ask → allows c.rules ask ≡ false) (λ ask. AsksToReadOn c.device.network o ask → allows c.rules ask ≡ false)
     (λ ask none reads. none reads.reads) (asks (state_before c k (kept marks l) place) e)
     (blind_at (state_before c k (kept marks l) place) sources o e blind claims))
+
+-- ---- from any state on
+
+-- the rules stay
+rules_from : (w : State) (l : List Event) → (state_from w l).rules ≡ w.rules
+unfolding state_from next
+rules_from w [] = refl
+rules_from w (e ∷ l) = rules_from (next w e) l
+
+pub writes_go_hidden : WritesGoHidden
+writes_go_hidden w sources o marks l blind out place e there claims =
+    let v = state_from w (take place (kept marks l)) in
+    let network = w.device.configured.device.network in
+    let same : v.rules ≡ w.rules = rules_from w (take place (kept marks l)) in
+    let here = subst (λ (rules : List Rule). NoReadAllowed rules o (asks v e)) same
+    (blind_at v sources o e (subst (λ (rules : List Rule). AreBlind rules sources o) (sym same) blind) claims) in
+    writes_go_unread w o marks l out place e there
+    (each_weaker (λ ask. AsksToRead o ask → allows w.rules ask ≡ false) (λ ask. AsksToReadOn network o ask → allows w.rules ask ≡ false)
+    (λ ask none reads. none reads.reads) (asks v e) here)

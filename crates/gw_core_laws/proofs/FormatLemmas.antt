@@ -51,6 +51,7 @@ use Rattle.gw_core.proofs.HistoryLemmas.{run_from-after, state_from-after}
 use Rattle.gw_core.proofs.RespondLemmas.{four_none, three_none}
 use Rattle.gw_core_laws.proofs.ManagerLemmas.{OnManager, none_announced, plain_after, plain_move, received_on_managers}
 use Rattle.gw_script.specs.Event.{Event, Datagram, Tick}
+use Rattle.gw_core_laws.specs.Onward.{FormatOneGoesOn, FormatStaysOn, FormatTwoGoesOn}
 
 -- ---- nobody is kept out
 
@@ -418,3 +419,28 @@ left_under format w (e ∷ l) =
 
 pub format_was_unread : FormatWasUnread
 format_was_unread format w l = (asked_under format w l, run_under format w l, left_under format w l)
+
+-- ---- from any state on
+
+pub format_one_goes_on : FormatOneGoesOn
+unfolding IsOfOne
+format_one_goes_on w l is plain =
+    let one : IsOfOne w = (is, plain) in (
+      asked_alike IsOfOne before_two one_alike w l one,
+      run_alike IsOfOne before_two one_alike w l one,
+      left_alike IsOfOne before_two one_alike w l one,
+    )
+
+pub format_two_goes_on : FormatTwoGoesOn
+unfolding NamesNone
+format_two_goes_on w l off plain =
+    let none : NamesNone w = (off, plain) in (
+      asked_alike NamesNone before_three two_alike w l none,
+      run_alike NamesNone before_three two_alike w l none,
+      left_alike NamesNone before_three two_alike w l none,
+    )
+
+pub format_stays_on : FormatStaysOn
+unfolding state_from next
+format_stays_on w [] = refl
+format_stays_on w (e ∷ l) = format_stays_on (next w e) l ∙ one_move (move_at w e) w.relay

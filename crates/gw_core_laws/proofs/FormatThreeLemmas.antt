@@ -60,6 +60,7 @@ use Rattle.gw_core_laws.proofs.FormatLemmas.{moved_under, one_move, received_so}
 use Rattle.gw_core_laws.proofs.RelayAlikeLemmas.{HasNone, cast_asks_alike, cast_sends_alike, claims_alone, link_answer_alike, link_asks_alike, link_change_alike, manage_change_alike, manage_steps_alike, onward_alike, port_open, relay_three, relay_two, route_steps_alike, steps_asked, steps_sent, strange_sends_alike}
 use Rattle.gw_core_laws.proofs.StationLemmas.{entry_each}
 use Rattle.gw_core_laws.proofs.UnstationedLemmas.{denials_alike}
+use Rattle.gw_core_laws.specs.Onward.{FormatThreeGoesOn}
 
 -- ---- what is received
 
@@ -547,3 +548,10 @@ format_three_runs_as_two c k l three stations none alike =
       ap (under Two) (sym (state_from-after c k [] l)) ∙ left_as_two w l is alike
           ∙ ap (λ (v : State). state_from v l) (sym fresh) ∙ state_from-after two k [] l,
     )
+
+-- ---- from any state on
+
+pub format_three_goes_on : FormatThreeGoesOn
+format_three_goes_on w l three stations none alike =
+    let is : IsOpen w = record { three = three; stations = stations; rules = none } in
+    (asked_as_two w l is alike, run_as_two w l is alike, left_as_two w l is alike)

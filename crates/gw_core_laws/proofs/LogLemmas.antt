@@ -23,6 +23,12 @@ use Rattle.gw_core.specs.State.{State}
 use Rattle.gw_core.proofs.DenialLemmas.{no_denials}
 use Rattle.gw_core.proofs.EffectLemmas.{effects_at-tick}
 use Rattle.gw_core.proofs.HistoryLemmas.{ports_alike, moves_ticks, relay_ticks}
+use Rattle.std.specs.Option.{option_map}
+use Rattle.gw_core.specs.Effects.{move_at, relay_change_for}
+use Rattle.gw_core.specs.History.{next, run_from, state_from}
+use Rattle.gw_core_laws.specs.Onward.{DenialsGoOn, LogGoesOn, TicksGoOn}
+use Rattle.gw_relay.specs.State.{Commit, Relay, moved}
+use Rattle.gw_relay.specs.declared.change.Change.{Change}
 
 -- a count goes on from what was counted before
 count_on : (n : ℕ) (h : List Event) → fold (λ a e. a + cond (is_tick e) 1 0) n h ≡ n + count_by is_tick h
@@ -167,3 +173,51 @@ denied_reads_are_refused rules d context request read denied = rw denied refl
 
 pub denied_writes_are_refused : DeniedWritesAreRefused
 denied_writes_are_refused rules d context invoke write denied = rw denied (refl, refl)
+
+-- ---- from any state on
+
+changed_ticks : (change : Option Change) (relay : Relay) → (moved (option_map Commit change) relay).ticks ≡ relay.ticks
+changed_ticks None relay = refl
+changed_ticks (Some change) relay = refl
+
+own_ticks : (w : State) (l : List Event) → (state_from w l).ticks ≡ w.ticks + count_by is_tick l
+unfolding state_from next
+own_ticks w [] = sym (add-zero w.ticks)
+own_ticks w (Datagram port from octets ∷ l) = omega (arith, own_ticks (next w (Datagram port from octets)) l)
+own_ticks w (Tick ∷ l) = omega (arith, own_ticks (next w Tick) l, count_on 1 l)
+
+seen_ticks : (w : State) (l : List Event) → (state_from w l).relay.ticks ≡ w.relay.ticks + count_by is_tick l
+unfolding state_from next move_at
+seen_ticks w [] = sym (add-zero w.relay.ticks)
+seen_ticks w (Datagram port from octets ∷ l) =
+    let e = Datagram port from octets in
+    let here : (next w e).relay.ticks ≡ w.relay.ticks = changed_ticks (relay_change_for w.rules w.relay (receive w e)) w.relay in
+    omega (arith, seen_ticks (next w e) l, here)
+seen_ticks w (Tick ∷ l) = omega (arith, seen_ticks (next w Tick) l, count_on 1 l)
+
+pub ticks_go_on : TicksGoOn
+ticks_go_on w l = (own_ticks w l, seen_ticks w l)
+
+pub denials_go_on : DenialsGoOn
+unfolding state_from run_from next effects_at denials_at
+denials_go_on w [] = sym (add-zero w.denials)
+denials_go_on w (e ∷ l) =
+    let given = denials_at w e in
+    let rest = log (run_from (next w e) l) in
+    omega (arith, denials_go_on (next w e) l, length-append given rest)
+
+pub log_goes_on : LogGoesOn
+unfolding run_from next effects_at denials_at
+log_goes_on w [] = refl
+log_goes_on w (e ∷ l) =
+    let given = denials_at w e in
+    let rest = log (run_from (next w e) l) in
+    let number : Denial → ℕ = λ d. d.number in
+    let first = w.denials + 1 in
+    let later : (next w e).denials + 1 ≡ first + length given = omega arith in
+    map-append number given rest
+    ∙ ap (λ (ns : List ℕ). ns ++ map number rest) (numbered_at w e)
+    ∙ ap (λ (ns : List ℕ). numbers_from first (length given) ++ ns)
+    (log_goes_on (next w e) l ∙ ap (λ (f : ℕ). numbers_from f (length rest)) later)
+    ∙ sym (numbers_from-more first (length given) (length rest))
+    ∙ ap (numbers_from first) (sym (length-append given rest))

@@ -43,6 +43,7 @@ use Rattle.gw_core_laws.specs.Plain.{plain_asked, plain_asks, plain_asks_for, pl
 use Rattle.gw_core_laws.specs.Plain as plain
 use Rattle.gw_core_laws.proofs.ManagerLemmas.{OnManager, manager_there, managers_of, none_announced, plain_after, plain_move, received_on_managers}
 use Rattle.gw_script.specs.Event.{Event, Datagram, Tick}
+use Rattle.gw_core_laws.specs.Onward.{PlainGoesOn}
 
 -- ---- what is received
 
@@ -237,3 +238,8 @@ first_formats_are_plain c off limits =
     let both = and_parts (not c.announce) (configuration.is_plain c.ports c.rules c.notes c.audits c.sets) (or_last (names_stations c.format) _ rules.1 off) in
     let each = and_parts (list_all is_plain_port c.ports) _ both.1 in
     and_from (not c.announce) (are_managers (port_states_from 1 c.ports)) both.0 (managers_from 1 c.ports each.0)
+
+-- ---- from any state on
+
+pub plain_goes_on : PlainGoesOn
+plain_goes_on w l is = (asked_plain w l is, run_plain w l is, left_plain w l is)

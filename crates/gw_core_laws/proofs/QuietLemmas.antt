@@ -28,6 +28,7 @@ use Rattle.gw_core.specs.Receive.{Origin, Received, barred, dropped, managed, un
 use Rattle.gw_core.specs.Reply.{apdu_for, context_of}
 use Rattle.gw_core.specs.State.{State, device_network}
 use Rattle.gw_core.proofs.HistoryLemmas.{run_from-after, state_next}
+use Rattle.gw_core_laws.specs.Onward.{LeavesOutFrom, QuietGoesUnseen}
 
 -- ---- the numbers of denials
 
@@ -130,13 +131,6 @@ quiet_next w Tick h = absurd h
 
 -- ---- a list of events
 
--- the same from a state
-abbrev pub LeavesOutFrom : (State → Event → Type 0) → State → List Bool → List Event → Type 0
-LeavesOutFrom Such w marks [] = Unit {0}
-LeavesOutFrom Such w [] (e ∷ l) = Unit {0}
-LeavesOutFrom Such w (true ∷ marks) (e ∷ l) = Such w e × LeavesOutFrom Such (next w e) marks l
-LeavesOutFrom Such w (false ∷ marks) (e ∷ l) = LeavesOutFrom Such (next w e) marks l
-
 pub left_from : (Such : State → Event → Type 0) (c : Configuration) (k : Counts) (h : List Event) (marks : List Bool) (l : List Event)
     → LeavesOut Such c k h marks l → LeavesOutFrom Such (state_after c k h) marks l
 left_from Such c k h marks [] out = tt
@@ -178,3 +172,6 @@ quiet_is_unseen c k marks l out =
     ap (map seen) (sym (run_from-after c k [] (kept marks l)))
     ∙ quiet_from w w.denials marks l (left_from IsQuiet c k [] marks l out)
     ∙ ap (λ (given : List Effects). map seen (kept marks given)) (run_from-after c k [] l)
+
+pub quiet_goes_unseen : QuietGoesUnseen
+quiet_goes_unseen w marks l out = quiet_from w w.denials marks l out

@@ -42,7 +42,8 @@ use Rattle.gw_core.specs.State.{State}
 use Rattle.gw_core_laws.proofs.DeviceAskLemmas.{own_network}
 use Rattle.gw_core_laws.proofs.ExtensionLemmas.{configuration_stays}
 use Rattle.gw_core.proofs.HistoryLemmas.{run_from-after, state_from-after}
-use Rattle.gw_core_laws.proofs.QuietLemmas.{LeavesOutFrom, left_from, unnumbered_of}
+use Rattle.gw_core_laws.proofs.QuietLemmas.{left_from, unnumbered_of}
+use Rattle.gw_core_laws.specs.Onward.{AnnouncementsGoUnread, LeavesOutFrom, WritesGoUnread}
 
 no_some : {A : Type 0} (x : A) → ◌≡◌ {A = Option A} None (Some x) → ⊥
 no_some x e = cc
@@ -342,3 +343,19 @@ announcements_are_unread c k o marks l out =
     (ap (λ (x : State). x.relay) (sym (state_from-after c k [] (kept marks l)))
     ∙ relays_alike o w w marks l (alike_self o w) (left_from (IsWriteOf o) c k [] marks l out)
     ∙ ap (λ (x : State). x.relay) (state_from-after c k [] l))
+
+-- ---- from any state on
+
+pub writes_go_unread : WritesGoUnread
+unfolding SeenFrom UnreadAt
+writes_go_unread w o marks l out place e there none =
+    let m = kept marks l in
+    let network = w.device.configured.device.network in
+    seen_from network o w w marks l refl (alike_self o w) out place
+    (λ d at. subst (λ (x : Event). NoReadAllowedOn network w.rules o (asks (state_from w (take place m)) x)) (same_event e d (sym there ∙ at)) none)
+  where
+    same_event : (e d : Event) → Some e ≡ Some d → e ≡ d
+    same_event e d is = cc
+
+pub announcements_go_unread : AnnouncementsGoUnread
+announcements_go_unread w o marks l out = ap announcements (relays_alike o w w marks l (alike_self o w) out)

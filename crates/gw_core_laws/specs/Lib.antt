@@ -8,5 +8,6 @@ pub mod Decisions
 pub mod Plain
 pub mod Neighbours
 pub mod NoLeak
+pub mod Onward
 pub mod Examples
 pub mod Refused

@@ -14,6 +14,8 @@ ghost use Rattle.gw_core_laws.specs.FormatThree.{AsksNameTheirSender, AsksNameTh
 ghost use Rattle.gw_core_laws.specs.FormatThree.{FormatThreeIsAsTwo, FormatThreeRunsAsTwo};
 ghost use Rattle.gw_core_laws.specs.NoLeak.{AnnouncementsAreUnread, AsksCarryTheirClaim, AsksHaveTheirOrigin, QuietIsUnseen};
 ghost use Rattle.gw_core_laws.specs.NoLeak.{WritesAreHidden, WritesAreUnread};
+ghost use Rattle.gw_core_laws.specs.Onward.{AnnouncementsGoUnread, DenialsGoOn, FormatOneGoesOn, FormatStaysOn, FormatThreeGoesOn, FormatTwoGoesOn};
+ghost use Rattle.gw_core_laws.specs.Onward.{LogGoesOn, PlainGoesOn, QuietGoesUnseen, TicksGoOn, WritesGoHidden, WritesGoUnread};
 ghost use Rattle.gw_core_laws.specs.Laws.{ActsLeaveTheTables, AllowedTrafficIsSent, ConfigurationStays};
 ghost use Rattle.gw_core_laws.specs.Laws.{DeniedAsksAreLogged, DeniedBroadcastsAreKept};
 ghost use Rattle.gw_core_laws.specs.Laws.{DeniedReadsAreRefused, DeniedWritesAreRefused, DenialsAreCounted};
@@ -142,6 +144,24 @@ pub fn counts()
     ensures relay { RelayTicksAreCounted }
     ensures denials { DenialsAreCounted }
     ensures log { LogIsNumbered }
+{}
+
+/// What holds from any state on, whatever came before it, also in a gateway that took over what another one left under another
+/// configuration: what it counts, what the formats and the keys `bbmd` and `announce` change, and what peers don't learn of one
+/// another.
+pub fn onward()
+    ensures ticks { TicksGoOn }
+    ensures denials { DenialsGoOn }
+    ensures log { LogGoesOn }
+    ensures first { FormatOneGoesOn }
+    ensures second { FormatTwoGoesOn }
+    ensures third { FormatThreeGoesOn }
+    ensures stays { FormatStaysOn }
+    ensures plain { PlainGoesOn }
+    ensures hidden { WritesGoHidden }
+    ensures unread { WritesGoUnread }
+    ensures quiet { QuietGoesUnseen }
+    ensures announced { AnnouncementsGoUnread }
 {}
 
 /// What frames do to a gateway of the built-in configuration, computed from the definitions.

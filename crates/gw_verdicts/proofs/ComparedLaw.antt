@@ -4,7 +4,6 @@ use Rattle.gw_configuration.specs.Configuration.{Configuration}
 use Rattle.gw_policy_review.specs.comparison.Laws.{IsAskOf}
 use Rattle.gw_policy_review.proofs.comparison_lemmas.TextLaw.{alike_is_alike, found_is_all, lines_are_true}
 use Rattle.gw_core.specs.Asks.{asks}
-use Rattle.gw_core.specs.History.{state_after}
 use Rattle.gw_ask_sets.specs.regions.Comparing.{IsDecided}
 use Rattle.gw_ask_sets.specs.regions.Regions.{lies}
 use Rattle.gw_rules.specs.Ask.{Ask}
@@ -17,10 +16,10 @@ use Rattle.gw_verdicts.proofs.ShapeLaw.{asks_lie_in_shapes}
 -- what holds of each ask of the shapes holds of each ask that is raised
 raised : (old new : Configuration) (Holds : Ask → Type 0) → ((ask : Ask) → IsAskOf old new ask → Holds ask) → OfBoth old new Holds
 raised old new Holds so = (
-  λ numbered k h e is. each_weaker (LiesInOne (shapes old)) Holds (λ ask lies. so ask (inl lies)) (asks (state_after old k h) e)
-      (asks_lie_in_shapes old numbered k h e is),
-  λ numbered k h e is. each_weaker (LiesInOne (shapes new)) Holds (λ ask lies. so ask (inr lies)) (asks (state_after new k h) e)
-      (asks_lie_in_shapes new numbered k h e is),
+  λ numbered w under e is. each_weaker (LiesInOne (shapes old)) Holds (λ ask lies. so ask (inl lies)) (asks w e)
+      (asks_lie_in_shapes old numbered w under e is),
+  λ numbered w under e is. each_weaker (LiesInOne (shapes new)) Holds (λ ask lies. so ask (inr lies)) (asks w e)
+      (asks_lie_in_shapes new numbered w under e is),
 )
 
 pub events_are_compared : EventsAreCompared

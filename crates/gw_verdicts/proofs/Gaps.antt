@@ -1,31 +1,14 @@
 -- A network that is none of the direct ones lies in a gap between them.
-use Rattle.std.proofs.Common.{◌≡◌, ◌≢◌, ◌⊎◌, inl, inr, sym, refl, ℕ, ◌+◌, ◌≤◌, ◌<◌, Bool, true, false, List, [], ◌∷◌, ◌++◌, length, Some, arith, nat_lt}
-use Rattle.std.specs.Prelude.{◌==◌}
-use Rattle.std.specs.List.{AllByRecursion, flat_map, list_any}
+use Rattle.std.proofs.Common.{◌≡◌, ◌≢◌, ◌⊎◌, inl, inr, refl, ℕ, ◌≤◌, ◌<◌, Bool, true, false, List, [], ◌∷◌, ◌++◌, Some, arith, nat_lt}
+use Rattle.std.specs.List.{AllByRecursion, flat_map}
 use Rattle.std.specs.Option.{option_to_list}
-use Rattle.std.proofs.lemmas.Bool.{eqb-false, lt-ltb, ltb-false, ltb-true, or_parts}
+use Rattle.std.proofs.lemmas.Bool.{lt-ltb, ltb-false, ltb-true}
 use Rattle.gw_configuration.specs.declared.port.Port.{Port as ConfiguredPort}
-use Rattle.gw_relay.specs.History.{Acts as PortActs}
-use Rattle.gw_relay.specs.History.{all_after, ports_from}
 use Rattle.gw_rules.specs.Range.{holds}
 use Rattle.gw_ask_sets.specs.shapes.Pieces.{above, below}
 use Rattle.gw_ask_sets.specs.shapes.Shape.{IsWithin}
 use Rattle.gw_ask_sets.specs.shapes.Shapes.{gaps, gaps_between, network, only, split}
 use Rattle.gw_ask_sets.specs.declared.shapes.side.Side.{Side}
-
--- a network that no port has now is none of the ports'
-pub apart : (number : ℕ) (ports : List ConfiguredPort) (acts : List PortActs) (n : ℕ)
-    → length (all_after (ports_from number ports) acts) ≡ length ports
-    → list_any (λ state. state.port.network == n) (all_after (ports_from number ports) acts) ≡ false
-    → AllByRecursion (λ p. n ≢ p.network) ports
-apart number [] acts n len none = tt
-apart number (p ∷ ports) [] n len none = absurd (omega (arith, len))
-apart number (p ∷ ports) (a ∷ acts) n len none =
-    let parts = or_parts (p.network == n) (list_any (λ state. state.port.network == n) (all_after (ports_from (number + 1) ports) acts)) none in
-    let here = eqb-false p.network n parts.0 in
-    (λ e. here (sym e), apart (number + 1) ports acts n (omega (arith, len)) parts.1)
-
--- ---- the gaps
 
 abbrev pub WithinOne : List Side → ℕ → Type 0
 WithinOne [] n = ⊥

@@ -10,6 +10,8 @@ pub mod PeerLaw
 pub mod Raised
 pub mod RelayAsks
 pub mod ShapeLaw
+pub mod StateLaw
+pub mod StrangerLaw
 pub mod RunsLaw
 pub mod WhyLaw
 pub mod asks_lemmas

@@ -30,7 +30,6 @@ use Rattle.gw_rules.specs.declared.format.Format.{Format}
 use Rattle.gw_relay.specs.Asks as table
 use Rattle.gw_relay.specs.Claim.{claimed_by, local_source, remote_source}
 use Rattle.gw_relay.specs.Entry.{claim_ask, comes_by_route, enter_ask, enters, entry_asks, is_stranger, speaks_for_others}
-use Rattle.gw_relay.specs.History.{all_after, ports_from}
 use Rattle.gw_relay.specs.Message.{Message}
 use Rattle.gw_relay.specs.declared.port.Port.{Port}
 use Rattle.gw_relay.specs.declared.port.PortState.{PortState}
@@ -46,17 +45,14 @@ use Rattle.gw_script.specs.Event.{Event}
 use Rattle.gw_codecs.specs.services.Limits.{last_property}
 use Rattle.gw_codecs.specs.tags.Object.{IsObject, Object}
 use Rattle.gw_core.specs.Asks.{asks, asks_for}
-use Rattle.gw_core.specs.History.{port_acts, state_after}
+use Rattle.gw_core.specs.History.{state_after}
 use Rattle.gw_core.specs.Receive.{Received, barred, dropped, managed, message, receive, unregistered}
 use Rattle.gw_core.specs.State.{State, device_network}
 use Rattle.gw_core.specs.declared.event.Counts.{Counts}
-use Rattle.gw_core_laws.proofs.FormatLemmas.{format_stays}
-use Rattle.gw_core_laws.proofs.ExtensionLemmas.{configuration_stays}
-use Rattle.gw_core.proofs.HistoryLemmas.{ports_stay}
 use Rattle.gw_core.proofs.RespondLemmas.{four_none}
-use Rattle.gw_core_laws.proofs.StandLemmas.{acts_leave_the_tables}
-use Rattle.gw_core_laws.proofs.Whence.{Heard, InPorts, IsHeard, all_ports, heard_at, port_bounds}
-use Rattle.gw_verdicts.specs.Laws.{AsksLieInShapes, IsCarried, IsInstance, IsNumbered, IsOnNetwork, NeverFirstNeverDecides}
+use Rattle.gw_core_laws.proofs.Whence.{Heard, InPorts, IsHeard, heard_at, port_bounds}
+use Rattle.gw_verdicts.specs.Laws.{AsksLieInShapes, FreshAsksLieInShapes, IsCarried, IsInstance, IsNumbered, IsOnNetwork, NeverFirstNeverDecides}
+use Rattle.gw_verdicts.specs.States.{ArePortsOf, IsStateUnder}
 use Rattle.gw_ask_sets.specs.shapes.Shape.{IsWithin, LiesInOne, Shape}
 use Rattle.gw_ask_sets.specs.shapes.Shapes.{any_entrance, claim_shapes, enter_shapes, entrances, entrances_from, foreign, foreign_shapes, gaps, is_manager as is_configured_manager, near_shapes, network, only, own, own_shapes, perhaps, shapes, shapes_by, shapes_from, shapes_of, shapes_within, some, table_shapes}
 use Rattle.gw_ask_sets.specs.declared.shapes.shapes.Entrance.{Entrance}
@@ -64,11 +60,12 @@ use Rattle.gw_ask_sets.specs.declared.shapes.side.Side.{Side}
 use Rattle.gw_ask_sets.proofs.shapes_lemmas.Lying.{in_front, in_rest}
 use Rattle.gw_verdicts.proofs.Brought.{Brought, IsBrought, brought_at}
 use Rattle.gw_verdicts.proofs.DeviceAsks.{DeviceKnown}
-use Rattle.gw_verdicts.proofs.Gaps.{WithinOne, apart, in_gap}
+use Rattle.gw_verdicts.proofs.Gaps.{WithinOne, in_gap}
 use Rattle.gw_verdicts.proofs.Knowing.{bounds_known}
 use Rattle.gw_verdicts.proofs.Octets.{AreNamed, IsPlace, IsStation}
 use Rattle.gw_verdicts.proofs.Parts.{each_entry}
 use Rattle.gw_verdicts.proofs.RelayAsks.{Reached}
+use Rattle.gw_verdicts.proofs.StateLaw.{histories_are_under}
 use Rattle.gw_verdicts.proofs.Raised.{Comes, any_octets, claim_lies, enter_lies, link_lies, message_lies, near_cases, six_octets}
 
 -- ---- in the list of all shapes
@@ -466,35 +463,54 @@ configured_small (o ∷ os) each = (each.0, configured_small os each.1)
 
 -- ---- the laws
 
-there_after : (c : Configuration) (k : Counts) (h : List Event) (e : Event) (w : State) → w ≡ state_after c k h → IsNumbered c → IsCarried e
+-- each port of a state is one of the configured ones
+each_there : (number : ℕ) (ports : List ConfiguredPort) (states : List PortState) → ArePortsOf number ports states
+    → AllByRecursion (λ state. InPorts number ports state.port) states
+each_there number [] [] are = tt
+each_there number [] (state ∷ states) are = absurd are
+each_there number (p ∷ ports) [] are = absurd are
+each_there number (p ∷ ports) (state ∷ states) are = (
+  inl are.0,
+  each_weaker (λ (other : PortState). InPorts (number + 1) ports other.port) (λ (other : PortState). InPorts number (p ∷ ports) other.port)
+      (λ other there. inr there) states (each_there (number + 1) ports states are.2),
+)
+
+-- a network that no port of a state has is none of the configured ports'
+none_there : (number : ℕ) (ports : List ConfiguredPort) (states : List PortState) (n : ℕ) → ArePortsOf number ports states
+    → list_any (λ state. state.port.network == n) states ≡ false → AllByRecursion (λ p. n ≢ p.network) ports
+none_there number [] states n are none = tt
+none_there number (p ∷ ports) [] n are none = absurd are
+none_there number (p ∷ ports) (state ∷ states) n are none =
+    let parts = or_parts (state.port.network == n) (list_any (λ (other : PortState). other.port.network == n) states) none in (
+      λ same. eqb-false state.port.network n parts.0 (ap (λ (port : Port). port.network) are.0 ∙ sym same),
+      none_there (number + 1) ports states n are.2 parts.1,
+    )
+
+there_at : (c : Configuration) (w : State) (e : Event) → IsStateUnder c w → IsNumbered c → IsCarried e
     → AllByRecursion (LiesThere w.relay.format (device_network w.device) c.ports) (asks w e)
 unfolding asks
-there_after c k h e w is numbered carried =
-    let acts = port_acts c k h in
-    let stand : w.relay.ports ≡ all_after (ports_from 1 c.ports) acts = ap (λ (v : State). v.relay.ports) is ∙ acts_leave_the_tables c k h in
-    let each = subst (λ (states : List PortState). AllByRecursion (λ state. InPorts 1 c.ports state.port) states) (sym stand) (all_ports 1 c.ports acts) in
+there_at c w e is numbered carried =
+    let each = each_there 1 c.ports w.relay.ports is.ports in
     let nets = each_weaker (λ state. InPorts 1 c.ports state.port) (λ state. bounds_known.IsNet state.port.network)
     (λ state there. port_net 1 c.ports state.port numbered.networks there) w.relay.ports each in
-    let configured : w.device.configured ≡ (database_of c).configured =
-    ap (λ (v : State). v.device.configured) is ∙ configuration_stays c k h in
-    let known = subst (λ (x : Configured). DeviceKnown bounds_known x) (sym configured)
+    let known = subst (λ (x : Configured). DeviceKnown bounds_known x) (sym is.device)
     (device_known (database_of c).configured numbered.device (configured_small c.objects numbered.objects)) in
-    let len : length (all_after (ports_from 1 c.ports) acts) ≡ length c.ports =
-    ap (λ (states : List PortState). length states) (sym stand) ∙ ap (λ (v : State). length v.relay.ports) is ∙ ports_stay c k h in
     received_lies w c.ports (receive w e) (heard_at w (InPorts 1 c.ports) e each) (brought_at w e carried)
-    (λ n none. apart 1 c.ports acts n len (sym (ap (λ (states : List PortState). list_any (λ state. state.port.network == n) states) stand) ∙ none))
-    nets known
+    (λ n none. none_there 1 c.ports w.relay.ports n is.ports none) nets known
 
 pub asks_lie_in_shapes : AsksLieInShapes
-asks_lie_in_shapes c numbered k h e carried =
-    let w = state_after c k h in
-    let raised = asks w e in
-    let device : device_network w.device ≡ c.device.network = ap (λ (x : Configured). x.device.network) (configuration_stays c k h) in
+asks_lie_in_shapes c numbered w is e carried =
+    let device : device_network w.device ≡ c.device.network = ap (λ (x : Configured). x.device.network) is.device in
     each_weaker (LiesThere w.relay.format (device_network w.device) c.ports) (LiesThere c.format c.device.network c.ports)
-    (λ ask lies. subst (λ (format : Format). LiesInOne (shapes_of format c.device.network c.ports) ask) (format_stays c k h)
-    (subst (λ (n : ℕ). LiesInOne (shapes_of w.relay.format n c.ports) ask) device lies)) raised (there_after c k h e w refl numbered carried)
+    (λ ask lies. subst (λ (format : Format). LiesInOne (shapes_of format c.device.network c.ports) ask) is.format
+    (subst (λ (n : ℕ). LiesInOne (shapes_of w.relay.format n c.ports) ask) device lies)) (asks w e) (there_at c w e is numbered carried)
 
 pub never_first_never_decides : NeverFirstNeverDecides
-never_first_never_decides c number never numbered k h e carried =
+never_first_never_decides c number never numbered w is e carried =
     each_weaker (LiesInOne (shapes c)) (λ ask. first c.rules ask ≡ Some number → ⊥)
-    (λ ask lies is. never ask lies is) (asks (state_after c k h) e) (asks_lie_in_shapes c numbered k h e carried)
+    (λ ask lies. never ask lies) (asks w e) (asks_lie_in_shapes c numbered w is e carried)
+
+-- ---- after a history
+
+pub fresh_asks_lie_in_shapes : FreshAsksLieInShapes
+fresh_asks_lie_in_shapes c numbered k h = asks_lie_in_shapes c numbered (state_after c k h) (histories_are_under c k h)

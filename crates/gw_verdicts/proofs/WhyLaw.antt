@@ -43,7 +43,6 @@ use Rattle.gw_script.specs.Event.{Event, Datagram, Tick}
 use Rattle.gw_core.specs.Asks.{apdu_asks, asks_for}
 use Rattle.gw_core.specs.Denials.{default_name, denials_at, denials_for, denials_from, name_at, rule_name}
 use Rattle.gw_core.specs.Effects.{effects_at}
-use Rattle.gw_core.specs.History.{state_after}
 use Rattle.gw_core.specs.Receive.{Origin, Received, admit, barred, comes_in, dropped, managed, manages, message, message_origin, node_origin, npdu_of, payload_of, receive, receive_datagram, receive_frame, receive_npdu, receive_on, source_of, unregistered}
 use Rattle.gw_core.specs.Reply.{apdu_for, context_of}
 use Rattle.gw_core.specs.State.{State, device_network}
@@ -415,9 +414,10 @@ named_so_by rules notes d shown denied is =
     ]
 
 pub why_names_the_rule : WhyNamesTheRule
-why_names_the_rule c k h e sent =
-    let w = state_after c k h in
-    each_weaker (IsDeniedSo c.rules)
+why_names_the_rule c w under e sent =
+    each_weaker (IsDeniedSo w.rules)
     (λ d. (line : List ℕ) (shown : ShownAsk) → IsShowable d → IsLineOf line d → ShowsAsk line shown → NamesTheRule c.rules c.notes d shown)
-    (λ d denied line shown is spelled translates. named_so_by c.rules c.notes d shown denied (one_ask line d shown is spelled translates))
+    (λ d denied line shown is spelled translates.
+    subst (λ (rules : List Rule). NamesTheRule rules c.notes d shown) under.rules
+    (named_so_by w.rules c.notes d shown denied (one_ask line d shown is spelled translates)))
     (effects_at w e).denials (denied_so w e sent)

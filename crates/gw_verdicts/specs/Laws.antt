@@ -23,7 +23,9 @@ use Rattle.gw_rules.specs.declared.format.Format.{Format}
 use Rattle.gw_rules.specs.declared.rule.Rule.{Rule}
 use Rattle.gw_core.specs.Asks.{asks}
 use Rattle.gw_core.specs.Denials.{default_name}
-use Rattle.gw_core.specs.History.{effects, state_after}
+use Rattle.gw_core.specs.Effects.{effects_at}
+use Rattle.gw_core.specs.History.{state_after}
+use Rattle.gw_core.specs.State.{State}
 use Rattle.gw_core.specs.declared.event.Counts.{Counts}
 use Rattle.gw_policy_review.specs.lint.Finding.{Finds}
 use Rattle.gw_policy_review.specs.declared.lint.finding.Finding.{Finding}
@@ -31,6 +33,7 @@ use Rattle.gw_policy_review.specs.declared.lint.finding.Finding.TheVariants as f
 use Rattle.gw_ask_sets.specs.shapes.Search.{IsNeverFirst}
 use Rattle.gw_ask_sets.specs.shapes.Shape.{LiesInOne}
 use Rattle.gw_ask_sets.specs.shapes.Shapes.{shapes}
+use Rattle.gw_verdicts.specs.States.{IsStateUnder}
 use Rattle.gw_verdicts.specs.Why.{answer_to, note_text}
 use Rattle.gw_policy_review.specs.warnings.Warnings.{register_ask}
 
@@ -52,14 +55,24 @@ pub record IsNumbered (c : Configuration) : Type 0 where
   pub device : c.device.instance ≤ 4194302
   pub objects : AllByRecursion IsInstance c.objects
 
--- this holds of each ask of every event of a gateway of the configuration, whatever came before
+-- this holds of each ask of every event of a gateway that goes by the configuration, whatever came before: also a restart,
+-- or a reload under another configuration
 abbrev pub OfEachAsk : Configuration → (Ask → Type 0) → Type 0
 OfEachAsk c Holds =
+    IsNumbered c → (w : State) → IsStateUnder c w → (e : Event) → IsCarried e → AllByRecursion Holds (asks w e)
+
+-- this holds of each after every history of a gateway that began new
+abbrev pub OfEachFreshAsk : Configuration → (Ask → Type 0) → Type 0
+OfEachFreshAsk c Holds =
     IsNumbered c → (k : Counts) (h : List Event) (e : Event) → IsCarried e → AllByRecursion Holds (asks (state_after c k h) e)
 
 -- Each ask lies in a shape.
 abbrev pub AsksLieInShapes : Type 0
 AsksLieInShapes = (c : Configuration) → OfEachAsk c (λ ask. LiesInOne (shapes c) ask)
+
+-- So does each after every history; and so it is of each law below, since the state after a history is one of the configuration.
+abbrev pub FreshAsksLieInShapes : Type 0
+FreshAsksLieInShapes = (c : Configuration) → OfEachFreshAsk c (λ ask. LiesInOne (shapes c) ask)
 
 -- no ask of any event has the rule of this number as its first
 abbrev pub NeverDecides : Configuration → ℕ → Type 0
@@ -114,8 +127,9 @@ NamesTheRule rules notes d shown =
     ((first rules d.ask ≡ None) × (d.rule ≡ default_name) × (answer_to rules notes shown ≡ codes "deny default" ++ 10 ∷ []))
     ⊎ ((number : ℕ) × (first rules d.ask ≡ Some number) × (answer_to rules notes shown ≡ denied_by notes number d.rule))
 
--- For each line that a run under a configuration wrote, the answer under the same configuration names that line's rule.
+-- For each line that a gateway wrote while it went by a configuration, the answer under the same configuration names that
+-- line's rule.
 abbrev pub WhyNamesTheRule : Type 0
-WhyNamesTheRule = (c : Configuration) (k : Counts) (h : List Event) (e : Event) → IsSent e →
+WhyNamesTheRule = (c : Configuration) (w : State) → IsStateUnder c w → (e : Event) → IsSent e →
     AllByRecursion (λ d. (line : List ℕ) (shown : ShownAsk) → IsShowable d → IsLineOf line d → ShowsAsk line shown
-    → NamesTheRule c.rules c.notes d shown) (effects c k h e).denials
+    → NamesTheRule c.rules c.notes d shown) (effects_at w e).denials

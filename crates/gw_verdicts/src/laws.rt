@@ -4,11 +4,21 @@ ghost use Rattle.std.specs.List.{AllByRecursion};
 ghost use Rattle.gw_addr.specs.Reading.{AreOctets};
 ghost use Rattle.gw_script.specs.Event.{event_view};
 ghost use Rattle.gw_verdicts.specs.Compared.{EventsAreAlike, EventsAreCompared, LinesAreTrueOfEvents};
-ghost use Rattle.gw_verdicts.specs.Laws.{AsksLieInShapes, FoundNeverDecides, IsCarried, IsInstance, IsNumbered, IsOnNetwork, NeverFirstNeverDecides, PeersRaiseTheAsk, WhyNamesTheRule};
+ghost use Rattle.gw_verdicts.specs.Laws.{AsksLieInShapes, FoundNeverDecides, FreshAsksLieInShapes, IsCarried, IsInstance, IsNumbered, IsOnNetwork, NeverFirstNeverDecides, PeersRaiseTheAsk, WhyNamesTheRule};
 ghost use Rattle.gw_verdicts.specs.Runs.{AlikeRunsAlike};
+ghost use Rattle.gw_verdicts.specs.States.{CarriedAreUnder, HistoriesAreUnder, StatesStayUnder};
+ghost use Rattle.gw_verdicts.specs.Strangers.{ClaimsAreAsked, EveryStrangerEnters, NoStrangerEnters, NobodyClaims, StrangersAreAsked};
 
 use gw_configuration::{Config, Object, Port};
 use gw_script::Event;
+
+/// A gateway is always in a state of the configuration that it goes by: after every history, also at once after a restart
+/// or a reload under another configuration, and after whatever comes then. The other laws are about all these states.
+pub fn states()
+    ensures histories { HistoriesAreUnder }
+    ensures carried { CarriedAreUnder }
+    ensures runs { StatesStayUnder }
+{}
 
 /// What a lint says of a rule is true of the gateway: a rule that matches nothing or is taken, as it
 /// finds over the shapes, decides no ask of any event.
@@ -20,7 +30,18 @@ pub fn findings()
 /// rule that no ask of the shapes reaches decides nothing that the gateway does.
 pub fn shapes()
     ensures lie { AsksLieInShapes }
+    ensures fresh { FreshAsksLieInShapes }
     ensures never { NeverFirstNeverDecides }
+{}
+
+/// What `bacgwctl explain` says of strangers and of claims is true of every event: if no rule lets a stranger enter by a port, or
+/// others speak for a network behind a router, no such ask is allowed, whatever comes; if a rule lets every stranger enter, each is.
+pub fn strangers()
+    ensures asked { StrangersAreAsked }
+    ensures none { NoStrangerEnters }
+    ensures every { EveryStrangerEnters }
+    ensures claimed { ClaimsAreAsked }
+    ensures nobody { NobodyClaims }
 {}
 
 /// A peer of a port that a warning says may register raises exactly the ask that the warning judges.
