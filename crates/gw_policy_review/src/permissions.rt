@@ -10,4 +10,5 @@ mod ports;
 mod questions;
 mod words;
 
+pub use passing::{decides_all, may_allow, may_pass, place_of_all};
 pub use permissions::put_permissions;

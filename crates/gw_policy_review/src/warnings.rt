@@ -1,5 +1,6 @@
 //! What of a configuration is accepted and can't be meant.
 mod audit_warnings;
+mod device_warnings;
 mod oddity;
 mod peer_warnings;
 mod port_warnings;

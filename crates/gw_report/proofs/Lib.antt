@@ -1,3 +1,4 @@
 pub mod Deciding
+pub mod Owning
 pub mod page_lemmas
 pub mod points_lemmas

@@ -1,3 +1,4 @@
 pub mod Access
+pub mod Report
 pub mod page
 pub mod points

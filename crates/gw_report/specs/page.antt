@@ -1,3 +1,4 @@
+pub mod Elements
 pub mod Escape
 pub mod Laws
 pub mod Mark

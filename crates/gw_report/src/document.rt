@@ -1,16 +1,22 @@
 //! The whole page.
-ghost use Rattle.std.specs.Prelude.{IfOk};
+ghost use Rattle.std.specs.Prelude.{◌≡◌, ◌++◌, [], ℕ, List, false, true, unwrap_or, codes, string_bytes, IfOk, OnOk};
+ghost use Rattle.std.specs.List.{flat_map};
+ghost use Rattle.gw_codecs.specs.names.Names.{object_type_name};
+ghost use Rattle.gw_configuration.specs.Kinds.{type_number};
+ghost use Rattle.gw_report.specs.Report.{IsReport, announced_text, first_text, head_text, last_text, object_row, objects_head};
+ghost use Rattle.gw_report.specs.Report.{objects_table, objects_text, paragraph, policy_text, sizes_text, title_of, ways_text};
 ghost use Rattle.gw_report.specs.page.Page.{IsPage};
 
-use crate::access::put_access;
+use crate::access::{lines_of, put_access};
 use crate::fault::ReportFault;
 use crate::log::{Denials, read_log};
 use crate::page::{Element, Page};
 use crate::plots::put_denials;
-use crate::rules::put_rules;
+use crate::rules::{Times, put_rules};
 use crate::site::put_site;
 use gw_codecs::names::object_type_name;
 use gw_configuration::{Config, Object, Text};
+use gw_rules::NO_RULE;
 use gw_script::OctetSource;
 use std::alloc::{AllocError, Global};
 
@@ -19,9 +25,11 @@ use std::alloc::{AllocError, Global};
 ///
 /// An `Err` only if a growth of memory was refused.
 pub fn report(alloc: Global, config: &Config) -> Result<Vec<u8>, AllocError>
-    ensures { IfOk result (λ octets. IsPage octets.items) }
+    ensures page { IfOk result (λ octets. IsPage octets.items) }
+    ensures shows { IfOk result (λ octets. IsReport config.now false [] octets.items) }
 {
-    let page = page_of(alloc, config, None)?;
+    let times = Times::none(alloc);
+    let page = page_of(alloc, config, &times, None)?;
     Ok(page.into_octets())
 }
 
@@ -34,87 +42,253 @@ pub fn report_with_log<R: OctetSource>(
     config: &Config,
     log: &mut R,
 ) -> Result<Vec<u8>, ReportFault>
-    ensures { IfOk result (λ octets. IsPage octets.items) }
+    ensures page { IfOk result (λ octets. IsPage octets.items) }
+    ensures shows { IfOk result (λ octets. (times : List ℕ) × IsReport config.now true times octets.items) }
 {
     let denials = read_log(alloc, log)?;
-    let page = page_of(alloc, config, Some(&denials))?;
+    let times = times_of(alloc, config, &denials)?;
+    let page = page_of(alloc, config, &times, Some(&denials))?;
     Ok(page.into_octets())
 }
 
-fn page_of(alloc: Global, config: &Config, denials: Option<&Denials>) -> Result<Page, AllocError> {
+/// How often each rule denied, in their order, and then how often none matched.
+fn times_of(alloc: Global, config: &Config, denials: &Denials) -> Result<Times, AllocError>
+    ensures { IfOk result (λ times. times.are_shown ≡ true) }
+{
+    let mut counts = Vec::new(alloc);
+    for rule in config.rules().rules() {
+        counts.push(denials.rules.get(rule.name.as_str()))?;
+    }
+    counts.push(denials.rules.get(NO_RULE))?;
+    Ok(Times {
+        are_shown: true,
+        counts,
+    })
+}
+
+/// The parts of a page of which no more is said than that they are pages: the picture of the site, the lines that say who
+/// may do what, and the plots of what a log denied.
+#[derive(Drop)]
+struct Parts {
+    picture: Page,
+    lines: Page,
+    plots: Page,
+}
+
+fn parts_of(alloc: Global, config: &Config, denials: Option<&Denials>) -> Result<Parts, AllocError>
+    ensures picture { IfOk result (λ parts. IsPage parts.picture) }
+    ensures lines { IfOk result (λ parts. IsPage parts.lines) }
+    ensures plots { IfOk result (λ parts. IsPage parts.plots) }
+{
+    let picture = picture_of(alloc, config)?;
+    let lines = lines_of(alloc, config)?;
+    let plots = plots_of(alloc, denials)?;
+    picture.is_page();
+    lines.is_page();
+    plots.is_page();
+    Ok(Parts {
+        picture,
+        lines,
+        plots,
+    })
+}
+
+fn page_of(
+    alloc: Global,
+    config: &Config,
+    times: &Times,
+    denials: Option<&Denials>,
+) -> Result<Page, AllocError>
+    ensures { IfOk result (λ page. IsReport config.now times.now.are_shown times.now.counts.items page) }
+{
+    let parts = parts_of(alloc, config, denials)?;
     let mut page = Page::new(alloc);
-    put_title(alloc, &mut page, config)?;
+    put_first(alloc, &mut page, config, &parts)?;
+    put_last(alloc, &mut page, config, times, &parts)?;
+    Ok(page)
+}
+
+#[tactic(auto, unfolding(crate::specs::Report::first_text))]
+fn put_first(
+    alloc: Global,
+    page: &mut Page,
+    config: &Config,
+    parts: &Parts,
+) -> Result<(), AllocError>
+    ensures { OnOk result (page.new ≡ page.old ++ first_text config.now parts.now.picture parts.now.lines) }
+{
+    put_head(alloc, page, config)?;
+    page.append(&parts.picture)?;
+    put_access(alloc, page, config)?;
+    page.append(&parts.lines)
+}
+
+#[tactic(auto, unfolding(crate::specs::Report::last_text))]
+fn put_last(
+    alloc: Global,
+    page: &mut Page,
+    config: &Config,
+    times: &Times,
+    parts: &Parts,
+) -> Result<(), AllocError>
+    ensures { OnOk result (page.new ≡ page.old
+        ++ last_text config.now times.now.are_shown times.now.counts.items parts.now.plots) }
+{
+    put_rules(alloc, page, config, times)?;
+    put_objects(page, config.objects())?;
+    page.append(&parts.plots)?;
+    page.end()
+}
+
+/// The picture of the site.
+fn picture_of(alloc: Global, config: &Config) -> Result<Page, AllocError> {
+    let mut page = Page::new(alloc);
     put_site(alloc, &mut page, config)?;
-    put_access(alloc, &mut page, config)?;
-    put_rules(alloc, &mut page, config, denials)?;
-    put_objects(&mut page, config.objects())?;
+    Ok(page)
+}
+
+/// What a log denied, as plots.
+fn plots_of(alloc: Global, denials: Option<&Denials>) -> Result<Page, AllocError> {
+    let mut page = Page::new(alloc);
     if let Some(denials) = denials {
         put_denials(alloc, &mut page, denials)?;
     }
-    page.end()?;
     Ok(page)
 }
 
 /// Appends the title, and how much the configuration has.
-fn put_title(alloc: Global, page: &mut Page, config: &Config) -> Result<(), AllocError> {
-    let mut title = String::new(alloc);
-    title.push_str("BACnet/IP gateway: ")?;
-    title.push_str(config.device().name.as_str())?;
+#[tactic(auto, unfolding(crate::specs::Report::head_text))]
+fn put_head(alloc: Global, page: &mut Page, config: &Config) -> Result<(), AllocError>
+    ensures { OnOk result (page.new ≡ page.old ++ head_text config.now) }
+{
+    let title = title_of(alloc, config)?;
     page.begin(title.as_str())?;
     page.element(Element::Title, title.as_str())?;
     put_description(page, &config.device().description)?;
     put_sizes(page, config)
 }
 
-fn put_description(page: &mut Page, description: &Text) -> Result<(), AllocError> {
+fn title_of(alloc: Global, config: &Config) -> Result<String, AllocError>
+    ensures { IfOk result (λ title. string_bytes title ≡ title_of config.now) }
+{
+    let mut title = String::new(alloc);
+    title.push_str("BACnet/IP gateway: ")?;
+    title.push_str(config.device().name.as_str())?;
+    Ok(title)
+}
+
+#[tactic(auto, unfolding(crate::specs::Report::paragraph))]
+fn put_description(page: &mut Page, description: &Text) -> Result<(), AllocError>
+    ensures { OnOk result (page.new ≡ page.old ++ paragraph description.now) }
+{
     if description.as_str().is_empty() {
         return Ok(());
     }
     page.element(Element::Paragraph, description.as_str())
 }
 
-fn put_sizes(page: &mut Page, config: &Config) -> Result<(), AllocError> {
+#[tactic(auto, unfolding(crate::specs::Report::sizes_text))]
+fn put_sizes(page: &mut Page, config: &Config) -> Result<(), AllocError>
+    ensures { OnOk result (page.new ≡ page.old ++ sizes_text config.now) }
+{
     page.open(Element::Aside)?;
-    page.number(config.ports().len() as u64)?;
-    page.text(" ports, ")?;
-    page.number(config.routes().len() as u64)?;
-    page.text(" routes, ")?;
-    page.number(config.objects().len() as u64)?;
-    page.text(" objects, ")?;
-    page.number(config.rules().rules().len() as u64)?;
-    page.text(" rules.")?;
-    if config.announces() {
-        page.text(" Networks are announced.")?;
-    }
+    put_ways(page, config)?;
+    put_policy(page, config)?;
+    put_announced(page, config.announces())?;
     page.close(Element::Aside)
 }
 
+#[tactic(auto, unfolding(crate::specs::Report::ways_text))]
+fn put_ways(page: &mut Page, config: &Config) -> Result<(), AllocError>
+    ensures { OnOk result (page.new ≡ page.old ++ ways_text config.now) }
+{
+    page.number(config.ports().len() as u64)?;
+    page.text(" ports, ")?;
+    page.number(config.routes().len() as u64)?;
+    page.text(" routes, ")
+}
+
+#[tactic(auto, unfolding(crate::specs::Report::policy_text))]
+fn put_policy(page: &mut Page, config: &Config) -> Result<(), AllocError>
+    ensures { OnOk result (page.new ≡ page.old ++ policy_text config.now) }
+{
+    page.number(config.objects().len() as u64)?;
+    page.text(" objects, ")?;
+    page.number(config.rules().rules().len() as u64)?;
+    page.text(" rules.")
+}
+
+#[tactic(auto, unfolding(crate::specs::Report::announced_text))]
+fn put_announced(page: &mut Page, announces: bool) -> Result<(), AllocError>
+    ensures { OnOk result (page.new ≡ page.old ++ announced_text announces) }
+{
+    if announces {
+        page.text(" Networks are announced.")
+    } else {
+        Ok(())
+    }
+}
+
 /// Appends a table of the objects, if there are such.
-fn put_objects(page: &mut Page, objects: &[Object]) -> Result<(), AllocError> {
+fn put_objects(page: &mut Page, objects: &[Object]) -> Result<(), AllocError>
+    ensures { OnOk result (page.new ≡ page.old ++ objects_text objects.now) }
+{
     if objects.is_empty() {
         return Ok(());
     }
+    put_objects_table(page, objects)
+}
+
+#[tactic(auto, unfolding(crate::specs::Report::objects_table))]
+fn put_objects_table(page: &mut Page, objects: &[Object]) -> Result<(), AllocError>
+    ensures { OnOk result (page.new ≡ page.old ++ objects_table objects.now) }
+{
     page.element(Element::Heading, "Objects of the device")?;
     page.open(Element::Table)?;
-    page.open(Element::Row)?;
-    for name in ["type", "instance", "name", "description"] {
-        page.element(Element::Head, name)?;
-    }
-    page.close(Element::Row)?;
-    for object in objects {
-        put_object(page, object)?;
-    }
+    put_objects_head(page)?;
+    put_each_object(page, objects)?;
     page.close(Element::Table)
 }
 
-fn put_object(page: &mut Page, object: &Object) -> Result<(), AllocError> {
+#[tactic(auto, unfolding(crate::specs::Report::objects_head))]
+fn put_objects_head(page: &mut Page) -> Result<(), AllocError>
+    ensures { OnOk result (page.new ≡ page.old ++ objects_head) }
+{
     page.open(Element::Row)?;
-    page.element(
-        Element::Cell,
-        object_type_name(object.value.type_number()).unwrap_or("object"),
-    )?;
+    page.element(Element::Head, "type")?;
+    page.element(Element::Head, "instance")?;
+    page.element(Element::Head, "name")?;
+    page.element(Element::Head, "description")?;
+    page.close(Element::Row)
+}
+
+fn put_each_object(page: &mut Page, objects: &[Object]) -> Result<(), AllocError>
+    ensures { OnOk result (page.new ≡ page.old ++ flat_map object_row objects.now) }
+{
+    for object in objects {
+        put_object(page, object)?;
+    }
+    Ok(())
+}
+
+#[tactic(auto, unfolding(crate::specs::Report::object_row))]
+fn put_object(page: &mut Page, object: &Object) -> Result<(), AllocError>
+    ensures { OnOk result (page.new ≡ page.old ++ object_row object.now) }
+{
+    page.open(Element::Row)?;
+    page.element(Element::Cell, type_name(object))?;
     page.number_cell(u64::from(object.instance.get()))?;
     page.element(Element::Cell, object.name.as_str())?;
     page.element(Element::Cell, object.description.as_str())?;
     page.close(Element::Row)
+}
+
+/// The standard's name of the type of an object.
+fn type_name(object: &Object) -> &'static str
+    ensures { result.now ≡ unwrap_or (object_type_name (type_number object.now.value)) (codes "object") }
+{
+    match object_type_name(object.value.type_number()) {
+        Some(name) => name,
+        None => "object",
+    }
 }

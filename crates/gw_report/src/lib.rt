@@ -5,6 +5,7 @@ mod access;
 mod counts;
 mod document;
 mod fault;
+pub mod laws;
 mod lines;
 mod log;
 pub mod page;

@@ -1,12 +1,10 @@
 //! How much of the asks of a shape a policy allows.
-ghost use Rattle.std.specs.Prelude.{◌≡◌, ◌-◌, ◌≤◌, ◌<◌, false, length, position, take, true, IfSome};
-ghost use Rattle.std.specs.List.{list_any};
-ghost use Rattle.gw_ask_sets.specs.shapes.Meeting.{meets};
-ghost use Rattle.gw_policy_review.specs.permissions.Passing.{decides_all, matches_all, may_allow, may_pass, reached};
-ghost use Rattle.gw_report.specs.Access.{AreDecided, IsExtent};
+ghost use Rattle.std.specs.Prelude.{◌≡◌};
+ghost use Rattle.gw_report.specs.Access.{allows_at, are_allowed};
 
-use gw_ask_sets::shapes::{Shape, meets, takes_side};
-use gw_rules::{FieldName, Rule};
+use gw_ask_sets::shapes::Shape;
+use gw_policy_review::permissions::{decides_all, may_allow, place_of_all};
+use gw_rules::Rule;
 
 /// How much of some asks a policy allows.
 #[derive(Clone, Copy)]
@@ -19,109 +17,22 @@ pub enum Extent {
     All,
 }
 
-/// Whether the rule matches each ask of the shape: in each field that it names one of its ranges holds
-/// all that the shape has there.
-fn matches_all(shape: &Shape, rule: &Rule) -> bool
-    ensures { result ≡ matches_all shape.now rule.now }
-{
-    FieldName::ALL.iter().all(|field| takes_side(
-        shape.get(*field),
-        rule.ranges(*field).as_slice(),
-        &[],
-    ))
-}
-
-/// The place of the first rule that does.
-fn place_of_all(shape: &Shape, rules: &[Rule]) -> Option<usize>
-    ensures { result ≡ position (matches_all shape.now) rules.now }
-{
-    rules.iter().position(|rule| matches_all(shape, rule))
-}
-
-/// How many rules the asks of the shape reach: those up to the first that matches each of them.
-fn reached(shape: &Shape, rules: &[Rule]) -> usize
-    ensures count { result ≡ reached shape.now rules.now }
-    ensures within { result ≤ length rules.now }
-{
-    match place_of_all(shape, rules) {
-        Some(place) => place + 1,
-        None => rules.len(),
-    }
-}
-
-/// Whether the rule allows, and may match asks of the shape.
-fn may_allow(shape: &Shape, rule: &Rule) -> bool
-    ensures { result ≡ may_allow shape.now rule.now }
-{
-    rule.allow && meets(shape, rule)
-}
-
-fn any_may_allow(shape: &Shape, rules: &[Rule]) -> bool
-    ensures { result ≡ list_any (may_allow shape.now) rules.now }
-{
-    rules.iter().any(|rule| may_allow(shape, rule))
-}
-
-/// Whether a rule that asks of the shape reach may allow some.
-fn may_pass(shape: &Shape, rules: &[Rule]) -> bool
-    ensures { result ≡ may_pass shape.now rules.now }
-{
-    let count = reached(shape, rules);
-    any_may_allow(shape, &rules[..count])
-}
-
-fn any_meets(shape: &Shape, rules: &[Rule]) -> bool
-    ensures { result ≡ list_any (meets shape.now) rules.now }
-{
-    rules.iter().any(|rule| meets(shape, rule))
-}
-
-/// Whether the rule of this number, from 1, matches each ask of the shape, and no rule before it matches
-/// any.
-fn decides_all(shape: &Shape, rules: &[Rule], number: usize, rule: &Rule) -> bool
-    requires { number ≤ length rules.now }
-    ensures { result ≡ decides_all shape.now rules.now number rule.now }
-{
-    let before = number.saturating_sub(1);
-    matches_all(shape, rule) && !any_meets(shape, &rules[..before])
-}
-
 /// Whether the rule of this place allows the asks of the shape, and decides each of them.
-fn allows_all(shape: &Shape, rules: &[Rule], place: usize) -> bool
-    requires { place < length rules.now }
-    ensures { result ≡ true → AreDecided true shape.now rules.now }
+fn allows_at(shape: &Shape, rules: &[Rule], place: usize) -> bool
+    ensures { result ≡ allows_at shape.now rules.now place }
 {
-    let rule = &rules[place];
-    may_allow(shape, rule) && decides_all(shape, rules, place + 1, rule)
-}
-
-/// Whether the first rule that matches each ask of the shape allows them all.
-fn are_allowed(shape: &Shape, rules: &[Rule]) -> bool
-    ensures { result ≡ true → AreDecided true shape.now rules.now }
-{
-    match place_of_all(shape, rules) {
-        Some(place) => allows_all(shape, rules, place),
+    match rules.get(place) {
+        Some(rule) => may_allow(shape, rule) && decides_all(shape, rules, place + 1, rule),
         None => false,
     }
 }
 
-/// Whether no rule that asks of the shape reach may allow any.
-#[tactic(auto, using(crate::proofs::Deciding::nothing))]
-fn are_denied(shape: &Shape, rules: &[Rule]) -> bool
-    ensures { result ≡ true → AreDecided false shape.now rules.now }
+/// Whether the first rule that matches each ask of the shape allows them all.
+pub(crate) fn are_allowed(shape: &Shape, rules: &[Rule]) -> bool
+    ensures { result ≡ are_allowed shape.now rules.now }
 {
-    !may_pass(shape, rules)
-}
-
-/// How much of the asks of the shape the rules allow.
-pub(crate) fn extent_of(shape: &Shape, rules: &[Rule]) -> Extent
-    ensures { IsExtent shape.now rules.now result }
-{
-    if are_denied(shape, rules) {
-        Extent::Nothing
-    } else if are_allowed(shape, rules) {
-        Extent::All
-    } else {
-        Extent::Some
+    match place_of_all(shape, rules) {
+        Some(place) => allows_at(shape, rules, place),
+        None => false,
     }
 }

@@ -1,65 +1,186 @@
 //! The rules of a policy, with their notes.
+ghost use Rattle.std.specs.Prelude.{◌≡◌, ◌+◌, ◌-◌, ◌<◌, ◌^◌, ◌++◌, [], false, OnOk};
+ghost use Rattle.std.specs.List.{flat_map};
+ghost use Rattle.gw_script.specs.Order.{in_order};
+ghost use Rattle.gw_rules.specs.declared.field.TheConstants.FieldName.{ALL as all_fields};
+ghost use Rattle.gw_report.specs.Report.{counted_head, decision_cell, default_cells, default_row, each_text, field_code, fields_cell, is_bare, note_at};
+ghost use Rattle.gw_report.specs.Report.{rule_cells, rule_row, rules_columns, rules_head, rules_table, rules_text, times_cell};
 
-use crate::log::Denials;
 use crate::page::{Element, Page};
 use gw_configuration::{Config, Text};
-use gw_policy_drafts::migration::put_field;
+use gw_policy_drafts::migration::put_field_items;
 use gw_rules::{FieldName, NO_RULE, Rule};
 use std::alloc::{AllocError, Global};
 
+/// How often a log shows that each rule denied, in the order of the rules, and after them that none matched.
+#[derive(Drop)]
+pub(crate) struct Times {
+    /// Whether they are shown.
+    pub are_shown: bool,
+    /// How often.
+    pub counts: Vec<u64>,
+}
+
+impl Times {
+    /// None, and none is shown.
+    pub(crate) fn none(alloc: Global) -> Times
+        ensures shown { result.are_shown ≡ false }
+        ensures counts { result.counts.items ≡ [] }
+    {
+        Times {
+            are_shown: false,
+            counts: Vec::new(alloc),
+        }
+    }
+
+    /// Appends a cell with the count at a place, if they are shown.
+    #[tactic(auto, unfolding(crate::specs::Report::times_cell))]
+    fn put(&self, page: &mut Page, place: usize) -> Result<(), AllocError>
+        ensures { OnOk result (page.new ≡ page.old ++ times_cell self.now.are_shown self.now.counts.items place) }
+    {
+        if !self.are_shown {
+            return Ok(());
+        }
+        match self.counts.get(place) {
+            Some(count) => page.number_cell(*count),
+            None => page.number_cell(0),
+        }
+    }
+}
+
 /// Appends a table of the rules in their order, with how many denials of a log each has.
+#[tactic(auto, unfolding(crate::specs::Report::rules_text))]
 pub(crate) fn put_rules(
     alloc: Global,
     page: &mut Page,
     config: &Config,
-    denials: Option<&Denials>,
-) -> Result<(), AllocError> {
+    times: &Times,
+) -> Result<(), AllocError>
+    ensures { OnOk result (page.new ≡ page.old ++ rules_text config.now times.now.are_shown times.now.counts.items) }
+{
     page.element(Element::Heading, "Rules")?;
     page.element(
         Element::Aside,
         "The first rule that matches an ask decides it. If none matches, it is denied.",
     )?;
+    put_table(alloc, page, config, times)
+}
+
+#[tactic(auto, unfolding(crate::specs::Report::rules_table))]
+fn put_table(
+    alloc: Global,
+    page: &mut Page,
+    config: &Config,
+    times: &Times,
+) -> Result<(), AllocError>
+    ensures { OnOk result (page.new ≡ page.old ++ rules_table config.now times.now.are_shown times.now.counts.items) }
+{
+    let rules = config.rules().rules();
     page.open(Element::Table)?;
-    put_head(page, denials.is_some())?;
-    let notes = config.notes();
-    for (place, rule) in config.rules().rules().iter().enumerate() {
-        page.open(Element::Row)?;
-        page.number_cell((place as u64).saturating_add(1))?;
-        put_rule(alloc, page, rule, notes.get(place))?;
-        put_count(page, rule.name.as_str(), denials)?;
-        page.close(Element::Row)?;
-    }
-    put_default(page, denials)?;
+    put_head(page, times.are_shown)?;
+    put_rows(alloc, page, rules, config.notes(), times)?;
+    put_default(page, times, rules.len())?;
     page.close(Element::Table)
 }
 
-fn put_head(page: &mut Page, counts: bool) -> Result<(), AllocError> {
+fn put_rows(
+    alloc: Global,
+    page: &mut Page,
+    rules: &[Rule],
+    notes: &[Text],
+    times: &Times,
+) -> Result<(), AllocError>
+    ensures { OnOk result (page.new ≡ page.old
+        ++ in_order (rule_row notes.now times.now.are_shown times.now.counts.items) 1 rules.now) }
+{
+    for (place, rule) in rules.iter().enumerate() {
+        put_row(alloc, page, &Row { place, rule }, notes, times)?;
+    }
+    Ok(())
+}
+
+/// A rule, and its place from 0.
+#[derive(Clone, Copy)]
+struct Row<'a> {
+    place: usize,
+    rule: &'a Rule,
+}
+
+#[tactic(auto, unfolding(crate::specs::Report::rule_row))]
+fn put_row(
+    alloc: Global,
+    page: &mut Page,
+    row: &Row<'_>,
+    notes: &[Text],
+    times: &Times,
+) -> Result<(), AllocError>
+    requires { row.now.place < 2 ^ 64 - 1 }
+    ensures { OnOk result (page.new ≡ page.old
+        ++ rule_row notes.now times.now.are_shown times.now.counts.items (row.now.place + 1) row.now.rule.now) }
+{
     page.open(Element::Row)?;
-    for name in ["", "name", "decision", "asks that it matches", "note"] {
-        page.element(Element::Head, name)?;
-    }
-    if counts {
-        page.element(Element::Head, "denials")?;
-    }
+    page.number_cell(row.place as u64 + 1)?;
+    put_cells(alloc, page, row.rule, note_at(notes, row.place))?;
+    times.put(page, row.place)?;
     page.close(Element::Row)
 }
 
-fn put_rule(
-    alloc: Global,
-    page: &mut Page,
-    rule: &Rule,
-    note: Option<&Text>,
-) -> Result<(), AllocError> {
-    page.element(Element::Cell, rule.name.as_str())?;
-    put_decision(page, rule.allow)?;
-    put_fields(alloc, page, rule)?;
-    match note {
-        Some(note) => page.element(Element::Cell, note.as_str()),
-        None => page.element(Element::Cell, ""),
+/// The note at a place, or nothing.
+fn note_at(notes: &[Text], place: usize) -> &str
+    ensures { result.now ≡ note_at notes.now place }
+{
+    match notes.get(place) {
+        Some(note) => note.as_str(),
+        None => "",
     }
 }
 
-fn put_decision(page: &mut Page, allow: bool) -> Result<(), AllocError> {
+#[tactic(auto, unfolding(crate::specs::Report::rules_head))]
+fn put_head(page: &mut Page, are_shown: bool) -> Result<(), AllocError>
+    ensures { OnOk result (page.new ≡ page.old ++ rules_head are_shown) }
+{
+    page.open(Element::Row)?;
+    put_columns(page)?;
+    put_counted(page, are_shown)?;
+    page.close(Element::Row)
+}
+
+#[tactic(auto, unfolding(crate::specs::Report::rules_columns))]
+fn put_columns(page: &mut Page) -> Result<(), AllocError>
+    ensures { OnOk result (page.new ≡ page.old ++ rules_columns) }
+{
+    page.element(Element::Head, "")?;
+    page.element(Element::Head, "name")?;
+    page.element(Element::Head, "decision")?;
+    page.element(Element::Head, "asks that it matches")?;
+    page.element(Element::Head, "note")
+}
+
+#[tactic(auto, unfolding(crate::specs::Report::counted_head))]
+fn put_counted(page: &mut Page, are_shown: bool) -> Result<(), AllocError>
+    ensures { OnOk result (page.new ≡ page.old ++ counted_head are_shown) }
+{
+    if are_shown {
+        page.element(Element::Head, "denials")
+    } else {
+        Ok(())
+    }
+}
+
+#[tactic(auto, unfolding(crate::specs::Report::rule_cells))]
+fn put_cells(alloc: Global, page: &mut Page, rule: &Rule, note: &str) -> Result<(), AllocError>
+    ensures { OnOk result (page.new ≡ page.old ++ rule_cells rule.now note.now) }
+{
+    page.element(Element::Cell, rule.name.as_str())?;
+    put_decision(page, rule.allow)?;
+    put_fields(alloc, page, rule)?;
+    page.element(Element::Cell, note)
+}
+
+#[tactic(auto, unfolding(crate::specs::Report::decision_cell))]
+fn put_decision(page: &mut Page, allow: bool) -> Result<(), AllocError>
+    ensures { OnOk result (page.new ≡ page.old ++ decision_cell allow) }
+{
     if allow {
         page.element(Element::All, "allow")
     } else {
@@ -68,46 +189,82 @@ fn put_decision(page: &mut Page, allow: bool) -> Result<(), AllocError> {
 }
 
 /// Appends a cell with the fields that the rule names, as format 3 writes them.
-fn put_fields(alloc: Global, page: &mut Page, rule: &Rule) -> Result<(), AllocError> {
+#[tactic(auto, unfolding(crate::specs::Report::fields_cell))]
+fn put_fields(alloc: Global, page: &mut Page, rule: &Rule) -> Result<(), AllocError>
+    ensures { OnOk result (page.new ≡ page.old ++ fields_cell rule.now) }
+{
     page.open(Element::Cell)?;
-    let mut is_named = false;
-    for field in FieldName::ALL.iter() {
-        let ranges = rule.ranges(*field).as_slice();
-        if !ranges.is_empty() {
-            is_named = true;
-            let mut octets = Vec::new(alloc);
-            put_field(&mut octets, *field, ranges)?;
-            put_code(page, &octets)?;
-        }
-    }
-    if !is_named {
-        page.text("each")?;
-    }
+    put_each_field(alloc, page, rule)?;
+    put_each(page, rule)?;
     page.close(Element::Cell)
 }
 
-fn put_code(page: &mut Page, octets: &[u8]) -> Result<(), AllocError> {
-    match str::from_utf8(octets) {
-        Ok(text) => page.element(Element::Code, text.trim_end()),
-        Err(_) => Ok(()),
+fn put_each_field(alloc: Global, page: &mut Page, rule: &Rule) -> Result<(), AllocError>
+    ensures { OnOk result (page.new ≡ page.old ++ flat_map (field_code rule.now) all_fields) }
+{
+    for field in FieldName::ALL.iter() {
+        put_field(alloc, page, rule, *field)?;
+    }
+    Ok(())
+}
+
+#[tactic(auto, unfolding(crate::specs::Report::field_code))]
+fn put_field(
+    alloc: Global,
+    page: &mut Page,
+    rule: &Rule,
+    field: FieldName,
+) -> Result<(), AllocError>
+    ensures { OnOk result (page.new ≡ page.old ++ field_code rule.now field) }
+{
+    let ranges = rule.ranges(field).as_slice();
+    if ranges.is_empty() {
+        return Ok(());
+    }
+    let mut octets = Vec::new(alloc);
+    put_field_items(&mut octets, field, ranges)?;
+    page.octets_element(Element::Code, &octets)
+}
+
+/// Appends that each ask is meant, if the rule names no field.
+#[tactic(auto, unfolding(crate::specs::Report::each_text))]
+fn put_each(page: &mut Page, rule: &Rule) -> Result<(), AllocError>
+    ensures { OnOk result (page.new ≡ page.old ++ each_text rule.now) }
+{
+    if is_bare(rule) {
+        page.text("each")
+    } else {
+        Ok(())
     }
 }
 
-fn put_count(page: &mut Page, name: &str, denials: Option<&Denials>) -> Result<(), AllocError> {
-    match denials {
-        Some(denials) => page.number_cell(denials.rules.get(name)),
-        None => Ok(()),
-    }
+/// Whether the rule names no field.
+fn is_bare(rule: &Rule) -> bool
+    ensures { result ≡ is_bare rule.now }
+{
+    FieldName::ALL
+        .iter()
+        .all(|field| rule.ranges(*field).as_slice().is_empty())
 }
 
 /// Appends a row for the asks that no rule matches.
-fn put_default(page: &mut Page, denials: Option<&Denials>) -> Result<(), AllocError> {
+#[tactic(auto, unfolding(crate::specs::Report::default_row))]
+fn put_default(page: &mut Page, times: &Times, place: usize) -> Result<(), AllocError>
+    ensures { OnOk result (page.new ≡ page.old ++ default_row times.now.are_shown times.now.counts.items place) }
+{
     page.open(Element::Row)?;
+    put_default_cells(page)?;
+    times.put(page, place)?;
+    page.close(Element::Row)
+}
+
+#[tactic(auto, unfolding(crate::specs::Report::default_cells))]
+fn put_default_cells(page: &mut Page) -> Result<(), AllocError>
+    ensures { OnOk result (page.new ≡ page.old ++ default_cells) }
+{
     page.element(Element::Cell, "")?;
     page.element(Element::Cell, NO_RULE)?;
     put_decision(page, false)?;
     page.element(Element::Cell, "those that no rule matches")?;
-    page.element(Element::Cell, "")?;
-    put_count(page, NO_RULE, denials)?;
-    page.close(Element::Row)
+    page.element(Element::Cell, "")
 }

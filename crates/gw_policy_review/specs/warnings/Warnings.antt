@@ -1,5 +1,5 @@
 -- What a configuration has that is accepted and can't be meant, and the lines that say it.
-use Rattle.std.specs.Prelude.{ℕ, ◌+◌, ◌-◌, ◌==◌, Bool, true, false, ◌&&◌, ◌||◌, not, nat_lt, if◌then◌else◌, List, [], ◌∷◌, ◌++◌}
+use Rattle.std.specs.Prelude.{ℕ, ◌+◌, ◌-◌, ◌==◌, Bool, true, false, ◌&&◌, ◌||◌, not, nat_le, nat_lt, if◌then◌else◌, List, [], ◌∷◌, ◌++◌}
 use Rattle.std.specs.Prelude.{length, drop, codes, decimal, Option, Some, None, position, slice_get}
 use Rattle.std.specs.Int.{w64, to_be_bytes}
 use Rattle.std.specs.Option.{option_map_or}
@@ -11,6 +11,7 @@ use Rattle.gw_addr.specs.declared.entry.BdtEntry.{BdtEntry}
 use Rattle.gw_configuration.specs.Configuration.{Configuration}
 use Rattle.gw_configuration.specs.Duplicates.{key}
 use Rattle.gw_configuration.specs.Located.{numbered}
+use Rattle.gw_configuration.specs.declared.device.Device.{Device}
 use Rattle.gw_configuration.specs.declared.port.Port.{Port}
 use Rattle.gw_configuration.specs.declared.route.Route.{Route}
 use Rattle.gw_configuration.specs.declared.set.Set.{Set}
@@ -70,6 +71,19 @@ holes_line spot mask =
 -- that line where it has some
 abbrev pub mask_line : Spot → List ℕ → List ℕ
 mask_line spot mask = if has_holes mask then holes_line spot mask else []
+
+-- ---- the device
+
+-- of a revision that the device doesn't meet
+abbrev pub revision_line : ℕ → List ℕ
+revision_line revision =
+    codes "warning: device: revision: " ++ decimal revision
+    ++ codes " is above 13: each object needs Property_List from 14 on, and the device a Network Port object from 17 on" ++ 10 ∷ []
+
+-- The device meets Protocol_Revision 13 at most: none of its objects has Property_List (clause 12.1.1.4.1), and it has no
+-- Network Port object (clause 12.56).
+abbrev pub device_lines : Device → List ℕ
+device_lines device = if nat_le device.revision 13 then [] else revision_line device.revision
 
 -- ---- ports and their peers
 
@@ -292,10 +306,11 @@ policy_lines c =
     ++ in_order (audit_lines c.audits) 0 c.rules
     ++ in_order (peers_lines c.format c.rules) 0 c.ports
 
--- the ports with their peers, the routes and the sets, each in its order, and then the policy
+-- the device, the ports with their peers, the routes and the sets, each in its order, and then the policy
 abbrev pub warnings_text : Configuration → List ℕ
 warnings_text c =
-    in_order (port_lines c.ports) 0 c.ports
+    device_lines c.device
+    ++ in_order (port_lines c.ports) 0 c.ports
     ++ in_order (route_lines c.ports) 0 c.routes
     ++ in_order set_lines 0 c.sets
     ++ policy_lines c

@@ -19,8 +19,8 @@ fn matches_all(shape: &Shape, rule: &Rule) -> bool
     ))
 }
 
-/// The place of the first rule that does.
-fn place_of_all(shape: &Shape, rules: &[Rule]) -> Option<usize>
+/// The place of the first rule that matches each ask of the shape.
+pub fn place_of_all(shape: &Shape, rules: &[Rule]) -> Option<usize>
     ensures { result ≡ position (matches_all shape.now) rules.now }
 {
     rules.iter().position(|rule| matches_all(shape, rule))
@@ -38,7 +38,7 @@ pub(crate) fn reached(shape: &Shape, rules: &[Rule]) -> usize
 }
 
 /// Whether the rule allows, and may match asks of the shape.
-pub(crate) fn may_allow(shape: &Shape, rule: &Rule) -> bool
+pub fn may_allow(shape: &Shape, rule: &Rule) -> bool
     ensures { result ≡ may_allow shape.now rule.now }
 {
     rule.allow && meets(shape, rule)
@@ -51,7 +51,7 @@ fn any_may_allow(shape: &Shape, rules: &[Rule]) -> bool
 }
 
 /// Whether a rule that asks of the shape come to may allow some.
-pub(crate) fn may_pass(shape: &Shape, rules: &[Rule]) -> bool
+pub fn may_pass(shape: &Shape, rules: &[Rule]) -> bool
     ensures { result ≡ may_pass shape.now rules.now }
 {
     let count = reached(shape, rules);
@@ -66,7 +66,7 @@ fn any_meets(shape: &Shape, rules: &[Rule]) -> bool
 
 /// Whether the rule of this number, from 1, matches each ask of the shape, and no rule before it matches
 /// any.
-pub(crate) fn decides_all(shape: &Shape, rules: &[Rule], number: usize, rule: &Rule) -> bool
+pub fn decides_all(shape: &Shape, rules: &[Rule], number: usize, rule: &Rule) -> bool
     requires { number ≤ length rules.now }
     ensures { result ≡ decides_all shape.now rules.now number rule.now }
 {

@@ -3,6 +3,7 @@ ghost use Rattle.gw_addr.specs.Appending.{IsAppended, IsAppendedWhole};
 ghost use Rattle.gw_policy_review.specs.warnings.Warnings.{policy_lines, warnings_text};
 
 use crate::warnings::audit_warnings::put_audits;
+use crate::warnings::device_warnings::put_device;
 use crate::warnings::peer_warnings::put_registering;
 use crate::warnings::port_warnings::put_ports;
 use crate::warnings::route_warnings::put_routes;
@@ -12,8 +13,8 @@ use gw_addr::keep_whole;
 use gw_configuration::Config;
 use std::alloc::AllocError;
 
-/// Appends a line for each thing in a configuration that is accepted and can't be meant: those of
-/// the ports with their peers, then of the routes, the sets and the rules, each in the order of the text,
+/// Appends a line for each thing in a configuration that is accepted and can't be meant: that of the
+/// device, then those of the ports with their peers, of the routes, the sets and the rules, each in the order of the text,
 /// and then of the peers whom the rules let register.
 ///
 /// ```text
@@ -34,6 +35,7 @@ fn put_lines(out: &mut Vec<u8>, config: &Config) -> Result<(), AllocError>
     ensures { IsAppended (warnings_text config.now) out.old out.new result }
 {
     let ports = config.ports();
+    put_device(out, config.device())?;
     put_ports(out, ports)?;
     put_routes(out, ports, config.routes())?;
     put_sets(out, config.sets())?;

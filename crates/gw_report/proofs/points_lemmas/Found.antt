@@ -4,7 +4,7 @@ use Rattle.std.specs.Prelude.{◌||◌}
 use Rattle.std.proofs.lemmas.Bool.{cases_Bool}
 use Rattle.gw_configuration.specs.Configuration.{Configuration}
 use Rattle.gw_report.proofs.points_lemmas.Records.{AreWide, rows_found}
-use Rattle.gw_report.specs.points.Cells.{guarded, is_one_of, risks, unguarded}
+use Rattle.gw_report.specs.points.Cells.{guarded, is_one_of, is_risky, risks, unguarded}
 use Rattle.gw_report.specs.points.Laws.{ColumnsAreSixteen, NamesAreFound, RowsAreFound}
 use Rattle.gw_report.specs.points.Points.{Point, column_row, point_row, points, points_rows}
 
@@ -33,16 +33,20 @@ or-left true b e = cc e
 
 not_apostrophe : (octet : ℕ) → is_one_of risks octet ≡ false → (octet == 39) ≡ false
 not_apostrophe octet plain =
-    or-left (octet == 39) _ (or-right (octet == 13) _ (or-right (octet == 9) _ (or-right (octet == 64) _ (or-right (octet == 45) _
-    (or-right (octet == 43) _ (or-right (octet == 61) _ plain))))))
+    or-left (octet == 39) _ (or-right (octet == 13) _ (or-right (octet == 10) _ (or-right (octet == 9) _ (or-right (octet == 64) _
+    (or-right (octet == 45) _ (or-right (octet == 43) _ (or-right (octet == 61) _ plain)))))))
+
+unchanged : (text : List ℕ) → is_risky text ≡ false → unguarded text ≡ text
+unfolding is_risky unguarded
+unchanged [] plain = refl
+unchanged (octet ∷ text) plain = rw (not_apostrophe octet (or-left (is_one_of risks octet) _ plain)) refl
 
 -- a text without its guard
 found_again : (text : List ℕ) → unguarded (guarded text) ≡ text
 unfolding guarded unguarded
-found_again [] = refl
-found_again (octet ∷ text) = elim (cases_Bool (is_one_of risks octet)) [
+found_again text = elim (cases_Bool (is_risky text)) [
   | inl risk ↦ rw risk refl
-  | inr plain ↦ rw (plain, not_apostrophe octet plain) refl
+  | inr plain ↦ rw plain (unchanged text plain)
 ]
 
 pub names_are : NamesAreFound

@@ -1,6 +1,7 @@
 //! A page as it grows.
 
 ghost use Rattle.std.specs.Prelude.{◌≡◌, ◌++◌, [], decimal, OnErr, OnOk};
+ghost use Rattle.gw_report.specs.page.Elements.{begin_text, close_text, element_text, number_cell, open_text};
 ghost use Rattle.gw_report.specs.page.Escape.{escaped};
 ghost use Rattle.gw_report.specs.page.Mark.{mark_text};
 ghost use Rattle.gw_report.specs.page.Page.{IsPage};
@@ -62,6 +63,13 @@ impl Page {
         octets
     }
 
+    /// It is one at each moment.
+    pub fn is_page(&self)
+        ensures { IsPage self.now }
+    {
+        let _octets = &self.octets;
+    }
+
     /// Appends what is a page itself.
     fn put(&mut self, octets: &[u8]) -> Result<(), AllocError>
         requires { IsPage octets.now }
@@ -90,20 +98,36 @@ impl Page {
     }
 
     /// Appends a text, whatever it holds: what HTML gives a meaning and what controls a terminal is written as entities.
-    #[tactic(auto, using(crate::proofs::page_lemmas::Pages::foreign))]
     pub fn text(&mut self, text: &str) -> Result<(), AllocError>
         ensures ok { OnOk result (self.new ≡ self.old ++ escaped text.now) }
         ensures err { OnErr result (self.new ≡ self.old) }
     {
+        self.octets_text(text.as_bytes())
+    }
+
+    /// Appends the text of these octets in the same way.
+    #[tactic(auto, using(crate::proofs::page_lemmas::Pages::foreign))]
+    fn octets_text(&mut self, text: &[u8]) -> Result<(), AllocError>
+        ensures ok { OnOk result (self.new ≡ self.old ++ escaped text.now) }
+        ensures err { OnErr result (self.new ≡ self.old) }
+    {
         let mut octets = Vec::new(*self.octets.allocator());
-        put_escaped(&mut octets, text.as_bytes())?;
+        put_escaped(&mut octets, text)?;
         self.put(&octets)
     }
 
+    /// Appends another page.
+    pub fn append(&mut self, other: &Page) -> Result<(), AllocError>
+        ensures ok { OnOk result (self.new ≡ self.old ++ other.now) }
+        ensures err { OnErr result (self.new ≡ self.old) }
+    {
+        self.put(&other.octets)
+    }
+
     /// Begins a document of this title.
+    #[tactic(auto, unfolding(crate::specs::page::Elements::begin_text))]
     pub fn begin(&mut self, title: &str) -> Result<(), AllocError>
-        ensures { OnOk result (self.new ≡
-            ((self.old ++ mark_text Mark.Begin) ++ escaped title.now) ++ mark_text Mark.Style) }
+        ensures { OnOk result (self.new ≡ self.old ++ begin_text title.now) }
     {
         self.mark(Mark::Begin)?;
         self.text(title)?;
@@ -118,33 +142,45 @@ impl Page {
     }
 
     /// Begins an element.
+    #[tactic(auto, unfolding(crate::specs::page::Elements::open_text))]
     pub fn open(&mut self, element: Element) -> Result<(), AllocError>
-        ensures { OnOk result (self.new ≡ self.old ++ mark_text (Mark.Open element)) }
+        ensures { OnOk result (self.new ≡ self.old ++ open_text element) }
     {
         self.mark(Mark::Open(element))
     }
 
     /// Ends an element.
+    #[tactic(auto, unfolding(crate::specs::page::Elements::close_text))]
     pub fn close(&mut self, element: Element) -> Result<(), AllocError>
-        ensures { OnOk result (self.new ≡ self.old ++ mark_text (Mark.Close element)) }
+        ensures { OnOk result (self.new ≡ self.old ++ close_text element) }
     {
         self.mark(Mark::Close(element))
     }
 
     /// Appends an element that has this text.
+    #[tactic(auto, unfolding(crate::specs::page::Elements::element_text))]
     pub fn element(&mut self, element: Element, text: &str) -> Result<(), AllocError>
-        ensures { OnOk result (self.new ≡
-            ((self.old ++ mark_text (Mark.Open element)) ++ escaped text.now) ++ mark_text (Mark.Close element)) }
+        ensures { OnOk result (self.new ≡ self.old ++ element_text element text.now) }
     {
         self.open(element)?;
         self.text(text)?;
         self.close(element)
     }
 
+    /// Appends an element that has the text of these octets.
+    #[tactic(auto, unfolding(crate::specs::page::Elements::element_text))]
+    pub fn octets_element(&mut self, element: Element, octets: &[u8]) -> Result<(), AllocError>
+        ensures { OnOk result (self.new ≡ self.old ++ element_text element octets.now) }
+    {
+        self.open(element)?;
+        self.octets_text(octets)?;
+        self.close(element)
+    }
+
     /// Appends a cell of a table that has this number.
+    #[tactic(auto, unfolding(crate::specs::page::Elements::number_cell))]
     pub fn number_cell(&mut self, number: u64) -> Result<(), AllocError>
-        ensures { OnOk result (self.new ≡ ((self.old ++ mark_text (Mark.Open Element.Number)) ++ decimal number)
-            ++ mark_text (Mark.Close Element.Number)) }
+        ensures { OnOk result (self.new ≡ self.old ++ number_cell number) }
     {
         self.open(Element::Number)?;
         self.number(number)?;

@@ -2,7 +2,7 @@
 
 ghost use Rattle.std.specs.Prelude.{◌≡◌, ◌++◌, ◌∷◌, [], map, IfOk, OnOk};
 ghost use Rattle.std.specs.List.{flat_map, list_any};
-ghost use Rattle.gw_report.specs.points.Cells.{cell_text, doubled, guarded, is_marked, is_one_of, marks, next_text, quoted, risks, row_text};
+ghost use Rattle.gw_report.specs.points.Cells.{begins_wide, cell_text, doubled, guarded, is_marked, is_one_of, is_risky, marks, next_text, quoted, risks, row_text};
 
 use gw_addr::{put_octet, put_slice};
 use std::alloc::{AllocError, Global};
@@ -11,7 +11,15 @@ use std::alloc::{AllocError, Global};
 const MARKS: [u8; 4] = [b';', b'"', b'\r', b'\n'];
 
 /// With which octets a text begins that a spreadsheet takes for a formula, and the apostrophe that keeps it a text.
-const RISKS: [u8; 7] = [b'=', b'+', b'-', b'@', b'\t', b'\r', b'\''];
+const RISKS: [u8; 8] = [b'=', b'+', b'-', b'@', b'\t', b'\n', b'\r', b'\''];
+
+/// The four signs in full width: U+FF1D, U+FF0B, U+FF0D and U+FF20.
+const WIDE_RISKS: [[u8; 3]; 4] = [
+    [239, 188, 157],
+    [239, 188, 139],
+    [239, 188, 141],
+    [239, 188, 160],
+];
 
 fn is_mark(octet: u8) -> bool
     ensures { result ≡ is_one_of marks octet }
@@ -104,17 +112,32 @@ fn is_risk(octet: u8) -> bool
     RISKS.iter().any(|risk| octet == *risk)
 }
 
+/// Whether a text begins with a sign in full width that a spreadsheet takes for that of a formula.
+fn begins_wide(text: &[u8]) -> bool
+    ensures { result ≡ begins_wide text.now }
+{
+    WIDE_RISKS.iter().any(|sign| text.starts_with(sign))
+}
+
+/// Whether a spreadsheet may take a text for a formula.
+#[tactic(auto, unfolding(crate::specs::points::Cells::is_risky))]
+fn is_risky(text: &[u8]) -> bool
+    ensures { result ≡ is_risky text.now }
+{
+    match text.first() {
+        Some(first) => is_risk(*first) || begins_wide(text),
+        None => false,
+    }
+}
+
 /// The cell of a text: with an apostrophe in front if a spreadsheet would take it for a formula.
 #[tactic(auto, unfolding(crate::specs::points::Cells::guarded))]
 pub(crate) fn guarded(alloc: Global, text: &str) -> Result<Vec<u8>, AllocError>
     ensures { IfOk result (λ cell. cell.items ≡ guarded text.now) }
 {
     let octets = text.as_bytes();
-    let Some(first) = octets.first() else {
-        return Ok(Vec::new(alloc));
-    };
     let mut cell = Vec::new(alloc);
-    if is_risk(*first) {
+    if is_risky(octets) {
         cell.push(b'\'')?;
     }
     put_slice(&mut cell, octets)?;

@@ -1,0 +1,226 @@
+-- The page that shows a configuration.
+use Rattle.std.specs.Prelude.{◌≡◌, ℕ, ◌+◌, ◌-◌, ◌==◌, ◌&&◌, Bool, true, false, if◌then◌else◌, List, [], ◌∷◌, ◌++◌, length, codes, decimal}
+use Rattle.std.specs.Prelude.{Option, Some, None, slice_get, unwrap_or}
+use Rattle.std.specs.List.{flat_map, list_all}
+use Rattle.std.specs.Option.{option_map_or}
+use Rattle.gw_codecs.specs.names.Names.{object_type_name}
+use Rattle.gw_configuration.specs.Configuration.{Configuration}
+use Rattle.gw_configuration.specs.Kinds.{type_number}
+use Rattle.gw_configuration.specs.declared.object.Object.{Object}
+use Rattle.gw_configuration.specs.declared.port.Port.{Port as ConfiguredPort}
+use Rattle.gw_rules.specs.Operation.{operation_name}
+use Rattle.gw_rules.specs.Rule.{ranges_of}
+use Rattle.gw_rules.specs.declared.field.FieldName.{FieldName}
+use Rattle.gw_rules.specs.declared.field.TheConstants.FieldName.{ALL as all_fields}
+use Rattle.gw_rules.specs.declared.operation.Operation.{Operation}
+use Rattle.gw_rules.specs.declared.operation.TheConstants.Operation.{ALL as all_operations}
+use Rattle.gw_rules.specs.declared.rule.Rule.{Rule}
+use Rattle.gw_script.specs.Order.{in_order}
+use Rattle.gw_ask_sets.specs.shapes.Shape.{Shape}
+use Rattle.gw_ask_sets.specs.shapes.Shapes.{shapes}
+use Rattle.gw_policy_drafts.specs.migration.Items.{field_text}
+use Rattle.gw_report.specs.Access.{extent_among}
+use Rattle.gw_report.specs.declared.access.Whence.{Whence}
+use Rattle.gw_report.specs.declared.access.Whence.TheVariants.{Port, Beyond}
+use Rattle.gw_report.specs.declared.passing.Extent.{Extent}
+use Rattle.gw_report.specs.declared.passing.Extent.TheVariants as extent
+use Rattle.gw_report.specs.declared.page.element.Element.TheVariants as element
+use Rattle.gw_report.specs.declared.page.mark.Mark.TheVariants as mark
+use Rattle.gw_report.specs.page.Elements.{begin_text, close_text, element_text, number_cell, open_text}
+use Rattle.gw_report.specs.page.Escape.{escaped}
+use Rattle.gw_report.specs.page.Mark.{mark_text}
+use Rattle.gw_report.specs.page.Page.{IsPage}
+
+-- ---- the head
+
+abbrev pub title_of : Configuration → List ℕ
+title_of c = codes "BACnet/IP gateway: " ++ c.device.name
+
+-- a text of the configuration as a paragraph, unless it is empty
+unfoldable pub paragraph : List ℕ → List ℕ
+paragraph text = if length text == 0 then [] else element_text element.Paragraph text
+
+-- how much the configuration has
+unfoldable pub ways_text : Configuration → List ℕ
+ways_text c =
+    decimal (length c.ports) ++ (escaped (codes " ports, ") ++ (decimal (length c.routes) ++ escaped (codes " routes, ")))
+
+unfoldable pub policy_text : Configuration → List ℕ
+policy_text c =
+    decimal (length c.objects) ++ (escaped (codes " objects, ") ++ (decimal (length c.rules) ++ escaped (codes " rules.")))
+
+unfoldable pub announced_text : Bool → List ℕ
+announced_text announces = if announces then escaped (codes " Networks are announced.") else []
+
+unfoldable pub sizes_text : Configuration → List ℕ
+sizes_text c =
+    open_text element.Aside ++ (ways_text c ++ (policy_text c ++ (announced_text c.announce ++ close_text element.Aside)))
+
+-- the title with the name of the device, its description, and how much there is
+unfoldable pub head_text : Configuration → List ℕ
+head_text c =
+    begin_text (title_of c) ++ (element_text element.Title (title_of c) ++ (paragraph c.device.description ++ sizes_text c))
+
+-- ---- who may do what
+
+-- the networks of the ports, each with the port's number, counted on
+abbrev pub own_from : ℕ → List ConfiguredPort → List Whence
+own_from number [] = []
+own_from number (p ∷ ports) = Port number p.network ∷ own_from (number + 1) ports
+
+abbrev pub own_of : Configuration → List Whence
+own_of c = own_from 1 c.ports
+
+-- `network 1 (port 1)`
+unfoldable pub whence_text : Whence → List ℕ
+whence_text (Port number network) =
+    codes "network " ++ (decimal network ++ (codes " (port " ++ (decimal number ++ codes ")")))
+whence_text Beyond = codes "other networks"
+
+unfoldable pub extent_cell : Option Extent → List ℕ
+extent_cell None = element_text element.Cell (codes "-")
+extent_cell (Some extent.Nothing) = element_text element.Nothing (codes "none")
+extent_cell (Some extent.Some) = element_text element.Some (codes "some")
+extent_cell (Some extent.All) = element_text element.All (codes "all")
+
+-- the cell of a row and an operation
+unfoldable pub cell_of : List Rule → List Whence → List Shape → Whence → Operation → List ℕ
+cell_of rules own those whence operation = extent_cell (extent_among rules own those whence operation)
+
+unfoldable pub access_row : List Rule → List Whence → List Shape → Whence → List ℕ
+access_row rules own those whence =
+    open_text element.Row ++ (element_text element.Head (whence_text whence)
+    ++ (flat_map (cell_of rules own those whence) all_operations ++ close_text element.Row))
+
+unfoldable pub operation_head : Operation → List ℕ
+operation_head operation = element_text element.Head (operation_name operation)
+
+unfoldable pub access_head : List ℕ
+access_head =
+    open_text element.Row ++ (element_text element.Head (codes "from") ++ (flat_map operation_head all_operations ++ close_text element.Row))
+
+-- a row for the network of each port, and one for all others; a column for each operation
+unfoldable pub access_table : Configuration → List ℕ
+access_table c =
+    open_text element.Table ++ (access_head ++ (flat_map (access_row c.rules (own_of c) (shapes c)) (own_of c)
+    ++ (access_row c.rules (own_of c) (shapes c) Beyond ++ close_text element.Table)))
+
+abbrev pub legend_text : List ℕ
+legend_text = element_text element.Aside (codes "Each row is a network from which asks come, each column an operation. all: each such ask is allowed; some: maybe some of them; none: each is denied; a dash: the gateway raises no such ask.")
+
+unfoldable pub access_text : Configuration → List ℕ
+access_text c = element_text element.Heading (codes "Who may do what") ++ (legend_text ++ access_table c)
+
+-- ---- the rules
+
+-- a cell with how often a log shows that a rule denied, by the rule's place, if the counts of a log are shown
+unfoldable pub times_cell : (shows : Bool) → List ℕ → ℕ → List ℕ
+times_cell shows times place =
+    if shows then number_cell (option_map_or (λ count. count) (slice_get times place) 0) else []
+
+unfoldable pub decision_cell : Bool → List ℕ
+decision_cell allow =
+    if allow then element_text element.All (codes "allow") else element_text element.Nothing (codes "deny")
+
+-- what the rule says of a field, if it names it
+unfoldable pub field_code : Rule → FieldName → List ℕ
+field_code rule field =
+    if length (ranges_of field rule) == 0 then [] else element_text element.Code (field_text field (ranges_of field rule))
+
+-- the rule names no field
+abbrev pub is_bare : Rule → Bool
+is_bare rule = list_all (λ field. length (ranges_of field rule) == 0) all_fields
+
+unfoldable pub each_text : Rule → List ℕ
+each_text rule = if is_bare rule then escaped (codes "each") else []
+
+unfoldable pub fields_cell : Rule → List ℕ
+fields_cell rule =
+    open_text element.Cell ++ (flat_map (field_code rule) all_fields ++ (each_text rule ++ close_text element.Cell))
+
+-- the note at a place, or nothing
+abbrev pub note_at : List (List ℕ) → ℕ → List ℕ
+note_at notes place = option_map_or (λ note. note) (slice_get notes place) []
+
+unfoldable pub rule_cells : Rule → List ℕ → List ℕ
+rule_cells rule note =
+    element_text element.Cell rule.name ++ (decision_cell rule.allow ++ (fields_cell rule ++ element_text element.Cell note))
+
+-- the row of the rule of this number
+unfoldable pub rule_row : List (List ℕ) → (shows : Bool) → (times : List ℕ) → ℕ → Rule → List ℕ
+rule_row notes shows times number rule =
+    open_text element.Row ++ (number_cell number ++ (rule_cells rule (note_at notes (number - 1))
+    ++ (times_cell shows times (number - 1) ++ close_text element.Row)))
+
+unfoldable pub counted_head : Bool → List ℕ
+counted_head shows = if shows then element_text element.Head (codes "denials") else []
+
+unfoldable pub rules_columns : List ℕ
+rules_columns =
+    element_text element.Head [] ++ (element_text element.Head (codes "name") ++ (element_text element.Head (codes "decision")
+    ++ (element_text element.Head (codes "asks that it matches") ++ element_text element.Head (codes "note"))))
+
+unfoldable pub rules_head : Bool → List ℕ
+rules_head shows = open_text element.Row ++ (rules_columns ++ (counted_head shows ++ close_text element.Row))
+
+unfoldable pub default_cells : List ℕ
+default_cells =
+    element_text element.Cell [] ++ (element_text element.Cell (codes "default") ++ (decision_cell false
+    ++ (element_text element.Cell (codes "those that no rule matches") ++ element_text element.Cell [])))
+
+-- the row of the asks that no rule matches, whose count is after those of so many rules
+unfoldable pub default_row : (shows : Bool) → (times : List ℕ) → ℕ → List ℕ
+default_row shows times count = open_text element.Row ++ (default_cells ++ (times_cell shows times count ++ close_text element.Row))
+
+unfoldable pub rules_table : Configuration → (shows : Bool) → (times : List ℕ) → List ℕ
+rules_table c shows times =
+    open_text element.Table ++ (rules_head shows ++ (in_order (rule_row c.notes shows times) 1 c.rules
+    ++ (default_row shows times (length c.rules) ++ close_text element.Table)))
+
+-- the rules in their order, each with what it says and its note
+unfoldable pub rules_text : Configuration → (shows : Bool) → (times : List ℕ) → List ℕ
+rules_text c shows times =
+    element_text element.Heading (codes "Rules")
+    ++ (element_text element.Aside (codes "The first rule that matches an ask decides it. If none matches, it is denied.")
+    ++ rules_table c shows times)
+
+-- ---- the objects
+
+unfoldable pub object_row : Object → List ℕ
+object_row object =
+    open_text element.Row ++ (element_text element.Cell (unwrap_or (object_type_name (type_number object.value)) (codes "object"))
+    ++ (number_cell object.instance ++ (element_text element.Cell object.name
+    ++ (element_text element.Cell object.description ++ close_text element.Row))))
+
+unfoldable pub objects_head : List ℕ
+objects_head =
+    open_text element.Row ++ (element_text element.Head (codes "type") ++ (element_text element.Head (codes "instance")
+    ++ (element_text element.Head (codes "name") ++ (element_text element.Head (codes "description") ++ close_text element.Row))))
+
+unfoldable pub objects_table : List Object → List ℕ
+objects_table objects =
+    element_text element.Heading (codes "Objects of the device") ++ (open_text element.Table
+    ++ (objects_head ++ (flat_map object_row objects ++ close_text element.Table)))
+
+abbrev pub objects_text : List Object → List ℕ
+objects_text objects = if length objects == 0 then [] else objects_table objects
+
+-- ---- the whole
+
+unfoldable pub first_text : Configuration → (picture lines : List ℕ) → List ℕ
+first_text c picture lines = head_text c ++ (picture ++ (access_text c ++ lines))
+
+unfoldable pub last_text : Configuration → (shows : Bool) → (times plots : List ℕ) → List ℕ
+last_text c shows times plots = rules_text c shows times ++ (objects_text c.objects ++ (plots ++ mark_text mark.End))
+
+-- The page is about this configuration: it has its title and description, who may do what under it, its rules and its objects.
+-- The picture of the site, the lines of `explain`, and what a log denied are pages, of which no more is said; nor is it of how
+-- often each rule denied.
+pub record IsReport (c : Configuration) (shows : Bool) (times octets : List ℕ) : Type 0 where
+  pub picture : List ℕ
+  pub is_picture : IsPage picture
+  pub lines : List ℕ
+  pub are_lines : IsPage lines
+  pub plots : List ℕ
+  pub are_plots : IsPage plots
+  pub whole : octets ≡ first_text c picture lines ++ last_text c shows times plots
