@@ -4,6 +4,9 @@
 #
 #     narrow    random narrow ranges
 #     wide      random wide ranges, which overlap often
+#     half      random ranges of up to half of a field
+#     wider     random ranges of 85 to 97 % of a field
+#     widest    random ranges of 90 to 99 % of a field
 #     pieces    rules whose ranges one earlier rule takes in pieces alone, so that their searches use up all their steps; the rules
 #               between them differ only in the last field but one
 #
@@ -70,23 +73,23 @@ def rule(number, allow, operations, ranges):
     return "\n".join(lines) + "\n"
 
 
-def random_ranges(dice, key, share):
-    """Four ranges, each of at most this share of the field."""
+def random_ranges(dice, key, share, least):
+    """Four ranges, each of at most this share of the field, and of a least one."""
     low, high = LIMITS[key]
     out = []
     for _ in range(RANGES):
-        width = int((high - low) * share * dice.random())
+        width = int((high - low) * (share - least) * dice.random() + (high - low) * least)
         start = dice.randint(low, high - width)
         out.append((start, start + width))
     return out
 
 
-def random_rules(share):
+def random_rules(share, least=0.0):
     """Rules that name all ten fields of format 2, so writes alone can meet them."""
     dice = random.Random(45)
     out = []
     for number in range(1, RULES + 1):
-        ranges = {key: random_ranges(dice, key, share) for key in LIMITS}
+        ranges = {key: random_ranges(dice, key, share, least) for key in LIMITS}
         ranges["service"][0] = (15, 15)
         out.append(rule(number, dice.random() < 0.5, ["write", *dice.sample(OPERATIONS, RANGES - 1)], ranges))
     return out
@@ -148,7 +151,15 @@ def seconds(path):
 
 with tempfile.TemporaryDirectory() as folder:
     room = Path(sys.argv[3]) if len(sys.argv) > 3 else Path(folder)
-    for name, rules in [("narrow", random_rules(0.01)), ("wide", random_rules(1.0)), ("pieces", pieces_rules())]:
+    lists = [
+        ("narrow", random_rules(0.01)),
+        ("wide", random_rules(1.0)),
+        ("half", random_rules(0.5)),
+        ("wider", random_rules(0.97, 0.85)),
+        ("widest", random_rules(0.99, 0.9)),
+        ("pieces", pieces_rules()),
+    ]
+    for name, rules in lists:
         path = room / f"{name}.toml"
         path.write_text(head() + "\n" + "\n".join(rules), encoding="utf-8")
         try:

@@ -12,5 +12,6 @@ pub mod RangeLaw
 pub mod RegionLaw
 pub mod StepLaw
 pub mod TidyLaw
+pub mod UnmatchedLaw
 pub mod ValueLaw
 pub mod WideningLaw

@@ -8,5 +8,6 @@ pub mod Ranges
 pub mod Regions
 pub mod Steps
 pub mod Tidying
+pub mod Unmatched
 pub mod Values
 pub mod internal

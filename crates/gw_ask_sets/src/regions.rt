@@ -16,6 +16,7 @@ mod ranges;
 mod region;
 mod summary;
 mod tidying;
+mod unmatched;
 mod values;
 mod widening;
 
@@ -28,5 +29,6 @@ pub use ranges::{both, tidy, united, without};
 pub use region::{Region, lies, part};
 pub use summary::{Summary, summarize, summary_of};
 pub use tidying::{all_tidied, tidied};
+pub use unmatched::{Unmatched, search_unmatched};
 pub use values::Values;
 pub use widening::widen;

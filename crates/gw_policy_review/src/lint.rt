@@ -9,5 +9,5 @@ mod text;
 mod trust;
 mod trust_note;
 
-pub use finding::{Finding, MAX_STEPS, finding_of, findings_of};
+pub use finding::{Finding, MAX_STEPS, findings_of};
 pub use lint::put_lint;

@@ -15,6 +15,7 @@ use Rattle.gw_rules.specs.declared.rule.Rule.{Rule}
 use Rattle.gw_rules.proofs.EachField.{each_field_at}
 use Rattle.gw_ask_sets.specs.regions.Merging.{lies_but}
 use Rattle.gw_ask_sets.specs.regions.Regions.{IsParted, Region, inside, inside_at, lies, piece, piece_at, pieces}
+use Rattle.gw_ask_sets.specs.regions.Unmatched.{parts_at}
 use Rattle.gw_ask_sets.specs.regions.Values.{admitted, has, is_empty, refused}
 use Rattle.gw_ask_sets.specs.declared.regions.values.Values.{Values}
 use Rattle.gw_ask_sets.proofs.regions_lemmas.Growing.{next_item}
@@ -105,6 +106,21 @@ piece_at_law field rule region ask =
     one_piece field (refused (value_of field region) (ranges_of field rule)) region ask
     ∙ with_lies field region (refused (value_of field region) (ranges_of field rule)) ask (not (yes_at rule ask field))
     (refused_law (value_of field region) (ranges_of field rule) (value_of field ask))
+
+-- both parts of a region in a field have its asks, and no other
+pub parts_at_law : (field : FieldName) (rule : Rule) (region : Region) (ask : Ask)
+    → list_any (λ p. lies p ask) (parts_at field rule region) ≡ lies region ask
+parts_at_law field rule region ask =
+    let inner = admitted (value_of field region) (ranges_of field rule) in
+    list_any-append (λ p. lies p ask) (piece field region inner) (piece_at field rule region)
+    ∙ ap (λ b. b || list_any (λ p. lies p ask) (piece_at field rule region)) (one_piece field inner region ask ∙ inside_at_law field rule region ask)
+    ∙ ap (λ b. (lies region ask && yes_at rule ask field) || b) (piece_at_law field rule region ask)
+    ∙ by (lies region ask) (yes_at rule ask field)
+  where
+    by : (l a : Bool) → ((l && a) || (l && not a)) ≡ l
+    by true true = refl
+    by true false = refl
+    by false a = refl
 
 -- ---- one field apart from the others
 

@@ -1,15 +1,14 @@
--- What a rule matches of a shape, and what a step of the search keeps of the asks that come to a rule.
-use Rattle.std.proofs.Common.{◌≡◌, ℕ, ◌+◌, ◌-◌, ◌<◌, Bool, true, false, ◌&&◌, ◌||◌, ◌==◌, List, [], ◌∷◌, ◌++◌, length, Option, Some, None, refl, sym, ap, subst, ◌∙◌, arith, slice_get, nat_le, map, Vec, add-one, get_or, take}
-use Rattle.std.specs.Prelude.{not, vec_items, vec_len}
+-- What a rule matches of a shape, and when the rules before it match all of that.
+use Rattle.std.proofs.Common.{◌≡◌, ℕ, ◌+◌, ◌-◌, ◌<◌, ◌≤◌, Bool, true, false, ◌&&◌, ◌||◌, ◌==◌, List, [], ◌∷◌, ◌++◌, length, Option, Some, None, refl, sym, ap, subst, ◌∙◌, arith, slice_get, nat_le, map, add-one, get_or, take}
 use Rattle.std.specs.List.{Any, list_any}
 use Rattle.std.specs.Option.{IsSomeAnd}
-use Rattle.std.specs.Prelude.{IfSome}
-use Rattle.std.specs.Global.{Global}
 use Rattle.std.proofs.Math.Seq.{take-suc}
-use Rattle.std.proofs.lemmas.List.{nil_from_length}
-use Rattle.std.proofs.lemmas.Bool.{and_from, and_parts, both_ways, eqb-true, false_from_ne_true, le-leb, ne_eqb, or_left, or_right}
-use Rattle.std.proofs.lemmas.List.Folds.{list_any-append, list_any-from_Any}
+use Rattle.std.proofs.lemmas.List.{get_or-take, length-take}
+use Rattle.std.proofs.lemmas.Option.{get_or_from_slice_get, slice_get-get_or, slice_get_within}
+use Rattle.std.proofs.lemmas.Bool.{and_from, and_parts, both_ways, false_from_ne_true, le-leb, ne_eqb, or_left, or_right}
+use Rattle.std.proofs.lemmas.List.Folds.{list_any-append, list_any-from_Any, list_any_at, list_any_none}
 use Rattle.gw_ask_sets.specs.regions.Regions.{IsParted, Region, lies, lies_in_one}
+use Rattle.gw_ask_sets.specs.regions.Unmatched.{AreAllMatched, IsUnmatched, is_matched}
 use Rattle.gw_rules.specs.Ask.{Ask}
 use Rattle.gw_rules.specs.Fields.{value_of}
 use Rattle.gw_rules.specs.Rule.{Matches, matches, ranges_of}
@@ -21,7 +20,7 @@ use Rattle.gw_rules.proofs.First.{first_iff}
 use Rattle.gw_rules.proofs.Matching.{matches_iff}
 use Rattle.gw_ask_sets.specs.shapes.Meeting.{has_number, meets, meets_side, overlaps}
 use Rattle.gw_ask_sets.specs.shapes.Regions.{region_of}
-use Rattle.gw_ask_sets.specs.shapes.Search.{AreMatched, IsLeft, IsNeverFirst, IsPutBack, is_matched}
+use Rattle.gw_ask_sets.specs.shapes.Search.{AreMatched, IsFirstFor, IsNeverFirst}
 use Rattle.gw_ask_sets.specs.shapes.Shape.{IsIn, IsWithin, LiesIn, Shape}
 use Rattle.gw_ask_sets.specs.declared.shapes.side.Side.{Side}
 use Rattle.gw_ask_sets.proofs.shapes_lemmas.RegionLaw.{inner_one, is_inner, whole_one}
@@ -136,97 +135,76 @@ matched_next shapes place d rule former latter within is pushed =
     let more : take (place + 1) shapes ≡ take place shapes ++ shape ∷ [] = ap (λ n. take n shapes) (add-one place) ∙ take-suc shapes place d within in
     subst (λ (done : List Shape). AreMatched done rule latter) (sym more) (matched_step (take place shapes) shape rule former latter is pushed)
 
--- so they are where a search starts
-pub started : (shapes : List Shape) (rules : List Rule) (number : ℕ) (rule : Rule) (regions : List Region) → slice_get rules (number - 1) ≡ Some rule
-    → AreMatched shapes rule regions → IsLeft shapes rules number regions
-started shapes rules number rule regions there are = record {
-  whole = λ ask is lies. are ask
-      ∙ and_from (lies_in_one (map region_of shapes) ask) (matches rule ask) (whole_one shapes ask lies)
-      ((matches_iff rule ask).1 (deciding_rule rules number rule ask there is));
-  inner = λ ask t. inner_one shapes ask (and_parts (lies_in_one (map region_of shapes) ask) (matches rule ask) (sym (are ask) ∙ t)).0;
-}
+-- ---- the rules before one
 
--- ---- a step
-
--- an ask that an earlier rule matches doesn't have the rule of the number as its first
-unmatched : (rules : List Rule) (number : ℕ) (rule : Option Rule) (ask : Ask)
-    → IfSome rule (λ r. (lower : ℕ) × (lower < number) × HasNumber rules lower r) → first rules ask ≡ Some number → is_matched rule ask ≡ false
-unmatched rules number None ask earlier is = refl
-unmatched rules number (Some r) ask earlier is =
+-- those before the first that matches an ask don't match it
+pub unmatched_before : (rules : List Rule) (number : ℕ) (ask : Ask) → first rules ask ≡ Some number → is_matched (take (number - 1) rules) ask ≡ false
+unmatched_before rules number ask is =
     let deciding = (first_iff rules ask number).0 is in
-    false_from_ne_true (matches r ask) (λ t. deciding.least earlier.0 r earlier.1 earlier.2 ((matches_iff r ask).0 t))
+    list_any_none (λ rule. matches rule ask) (take (number - 1) rules) (
+    λ k d within.
+    let long = length-take (number - 1) rules in
+    let below : k < number - 1 = omega (arith, within, long) in
+    let inside : k < length rules = omega (arith, within, long) in
+    let same : get_or (take (number - 1) rules) k d ≡ get_or rules k d = get_or-take (number - 1) rules k d below in
+    let other = get_or (take (number - 1) rules) k d in
+    let place : k + 1 - 1 ≡ k = omega arith in
+    let has : HasNumber rules (k + 1) other = record {
+      counted = omega arith;
+      there = ap (slice_get rules) place ∙ slice_get-get_or rules k d inside ∙ ap Some (sym same);
+    } in
+    false_from_ne_true (matches other ask) (λ t. deciding.least (k + 1) other (omega (arith, below)) has ((matches_iff other ask).0 t))
+    )
 
--- what no earlier rule matches of the last region is put back
-pub narrowed : (shapes : List Shape) (rules : List Rule) (number : ℕ) (rule : Option Rule) (region : Region) (former latter : List Region)
-    → IfSome rule (λ r. (lower : ℕ) × (lower < number) × HasNumber rules lower r) → IsPutBack rule region former latter
-    → IsLeft shapes rules number (former ++ region ∷ []) → IsLeft shapes rules number latter
-narrowed shapes rules number rule region former latter earlier put was = record {
-  whole = λ ask is lies. put ask ∙ kept ask (unmatched rules number rule ask earlier is) (was.whole ask is lies);
-  inner = λ ask t. was.inner ask (parted former (region ∷ []) ask ∙ wider ask (sym (put ask) ∙ t));
-}
-  where
-    kept : (ask : Ask) → is_matched rule ask ≡ false → lies_in_one (former ++ region ∷ []) ask ≡ true
-        → (lies_in_one former ask || (lies region ask && not (is_matched rule ask))) ≡ true
-    kept ask none t =
-        ap (λ b. lies_in_one former ask || (lies region ask && not b)) none
-        ∙ by (lies_in_one former ask) (lies region ask) (sym (parted former (region ∷ []) ask) ∙ t)
-      where
-        by : (a b : Bool) → (a || (b || false)) ≡ true → (a || (b && true)) ≡ true
-        by true b e = refl
-        by false true e = refl
-        by false false e = e
+-- a rule that matches an ask is the first if none before it does
+pub first_before : (rules : List Rule) (number : ℕ) (rule : Rule) (ask : Ask) → HasNumber rules number rule → matches rule ask ≡ true
+    → is_matched (take (number - 1) rules) ask ≡ false → first rules ask ≡ Some number
+first_before rules number rule ask has is none =
+    (first_iff rules ask number).1 (record {
+      rule = rule;
+      numbered = has;
+      matching = (matches_iff rule ask).0 is;
+      least = λ lower other below lies matching.
+          let one = lies.counted in
+          let long = slice_get_within rules (number - 1) rule has.there in
+          let inside : lower - 1 < length (take (number - 1) rules) = omega (arith, one, below, long, length-take (number - 1) rules) in
+          let there : get_or (take (number - 1) rules) (lower - 1) other ≡ other =
+          get_or-take (number - 1) rules (lower - 1) other (omega (arith, one, below)) ∙ get_or_from_slice_get rules (lower - 1) other other lies.there in
+          both_ways (is_matched (take (number - 1) rules) ask) none
+          (list_any_at (λ r. matches r ask) (take (number - 1) rules) (lower - 1) other inside
+          (ap (λ (r : Rule). matches r ask) there ∙ (matches_iff other ask).1 matching));
+    })
 
-    wider : (ask : Ask) → (lies_in_one former ask || (lies region ask && not (is_matched rule ask))) ≡ true
-        → (lies_in_one former ask || (lies region ask || false)) ≡ true
-    wider ask t = by (lies_in_one former ask) (lies region ask) (is_matched rule ask) t
-      where
-        by : (a b m : Bool) → (a || (b && not m)) ≡ true → (a || (b || false)) ≡ true
-        by true b m e = refl
-        by false true m e = refl
-        by false false m e = e
+-- if the rules before it match all asks of the shapes that it matches, it decides none
+pub never_first : (shapes : List Shape) (rules : List Rule) (number : ℕ) (rule : Rule) (regions : List Region) → slice_get rules (number - 1) ≡ Some rule
+    → AreMatched shapes rule regions → AreAllMatched regions (take (number - 1) rules) → IsNeverFirst shapes rules number
+never_first shapes rules number rule regions there are all ask lies is =
+    both_ways (is_matched (take (number - 1) rules) ask) (unmatched_before rules number ask is)
+    (all ask (
+    are ask
+    ∙ and_from (lies_in_one (map region_of shapes) ask) (matches rule ask) (whole_one shapes ask lies)
+    ((matches_iff rule ask).1 (deciding_rule rules number rule ask there is))
+    ))
 
--- a region without an ask is left out
-pub left_out : (shapes : List Shape) (rules : List Rule) (number : ℕ) (region : Region) (former : List Region) → ((ask : Ask) → lies region ask ≡ false)
-    → IsLeft shapes rules number (former ++ region ∷ []) → IsLeft shapes rules number former
-left_out shapes rules number region former none was = record {
-  whole = λ ask is lies. sym (same ask) ∙ was.whole ask is lies;
-  inner = λ ask t. was.inner ask (same ask ∙ t);
-}
-  where
-    same : (ask : Ask) → lies_in_one (former ++ region ∷ []) ask ≡ lies_in_one former ask
-    same ask = parted former (region ∷ []) ask ∙ ap (λ b. lies_in_one former ask || (b || false)) (none ask) ∙ plain (lies_in_one former ask)
+-- an ask of these that they don't match is one that it decides
+pub is_first_for : (shapes : List Shape) (rules : List Rule) (number : ℕ) (rule : Rule) (regions : List Region) (ask : Ask) → HasNumber rules number rule
+    → AreMatched shapes rule regions → IsUnmatched regions (take (number - 1) rules) ask → IsFirstFor shapes rules number ask
+is_first_for shapes rules number rule regions ask has are is =
+    let parts = and_parts (lies_in_one (map region_of shapes) ask) (matches rule ask) (sym (are ask) ∙ is.0) in (
+      inner_one shapes ask parts.0,
+      first_before rules number rule ask has parts.1 is.1,
+    )
 
--- a region that is parted
-pub put_parts : (rule : Rule) (region within : Region) (outer former latter : List Region) → IsParted rule region within outer
-    → latter ≡ former ++ outer → IsPutBack (Some rule) region former latter
-put_parts rule region within outer former latter is e ask =
-    ap (λ (rs : List Region). lies_in_one rs ask) e ∙ parted former outer ask ∙ ap (λ b. lies_in_one former ask || b) (is.outer ask)
-
--- and one that is put back whole
-pub put_whole : (region : Region) (former latter : List Region) → latter ≡ former ++ region ∷ [] → IsPutBack None region former latter
-put_whole region former latter e ask =
-    ap (λ (rs : List Region). lies_in_one rs ask) e ∙ parted former (region ∷ []) ask ∙ ap (λ b. lies_in_one former ask || b) (by (lies region ask))
-  where
-    by : (b : Bool) → (b || false) ≡ (b && true)
-    by true = refl
-    by false = refl
-
--- the ask that is taken of the last region lies in one
-pub in_last : (region : Region) (former all : List Region) (ask : Ask) → all ≡ former ++ region ∷ [] → lies region ask ≡ true → lies_in_one all ask ≡ true
-in_last region former all ask e t =
-    ap (λ (rs : List Region). lies_in_one rs ask) e ∙ parted former (region ∷ []) ask
-    ∙ or_right (lies_in_one former ask) (lies region ask || false) (or_left (lies region ask) false t)
-
--- if there is no such rule, no ask reaches it
-pub no_rule : (shapes : List Shape) (rules : List Rule) (number : ℕ) → slice_get rules (number - 1) ≡ None → IsNeverFirst shapes rules number
+-- no ask has a rule as its first whose number no rule has
+pub no_rule : (shapes : List Shape) (rules : List Rule) (number : ℕ) → ((rule : Rule) → HasNumber rules number rule → ⊥) → IsNeverFirst shapes rules number
 no_rule shapes rules number none ask lies is =
     let deciding = (first_iff rules ask number).0 is in
-    let both : Some deciding.rule ≡ None = sym deciding.numbered.there ∙ none in
-    absurd cc
+    none deciding.rule deciding.numbered
 
--- where no region is left, none of the asks has the rule as its first
-pub none_left : (shapes : List Shape) (rules : List Rule) (number : ℕ) (left : Vec Region Global) → (vec_len left == 0) ≡ true
-    → IsLeft shapes rules number (vec_items left) → IsNeverFirst shapes rules number
-none_left shapes rules number left none is ask lies first =
-    let empty : vec_items left ≡ [] = nil_from_length (vec_items left) (omega (arith, left.ok.0, eqb-true (vec_len left) 0 none)) in
-    both_ways false refl (sym (ap (λ (rs : List Region). lies_in_one rs ask) empty) ∙ is.whole ask first lies)
+-- a place of a list, as a number
+pub numbered_at : (rules : List Rule) (number : ℕ) (rule : Rule) → 1 ≤ number → number ≤ length rules → rule ≡ get_or rules (number - 1) rule
+    → HasNumber rules number rule
+numbered_at rules number rule one within is = record {
+  counted = one;
+  there = slice_get-get_or rules (number - 1) rule (omega (arith, one, within)) ∙ ap Some (sym is);
+}

@@ -1,10 +1,10 @@
 -- Rules that no ask of some shapes reaches.
-use Rattle.std.specs.Prelude.{◌≡◌, ℕ, Bool, true, false, not, ◌&&◌, ◌||◌, List, Option, Some, map}
-use Rattle.std.specs.Option.{option_map_or}
-use Rattle.gw_ask_sets.specs.regions.Regions.{Region, lies, lies_in_one}
+use Rattle.std.specs.Prelude.{◌≡◌, ℕ, ◌-◌, ◌&&◌, List, Some, map, take}
+use Rattle.gw_ask_sets.specs.regions.Regions.{Region, lies_in_one}
+use Rattle.gw_ask_sets.specs.regions.Unmatched.{AreUsedUp}
 use Rattle.gw_rules.specs.Ask.{Ask}
 use Rattle.gw_rules.specs.Rule.{matches}
-use Rattle.gw_rules.specs.RuleList.{first}
+use Rattle.gw_rules.specs.RuleList.{HasNumber, first}
 use Rattle.gw_rules.specs.declared.rule.Rule.{Rule}
 use Rattle.gw_ask_sets.specs.shapes.Regions.{region_of}
 use Rattle.gw_ask_sets.specs.shapes.Shape.{LiesInOne, Shape}
@@ -24,16 +24,11 @@ abbrev pub AreMatched : List Shape → Rule → List Region → Type 0
 AreMatched shapes rule regions =
     (ask : Ask) → lies_in_one regions ask ≡ (lies_in_one (map region_of shapes) ask && matches rule ask)
 
--- Some regions have each ask of the shapes that has the rule of this number as its first, and no ask but of the shapes.
-pub record IsLeft (shapes : List Shape) (rules : List Rule) (number : ℕ) (left : List Region) : Type 0 where
-  pub whole : (ask : Ask) → first rules ask ≡ Some number → LiesInOne shapes ask → lies_in_one left ask ≡ true
-  pub inner : (ask : Ask) → lies_in_one left ask ≡ true → LiesInOne shapes ask
-
--- the rule matches an ask, if there is one
-abbrev pub is_matched : Option Rule → Ask → Bool
-is_matched rule ask = option_map_or (λ r. matches r ask) rule false
-
--- what the rule doesn't match of the region is put after the others
-abbrev pub IsPutBack : Option Rule → Region → List Region → List Region → Type 0
-IsPutBack rule region former latter =
-    (ask : Ask) → lies_in_one latter ask ≡ (lies_in_one former ask || (lies region ask && not (is_matched rule ask)))
+-- all steps of a search were used: it takes up the asks of the shapes that the rule of this number matches, and looks for
+-- one that none of the rules before it matches
+pub record IsUsedUp (shapes : List Shape) (rules : List Rule) (number steps : ℕ) : Type 0 where
+  pub rule : Rule
+  pub numbered : HasNumber rules number rule
+  pub regions : List Region
+  pub matched : AreMatched shapes rule regions
+  pub used : AreUsedUp (take (number - 1) rules) steps regions

@@ -68,7 +68,7 @@ fn holds_all(values: &[Range], ranges: &[Range]) -> bool
 }
 
 /// Whether the ranges of a rule are seen to admit all the values.
-fn covers(values: &Values, ranges: &[Range]) -> bool
+pub(crate) fn covers(values: &Values, ranges: &[Range]) -> bool
     ensures { result ≡ covers values.now ranges.now }
 {
     ranges.is_empty() || !values.absent && holds_all(values.ranges.as_slice(), ranges)

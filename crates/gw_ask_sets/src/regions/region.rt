@@ -45,7 +45,7 @@ pub(crate) fn with_values(
 }
 
 /// Puts the region with other values for a field after the pieces, if it has some.
-fn push_piece(
+pub(crate) fn push_piece(
     alloc: Global,
     out: &mut Vec<Region>,
     field: FieldName,

@@ -68,11 +68,19 @@ all_next shapes rules findings more place rule found grown has tells (count, eac
   subst (λ (xs : List Finding). Each shapes rules xs) (sym grown) (each_next shapes rules findings place rule found count has tells each),
 )
 
--- the rule at a place has the number after it
-pub numbered : (rules all : List Rule) (place : ℕ) (rule : Rule) → all ≡ rules → place < length all → rule ≡ get_or all place rule
-    → HasNumber rules (place + 1) rule
-numbered rules all place rule same within there =
-    let back : place + 1 - 1 ≡ place = omega arith in record {
-      counted = omega arith;
-      there = ap (slice_get rules) back ∙ ap (λ (xs : List Rule). slice_get xs place) (sym same) ∙ slice_get-get_or all place rule within ∙ ap Some (sym there);
-    }
+-- there is a rule at a place before the end
+rule_at : (rules : List Rule) (place : ℕ) → place < length rules → (rule : Rule) × (slice_get rules place ≡ Some rule)
+rule_at [] place within = absurd (omega (arith, within))
+rule_at (r ∷ rs) place within = (get_or (r ∷ rs) place r, slice_get-get_or (r ∷ rs) place r within)
+
+-- one finding more, of the rule of a number
+pub next_found : (shapes : List Shape) (rules all : List Rule) (findings more : List Finding) (place : ℕ) (found : Finding) → all ≡ rules
+    → place < length all → more ≡ findings ++ found ∷ []
+    → ((rule : Rule) → HasNumber all (place + 1) rule → Finds shapes all (place + 1) rule found)
+    → (length findings ≡ place) × Each shapes rules findings → (length more ≡ place + 1) × Each shapes rules more
+next_found shapes rules all findings more place found same within grown tells before =
+    let back : place + 1 - 1 ≡ place = omega arith in
+    let one = rule_at all place within in
+    let has : HasNumber all (place + 1) one.0 = record { counted = omega arith; there = ap (slice_get all) back ∙ one.1 } in
+    all_next shapes rules findings more place one.0 found grown (subst (λ (rs : List Rule). HasNumber rs (place + 1) one.0) same has)
+    (subst (λ (rs : List Rule). Finds shapes rs (place + 1) one.0 found) same (tells one.0 has)) before

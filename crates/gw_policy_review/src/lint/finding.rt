@@ -1,8 +1,11 @@
 //! What is found of each rule of a policy.
-ghost use Rattle.std.specs.Prelude.{◌≡◌, ◌<◌, ◌-◌, IfOk, IfSome, length, take};
+ghost use Rattle.std.specs.Prelude.{◌≡◌, ◌<◌, ◌≤◌, IfOk, IfSome, length};
 ghost use Rattle.gw_rules.specs.RuleList.{HasNumber};
-ghost use Rattle.gw_policy_review.specs.lint.Finding.{AreTrue, Finds, taker};
+ghost use Rattle.gw_rules.specs.declared.rule.Rule.{Rule as SpecRule};
+ghost use Rattle.gw_ask_sets.specs.regions.Tidying.{all_tidied};
+ghost use Rattle.gw_policy_review.specs.lint.Finding.{AreTrue, Finds, IsSearched, taker};
 
+use gw_ask_sets::regions::all_tidied;
 use gw_ask_sets::shapes::{Outcome, Shape, matches_nothing, search_for, takes_all};
 use gw_rules::{Ask, Rule, RuleList};
 use std::alloc::{AllocError, Global};
@@ -21,7 +24,7 @@ pub enum Finding {
     TakenTogether,
     /// It is the first rule that matches this ask, which is one of them.
     Decides(Ask),
-    /// The search ended without a result.
+    /// All steps of the search were used.
     Unknown,
 }
 
@@ -35,30 +38,47 @@ fn taker(shapes: &[Shape], rules: &[Rule], later: &Rule) -> Option<usize>
         .position(|earlier| takes_all(shapes, earlier, later))
 }
 
-/// What is found of the rule of this number, over these shapes. An `Err` only where a growth of memory
-/// was refused.
-pub fn finding_of(
+/// What a search for an ask that the rule of this number decides comes to. The rules' ranges are in order.
+fn searched(
     alloc: Global,
     shapes: &[Shape],
-    rules: &RuleList,
+    tidy: &[Rule],
     number: u16,
-    rule: &Rule,
 ) -> Result<Finding, AllocError>
-    requires { HasNumber rules.now number rule.now }
-    ensures { IfOk result (Finds shapes.now rules.now number rule.now) }
+    ensures { IfOk result (IsSearched shapes.now tidy.now number) }
 {
-    if matches_nothing(shapes, rule) {
-        return Ok(Finding::MatchesNothing);
-    }
-    let earlier = &rules.rules()[..usize::from(number) - 1];
-    if let Some(place) = taker(shapes, earlier, rule) {
-        return Ok(Finding::TakenBy(place as u16 + 1));
-    }
-    match search_for(alloc, rules, number, shapes, MAX_STEPS)? {
+    match search_for(alloc, tidy, number, shapes, MAX_STEPS)? {
         Outcome::Decides(ask) => Ok(Finding::Decides(ask)),
         Outcome::Never => Ok(Finding::TakenTogether),
         Outcome::Unknown => Ok(Finding::Unknown),
     }
+}
+
+/// What is found of the rule of this number, over these shapes; and the same rules with their ranges in order. An
+/// `Err` only where a growth of memory was refused.
+fn finding_of(
+    alloc: Global,
+    shapes: &[Shape],
+    rules: &[Rule],
+    tidy: &[Rule],
+    number: u16,
+) -> Result<Finding, AllocError>
+    requires least { 1 ≤ number }
+    requires within { number ≤ length rules.now }
+    requires tidy { tidy.now ≡ all_tidied rules.now }
+    ensures { IfOk result (λ found. (rule : SpecRule) → HasNumber rules.now number rule →
+        Finds shapes.now rules.now number rule found) }
+{
+    let place = usize::from(number) - 1;
+    let rule = &rules[place];
+    if matches_nothing(shapes, rule) {
+        return Ok(Finding::MatchesNothing);
+    }
+    if let Some(place) = taker(shapes, &rules[..place], rule) {
+        return Ok(Finding::TakenBy(place as u16 + 1));
+    }
+    let found = searched(alloc, shapes, tidy, number)?;
+    Ok(found)
 }
 
 /// What is found of each rule, in order, over these shapes. An `Err` only where a growth of memory was
@@ -71,9 +91,10 @@ pub fn findings_of(
     ensures { IfOk result (λ findings. AreTrue shapes.now rules.now findings.items) }
 {
     let all = rules.rules();
+    let tidy = all_tidied(alloc, all)?;
     let mut findings = Vec::new(alloc);
     for place in 0..all.len() {
-        findings.push(finding_of(alloc, shapes, rules, place as u16 + 1, &all[place])?)?;
+        findings.push(finding_of(alloc, shapes, all, &tidy, place as u16 + 1)?)?;
     }
     Ok(findings)
 }

@@ -1,7 +1,15 @@
-//! What a note on broadcasts says. The function does nothing: its contract is the law.
+//! What a note on broadcasts says, and the limit of a search. The functions do nothing: their contracts are the laws.
+ghost use Rattle.std.specs.Prelude.{◌≡◌};
 ghost use Rattle.gw_policy_review.specs.lint.Laws.{NoBroadcastIsAllowed};
+
+use crate::lint::finding::MAX_STEPS;
 
 /// Where the note on broadcasts is made, no ask of the shapes to pass a broadcast on is allowed.
 pub fn broadcasts()
     ensures { NoBroadcastIsAllowed }
+{}
+
+/// A search for an ask that a rule decides makes 1,024 steps at most.
+pub fn limits()
+    ensures { MAX_STEPS ≡ 1024 }
 {}

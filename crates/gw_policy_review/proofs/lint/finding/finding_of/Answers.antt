@@ -1,33 +1,37 @@
-use Rattle.std.proofs.Common.{◌≡◌, ◌∙◌, ◌-◌, ℕ, List, Some, ap, arith, length-take, length-take-le, sym, take}
-use Rattle.std.proofs.lemmas.Option.{slice_get_within}
+use Rattle.std.proofs.Common.{◌≡◌, ◌∙◌, ◌-◌, List, None, Option, Some, ap, sym, take, true, ℕ}
 use Rattle.gw_rules.specs.declared.rule.Rule.{Rule}
-use Rattle.gw_policy_review.proofs.lint_lemmas.Taking.{denied, taken_by}
 use Rattle.gw_ask_sets.specs.shapes.Cover.{is_met}
+use Rattle.gw_ask_sets.specs.shapes.Shape.{Shape}
 use Rattle.gw_policy_review.specs.lint.Finding.{taker}
+use Rattle.gw_policy_review.proofs.lint_lemmas.Ordered.{rule_there, searched_found}
+use Rattle.gw_policy_review.proofs.lint_lemmas.Taking.{denied, taken_by}
 use Rattle.gw_policy_review.proofs.lint.finding.finding_of.Goals as goal
 
+-- what was found of the rule at a place, of the rule of its number
+taken_of : (shapes : List Shape) (rules : List Rule) (number count : ℕ) (rule one : Rule) (place : Option ℕ) → count ≡ number → one ≡ rule
+    → place ≡ taker shapes (take (count - 1) rules) one → taker shapes (take (number - 1) rules) rule ≡ place
+taken_of shapes rules number count rule one place e same is =
+    ap (λ (r : Rule). taker shapes (take (number - 1) rules) r) (sym same) ∙ ap (λ (n : ℕ). taker shapes (take (n - 1) rules) one) (sym e) ∙ sym is
+
 pub returns-in-Some : goal.returns-in-Some
-returns-in-Some c =
+returns-in-Some c = λ rule has.
     let shapes = c.args.shapes.now in
-    let rule = c.args.rule.now in
-    let number = c.args.number in
-    let found : taker shapes (take (number - 1) c.args.rules.now) rule ≡ Some c.in-Some.place =
-    ap (λ (n : ℕ). taker shapes (take (n - 1) c.args.rules.now) rule) (sym c.from.ensures)
-    ∙ ap (λ (rules : List Rule). taker shapes (take (c.from.result - 1) rules) rule) (sym c.rules.ensures.rules)
-    ∙ sym c.in-Some.ensures.place in (
-      denied (is_met shapes rule) c.matches_nothing.result c.matches_nothing.ensures.exact c.if-matches_nothing.false,
-      taken_by shapes c.args.rules.now number c.in-Some.place rule c.requires found,
+    let rules = c.args.rules.now in
+    let same = rule_there rules c.args.number c.from-place.result rule c.index-rules-place.result c.from-place.ensures has c.index-rules-place.is in
+    let found : taker shapes (take (c.args.number - 1) rules) rule ≡ Some c.in-Some.place =
+    taken_of shapes rules c.args.number c.from-place.result rule c.index-rules-place.result (Some c.in-Some.place) c.from-place.ensures same
+    c.in-Some.ensures.place in (
+      ap (is_met shapes) (sym same) ∙ denied (is_met shapes c.index-rules-place.result) c.matches_nothing.result c.matches_nothing.ensures.exact c.if-matches_nothing.false,
+      taken_by shapes rules c.args.number c.in-Some.place rule has found,
     )
 
-pub slice_bounds-earlier-length : goal.slice_bounds-earlier-length
-slice_bounds-earlier-length c =
-    let there = slice_get_within c.args.rules.now (c.args.number - 1) c.args.rule.now c.requires.there in
-    sym (length-take-le (c.from.result - 1) c.rules.result.now (rw c.rules.ensures.rules (omega (arith, there, c.from.ensures))))
-
-pub overflow_cast-result : goal.overflow_cast-result
-overflow_cast-result c =
-    omega (arith, c.in-Some.ensures.within, length-take (c.from.result - 1) c.rules.result.now, c.from.ensures, c.ranges.number.fits)
-
-pub overflow_add-result : goal.overflow_add-result
-overflow_add-result c =
-    omega (arith, c.in-Some.ensures.within, length-take (c.from.result - 1) c.rules.result.now, c.from.ensures, c.ranges.number.fits)
+pub returns : goal.returns
+returns c = λ rule has.
+    let shapes = c.args.shapes.now in
+    let rules = c.args.rules.now in
+    let same = rule_there rules c.args.number c.from-place.result rule c.index-rules-place.result c.from-place.ensures has c.index-rules-place.is in
+    let none : taker shapes (take (c.args.number - 1) rules) rule ≡ None =
+    taken_of shapes rules c.args.number c.from-place.result rule c.index-rules-place.result None c.from-place.ensures same (sym c.in_default.is ∙ c.taker.ensures.place) in
+    let met : is_met shapes rule ≡ true =
+    ap (is_met shapes) (sym same) ∙ denied (is_met shapes c.index-rules-place.result) c.matches_nothing.result c.matches_nothing.ensures.exact c.if-matches_nothing.false in
+    searched_found shapes rules c.args.tidy.now c.args.number rule c.in_ok-found.found c.requires.tidy c.in_ok-found.ensures met none

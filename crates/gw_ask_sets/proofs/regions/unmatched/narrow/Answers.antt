@@ -1,0 +1,17 @@
+use Rattle.std.proofs.Common.{◌≡◌, [], None, inl, inr, refl, sym}
+use Rattle.std.proofs.lemmas.List.{append-nil}
+use Rattle.gw_ask_sets.specs.regions.Unmatched.{parts_at}
+use Rattle.gw_ask_sets.proofs.regions_lemmas.UnmatchedLaw.{empty_matched, is_cut}
+use Rattle.gw_ask_sets.proofs.regions.unmatched.narrow.Goals as goal
+
+pub returns-in-Apart-clause-left : goal.returns-in-Apart-clause-left
+returns-in-Apart-clause-left c = λ e.
+    let none : c.ask_in.result ≡ None = cc in
+    ([], inl (empty_matched c.args.rules.now c.args.region (c.ask_in.ensures.none none), refl), sym (append-nil c.args.left.now.items))
+
+pub returns-clause-left : goal.returns-clause-left
+returns-clause-left c = λ e. (
+  parts_at c.in-Open.field c.index-rules-place.result c.args.region,
+  inr (is_cut c.args.rules.now c.args.region c.in-Open.place c.index-rules-place.result c.in-Open.field c.index-rules-place.is c.in-Open.ensures),
+  c.in_ok-put_parts-in-Open.ensures,
+)
