@@ -14,11 +14,11 @@ _bacgwctl() {
         return
     fi
     if [ "$COMP_CWORD" = 1 ]; then
-        options='check explain lint migrate why compare log state reload suggest report objects help --help --version'
+        options='check explain lint migrate why compare log state reload suggest report objects ask help --help --version'
     else
         case $before in
             --config | --with | --log | --state | --reload | --was) compopt -o default; return ;;
-            --start | --most) return ;;
+            --start | --most | --from | --to | --read | --write | --priority) return ;;
         esac
         if [ "$equals" ]; then return; fi
         case ${COMP_WORDS[1]} in
@@ -36,7 +36,8 @@ _bacgwctl() {
                 options='--start --json --help'
                 ;;
             objects) options='--config --csv --help' ;;
-            help) options='check explain lint migrate why compare log state reload suggest report objects' ;;
+            ask) options='--config --from --to --read --write --priority --help' ;;
+            help) options='check explain lint migrate why compare log state reload suggest report objects ask' ;;
             *) return ;;
         esac
     fi

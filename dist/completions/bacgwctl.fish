@@ -1,5 +1,5 @@
 # Completions of bacgwctl for fish.
-set -l commands check explain lint migrate why compare log state reload suggest report objects help
+set -l commands check explain lint migrate why compare log state reload suggest report objects ask help
 
 complete -c bacgwctl -f
 complete -c bacgwctl -n "not __fish_seen_subcommand_from $commands" -a check -d 'Says what a configuration has, or its first fault'
@@ -14,10 +14,11 @@ complete -c bacgwctl -n "not __fish_seen_subcommand_from $commands" -a reload -d
 complete -c bacgwctl -n "not __fish_seen_subcommand_from $commands" -a suggest -d 'Writes rules that allow the asks of standard input'
 complete -c bacgwctl -n "not __fish_seen_subcommand_from $commands" -a report -d 'Writes a page of HTML on a configuration and a log'
 complete -c bacgwctl -n "not __fish_seen_subcommand_from $commands" -a objects -d 'Lists the objects of a configuration'
+complete -c bacgwctl -n "not __fish_seen_subcommand_from $commands" -a ask -d 'Says whether a station may read or write something'
 complete -c bacgwctl -n "not __fish_seen_subcommand_from $commands" -a help -d 'Prints help'
 complete -c bacgwctl -n "not __fish_seen_subcommand_from $commands" -l version -d 'Prints the version'
 complete -c bacgwctl -l help -d 'Prints help'
-complete -c bacgwctl -n '__fish_seen_subcommand_from check explain lint migrate why compare state reload suggest report objects' -l config -r -F -d 'The configuration, in TOML'
+complete -c bacgwctl -n '__fish_seen_subcommand_from check explain lint migrate why compare state reload suggest report objects ask' -l config -r -F -d 'The configuration, in TOML'
 complete -c bacgwctl -n '__fish_seen_subcommand_from explain' -l lint -d 'Also prints which rules never decide'
 complete -c bacgwctl -n '__fish_seen_subcommand_from report' -l log -r -F -d 'The log whose denials are shown'
 complete -c bacgwctl -n '__fish_seen_subcommand_from state' -l state -r -F -d 'The file in which run keeps the state'
@@ -33,6 +34,11 @@ complete -c bacgwctl -n '__fish_seen_subcommand_from reload' -l was -r -F -d 'Th
 complete -c bacgwctl -n '__fish_seen_subcommand_from compare reload' -l most -x -d 'How many lines are printed at most, or of each group'
 complete -c bacgwctl -n '__fish_seen_subcommand_from compare' -l steps -d 'Also prints how many steps the comparison took'
 complete -c bacgwctl -n '__fish_seen_subcommand_from objects' -l csv -d 'As comma-separated values'
+complete -c bacgwctl -n '__fish_seen_subcommand_from ask' -l from -x -d 'Who asks'
+complete -c bacgwctl -n '__fish_seen_subcommand_from ask' -l to -x -a device -d 'Who is asked'
+complete -c bacgwctl -n '__fish_seen_subcommand_from ask' -l read -x -d 'What it reads'
+complete -c bacgwctl -n '__fish_seen_subcommand_from ask' -l write -x -d 'What it writes'
+complete -c bacgwctl -n '__fish_seen_subcommand_from ask' -l priority -x -d 'The priority of a write'
 complete -c bacgwctl -n '__fish_seen_subcommand_from log' -F
 complete -c bacgwctl -n '__fish_seen_subcommand_from log' -l start -x -d 'Also shows when each denial was, if the log began then'
-complete -c bacgwctl -n '__fish_seen_subcommand_from help' -a 'check explain lint migrate why compare log state reload suggest report objects'
+complete -c bacgwctl -n '__fish_seen_subcommand_from help' -a 'check explain lint migrate why compare log state reload suggest report objects ask'

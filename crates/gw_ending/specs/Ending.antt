@@ -104,6 +104,7 @@ text_of fault.Unwritable = codes "suggestion: the rules can't be written"
 text_of fault.Refused = []
 text_of fault.Different = []
 text_of fault.OtherParts = []
+text_of fault.NotAllowed = []
 
 -- the line after the program's name
 abbrev pub rest_of : Fault → List ℕ
@@ -132,6 +133,7 @@ rest_naming file f = rest_of f
 abbrev pub has_line : Fault → Bool
 has_line fault.Different = false
 has_line fault.OtherParts = false
+has_line fault.NotAllowed = false
 has_line fault.Refused = false
 has_line f = true
 
@@ -186,6 +188,7 @@ status_of fault.Unwritable = 2
 status_of fault.Refused = 2
 status_of fault.Different = 1
 status_of fault.OtherParts = 1
+status_of fault.NotAllowed = 1
 
 -- a comparison found something
 abbrev pub is_different : Fault → Bool

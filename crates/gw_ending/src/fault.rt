@@ -86,6 +86,8 @@ pub enum Fault {
     Different,
     /// Two configurations that were compared decide each ask alike, but differ in other parts.
     OtherParts,
+    /// What was asked about isn't allowed.
+    NotAllowed,
 }
 
 impl Fault {
@@ -170,16 +172,17 @@ impl Fault {
             | Fault::Memory
             | Fault::CountEnd
             | Fault::Different
-            | Fault::OtherParts => 1,
+            | Fault::OtherParts
+            | Fault::NotAllowed => 1,
         }
     }
 
-    /// Whether it has a line: not if `compare` found something, or if an answer says why it was refused.
+    /// Whether it has a line: not if `compare` found something, if an answer says why it was refused, or if `ask` said no.
     pub fn has_line(self) -> bool
         ensures { result ≡ has_line self }
     {
         match self {
-            Fault::Refused | Fault::Different | Fault::OtherParts => false,
+            Fault::Refused | Fault::Different | Fault::OtherParts | Fault::NotAllowed => false,
             _ => true,
         }
     }

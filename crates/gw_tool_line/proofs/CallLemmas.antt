@@ -3,10 +3,10 @@ use Rattle.std.proofs.Common.{refl, Some, None}
 use Rattle.clap.proofs.OnLiterals.{clap_on_literals}
 use Rattle.gw_log_words.proofs.MomentExamples.{morning, morning_is_read}
 use Rattle.gw_tool_line.specs.Calls.{CallsAreRefused, CallsAreTaken}
-use Rattle.gw_tool_line.specs.Commands.{commands, first_commands, middle_commands}
+use Rattle.gw_tool_line.specs.Commands.{commands, first_commands, later_commands, middle_commands}
 
 pub calls_are_taken : CallsAreTaken
-unfolding clap_on_literals commands middle_commands first_commands
+unfolding clap_on_literals commands later_commands middle_commands first_commands
 calls_are_taken = record {
   check = λ program. record { taken = refl; asked = refl; sound = λ void. void };
   explain = λ program. record { taken = refl; asked = refl; sound = λ void. void };
@@ -28,6 +28,9 @@ calls_are_taken = record {
   reload_few = λ program. record { taken = refl; asked = refl; sound = λ void. void };
   report = λ program. record { taken = refl; asked = refl; sound = λ void. void };
   points = λ program. record { taken = refl; asked = refl; sound = λ void. void };
+  ask_to_read = λ program. record { taken = refl; asked = refl; sound = λ void. void };
+  ask_to_write = λ program. record { taken = refl; asked = refl; sound = λ void. void };
+  ask_to_write_at = λ program. record { taken = refl; asked = refl; sound = λ void. void };
   log = λ program. record { taken = refl; asked = refl; sound = λ void. void None refl };
   log_of_file = λ program. record { taken = refl; asked = refl; sound = λ void. void None refl };
   log_json = λ program. record { taken = refl; asked = refl; sound = λ void. void };
@@ -38,7 +41,7 @@ calls_are_taken = record {
 }
 
 pub calls_are_refused : CallsAreRefused
-unfolding clap_on_literals commands middle_commands first_commands
+unfolding clap_on_literals commands later_commands middle_commands first_commands
 calls_are_refused = record {
   check_json_explain = λ program. refl;
   check_json_lint = λ program. refl;
@@ -52,4 +55,8 @@ calls_are_refused = record {
   reload_none = λ program. refl;
   logs = λ program. refl;
   points = λ program. refl;
+  ask_both = λ program. (refl, refl);
+  ask_neither = λ program. (refl, refl);
+  ask_priority = λ program. (refl, refl);
+  ask_nobody = λ program. refl;
 }

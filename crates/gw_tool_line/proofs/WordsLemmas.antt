@@ -5,7 +5,7 @@ use Rattle.clap.specs.declared.error.kind.ErrorKind.{ErrorKind}
 use Rattle.clap.specs.declared.error.kind.ErrorKind.TheVariants as parse
 use Rattle.clap.proofs.OnLiterals.{clap_on_literals}
 use Rattle.gw_tool_line.specs.CommandLine.{AskFor, Chooses, IsAnswer, IsChosen, IsRefusal}
-use Rattle.gw_tool_line.specs.Commands.{commands, first_commands, middle_commands}
+use Rattle.gw_tool_line.specs.Commands.{commands, first_commands, later_commands, middle_commands}
 use Rattle.gw_tool_line.specs.Requests.{Request, asked_in}
 use Rattle.gw_tool_line.specs.declared.command_line.Choice.{Choice}
 use Rattle.gw_tool_line.specs.declared.command_line.Choice.TheVariants as choice
@@ -15,11 +15,11 @@ use Rattle.gw_command_line.specs.declared.options.fault.WordsFault.TheVariants a
 
 -- clap says exactly which kinds of fault the program's words have
 pub commands_are_simple : is_simple_and_free commands ≡ true
-unfolding clap_on_literals commands middle_commands first_commands
+unfolding clap_on_literals commands later_commands middle_commands first_commands
 commands_are_simple = refl
 
 pub parse_is_simple : is_simple commands ≡ true
-unfolding clap_on_literals commands middle_commands first_commands
+unfolding clap_on_literals commands later_commands middle_commands first_commands
 parse_is_simple = refl
 
 -- what is made of a failed parse answers the kinds of fault that it may have
@@ -41,6 +41,7 @@ refusal_answers words k (Ok (choice.Objects file)) among is = absurd is
 refusal_answers words k (Ok (choice.Judge file strict)) among is = absurd is
 refusal_answers words k (Ok (choice.Report file log)) among is = absurd is
 refusal_answers words k (Ok (choice.Points file)) among is = absurd is
+refusal_answers words k (Ok (choice.Ask file from to deed)) among is = absurd is
 refusal_answers words k (Ok (choice.State config state)) among is = absurd is
 refusal_answers words k (Ok (choice.Reload config file was)) among is = absurd is
 refusal_answers words k (Ok (choice.Suggest file fills exact)) among is = absurd is
@@ -69,6 +70,7 @@ taken_answers words (Ok (choice.Objects file)) none is = (none, is)
 taken_answers words (Ok (choice.Judge file strict)) none is = (none, is)
 taken_answers words (Ok (choice.Report file log)) none is = (none, is)
 taken_answers words (Ok (choice.Points file)) none is = (none, is)
+taken_answers words (Ok (choice.Ask file from to deed)) none is = (none, is)
 taken_answers words (Ok (choice.State config state)) none is = (none, is)
 taken_answers words (Ok (choice.Reload config file was)) none is = (none, is)
 taken_answers words (Ok (choice.Suggest file fills exact)) none is = (none, is)
@@ -109,6 +111,8 @@ chooses words request (Ok (choice.Report file log)) asks is =
     chosen words request (Ok (choice.Report file log)) asks.asked is.1
 chooses words request (Ok (choice.Points file)) asks is =
     chosen words request (Ok (choice.Points file)) asks.asked is.1
+chooses words request (Ok (choice.Ask file from to deed)) asks is =
+    chosen words request (Ok (choice.Ask file from to deed)) asks.asked is.1
 chooses words request (Ok (choice.State config state)) asks is =
     chosen words request (Ok (choice.State config state)) asks.asked is.1
 chooses words request (Ok (choice.Reload config file was)) asks is =

@@ -4,6 +4,7 @@ use Rattle.clap.specs.Words.{Text, fault_of}
 use Rattle.clap.specs.declared.error.kind.ErrorKind.TheVariants as parse
 use Rattle.gw_tool_line.specs.CommandLine.{AskFor}
 use Rattle.gw_tool_line.specs.Commands.{commands}
+use Rattle.gw_tool_line.specs.Requests.{Asks, Reads, Writes}
 use Rattle.gw_tool_line.specs.Requests.{Checks, ChecksJson, Compares, ComparesJson, Explains, Judges, ListsLog, ListsPoints, Migrates}
 use Rattle.gw_tool_line.specs.Requests.{Reloads, Reports, Request, Shows, Suggests, TranslatesLog, asked_in}
 use Rattle.gw_command_line.specs.options.Options.{most_count}
@@ -58,6 +59,16 @@ pub record CallsAreTaken : Type 0 where
       (Reloads site (codes "again") (Some (codes "old.toml", 20)))
   pub report : Calls (codes "report" ∷ on_site (codes "--log" ∷ codes "denials.log" ∷ [])) (Reports site (Some (codes "denials.log")))
   pub points : Calls (codes "objects" ∷ on_site (codes "--csv" ∷ [])) (ListsPoints site)
+  pub ask_to_read : Calls
+      (codes "ask" ∷ on_site (codes "--from" ∷ codes "10.1.0.10" ∷ codes "--to" ∷ codes "device" ∷ codes "--read" ∷ codes "5,1" ∷ []))
+      (Asks site (codes "10.1.0.10") (codes "device") (Reads (codes "5,1")))
+  pub ask_to_write : Calls
+      (codes "ask" ∷ on_site (codes "--from" ∷ codes "10.1.0.10" ∷ codes "--to" ∷ codes "300:20" ∷ codes "--write" ∷ codes "2,1,85" ∷ []))
+      (Asks site (codes "10.1.0.10") (codes "300:20") (Writes (codes "2,1,85") None))
+  pub ask_to_write_at : Calls
+      (codes "ask" ∷ on_site (codes "--from" ∷ codes "10.1.0.10" ∷ codes "--to" ∷ codes "300:20" ∷ codes "--write" ∷ codes "2,1"
+      ∷ codes "--priority" ∷ codes "8" ∷ []))
+      (Asks site (codes "10.1.0.10") (codes "300:20") (Writes (codes "2,1") (Some (codes "8"))))
   pub log : Calls (codes "log" ∷ []) (TranslatesLog None None)
   pub log_of_file : Calls (codes "log" ∷ codes "denials.log" ∷ []) (TranslatesLog (Some (codes "denials.log")) None)
   pub log_json : Calls (codes "log" ∷ codes "--json" ∷ []) (ListsLog None)
@@ -87,5 +98,15 @@ pub record CallsAreRefused : Type 0 where
   pub reload_none : OutOfRange
       (codes "reload" ∷ on_site (codes "--reload" ∷ codes "again" ∷ codes "--was" ∷ codes "old.toml" ∷ codes "--most" ∷ codes "0" ∷ []))
   pub logs : (program : Text) → fault_of commands (program ∷ codes "log" ∷ codes "one.log" ∷ codes "two.log" ∷ []) ≡ parse.UnknownArgument ∷ []
+  pub ask_both : Mistakes
+      (codes "ask" ∷ on_site (codes "--from" ∷ codes "a" ∷ codes "--to" ∷ codes "b" ∷ codes "--read" ∷ codes "5,1" ∷ codes "--write" ∷ codes "5,1" ∷ []))
+      (codes "--read and --write exclude each other\n")
+  pub ask_neither : Mistakes (codes "ask" ∷ on_site (codes "--from" ∷ codes "a" ∷ codes "--to" ∷ codes "b" ∷ []))
+      (codes "--read or --write has to be given\n")
+  pub ask_priority : Mistakes
+      (codes "ask" ∷ on_site (codes "--from" ∷ codes "a" ∷ codes "--to" ∷ codes "b" ∷ codes "--read" ∷ codes "5,1" ∷ codes "--priority" ∷ codes "8" ∷ []))
+      (codes "--priority needs --write\n")
+  pub ask_nobody : (program : Text)
+      → fault_of commands (program ∷ codes "ask" ∷ on_site (codes "--to" ∷ codes "b" ∷ codes "--read" ∷ codes "5,1" ∷ [])) ≡ parse.MissingRequiredArgument ∷ []
   pub points : (program : Text)
       → fault_of commands (program ∷ codes "objects" ∷ on_site []) ≡ parse.MissingRequiredArgument ∷ []

@@ -7,6 +7,11 @@ use Rattle.clap.specs.declared.error.kind.ErrorKind.TheVariants as parse
 use Rattle.gw_log_words.specs.Moment.{IsTextOf}
 use Rattle.gw_log_words.specs.declared.moment.Moment.{Moment}
 use Rattle.gw_tool_line.specs.Commands.{commands}
+use Rattle.gw_tool_line.specs.Requests.{Asks, Deed, Reads, Writes}
+use Rattle.gw_command_line.specs.options.Values.{Values}
+use Rattle.gw_tool_line.specs.declared.ask_choice.DeedWords.{DeedWords}
+use Rattle.gw_tool_line.specs.declared.ask_choice.Given.{Given}
+use Rattle.gw_tool_line.specs.declared.ask_choice.DeedWords.TheVariants as said
 use Rattle.gw_tool_line.specs.Requests.{Checks, ChecksJson, Compares, ComparesJson, Explains, Judges, ListsLog, ListsPoints, Migrates}
 use Rattle.gw_tool_line.specs.Requests.{Reloads, Reports, Request, Shows, Suggests, TranslatesLog, asked_in}
 use Rattle.gw_tool_line.specs.declared.command_line.Choice.{Choice}
@@ -30,6 +35,17 @@ IsNoStart given f = (f ≡ fault.CommandLine) × ((start : Option Moment) → ¬
 abbrev pub was_of : Shown → Text × ℕ
 was_of shown = (string_bytes shown.old, shown.most)
 
+-- what of a deed is given by the values of the options
+pub record IsGiven (value : Values) (given : Given) : Type 0 where
+  pub read : option_map string_bytes given.read ≡ value (codes "read")
+  pub write : option_map string_bytes given.write ≡ value (codes "write")
+  pub priority : option_map string_bytes given.priority ≡ value (codes "priority")
+
+-- what a station is asked to do
+abbrev pub deed_of : DeedWords → Deed
+deed_of (said.Read object) = Reads (string_bytes object)
+deed_of (said.Write object priority) = Writes (string_bytes object) (option_map string_bytes priority)
+
 -- a choice is what was asked for
 abbrev pub IsFor : Request → Choice → Type 0
 IsFor request (choice.Check file explains lints) = request ≡ Checks (string_bytes file) explains lints
@@ -47,6 +63,8 @@ IsFor request (choice.Objects file) = request ≡ ListsLog (option_map string_by
 IsFor request (choice.Judge file strict) = request ≡ Judges (string_bytes file) strict
 IsFor request (choice.Report file log) = request ≡ Reports (string_bytes file) (option_map string_bytes log)
 IsFor request (choice.Points file) = request ≡ ListsPoints (string_bytes file)
+IsFor request (choice.Ask file from to deed) =
+    request ≡ Asks (string_bytes file) (string_bytes from) (string_bytes to) (deed_of deed)
 IsFor request (choice.Help text) = ⊥
 IsFor request (choice.Usage text) = ⊥
 

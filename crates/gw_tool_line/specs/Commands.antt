@@ -2,6 +2,7 @@
 use Rattle.std.specs.Prelude.{true, codes}
 use Rattle.clap.specs.Words.{App, new_app, with_rule, with_subcommand}
 use Rattle.clap.specs.Simple.{on_top}
+use Rattle.gw_tool_line.specs.AskCommand.{ask}
 use Rattle.gw_command_line.specs.options.Options.{flag, most_count, needed, needed_flag, number, of_file, option, positional}
 
 -- `check --config FILE [--json]`
@@ -90,8 +91,8 @@ middle_commands =
     log.top)
     compare.top
 
-unfoldable pub commands : App
-commands =
+unfoldable pub later_commands : App
+later_commands =
     with_subcommand
     (with_subcommand
     (with_subcommand
@@ -99,3 +100,6 @@ commands =
     suggest.top)
     reload.top)
     objects.top
+
+unfoldable pub commands : App
+commands = with_subcommand later_commands ask.top

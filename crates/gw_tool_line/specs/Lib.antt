@@ -1,3 +1,4 @@
+pub mod AskCommand
 pub mod Calls
 pub mod CommandLine
 pub mod Commands

@@ -8,6 +8,11 @@ use Rattle.gw_command_line.specs.declared.options.files.FileOption.TheVariants a
 use Rattle.gw_command_line.specs.options.Files.{FileUse, clash_of, reads, requests, unless}
 use Rattle.gw_command_line.specs.options.Values.{Values, count_in, is_true}
 
+-- what a station is asked to do, in the words that name it: to read this, or to write it, at a priority if one is given
+pub data Deed : Type 0 where
+  Reads : (object : Text) → Deed
+  Writes : (object : Text) (priority : Option Text) → Deed
+
 -- what a call asks for: the files that it names, and what is to be done with them
 pub data Request : Type 0 where
   Checks : (file : Text) (explains lints : Bool) → Request
@@ -24,6 +29,7 @@ pub data Request : Type 0 where
   Judges : (file : Text) (strict : Bool) → Request
   Reports : (file : Text) (log : Option Text) → Request
   ListsPoints : (file : Text) → Request
+  Asks : (file from to : Text) (deed : Deed) → Request
 
 -- Below, what a command asks for, or why it asks for nothing, as a line. It is empty where the parser takes no such words.
 
@@ -98,6 +104,23 @@ log_asked value =
     then list_asked (value (codes "file")) (value (codes "start"))
     else Ok (TranslatesLog (value (codes "file")) (value (codes "start")))
 
+-- `ask`: what is read, or what is written and perhaps at which priority
+abbrev pub deed_asked : (file from to : Text) → (read write priority : Option Text) → Result Request Text
+deed_asked file from to (Some read) None None = Ok (Asks file from to (Reads read))
+deed_asked file from to None (Some write) priority = Ok (Asks file from to (Writes write priority))
+deed_asked file from to (Some read) (Some write) priority = Err (codes "--read and --write exclude each other\n")
+deed_asked file from to (Some read) None (Some priority) = Err (codes "--priority needs --write\n")
+deed_asked file from to None None priority = Err (codes "--read or --write has to be given\n")
+
+-- of two stations, both of which have to be named
+abbrev pub ask_between : Text → Values → (from to : Option Text) → Result Request Text
+ask_between file value (Some from) (Some to) =
+    deed_asked file from to (value (codes "read")) (value (codes "write")) (value (codes "priority"))
+ask_between file value _ _ = Err []
+
+abbrev pub ask_asked : Text → Values → Result Request Text
+ask_asked file value = ask_between file value (value (codes "from")) (value (codes "to"))
+
 -- a command's name is this one
 abbrev pub is_named : Text → Text → Bool
 is_named name other = pointwise nat_eq name other
@@ -117,6 +140,7 @@ asked_of_file name value file =
     else if is_named name (codes "state") then state_asked file (value (codes "state"))
     else if is_named name (codes "report") then Ok (Reports file (value (codes "log")))
     else if is_named name (codes "objects") then Ok (ListsPoints file)
+    else if is_named name (codes "ask") then ask_asked file value
     else Err []
 
 abbrev pub asked_of_config : Text → Values → Option Text → Result Request Text

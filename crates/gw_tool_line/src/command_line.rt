@@ -7,6 +7,7 @@ ghost use Rattle.gw_tool_line.specs.Requests.{Reports, Request, TranslatesLog, a
 ghost use Rattle.gw_tool_line.specs.Requests.{check_asked, compare_asked, comparison_in, files_of, list_asked, log_asked, reload_asked};
 ghost use Rattle.gw_tool_line.specs.Requests.{request_asked, state_asked, why_asked};
 
+use crate::ask_choice::{DeedWords, ask_choice};
 use crate::commands::make_commands;
 use crate::moments::start_of;
 use crate::options::Shown;
@@ -98,6 +99,13 @@ pub enum Choice {
     },
     /// List the objects of the configuration in this file as comma-separated values.
     Points(String),
+    /// Say whether a station may do this with another one under the configuration in this file.
+    Ask {
+        file: String,
+        from: String,
+        to: String,
+        deed: DeedWords,
+    },
     /// Print this text, which is help or the version.
     Help(String),
     /// Report that the words are no command line, and after it this text, which says how the program is
@@ -106,7 +114,7 @@ pub enum Choice {
 }
 
 /// That the words are no command line, as this line says.
-fn usage(alloc: Global, line: &str) -> Result<Choice, WordsFault>
+pub(crate) fn usage(alloc: Global, line: &str) -> Result<Choice, WordsFault>
     ensures { IsChosen (Err line.now) result }
 {
     Ok(Choice::Usage(String::from_str(alloc, line)?))
@@ -408,6 +416,9 @@ fn choice_of_file(
     }
     if name == "objects" {
         return Ok(Choice::Points(file));
+    }
+    if name == "ask" {
+        return ask_choice(alloc, matches, file);
     }
     Err(WordsFault::CommandLine)
 }

@@ -3,10 +3,11 @@
 ghost use Rattle.std.specs.Prelude.{◌≡◌, false, codes, IfOk};
 ghost use Rattle.clap.specs.Words.{app_of, rule_of};
 ghost use Rattle.clap.specs.declared.builder.command.Command.TheViews.{out-Command};
-ghost use Rattle.gw_tool_line.specs.Commands.{check, commands, compare, compare_of_most, explain, first_commands, lint, log, log_of_file};
+ghost use Rattle.gw_tool_line.specs.Commands.{check, commands, later_commands, compare, compare_of_most, explain, first_commands, lint, log, log_of_file};
 ghost use Rattle.gw_tool_line.specs.Commands.{middle_commands, migrate, objects, program, reload, reload_of_request, report, state};
 ghost use Rattle.gw_tool_line.specs.Commands.{suggest, why, why_of_form};
 
+use crate::ask_command::make_ask;
 use clap::Command;
 use gw_command_line::options::{
     FILE, MAX_COUNT, NUMBER, VERSION, make_flag, make_needed, make_needed_flag, make_number,
@@ -269,9 +270,9 @@ fn make_middle_commands<'a>(alloc: Global) -> Result<Command<'a>, AllocError>
         .subcommand(compare)
 }
 
-/// The commands of the program. An `Err` only if a growth of memory was refused.
-pub fn make_commands<'a>(alloc: Global) -> Result<Command<'a>, AllocError>
-    ensures { IfOk result (λ command. app_of command ≡ commands) }
+/// The program with its first twelve commands.
+fn make_later_commands<'a>(alloc: Global) -> Result<Command<'a>, AllocError>
+    ensures { IfOk result (λ command. app_of command ≡ later_commands) }
 {
     let state = make_state(alloc)?;
     let suggest = make_suggest(alloc)?;
@@ -282,4 +283,12 @@ pub fn make_commands<'a>(alloc: Global) -> Result<Command<'a>, AllocError>
         .subcommand(suggest)?
         .subcommand(reload)?
         .subcommand(objects)
+}
+
+/// The commands of the program. An `Err` only if a growth of memory was refused.
+pub fn make_commands<'a>(alloc: Global) -> Result<Command<'a>, AllocError>
+    ensures { IfOk result (λ command. app_of command ≡ commands) }
+{
+    let ask = make_ask(alloc)?;
+    make_later_commands(alloc)?.subcommand(ask)
 }

@@ -4,11 +4,14 @@
 //! for in `specs/Requests.antt`, and how it is chosen in `command_line.rt`.
 #![tactic(auto)]
 
+mod ask_choice;
+mod ask_command;
 mod command_line;
 mod commands;
 pub mod laws;
 mod moments;
 mod options;
 
+pub use ask_choice::DeedWords;
 pub use command_line::{Choice, choice_of};
 pub use options::Shown;

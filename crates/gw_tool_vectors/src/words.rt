@@ -3,7 +3,7 @@
 use gw_ending::MigrationFlaw;
 use gw_log_words::Moment;
 use gw_program_cases::{call, put, put_faults, put_file, put_flag};
-use gw_tools::{Choice, Fault, Obstacle, Shown, WordsFault, choice_of};
+use gw_tools::{Choice, DeedWords, Fault, Obstacle, Shown, WordsFault, choice_of};
 use gw_wire::StoreFault;
 use itoa::Buffer;
 use std::alloc::{AllocError, Global};
@@ -90,6 +90,18 @@ fn put_choice(
         }
         Ok(Choice::Points(file)) => put(out, &["objects ", file.as_str(), " csv"]),
         Ok(Choice::Report { file, log }) => put_report(file.as_str(), log, out),
+        Ok(
+            Choice::Ask {
+                file,
+                from,
+                to,
+                deed,
+            },
+        ) => {
+            put(out, &["ask ", file.as_str(), " from=", from.as_str()])?;
+            put(out, &[" to=", to.as_str()])?;
+            put_deed(deed, out)
+        }
         Ok(Choice::Help(_)) => put(out, &["help"]),
         Ok(Choice::Usage(_)) | Err(WordsFault::CommandLine) => put(out, &["refused"]),
         Err(WordsFault::Memory) => put(out, &["out of memory"]),
@@ -120,6 +132,17 @@ fn put_shown(was: &Option<Shown>, out: &mut Vec<u8>) -> Result<(), AllocError> {
             put(out, &[" most=", Buffer::new().format(*most)])
         }
         None => Ok(()),
+    }
+}
+
+/// What a station is asked to do.
+fn put_deed(deed: &DeedWords, out: &mut Vec<u8>) -> Result<(), AllocError> {
+    match deed {
+        DeedWords::Read(object) => put(out, &[" read=", object.as_str()]),
+        DeedWords::Write { object, priority } => {
+            put(out, &[" write=", object.as_str()])?;
+            put_file(out, " priority=", priority)
+        }
     }
 }
 

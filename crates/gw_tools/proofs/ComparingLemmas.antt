@@ -46,6 +46,7 @@ module _ (Is : Compared → List ℕ → Type 0) (held holds : Option (List ℕ)
   printed lines fault.TooManyAsks is leaves = elim leaves [ ]
   printed lines fault.TooManyRules is leaves = elim leaves [ ]
   printed lines fault.Unwritable is leaves = elim leaves [ ]
+  printed lines fault.NotAllowed is leaves = elim leaves [ ]
 
   pub lines_leave : (lines : Result Lines AllocError) (outcome : Result (Unit {0}) Fault)
       → IfOk lines (λ made. Is made.made made.text.items) → LeavesLines lines held holds outcome → LeavesSome Is held holds outcome

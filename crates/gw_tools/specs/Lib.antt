@@ -7,6 +7,7 @@ pub mod Kept
 pub mod Lines
 pub mod Objects
 pub mod Program
+pub mod Questioning
 pub mod Reloading
 pub mod Reporting
 pub mod Suggesting

@@ -29,6 +29,7 @@ use Rattle.gw_tools.specs.Asking.{Answers, Counts, ReportsUnread, asks_in}
 use Rattle.gw_tools.specs.Comparing.{AreProgress, IsCompared}
 use Rattle.gw_ending.specs.reading.Configured.{IsConfigurationOf, IsConfigured}
 use Rattle.gw_ending.specs.reading.Printing.{AppendsFront, LeavesFault, LeavesPrinted}
+use Rattle.gw_tools.specs.Questioning.{LeavesQuestionIn, asked_text}
 use Rattle.gw_tools.specs.Reloading.{IsAnswerTo, outcome_of_answer}
 use Rattle.gw_ending.specs.Ending.{is_different, of_other}
 use Rattle.gw_tools.specs.Ending.{chosen, error_text_by, status_by, usage_of}
@@ -342,6 +343,8 @@ LeavesOutput Reads ReadsState ReadsLog Answers input held holds said (Ok (choice
     LeavesJudgedIn Reads (string_bytes file) (asks_in strict input) held holds outcome × ReportsUnread strict outcome said
 LeavesOutput Reads ReadsState ReadsLog Answers input held holds said (Ok (choice.Report file log)) outcome =
     LeavesReportIn Reads ReadsLog (string_bytes file) (option_map string_bytes log) held holds outcome
+LeavesOutput Reads ReadsState ReadsLog Answers input held holds said (Ok (choice.Ask file from to deed)) outcome =
+    LeavesQuestionIn Reads (string_bytes file) (asked_text (string_bytes from) (string_bytes to) deed) held holds outcome
 LeavesOutput Reads ReadsState ReadsLog Answers input held holds said (Ok (choice.Help text)) (Ok done) =
     Appends held holds (string_bytes text)
 LeavesOutput Reads ReadsState ReadsLog Answers input held holds said (Ok (choice.Help text)) (Err f) =

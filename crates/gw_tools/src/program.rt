@@ -20,6 +20,7 @@ use crate::json::{check_in_json, compare_in_json, print_points};
 use crate::kept::words_of_text;
 use crate::machine::Machine;
 use crate::objects;
+use crate::questioning::{Questioned, answer_question_in};
 use crate::reloading::{Asking, reload_in};
 use crate::reporting::print_report_in;
 use crate::suggesting::suggest_shown;
@@ -298,6 +299,22 @@ fn follow<F: ConfigFiles, M: Machine, R: OctetSource, W: Write + Drop, E: OctetS
             objects::judge_in(alloc, files, file, *strict, input, output, errors)
         }
         Ok(Choice::Report { file, log }) => print_report_in(alloc, files, file, log, output),
+        Ok(
+            Choice::Ask {
+                file,
+                from,
+                to,
+                deed,
+            },
+        ) => {
+            let asked = Questioned {
+                file,
+                from,
+                to,
+                deed,
+            };
+            answer_question_in(alloc, files, &asked, output)
+        }
         Ok(Choice::Help(text)) => print(text.as_bytes(), output),
         Ok(Choice::Usage(_)) => Err(Fault::CommandLine),
         Err(fault) => Err(*fault),

@@ -15,3 +15,4 @@ pub mod StrangerLaw
 pub mod RunsLaw
 pub mod WhyLaw
 pub mod asks_lemmas
+pub mod questions_lemmas

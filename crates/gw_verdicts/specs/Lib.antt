@@ -5,3 +5,4 @@ pub mod States
 pub mod Strangers
 pub mod Why
 pub mod asks
+pub mod questions

@@ -5,5 +5,6 @@
 mod asking;
 pub mod asks;
 pub mod laws;
+pub mod questions;
 
 pub use asking::why;

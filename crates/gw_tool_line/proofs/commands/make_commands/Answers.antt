@@ -1,4 +1,4 @@
-use Rattle.std.proofs.Common.{ap, ap₂, ◌≡◌, ◌∙◌}
+use Rattle.std.proofs.Common.{ap, ap₂, ◌∙◌}
 use Rattle.std.proofs.lemmas.Result.{IfOk-weaker}
 use Rattle.clap.specs.Words.{App, with_subcommand}
 use Rattle.gw_tool_line.specs.Commands.{commands}
@@ -7,9 +7,6 @@ use Rattle.gw_tool_line.proofs.commands.make_commands.Goals as goal
 pub returns : goal.returns
 unfolding commands
 returns c =
-    let zero = c.in_ok-make_middle_commands.ensures in
-    let one = c.in_ok-subcommand.ensures.shape c.in_ok-state.ensures.local ∙ ap₂ with_subcommand zero (ap (λ (a : App). a.top) c.in_ok-state.ensures.app) in
-    let two = c.in_ok-subcommand-2.ensures.shape c.in_ok-suggest.ensures.local ∙ ap₂ with_subcommand one (ap (λ (a : App). a.top) c.in_ok-suggest.ensures.app) in
-    let three = c.in_ok-subcommand-3.ensures.shape c.in_ok-reload.ensures.local ∙ ap₂ with_subcommand two (ap (λ (a : App). a.top) c.in_ok-reload.ensures.app) in
-    IfOk-weaker c.subcommand-4.result _ _
-    (λ m h. h.shape c.in_ok-objects.ensures.local ∙ ap₂ with_subcommand three (ap (λ (a : App). a.top) c.in_ok-objects.ensures.app)) c.subcommand-4.ensures
+    IfOk-weaker c.subcommand.result _ _
+    (λ m h. h.shape c.in_ok-ask.ensures.local ∙ ap₂ with_subcommand c.in_ok-make_later_commands.ensures (ap (λ (a : App). a.top) c.in_ok-ask.ensures.app))
+    c.subcommand.ensures

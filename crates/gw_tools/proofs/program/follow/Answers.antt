@@ -11,6 +11,7 @@ use Rattle.gw_tools.specs.Objects.{LeavesJudgedIn}
 use Rattle.gw_tools.specs.Program.{LeavesAnsweredIn, LeavesReloadIn, LeavesReportIn, LeavesStateIn, LeavesSuggestedIn}
 use Rattle.gw_tools.specs.declared.asking.Answering.{Answering}
 use Rattle.gw_policy_drafts.specs.declared.suggestion.suggestion.Manner.{Manner}
+use Rattle.gw_tools.specs.Questioning.{LeavesQuestionIn, asked_text}
 use Rattle.gw_tools.proofs.ChoiceLemmas.{followed, reported}
 use Rattle.gw_notices.proofs.AppendLemmas.{appends_nothing}
 use Rattle.gw_tools.proofs.program.follow.Goals as goal
@@ -166,3 +167,23 @@ returns-in-Ok-Reload-clause-followed g c =
     (answers_by (g.M.Machine.Asks c.args.machine.now) g.M.Machine.Answers) (string_bytes c.in-Ok-Reload.config) name c.in-Ok-Reload.was held holds done.0
     c.reload_in.result) c.deref-in-Ok-Reload-2.ensures named in
     reported _ _ c.args.choice.now (Ok chosen) c.reload_in.result done.0 is tt both done.2
+
+pub returns-in-Ok-Ask-clause-followed : goal.returns-in-Ok-Ask-clause-followed
+returns-in-Ok-Ask-clause-followed g c =
+    let chosen = choice.Ask c.in-Ok-Ask.file c.in-Ok-Ask.from c.in-Ok-Ask.to c.in-Ok-Ask.deed in
+    let is : c.args.choice.now ≡ Ok chosen = search rules in
+    let held = writer_contents g.W.Write.contents c.args.output.now in
+    let holds = writer_contents g.W.Write.contents c.answer_question_in.new.output in
+    let Reads = g.F.ConfigFiles.Reads c.args.files.now in
+    let deed = c.in-Ok-Ask.deed in
+    let file = c.deref-in-Ok-Ask in
+    let from = c.deref-in-Ok-Ask-2 in
+    let to = c.deref-in-Ok-Ask-3 in
+    let first = subst (λ (name : List ℕ). LeavesQuestionIn Reads name (asked_text from.result.now to.result.now deed) held holds
+    c.answer_question_in.result) file.ensures c.answer_question_in.ensures.output in
+    let second = subst (λ (name : List ℕ). LeavesQuestionIn Reads (string_bytes c.in-Ok-Ask.file) (asked_text name to.result.now deed) held holds
+    c.answer_question_in.result) from.ensures first in
+    let third = subst (λ (name : List ℕ). LeavesQuestionIn Reads (string_bytes c.in-Ok-Ask.file)
+    (asked_text (string_bytes c.in-Ok-Ask.from) name deed) held holds c.answer_question_in.result) to.ensures second in
+    followed _ _ c.args.choice.now (Ok chosen) c.answer_question_in.result is refl third
+    (λ never. appends_nothing (g.E.OctetSink.held c.args.errors.now))

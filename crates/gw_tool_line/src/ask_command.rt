@@ -1,0 +1,61 @@
+//! The command `ask` and its options, made for `clap`.
+
+ghost use Rattle.std.specs.Prelude.{◌≡◌, false, codes, IfOk};
+ghost use Rattle.clap.specs.Words.{app_of, rule_of};
+ghost use Rattle.clap.specs.declared.builder.command.Command.TheViews.{out-Command};
+ghost use Rattle.gw_command_line.specs.options.Options.{needed};
+ghost use Rattle.gw_tool_line.specs.AskCommand.{ask, ask_of_stations, ask_to_read};
+
+use clap::{Arg, Command};
+use gw_command_line::options::{NUMBER, make_of_file, make_option};
+use std::alloc::{AllocError, Global};
+
+/// What is below its help.
+const EXAMPLE: &str = "Example:
+  bacgwctl ask --config site.toml --from 10.1.0.10 --to 10.2.0.11 --write analog-value,1 --priority 8";
+
+/// What help calls a station, and a property of an object.
+const STATION: &str = "STATION";
+
+const OBJECT: &str = "OBJECT";
+
+/// An option of this name that names a station, which has to be given.
+fn make_station<'a>(alloc: Global, name: &'a str, help: &'a str) -> Arg<'a>
+    ensures rule { rule_of result ≡ needed name.now }
+    ensures local { result.global ≡ false }
+{
+    make_option(alloc, name, STATION, help).required(true)
+}
+
+fn make_ask_of_stations<'a>(alloc: Global) -> Result<Command<'a>, AllocError>
+    ensures app { IfOk result (λ command. app_of command ≡ ask_of_stations) }
+    ensures local { IfOk result (λ command. (out-Command command).has_globals ≡ false) }
+{
+    let help = "Who asks: ADDRESS, of the stations of a port, or NETWORK:ADDRESS, or NETWORK:OCTET";
+    let from = make_station(alloc, "from", help);
+    let help = "Who is asked: the same, or device, which is the gateway's own";
+    let to = make_station(alloc, "to", help);
+    let about = "Says whether a station may read or write something, and by which rules";
+    make_of_file(alloc, "ask", about)?.arg(from)?.arg(to)
+}
+
+fn make_ask_to_read<'a>(alloc: Global) -> Result<Command<'a>, AllocError>
+    ensures app { IfOk result (λ command. app_of command ≡ ask_to_read) }
+    ensures local { IfOk result (λ command. (out-Command command).has_globals ≡ false) }
+{
+    let help = "What it reads: TYPE,INSTANCE or TYPE,INSTANCE,PROPERTY";
+    let read = make_option(alloc, "read", OBJECT, help);
+    make_ask_of_stations(alloc)?.after_help(EXAMPLE).arg(read)
+}
+
+/// The command.
+pub fn make_ask<'a>(alloc: Global) -> Result<Command<'a>, AllocError>
+    ensures app { IfOk result (λ command. app_of command ≡ ask) }
+    ensures local { IfOk result (λ command. (out-Command command).has_globals ≡ false) }
+{
+    let help = "What it writes: TYPE,INSTANCE or TYPE,INSTANCE,PROPERTY";
+    let write = make_option(alloc, "write", OBJECT, help);
+    let help = "The priority of a write, from 1 to 16";
+    let priority = make_option(alloc, "priority", NUMBER, help);
+    make_ask_to_read(alloc)?.arg(write)?.arg(priority)
+}

@@ -1,0 +1,4 @@
+pub mod Ends
+pub mod Logged
+pub mod Sent
+pub mod Texts

@@ -1,0 +1,9 @@
+pub mod Answers
+pub mod Datagrams
+pub mod Deeds
+pub mod Laws
+pub mod Places
+pub mod Read
+pub mod Refusals
+pub mod Unasked
+pub mod Words

@@ -1,0 +1,128 @@
+//! A question in words, and the answer to it.
+
+ghost use Rattle.std.specs.Prelude.{◌≡◌, ◌++◌, codes, IfOk};
+ghost use Rattle.gw_addr.specs.Appending.{IsAppended};
+ghost use Rattle.gw_verdicts.specs.questions.Unasked.{place_words, unasked_text};
+ghost use Rattle.gw_verdicts.specs.questions.Words.{IsAnswerTo, IsQuestionOf, IsUnasked, are_by_one_port, joined, question_by, question_text};
+
+use crate::questions::answer::{Answer, Outcome, answer_question};
+use crate::questions::deed::{Deed, DeedWords, deed_of};
+use crate::questions::fault::{PlaceFault, Unasked};
+use crate::questions::place::{Question, Station, Target, station_of, target_of};
+use gw_addr::put_slice;
+use gw_configuration::Config;
+use std::alloc::{AllocError, Global};
+
+/// A question in words.
+#[derive(Clone, Copy)]
+pub struct Words<'a> {
+    /// The station that asks.
+    pub from: &'a str,
+    /// Whom it asks.
+    pub to: &'a str,
+    /// What it asks for.
+    pub deed: DeedWords<'a>,
+}
+
+/// Whether both lie by one port, so that the gateway isn't between them.
+fn are_by_one_port(asker: &Station, target: &Target) -> bool
+    ensures { result ≡ are_by_one_port asker.now target.now }
+{
+    match target {
+        Target::Station(station) => station.port == asker.port,
+        Target::Device(_) => false,
+    }
+}
+
+/// The question of these parts.
+fn question_by<'a>(asker: Station, target: Target, deed: Deed<'a>) -> Result<Question<'a>, Unasked>
+    ensures { result ≡ question_by asker target deed.entry }
+{
+    if are_by_one_port(&asker, &target) {
+        return Err(Unasked::OnePort);
+    }
+    Ok(Question {
+        asker,
+        target,
+        deed,
+    })
+}
+
+/// The question of these parts, or what the first fault among them says.
+fn joined<'a>(
+    asker: Result<Station, PlaceFault>,
+    target: Result<Target, PlaceFault>,
+    deed: Result<Deed<'a>, Unasked>,
+) -> Result<Question<'a>, Unasked>
+    ensures { result ≡ joined asker target deed.entry }
+{
+    match (asker, target, deed) {
+        (Err(fault), _, _) => Err(Unasked::From(fault)),
+        (Ok(_), Err(fault), _) => Err(Unasked::To(fault)),
+        (Ok(_), Ok(_), Err(unasked)) => Err(unasked),
+        (Ok(asker), Ok(target), Ok(deed)) => question_by(asker, target, deed),
+    }
+}
+
+/// The question that words ask under a configuration, or why they ask none.
+fn question_of(config: &Config, words: &Words<'_>) -> Result<Question<'static>, Unasked>
+    ensures { IsQuestionOf config.now (question_text words.now) result }
+{
+    let asker = station_of(config, words.from);
+    let target = target_of(config, words.to);
+    joined(asker, target, deed_of(&words.deed))
+}
+
+/// Appends what is said of an option that names no station.
+fn put_fault(text: &mut Vec<u8>, option: &[u8], fault: PlaceFault) -> Result<(), AllocError>
+    ensures { IsAppended (option.now ++ place_words fault ++ codes "\n") text.old text.new result }
+{
+    put_slice(text, option)?;
+    put_slice(text, fault.words().as_bytes())?;
+    put_slice(text, b"\n")
+}
+
+/// Appends why words ask no question.
+fn put_unasked(text: &mut Vec<u8>, unasked: Unasked) -> Result<(), AllocError>
+    ensures { IsAppended (unasked_text unasked) text.old text.new result }
+{
+    match unasked {
+        Unasked::From(fault) => put_fault(text, b"--from: ", fault),
+        Unasked::To(fault) => put_fault(text, b"--to: ", fault),
+        Unasked::Read => put_slice(
+            text,
+            b"--read takes TYPE,INSTANCE or TYPE,INSTANCE,PROPERTY\n",
+        ),
+        Unasked::Write => put_slice(
+            text,
+            b"--write takes TYPE,INSTANCE or TYPE,INSTANCE,PROPERTY, and --priority a number from 1 to 16\n",
+        ),
+        Unasked::OnePort => put_slice(
+            text,
+            b"--from and --to lie by one port: what they send each other doesn't pass the gateway\n",
+        ),
+    }
+}
+
+/// What is said of words that ask no question.
+fn answer_unasked(alloc: Global, unasked: Unasked) -> Result<Answer, AllocError>
+    ensures { IfOk result (λ answer. IsUnasked unasked answer.text.items answer.outcome) }
+{
+    let mut text = Vec::new(alloc);
+    put_unasked(&mut text, unasked)?;
+    Ok(Answer {
+        text,
+        outcome: Outcome::Unasked,
+    })
+}
+
+/// The answer to a question in words under a configuration, whose gateway has taken nothing yet; or why the words ask none.
+/// An `Err` only if a growth of memory was refused.
+pub fn answer_words(alloc: Global, config: Config, words: &Words<'_>) -> Result<Answer, AllocError>
+    ensures { IfOk result (λ answer. IsAnswerTo config (question_text words.now) answer.text.items answer.outcome) }
+{
+    match question_of(&config, words) {
+        Ok(question) => answer_question(alloc, config, &question),
+        Err(unasked) => answer_unasked(alloc, unasked),
+    }
+}
