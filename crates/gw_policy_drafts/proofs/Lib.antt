@@ -1,2 +1,3 @@
+pub mod Putting
 pub mod suggestion_lemmas
 pub mod migration_lemmas

@@ -4,3 +4,4 @@ pub mod GroupLaw
 pub mod LinesLaw
 pub mod SuggestLaw
 pub mod TextLaw
+pub mod Totals

@@ -1,1 +1,3 @@
+pub mod Items
 pub mod Migration
+pub mod Ports

@@ -3,3 +3,4 @@ pub mod Laws
 pub mod Lines
 pub mod Own
 pub mod Suggestion
+pub mod Text

@@ -10,4 +10,4 @@ mod subnets;
 
 pub use fault::MigrationFault;
 pub use migration::migrate;
-pub use rules::{put_field, put_operation, put_station};
+pub use rules::{put_field, put_field_items, put_operation, put_station};

@@ -10,6 +10,7 @@ use Rattle.gw_script.specs.Script.{lines_of}
 use Rattle.gw_policy_drafts.specs.suggestion.Given.{filled, taken}
 use Rattle.gw_policy_drafts.specs.suggestion.Lines.{AreSeen}
 use Rattle.gw_policy_drafts.specs.suggestion.Own.{own_rule}
+use Rattle.gw_policy_drafts.specs.suggestion.Text.{IsTextOf, place_of}
 use Rattle.gw_policy_drafts.specs.declared.suggestion.fault.SuggestFault.{SuggestFault}
 use Rattle.gw_policy_drafts.specs.declared.suggestion.fault.SuggestFault.TheVariants.{Write}
 use Rattle.gw_policy_drafts.specs.declared.suggestion.suggestion.Manner.{Manner}
@@ -60,11 +61,13 @@ pub record IsInFront (old : Configuration) (text : List ℕ) (suggested : List R
   pub reads : configuration (front ++ added ++ rest) ≡ Ok configured
   pub all : HasInFront old suggested configured
 
--- The text is of rules that are suggested for these asks.
+-- The text is of rules that are suggested for these asks, and its comments say for how many of them each rule is, and which
+-- fields they lack.
 pub record IsAdded (old : Configuration) (text : List ℕ) (manner : Manner) (asks : List Ask) (added : List ℕ) : Type 0 where
   pub suggested : List Rule
   pub suggestion : IsSuggestion manner.keeps_services (wanted manner asks) suggested
   pub in_front : IsInFront old text suggested added
+  pub comments : IsTextOf (place_of old) suggested asks added
 
 -- The text is of rules that are suggested for the asks that the lines of a log show and the configuration denies.
 pub record IsSuggested (text : List ℕ) (manner : Manner) (log added : List ℕ) : Type 0 where

@@ -1,6 +1,8 @@
 //! What the comments of the text say: what format 3 will deny that was not, and what a site may need.
+ghost use Rattle.std.specs.Prelude.{◌≡◌, ◌++◌, OnOk};
+ghost use Rattle.gw_policy_drafts.specs.migration.Ports.{no_subnet_line, stations_line, stations_of, subnet_line};
 
-use crate::migration::subnets::{host_of, put_subnet, shared_prefix};
+use crate::migration::subnets::{Size, host_of, put_subnet, shared_size};
 use gw_addr::{NetNum, put_decimal};
 use gw_configuration::{Config, Port, Route};
 use gw_rules::{FieldName, Range, Rule};
@@ -43,16 +45,35 @@ pub(crate) fn put_tail(out: &mut Vec<u8>) -> Result<(), AllocError> {
 }
 
 /// Appends the stations that are proposed for a port: the subnet of its address and its broadcast address.
-pub(crate) fn put_stations_note(out: &mut Vec<u8>, port: &Port) -> Result<(), AllocError> {
-    let host = host_of(port.address);
-    match shared_prefix(host, host_of(port.broadcast)) {
-        Some(prefix) => {
-            out.extend_from_slice(b"# stations = [\"")?;
-            put_subnet(out, host, prefix)?;
-            out.extend_from_slice(b"\"]\n")
-        }
-        None => out.extend_from_slice(b"# No subnet ends with that broadcast address.\n"),
+pub(crate) fn put_stations_note(out: &mut Vec<u8>, port: &Port) -> Result<(), AllocError>
+    ensures { OnOk result (out.new.items ≡ out.old.items ++ stations_line port.now) }
+{
+    put_stations_of(out, host_of(port.address), host_of(port.broadcast))
+}
+
+fn put_stations_of(out: &mut Vec<u8>, host: u64, broadcast: u64) -> Result<(), AllocError>
+    ensures { OnOk result (out.new.items ≡ out.old.items ++ stations_of host broadcast) }
+{
+    match shared_size(host, broadcast) {
+        Some(size) => put_stations(out, host, size),
+        None => put_no_subnet(out),
     }
+}
+
+#[tactic(auto, unfolding(crate::specs::migration::Ports::subnet_line))]
+fn put_stations(out: &mut Vec<u8>, host: u64, size: Size) -> Result<(), AllocError>
+    ensures { OnOk result (out.new.items ≡ out.old.items ++ subnet_line host size) }
+{
+    out.extend_from_slice(b"# stations = [\"")?;
+    put_subnet(out, host, size)?;
+    out.extend_from_slice(b"\"]\n")
+}
+
+#[tactic(auto, unfolding(crate::specs::migration::Ports::no_subnet_line))]
+fn put_no_subnet(out: &mut Vec<u8>) -> Result<(), AllocError>
+    ensures { OnOk result (out.new.items ≡ out.old.items ++ no_subnet_line) }
+{
+    out.extend_from_slice(b"# No subnet ends with that broadcast address.\n")
 }
 
 /// Appends which router speaks for a network.

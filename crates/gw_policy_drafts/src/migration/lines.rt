@@ -1,5 +1,8 @@
 //! Lines of a text of TOML.
-ghost use Rattle.std.specs.Prelude.{◌<◌};
+ghost use Rattle.std.specs.Prelude.{◌≡◌, ◌<◌, ◌++◌, ◌∷◌, ◌/◌, ◌%◌, [], codes, decimal, OnOk};
+ghost use Rattle.std.specs.List.{flat_map};
+ghost use Rattle.gw_policy_drafts.specs.migration.Items.{digit_text, quoted, quoted_octet};
+ghost use Rattle.gw_policy_drafts.specs.migration.Ports.{address_line};
 
 use gw_addr::{BipAddr, put_decimal};
 use std::alloc::AllocError;
@@ -10,31 +13,53 @@ const SPACE: u8 = 32;
 const DELETE: u8 = 127;
 
 /// Appends a text in quotes, with an escape in the place of each quote, backslash and control character.
-pub(crate) fn put_quoted(out: &mut Vec<u8>, text: &str) -> Result<(), AllocError> {
-    out.extend_from_slice(b"\"")?;
-    for octet in text.as_bytes() {
-        put_octet(out, *octet)?;
+#[tactic(auto, unfolding(crate::specs::migration::Items::quoted))]
+pub(crate) fn put_quoted(out: &mut Vec<u8>, text: &str) -> Result<(), AllocError>
+    ensures { OnOk result (out.new.items ≡ out.old.items ++ quoted text.now) }
+{
+    out.push(b'"')?;
+    put_each(out, text.as_bytes())?;
+    out.push(b'"')?;
+    Ok(())
+}
+
+/// Appends the octets of a text in quotes.
+fn put_each(out: &mut Vec<u8>, octets: &[u8]) -> Result<(), AllocError>
+    ensures { OnOk result (out.new.items ≡ out.old.items ++ flat_map quoted_octet octets.now) }
+{
+    for octet in octets {
+        put_quoted_octet(out, *octet)?;
     }
-    out.extend_from_slice(b"\"")
+    Ok(())
 }
 
 /// Appends an octet of a text in quotes.
-fn put_octet(out: &mut Vec<u8>, octet: u8) -> Result<(), AllocError> {
+fn put_quoted_octet(out: &mut Vec<u8>, octet: u8) -> Result<(), AllocError>
+    ensures { OnOk result (out.new.items ≡ out.old.items ++ quoted_octet octet) }
+{
     if octet < SPACE || octet == DELETE {
-        out.extend_from_slice(b"\\u00")?;
-        put_digit(out, octet / 16)?;
-        return put_digit(out, octet % 16);
+        return put_control(out, octet);
     }
     if octet == b'"' || octet == b'\\' {
-        out.extend_from_slice(b"\\")?;
+        out.push(b'\\')?;
     }
     out.push(octet)?;
     Ok(())
 }
 
+/// Appends the escape of a control character.
+fn put_control(out: &mut Vec<u8>, octet: u8) -> Result<(), AllocError>
+    ensures { OnOk result (out.new.items ≡ out.old.items ++ ((codes "\\u00" ++ digit_text (octet / 16)) ++ digit_text (octet % 16))) }
+{
+    out.extend_from_slice(b"\\u00")?;
+    put_digit(out, octet / 16)?;
+    put_digit(out, octet % 16)
+}
+
 /// Appends a hexadecimal digit.
 fn put_digit(out: &mut Vec<u8>, digit: u8) -> Result<(), AllocError>
     requires { digit < 16 }
+    ensures { OnOk result (out.new.items ≡ out.old.items ++ digit_text digit) }
 {
     let octet = if digit < 10 {
         b'0' + digit
@@ -46,13 +71,17 @@ fn put_digit(out: &mut Vec<u8>, digit: u8) -> Result<(), AllocError>
 }
 
 /// Appends a key and the sign after it.
-pub(crate) fn put_key(out: &mut Vec<u8>, key: &str) -> Result<(), AllocError> {
+pub(crate) fn put_key(out: &mut Vec<u8>, key: &str) -> Result<(), AllocError>
+    ensures { OnOk result (out.new.items ≡ out.old.items ++ (key.now ++ codes " = ")) }
+{
     out.extend_from_slice(key.as_bytes())?;
     out.extend_from_slice(b" = ")
 }
 
 /// Appends a line with a number.
-pub(crate) fn put_number(out: &mut Vec<u8>, key: &str, number: u64) -> Result<(), AllocError> {
+pub(crate) fn put_number(out: &mut Vec<u8>, key: &str, number: u64) -> Result<(), AllocError>
+    ensures { OnOk result (out.new.items ≡ out.old.items ++ ((key.now ++ codes " = ") ++ (decimal number ++ 10 ∷ []))) }
+{
     put_key(out, key)?;
     put_decimal(out, number)?;
     out.extend_from_slice(b"\n")
@@ -73,11 +102,10 @@ pub(crate) fn put_text(out: &mut Vec<u8>, key: &str, text: &str) -> Result<(), A
 }
 
 /// Appends a line with an address.
-pub(crate) fn put_address(
-    out: &mut Vec<u8>,
-    key: &str,
-    address: BipAddr,
-) -> Result<(), AllocError> {
+#[tactic(auto, unfolding(crate::specs::migration::Ports::address_line))]
+pub(crate) fn put_address(out: &mut Vec<u8>, key: &str, address: BipAddr) -> Result<(), AllocError>
+    ensures { OnOk result (out.new.items ≡ out.old.items ++ address_line key.now address) }
+{
     put_key(out, key)?;
     out.extend_from_slice(b"\"")?;
     address.put_text(out)?;

@@ -1,5 +1,5 @@
 //! The asks that are given, each once.
-ghost use Rattle.std.specs.Prelude.{◌≡◌, ◌∷◌, [], true, if◌then◌else◌, IfOk, IfSome, OnOk};
+ghost use Rattle.std.specs.Prelude.{◌≡◌, ◌∷◌, [], map, true, if◌then◌else◌, IfOk, IfSome, OnOk};
 ghost use Rattle.gw_policy_drafts.specs.suggestion.Given.{Adds, AddsAll, Has, HaveSame, akin, filled, filled_from, is_open, lacks_for, lacks_property, of_both};
 
 use crate::suggestion::fault::SuggestFault;
@@ -10,6 +10,13 @@ use std::marker::Model;
 
 /// How many different asks may be given.
 pub const MAX_ASKS: usize = 16_384;
+
+/// An ask, and how often it was given.
+#[derive(Clone, Copy)]
+pub(crate) struct Weighted {
+    pub ask: Ask,
+    pub times: u64,
+}
 
 /// Different asks, in the order in which they were first given, and how often each was. Contracts see the asks.
 #[derive(Drop)]
@@ -67,11 +74,24 @@ impl Given {
     }
 
     /// How often the ask at a place was given.
-    pub(crate) fn count_at(&self, place: usize) -> u64 {
+    fn count_at(&self, place: usize) -> u64 {
         match self.counts.get(place) {
             Some(count) => *count,
             None => 0,
         }
+    }
+
+    /// The asks in order, and how often each was given.
+    pub(crate) fn weighted(&self, alloc: Global) -> Result<Vec<Weighted>, AllocError>
+        ensures { IfOk result (λ weighted. map (λ each. each.ask) weighted.items ≡ self.now) }
+    {
+        let mut weighted = Vec::new(alloc);
+        let asks = self.as_slice();
+        for (place, ask) in asks.iter().enumerate() {
+            let times = self.count_at(place);
+            weighted.push(Weighted { ask: *ask, times })?;
+        }
+        Ok(weighted)
     }
 
     /// The place of an ask, if it is there.

@@ -1,5 +1,5 @@
 //! Ranges that differ in one field alone, made one.
-ghost use Rattle.std.specs.Prelude.{◌≡◌, ◌||◌, ◌&&◌, ◌<◌, ◌≤◌, IfOk, IfSome, OnOk, get_or, length};
+ghost use Rattle.std.specs.Prelude.{◌≡◌, ◌⊎◌, ◌||◌, ◌&&◌, ◌<◌, ◌≤◌, IfOk, IfSome, OnOk, get_or, if◌then◌else◌, length, nat_lt};
 ghost use Rattle.gw_rules.specs.Ask.{Ask as SpecAsk};
 ghost use Rattle.gw_policy_drafts.specs.suggestion.Own.{CoverAlike, covered, covers};
 
@@ -176,11 +176,28 @@ fn fewest_within(
     fewest(alloc, groups)
 }
 
+/// What is left where those are made one that differ in one field alone.
+#[derive(Drop)]
+pub(crate) struct Joined {
+    /// The ranges.
+    pub groups: Vec<Group>,
+    /// How many of them were looked at no more, if so.
+    pub apart: usize,
+}
+
+/// How many are left apart if so many may be looked at still: all, or none.
+fn apart_of(looks: usize, count: usize) -> usize
+    ensures { result ≡ (if nat_lt looks count then count else 0) }
+{
+    if looks < count { count } else { 0 }
+}
+
 /// Makes one of those that differ in one field alone, in the field first in which that leaves the fewest,
 /// until there are no such, or so many were looked at. What they cover stays the same.
 #[tactic(auto, using(crate::proofs::suggestion_lemmas::GroupLaw::alike_trans))]
-pub(crate) fn join_all(alloc: Global, groups: Vec<Group>) -> Result<Vec<Group>, AllocError>
-    ensures { IfOk result (λ made. CoverAlike groups.items made.items) }
+pub(crate) fn join_all(alloc: Global, groups: Vec<Group>) -> Result<Joined, AllocError>
+    ensures alike { IfOk result (λ made. CoverAlike groups.items made.groups.items) }
+    ensures apart { IfOk result (λ made. (made.apart ≡ 0) ⊎ (made.apart ≡ length made.groups.items)) }
 {
     let mut all = groups;
     let mut looks = MOST_LOOKS;
@@ -188,5 +205,6 @@ pub(crate) fn join_all(alloc: Global, groups: Vec<Group>) -> Result<Vec<Group>, 
         looks = looks.saturating_sub(all.len());
         all = fewer;
     }
-    Ok(all)
+    let apart = apart_of(looks, all.len());
+    Ok(Joined { groups: all, apart })
 }

@@ -7,16 +7,17 @@ ghost use Rattle.gw_policy_drafts.specs.suggestion.Own.{covered};
 ghost use Rattle.gw_policy_drafts.specs.suggestion.Suggestion.{IsAdded, IsSuggested, IsSuggestion, LeavesSuggestion, LeavesText};
 ghost use Rattle.gw_policy_drafts.specs.suggestion.Suggestion.{matched_own, wanted};
 ghost use Rattle.gw_policy_drafts.specs.suggestion.Given.{taken};
+ghost use Rattle.gw_policy_drafts.specs.suggestion.Text.{IsTextOf, place_of};
 
 use crate::suggestion::cutting::cut_all;
 use crate::suggestion::fault::SuggestFault;
 use crate::suggestion::front::read_in_front;
 use crate::suggestion::given::{filled, is_open};
 use crate::suggestion::group::{Group, own_ranges};
-use crate::suggestion::joining::join_all;
+use crate::suggestion::joining::{Joined, join_all};
 use crate::suggestion::reading::{Seen, read_asks};
 use crate::suggestion::rules::rules_of;
-use crate::suggestion::text::put_text;
+use crate::suggestion::text::{Place, Said, put_text};
 use gw_configuration::{Config, ConfigFault};
 use gw_policy_text::read_config;
 use gw_rules::{Ask, MAX_RULES, Rule};
@@ -46,30 +47,32 @@ fn own_groups(alloc: Global, keeps: bool, asks: &[Ask]) -> Result<Vec<Group>, Al
 }
 
 /// Few ranges that cover what the own rules of asks match.
-fn groups_of(alloc: Global, keeps: bool, asks: &[Ask]) -> Result<Vec<Group>, AllocError>
-    ensures { IfOk result (λ groups. (ask : SpecAsk) → covered groups.items ask ≡ matched_own keeps asks.now ask) }
+fn groups_of(alloc: Global, keeps: bool, asks: &[Ask]) -> Result<Joined, AllocError>
+    ensures { IfOk result (λ made. (ask : SpecAsk) → covered made.groups.items ask ≡ matched_own keeps asks.now ask) }
 {
     let own = own_groups(alloc, keeps, asks)?;
-    let few = join_all(alloc, own)?;
-    let cut = cut_all(alloc, few)?;
-    Ok(cut)
+    let Joined { groups, apart } = join_all(alloc, own)?;
+    let cut = cut_all(alloc, groups)?;
+    Ok(Joined { groups: cut, apart })
+}
+
+/// Rules that are suggested, and how many groups of asks were left apart.
+#[derive(Drop)]
+struct Rules {
+    rules: Vec<Rule>,
+    apart: usize,
 }
 
 /// The rules for asks. `TooManyRules` if a policy may have no more, or `Memory`.
-pub(crate) fn rules_for(
-    alloc: Global,
-    keeps: bool,
-    asks: &[Ask],
-    old: &[Rule],
-) -> Result<Vec<Rule>, SuggestFault>
-    ensures { IfOk result (λ rules. IsSuggestion keeps asks.now rules.items) }
+fn rules_for(alloc: Global, keeps: bool, asks: &[Ask], old: &[Rule]) -> Result<Rules, SuggestFault>
+    ensures { IfOk result (λ made. IsSuggestion keeps asks.now made.rules.items) }
 {
-    let groups = groups_of(alloc, keeps, asks)?;
+    let Joined { groups, apart } = groups_of(alloc, keeps, asks)?;
     if groups.len() > MAX_RULES || old.len() > MAX_RULES - groups.len() {
         return Err(SuggestFault::TooManyRules);
     }
     let rules = rules_of(alloc, groups.as_slice(), old)?;
-    Ok(rules)
+    Ok(Rules { rules, apart })
 }
 
 /// Those of the asks that have rules.
@@ -91,8 +94,8 @@ fn rules_of_taken(
     keeps: bool,
     asks: &[Ask],
     old: &[Rule],
-) -> Result<Vec<Rule>, SuggestFault>
-    ensures { IfOk result (λ rules. IsSuggestion keeps (taken asks.now) rules.items) }
+) -> Result<Rules, SuggestFault>
+    ensures { IfOk result (λ made. IsSuggestion keeps (taken asks.now) made.rules.items) }
 {
     let some = taken(alloc, asks)?;
     rules_for(alloc, keeps, some.as_slice(), old)
@@ -105,15 +108,40 @@ fn rules_in(
     manner: Manner,
     asks: &[Ask],
     old: &[Rule],
-) -> Result<Vec<Rule>, SuggestFault>
-    ensures { IfOk result (λ rules. IsSuggestion manner.keeps_services (wanted manner asks.now) rules.items) }
+) -> Result<Rules, SuggestFault>
+    ensures { IfOk result (λ made. IsSuggestion manner.keeps_services (wanted manner asks.now) made.rules.items) }
 {
     if manner.fills {
         let more = filled(alloc, asks)?;
-        let rules = rules_of_taken(alloc, manner.keeps_services, more.as_slice(), old)?;
-        return Ok(rules);
+        let made = rules_of_taken(alloc, manner.keeps_services, more.as_slice(), old)?;
+        return Ok(made);
     }
     rules_of_taken(alloc, manner.keeps_services, asks, old)
+}
+
+/// The text of these rules, and of what their comments say.
+fn text_of(alloc: Global, config: &Config, made: &Rules, seen: &Seen) -> Result<Vec<u8>, AllocError>
+    ensures { IfOk result (λ added. IsTextOf (place_of config.now) made.now.rules.items seen.now.given added.items) }
+{
+    let weighted = seen.given.weighted(alloc)?;
+    let said = Said {
+        asks: &weighted,
+        apart: made.apart as u64,
+        unread: seen.unread,
+    };
+    let mut added = Vec::new(alloc);
+    put_text(&mut added, place_of(config), made.rules.as_slice(), &said)?;
+    Ok(added)
+}
+
+/// Whose rules they are.
+fn place_of(config: &Config) -> Place
+    ensures { result ≡ place_of config.now }
+{
+    Place {
+        format: config.format(),
+        network: u64::from(config.device().network.get()),
+    }
 }
 
 /// The text of the rules for the asks that were seen.
@@ -126,10 +154,9 @@ fn added_for(
 ) -> Result<Vec<u8>, SuggestFault>
     ensures { IfOk result (λ added. IsAdded config.now text.now manner seen.now.given added.items) }
 {
-    let rules = rules_in(alloc, manner, seen.given.as_slice(), config.rules().rules())?;
-    let mut added = Vec::new(alloc);
-    put_text(&mut added, config.format(), rules.as_slice(), seen)?;
-    read_in_front(alloc, config, text, rules.as_slice(), added.as_slice())?;
+    let made = rules_in(alloc, manner, seen.given.as_slice(), config.rules().rules())?;
+    let added = text_of(alloc, config, &made, seen)?;
+    read_in_front(alloc, config, text, made.rules.as_slice(), added.as_slice())?;
     Ok(added)
 }
 
@@ -169,7 +196,7 @@ fn made<R: OctetSource>(
 ///
 /// Each rule has a comment that says how many asks it is for, and one for each field that these lack: any value will do
 /// there. A read that names no object or property, and a write that names none or no priority, has no rule, but a comment at
-/// the end counts them.
+/// the end counts them; so does another one the groups of asks that were left apart, if many ranges differ.
 ///
 /// What is written was read back: put into the text in front of the first rule, it is read as these rules and the
 /// configuration's after them, with nothing else in it.
