@@ -114,11 +114,7 @@ pub fn report_notices<E: OctetSink>(was: Troubles, is: Troubles, errors: &mut E)
 }
 
 /// Reports why metrics aren't written, or that they are again, if that changed.
-pub fn report_metrics<E: OctetSink>(
-    was: Option<StoreFault>,
-    is: Option<StoreFault>,
-    errors: &mut E,
-)
+pub fn report_metrics<E: OctetSink>(was: Option<StoreFault>, is: Option<StoreFault>, errors: &mut E)
     ensures said { E.NeverFails errors.old → Appends (E.held errors.old) (E.held errors.new) (metrics_notice was is) }
     ensures lasts { E.NeverFails errors.old → E.NeverFails errors.new }
 {

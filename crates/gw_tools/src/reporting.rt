@@ -22,7 +22,7 @@ fn make_page<F: ConfigFiles>(
     config: &Config,
     log: &Option<String>,
 ) -> Result<Vec<u8>, Fault>
-    ensures { IsPageOf (F.ReadsLog files.now) (option_map string_bytes log.now)
+    ensures { IsPageOf (F.ReadsLog files.now) (option_map string_bytes log.now) config.now
         (result_map (λ octets. octets.items) result) }
 {
     match log {
@@ -32,7 +32,7 @@ fn make_page<F: ConfigFiles>(
 }
 
 fn make_page_alone(alloc: Global, config: &Config) -> Result<Vec<u8>, Fault>
-    ensures { IsPageAlone (result_map (λ octets. octets.items) result) }
+    ensures { IsPageAlone config.now (result_map (λ octets. octets.items) result) }
 {
     match report(alloc, config) {
         Ok(page) => Ok(page),
@@ -46,7 +46,7 @@ fn make_page_with<L: OctetSource + Drop>(
     config: &Config,
     opened: Result<L, Fault>,
 ) -> Result<Vec<u8>, Fault>
-    ensures { IsPageWith (result_map L.left opened) (result_map (λ octets. octets.items) result) }
+    ensures { IsPageWith config.now (result_map L.left opened) (result_map (λ octets. octets.items) result) }
 {
     let mut log = opened?;
     match report_with_log(alloc, config, &mut log) {

@@ -146,8 +146,8 @@ returns-else-is_behind-clause-advances g c = λ config is_config.
             metrics = puts_metered g.M.Store.held old.metrics c.put_due.new.metrics c.args.schedule.now.start after.gateway after.state.served
                 after.state.tally after.counts c.announce.new.self (g.K.StateKeeper.losses after.keeper) (g.K.StateKeeper.tries after.keeper)
                 (g.K.StateKeeper.decisions after.keeper) c.measure-measured.result c.measure-measured.ensures
-              (subst (λ (m : Option (Writing _)). PutsDue g.M.Store.held m c.measure-measured.result after.gateway
-              (g.K.StateKeeper.decisions after.keeper) c.put_due.new.metrics) c.at_tick-stops.ensures.metrics c.put_due.ensures);
+                (subst (λ (m : Option (Writing _)). PutsDue g.M.Store.held m c.measure-measured.result after.gateway
+                (g.K.StateKeeper.decisions after.keeper) c.put_due.new.metrics) c.at_tick-stops.ensures.metrics c.put_due.ensures);
             lines = refl;
           }),
       λ never.
