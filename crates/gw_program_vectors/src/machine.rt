@@ -4,7 +4,7 @@
 //! what the machine is like, as `log 9` for a log with room for 9 octets; and after a line `input`
 //! standard input. Each file has the text of the last configuration, but for `unreadable`.
 
-ghost use Rattle.std.specs.Prelude.{◌≡◌, ⊤, None, Some};
+ghost use Rattle.std.specs.Prelude.{◌≡◌, ⊤, None, Some, false};
 ghost use Rattle.gw_system.specs.Requests.{silent};
 
 use gw_addr::BipAddr;
