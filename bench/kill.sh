@@ -146,7 +146,8 @@ def read_table():
 def start(front=()):
     """A gateway that answers, or None if it doesn't start."""
     words = [*front, program, "run", "--config", str(config), "--log", str(work / "log"), "--state", str(state)]
-    gateway = subprocess.Popen(words, stdin=subprocess.DEVNULL, stderr=subprocess.PIPE, start_new_session=True)
+    # Without a buffer of its own, so that a line that waits is seen.
+    gateway = subprocess.Popen(words, bufsize=0, stdin=subprocess.DEVNULL, stderr=subprocess.PIPE, start_new_session=True)
     for _ in range(100):
         if read(1, 0.1) is not None:
             counts["starts"] += 1
@@ -347,7 +348,7 @@ def slow(folder):
     gateway = start(front)
     if gateway is None:
         return
-    is_so("a write gets no answer", not write(1, 1000), "slow")
+    is_so("a write gets no answer", not write(1, 1500), "slow")
     until = time.monotonic() + 40
     while time.monotonic() < until:
         is_so("a read is answered", read(1, 3) is not None, "slow")
@@ -368,9 +369,10 @@ def flood(folder):
     writes = [write_of(1, value)[0] for value in range(2, 602)]
     for octets in writes:
         line.sendto(octets, (GATEWAY, UDP))
-    is_so("a read is answered", read(2, 3) is not None, "flood")
+    # The system drops what its buffer has no room for, so also a read.
+    is_so("a read is answered", any(read(2, 1) is not None for _ in range(5)), "flood")
     is_so("the gateway says so", told(gateway, "bacgw: state isn't kept: too many changes"), "flood")
-    is_so("the gateway says that it is kept again", told(gateway, "bacgw: state is kept again"), "flood")
+    is_so("the gateway says that it is kept again", told(gateway, "bacgw: state is kept again", 20), "flood")
     line.settimeout(0.2)
     try:
         while True:
