@@ -7,3 +7,4 @@ pub mod Writing
 pub mod Appended
 pub mod Written
 pub mod Stations
+pub mod Keys

@@ -24,7 +24,7 @@ pub use mask::Mask;
 pub use network::NetNum;
 pub use readers::{address, front, long_number, number, octet};
 pub use sequence::Sequence;
-pub use station::{Mac, Source};
+pub use station::{Mac, Source, key_of, key48};
 pub use writers::{
     keep_whole, put_decimal, put_long_number, put_number, put_octet, put_slice, put_text_number,
 };

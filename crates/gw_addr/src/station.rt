@@ -1,10 +1,10 @@
 //! The addresses of stations (clauses 6.2.2 and 6.3): a network, and 1 to 255 octets on it.
 
-ghost use Rattle.std.specs.Prelude.{◌≡◌, ◌↔◌, ◌<◌, ◌≤◌, ◌-◌, ◌++◌, ◌/◌, ◌%◌, length, replicate};
+ghost use Rattle.std.specs.Prelude.{◌≡◌, ◌↔◌, ◌<◌, ◌≤◌, ◌-◌, ◌++◌, ◌/◌, ◌%◌, ◌==◌, length, replicate};
 ghost use Rattle.std.specs.Prelude.{Some, IsTrue};
-ghost use Rattle.std.specs.List.{flat_map};
+ghost use Rattle.std.specs.List.{flat_map, list_all};
 ghost use Rattle.gw_addr.specs.Appending.{IsAppended};
-ghost use Rattle.gw_addr.specs.Station.{station_of, key_of, digit_of, two_digits};
+ghost use Rattle.gw_addr.specs.Station.{counted, key48, key_of, digit_of, station_at, station_of, two_digits};
 
 use crate::network::NetNum;
 use crate::writers::put_slice;
@@ -74,14 +74,31 @@ impl Mac {
     /// The octets as one number of 48 bits, the first octet its highest, or `None` if there are
     /// not six.
     pub fn key48(&self) -> Option<u64>
+        ensures { result ≡ key48 self.now }
+    {
+        key48(self.as_slice())
+    }
+
+    /// The key of the station, as [`key_of`] says.
+    pub fn key(&self) -> Option<u64>
         ensures { result ≡ key_of self.now }
     {
-        match self.as_slice() {
-            [a, b, c, d, high, low] => Some(u64::from_be_bytes([
-                0, 0, *a, *b, *c, *d, *high, *low,
-            ])),
-            _ => None,
+        key_of(self.as_slice())
+    }
+
+    /// The station that has this key, or `None` if none has it.
+    pub fn of_key(key: u64) -> Option<Mac>
+        ensures { result ≡ station_at key }
+    {
+        let octets = key.to_be_bytes();
+        let count = counted(octets[0]);
+        if count == 0 || count > 7 {
+            return None;
         }
+        if !are_zeros(&octets[1..8 - usize::from(count)]) {
+            return None;
+        }
+        Mac::new(&octets[8 - usize::from(count)..])
     }
 
     /// Appends the octets as they are printed, two upper-case hexadecimal digits for each. An `Err`
@@ -110,6 +127,54 @@ impl fmt::Display for Mac {
         }
         Ok(())
     }
+}
+
+/// Six octets as one number of 48 bits, the first octet its highest, or `None` if there are not six.
+#[inline(always)]
+pub fn key48(octets: &[u8]) -> Option<u64>
+    ensures { result ≡ key48 octets.now }
+{
+    match octets {
+        [a, b, c, d, high, low] => Some(u64::from_be_bytes([0, 0, *a, *b, *c, *d, *high, *low])),
+        _ => None,
+    }
+}
+
+/// The key of the station of these octets, of which each of one to seven has its own: of six octets their
+/// number, as [`key48`] says, of others their count times 2 to the power of 56, plus their number. `None` if
+/// there are none or more than seven.
+pub fn key_of(octets: &[u8]) -> Option<u64>
+    ensures { result ≡ key_of octets.now }
+{
+    let keyed = match octets {
+        [a, b, c, d, e, f] => [0, 0, *a, *b, *c, *d, *e, *f],
+        [a] => [1, 0, 0, 0, 0, 0, 0, *a],
+        [a, b] => [2, 0, 0, 0, 0, 0, *a, *b],
+        [a, b, c] => [3, 0, 0, 0, 0, *a, *b, *c],
+        [a, b, c, d] => [4, 0, 0, 0, *a, *b, *c, *d],
+        [a, b, c, d, e] => [5, 0, 0, *a, *b, *c, *d, *e],
+        [a, b, c, d, e, f, g] => [7, *a, *b, *c, *d, *e, *f, *g],
+        _ => return None,
+    };
+    Some(u64::from_be_bytes(keyed))
+}
+
+/// The count of octets that the highest octet of a key says.
+fn counted(high: u8) -> u8
+    ensures { result ≡ counted high }
+{
+    match high {
+        0 => 6,
+        6 => 0,
+        count => count,
+    }
+}
+
+/// Whether these octets are all zero.
+fn are_zeros(octets: &[u8]) -> bool
+    ensures { result ≡ list_all (λ octet. octet == 0) octets.now }
+{
+    octets.iter().all(|octet| *octet == 0)
 }
 
 /// The digit of a number below 16, in upper case.

@@ -80,6 +80,10 @@ impl Judge for Policy {
         }
     }
 
+    fn is_quiet(&self, by: Option<u16>) -> bool {
+        self.rules.is_quiet(by)
+    }
+
     fn decide(&self, ask: &Ask) -> Decision {
         match &self.index {
             Some(index) => index.decide(ask),

@@ -4,7 +4,7 @@ ghost use Rattle.std.specs.List.{sum_by};
 ghost use Rattle.std.specs.Option.{option_map_or};
 ghost use Rattle.gw_rules.specs.Rule.{matches};
 ghost use Rattle.gw_rules.specs.Fields.{value_of};
-ghost use Rattle.gw_rules.specs.RuleList.{KeepsLongCounts, allows, allows_at, decide, first};
+ghost use Rattle.gw_rules.specs.RuleList.{KeepsLongCounts, allows, allows_at, decide, first, is_quiet_at};
 ghost use Rattle.gw_rules.specs.declared.field.FieldName.{FieldName};
 ghost use Rattle.gw_rules.specs.declared.rule.Rule.{Rule};
 ghost use Rattle.gw_rule_index.specs.declared.counted.TheConstants.{COMPARISONS_A_FIELD, MAX_ANDS, MAX_COMPARISONS};
@@ -30,6 +30,7 @@ pub struct RuleIndex {
     fields: FieldIndexes,
     every: Row,
     verdicts: Vec<bool>,
+    quiets: Vec<bool>,
 }
 
 // By hand: a derived one is proved part by part wherever one is dropped (docs/GATE.md).
@@ -39,6 +40,7 @@ impl Drop for RuleIndex {
             fields: _,
             every: _,
             verdicts: _,
+            quiets: _,
         } = self;
     }
 }
@@ -54,6 +56,7 @@ impl RuleIndex {
             fields: indexes_of(alloc, rules)?,
             every: Row::every(rules),
             verdicts: verdicts_of(alloc, rules)?,
+            quiets: quiets_of(alloc, rules)?,
         })
     }
 
@@ -158,6 +161,17 @@ impl RuleIndex {
             None => false,
         }
     }
+
+    /// Whether the rule of a number is quiet.
+    fn is_quiet_rule(&self, number: u16) -> bool
+        ensures { (rules : List Rule) → IsBuiltFrom self.now rules →
+            result ≡ is_quiet_at rules number }
+    {
+        match self.quiets.get(usize::from(number).saturating_sub(1)) {
+            Some(quiet) => *quiet,
+            None => false,
+        }
+    }
 }
 
 impl Judge for RuleIndex {
@@ -169,6 +183,13 @@ impl Judge for RuleIndex {
 
     fn allows(&self, ask: &Ask) -> bool {
         self.allows_first(RuleIndex::first(self, ask))
+    }
+
+    fn is_quiet(&self, by: Option<u16>) -> bool {
+        match by {
+            Some(number) => self.is_quiet_rule(number),
+            None => false,
+        }
     }
 
     fn decide(&self, ask: &Ask) -> Decision {
@@ -222,4 +243,15 @@ fn verdicts_of(alloc: Global, rules: &[Rule]) -> Result<Vec<bool>, AllocError>
         verdicts.push(rule.allow)?;
     }
     Ok(verdicts)
+}
+
+/// Whether each rule is quiet, in order.
+fn quiets_of(alloc: Global, rules: &[Rule]) -> Result<Vec<bool>, AllocError>
+    ensures { IfOk result (λ quiets. quiets.items ≡ map (λ rule. rule.quiet) rules.now) }
+{
+    let mut quiets = Vec::new(alloc);
+    for rule in rules {
+        quiets.push(rule.quiet)?;
+    }
+    Ok(quiets)
 }

@@ -7,7 +7,7 @@ use Rattle.gw_rules.specs.declared.decision.Decision.TheVariants.{Allow, Deny}
 use Rattle.gw_rules.specs.declared.rule.Rule.{Rule}
 use Rattle.gw_rules.specs.Ask.{Ask}
 use Rattle.gw_rules.specs.Authorizer.{denied_of, refusal}
-use Rattle.gw_rules.specs.RuleList.{Allows, allows, decide, first}
+use Rattle.gw_rules.specs.RuleList.{Allows, allows, decide, first, is_logged}
 use Rattle.gw_rules.proofs.First.{allows_iff}
 
 allow_is : (b : Bool) (by : Option ℕ) → ((if b then Allow else Deny by) ≡ Allow) ↔ (b ≡ true)
@@ -45,13 +45,13 @@ map_again : (rules : List Rule) (asks : List Ask) → map (λ r. r.ask) (map (re
 map_again rules [] = refl
 map_again rules (ask ∷ asks) = ap (λ rest. ask ∷ rest) (map_again rules asks)
 
--- the refusals are the asks that aren't allowed
-pub refused_asks : (rules : List Rule) (asks : List Ask) → map (λ r. r.ask) (denied_of rules asks) ≡ filter (λ ask. not (allows rules ask)) asks
-refused_asks rules asks = map_again rules (filter (λ ask. not (allows rules ask)) asks)
+-- the refusals are the asks that are logged
+pub refused_asks : (rules : List Rule) (asks : List Ask) → map (λ r. r.ask) (denied_of rules asks) ≡ filter (is_logged rules) asks
+refused_asks rules asks = map_again rules (filter (is_logged rules) asks)
 
 -- each by the first rule that matches it, or by none
 pub refused_by : (rules : List Rule) (asks : List Ask) → map (λ r. r.by) (denied_of rules asks) ≡ map (λ r. first rules r.ask) (denied_of rules asks)
-refused_by rules asks = go (filter (λ ask. not (allows rules ask)) asks)
+refused_by rules asks = go (filter (is_logged rules) asks)
   where
     go : (asks : List Ask) → map (λ r. r.by) (map (refusal rules) asks) ≡ map (λ r. first rules r.ask) (map (refusal rules) asks)
     go [] = refl
@@ -60,5 +60,5 @@ refused_by rules asks = go (filter (λ ask. not (allows rules ask)) asks)
 -- asks that are put one after the other are refused one after the other
 pub denied_of-append : (rules : List Rule) (xs ys : List Ask) → denied_of rules (xs ++ ys) ≡ denied_of rules xs ++ denied_of rules ys
 denied_of-append rules xs ys =
-    ap (map (refusal rules)) (filter-append (λ ask. not (allows rules ask)) xs ys)
-    ∙ map-append (refusal rules) (filter (λ ask. not (allows rules ask)) xs) (filter (λ ask. not (allows rules ask)) ys)
+    ap (map (refusal rules)) (filter-append (is_logged rules) xs ys)
+    ∙ map-append (refusal rules) (filter (is_logged rules) xs) (filter (is_logged rules) ys)

@@ -1,3 +1,4 @@
+pub mod BothWays
 pub mod Denials
 pub mod EachAsk
 pub mod EachField
@@ -5,7 +6,9 @@ pub mod Equality
 pub mod First
 pub mod Hiding
 pub mod Limits
+pub mod Logged
 pub mod Matching
 pub mod Names
 pub mod Numbers
 pub mod Operations
+pub mod Quiet

@@ -23,13 +23,18 @@ abbrev pub last_destination : Format → ℕ
 last_destination Three = 65535
 last_destination _ = 65534
 
--- the least and the greatest number that a field can have: a network of clause 6, a source key of 48 bits (Annex J.1.2),
--- a type of 10 bits and an instance of 22 (clause 20.2.14), a property of 22 bits (clause 21), a priority (clause 19.2)
+-- the greatest key of a station: of six octets, and in format 3 of one to seven
+abbrev pub last_key : Format → ℕ
+last_key Three = 576460752303423487
+last_key _ = 281474976710655
+
+-- the least and the greatest number that a field can have: a network of clause 6, the key of a station, of a sender that
+-- of six octets (Annex J.1.2), a type of 10 bits and an instance of 22 (clause 20.2.14), a property of 22 bits (clause 21), a priority (clause 19.2)
 abbrev pub bounds : Format → FieldName → Range
 bounds format Operation = record { low = 1; high = last_operation format }
 bounds format Port = record { low = 1; high = MAX_PORTS }
 bounds format SourceNetwork = record { low = 1; high = 65534 }
-bounds format SourceKey = record { low = 0; high = 281474976710655 }
+bounds format SourceKey = record { low = 0; high = last_key format }
 bounds format DestinationNetwork = record { low = 1; high = last_destination format }
 bounds format Service = record { low = 0; high = 1031 }
 bounds format ObjectType = record { low = 0; high = 1023 }
@@ -37,7 +42,7 @@ bounds format Instance = record { low = 0; high = 4194303 }
 bounds format Property = record { low = 0; high = 4194303 }
 bounds format Priority = record { low = 1; high = 16 }
 bounds format Sender = record { low = 0; high = 281474976710655 }
-bounds format Station = record { low = 0; high = 281474976710655 }
+bounds format Station = record { low = 0; high = last_key format }
 
 -- a range within another begins at its low end or above, and ends at its high end or below
 abbrev pub is_within : Range → Range → Bool

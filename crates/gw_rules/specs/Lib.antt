@@ -2,6 +2,7 @@ pub mod Allowed
 pub mod Ask
 pub mod Asker
 pub mod Authorizer
+pub mod BothWays
 pub mod Bounds
 pub mod Field
 pub mod Fields

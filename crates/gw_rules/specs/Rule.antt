@@ -1,5 +1,5 @@
 -- What a rule says of each field, when it matches an ask, and the limits that it keeps.
-use Rattle.std.specs.Prelude.{ℕ, ◌≤◌, ◌<◌, Bool, List, [], ◌∷◌, ◌++◌, length, nat_le, All, Any}
+use Rattle.std.specs.Prelude.{ℕ, ◌≤◌, ◌<◌, Bool, false, List, [], ◌∷◌, ◌++◌, length, nat_le, All, Any}
 use Rattle.std.specs.List.{list_all}
 use Rattle.std.specs.Option.{IsSomeAnd}
 use Rattle.gw_rules.specs.Ask.{Ask}
@@ -15,9 +15,9 @@ use Rattle.gw_rules.specs.Range.{admits, is_ordered}
 abbrev pub ranges_of : FieldName → Rule → List Range
 ranges_of field rule = value_of field rule.ranges
 
--- a rule that names no field
+-- a rule that names no field, and isn't quiet
 abbrev pub rule_without_fields : List ℕ → Bool → Rule
-rule_without_fields name allow = record { name = name; allow = allow; ranges = in_each [] }
+rule_without_fields name allow = record { name = name; allow = allow; quiet = false; ranges = in_each [] }
 
 -- the rule with one more range for a field, after those that it has
 abbrev pub with_range : FieldName → Range → Rule → Rule

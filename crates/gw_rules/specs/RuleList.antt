@@ -1,6 +1,6 @@
 -- The first rule that matches, whether the policy allows an ask, and the limits of a rule list.
-use Rattle.std.specs.Prelude.{◌≡◌, ℕ, ◌+◌, ◌-◌, ◌≤◌, ◌<◌, Bool, false, ◌&&◌, if◌then◌else◌, nat_le, IsTrue, List}
-use Rattle.std.specs.Prelude.{length, Option, Some, slice_get, position, All}
+use Rattle.std.specs.Prelude.{◌≡◌, ℕ, ◌+◌, ◌-◌, ◌≤◌, ◌<◌, Bool, false, ◌&&◌, not, if◌then◌else◌, nat_le, IsTrue, List}
+use Rattle.std.specs.Prelude.{length, map, Option, Some, slice_get, position, All}
 use Rattle.std.specs.List.{list_all, sum_by}
 use Rattle.std.specs.Option.{option_map, option_map_or}
 use Rattle.gw_rules.specs.Ask.{Ask}
@@ -24,9 +24,33 @@ IsNumberOf rules number = (1 ≤ number) × (number ≤ length rules)
 abbrev pub allows_at : List Rule → ℕ → Bool
 allows_at rules number = option_map_or (λ rule. rule.allow) (slice_get rules (number - 1)) false
 
+-- the rule of a number is quiet
+abbrev pub is_quiet_at : List Rule → ℕ → Bool
+is_quiet_at rules number = option_map_or (λ rule. rule.quiet) (slice_get rules (number - 1)) false
+
+-- the rule of a number, if it is one's, is quiet
+abbrev pub is_quiet_by : List Rule → Option ℕ → Bool
+is_quiet_by rules by = option_map_or (is_quiet_at rules) by false
+
+-- the rule as it is where it isn't quiet
+abbrev pub spoken : Rule → Rule
+spoken rule = record rule { quiet = false }
+
+-- the rules so
+abbrev pub without_quiet : List Rule → List Rule
+without_quiet rules = map spoken rules
+
+-- no rule is quiet
+abbrev pub has_no_quiet : List Rule → Bool
+has_no_quiet rules = list_all (λ rule. not rule.quiet) rules
+
 -- a policy allows an ask if there is a first rule that matches, and it says allow
 unfoldable pub allows : List Rule → Ask → Bool
 allows rules ask = option_map_or (allows_at rules) (first rules ask) false
+
+-- a denial is logged unless the rule that denies is quiet
+abbrev pub is_logged : List Rule → Ask → Bool
+is_logged rules ask = not (allows rules ask) && not (is_quiet_by rules (first rules ask))
 
 -- what a policy says of an ask: allow, or deny by its first rule, or by none
 abbrev pub decide : List Rule → Ask → Decision

@@ -1,6 +1,6 @@
 //! The twelve fields by which a rule picks asks.
 ghost use Rattle.std.specs.Prelude.{◌≡◌};
-ghost use Rattle.gw_rules.specs.Bounds.{bounds, last_destination, last_operation};
+ghost use Rattle.gw_rules.specs.Bounds.{bounds, last_destination, last_key, last_operation};
 ghost use Rattle.gw_rules.specs.Field.{field_key, field_number};
 
 use crate::{Format, Operation, Range};
@@ -81,8 +81,8 @@ impl FieldName {
 
     /// The least and the greatest number that the field can have in a policy of this format: 1 to 11 of an
     /// operation, and to 13 in format 3; 1 to 8 of a port; 1 to 65534 of a network (clause 6), and in format
-    /// 3 to 65535 of a destination, which is then all networks; 48 bits of a source key, a sender or a
-    /// station (Annex J.1.2); 0 to 1031 of a service; 10 bits of an object's type and 22 of its instance
+    /// 3 to 65535 of a destination, which is then all networks; 48 bits of a sender (Annex J.1.2), and so of a
+    /// source key and a station, which in format 3 have 59; 0 to 1031 of a service; 10 bits of an object's type and 22 of its instance
     /// (clause 20.2.14); 22 bits of a property (clause 21); 1 to 16 of a priority (clause 19.2).
     pub fn bounds(self, format: Format) -> Range
         ensures { result ≡ bounds format self }
@@ -92,7 +92,8 @@ impl FieldName {
             FieldName::Port => (1, MAX_PORTS as u64),
             FieldName::SourceNetwork => (1, 65534),
             FieldName::DestinationNetwork => (1, last_destination(format)),
-            FieldName::SourceKey | FieldName::Sender | FieldName::Station => (0, 0xFFFF_FFFF_FFFF),
+            FieldName::SourceKey | FieldName::Station => (0, last_key(format)),
+            FieldName::Sender => (0, 0xFFFF_FFFF_FFFF),
             FieldName::Service => (0, 1031),
             FieldName::ObjectType => (0, 1023),
             FieldName::Instance | FieldName::Property => (0, 4_194_303),
@@ -119,5 +120,16 @@ fn last_destination(format: Format) -> u64
     match format {
         Format::One | Format::Two => 65534,
         Format::Three => 65535,
+    }
+}
+
+/// The greatest key of a station that a policy of this format can name: in format 3 that of seven octets, else
+/// that of six.
+fn last_key(format: Format) -> u64
+    ensures { result ≡ last_key format }
+{
+    match format {
+        Format::One | Format::Two => 0xFFFF_FFFF_FFFF,
+        Format::Three => 0x07FF_FFFF_FFFF_FFFF,
     }
 }

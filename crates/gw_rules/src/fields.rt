@@ -15,7 +15,8 @@ pub struct Fields<T> {
     pub port: T,
     /// 3: the network of the station that is said to have sent it (clause 6).
     pub source_network: T,
-    /// 4: that station's address of six octets as one number of 48 bits (Annex J).
+    /// 4: the key of that station's address: of six octets their number of 48 bits (Annex J), and in format 3 of
+    /// one to seven, as `gw_addr::Mac::key` says.
     pub source_key: T,
     /// 5: the network to which it goes (clause 6).
     pub destination_network: T,
@@ -29,9 +30,9 @@ pub struct Fields<T> {
     pub property: T,
     /// 10: the priority of a write, from 1 to 16 (clause 19).
     pub priority: T,
-    /// 11: the address of the station whose datagram it is, as a source key, in format 3 (Annex J).
+    /// 11: the address of the station whose datagram it is, as a number of 48 bits, in format 3 (Annex J).
     pub sender: T,
-    /// 12: the address of the one station that it names, as a source key, in format 3 (Annex J).
+    /// 12: the key of the one station that it names, in format 3.
     pub station: T,
 }
 

@@ -1,6 +1,8 @@
 //! The format of a policy.
 ghost use Rattle.std.specs.Prelude.{◌≡◌};
-ghost use Rattle.gw_rules.specs.Format.{names_stations};
+ghost use Rattle.gw_rules.specs.Format.{key_in, names_stations};
+
+use gw_addr::{Mac, key_of, key48};
 
 /// The format of a policy: what its asks say, and by what a request is judged that goes on to another
 /// network.
@@ -23,6 +25,25 @@ impl Format {
         match self {
             Format::One | Format::Two => false,
             Format::Three => true,
+        }
+    }
+
+    /// The key that an ask says for a station: in format 3 that of one to seven octets, as
+    /// [`Mac::key`] says, else that of six, as [`Mac::key48`] says; `None` for a station of other length.
+    pub fn key(self, station: &Mac) -> Option<u64>
+        ensures { result ≡ key_in self station.now }
+    {
+        self.key_in(station.as_slice())
+    }
+
+    /// The same for the octets of a station.
+    pub fn key_in(self, octets: &[u8]) -> Option<u64>
+        ensures { result ≡ key_in self octets.now }
+    {
+        if self.names_stations() {
+            key_of(octets)
+        } else {
+            key48(octets)
         }
     }
 }

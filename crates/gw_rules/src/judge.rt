@@ -1,7 +1,7 @@
 //! What any judge of a policy answers, however it keeps the policy.
 ghost use Rattle.std.specs.Prelude.{◌≡◌, List};
 ghost use Rattle.gw_rules.specs.declared.rule.Rule.{Rule};
-ghost use Rattle.gw_rules.specs.RuleList.{allows, decide, first};
+ghost use Rattle.gw_rules.specs.RuleList.{allows, decide, first, is_quiet_by};
 
 use crate::{Ask, Decision, RuleList};
 
@@ -19,6 +19,10 @@ pub trait Judge {
     /// Whether there is a first rule that matches the ask, and it says allow.
     fn allows(&self, ask: &Ask) -> bool
         ensures { (rules : List Rule) → StandsFor self.now rules → result ≡ allows rules ask.now };
+
+    /// Whether the rule of a number is quiet, if it is one's.
+    fn is_quiet(&self, by: Option<u16>) -> bool
+        ensures { (rules : List Rule) → StandsFor self.now rules → result ≡ is_quiet_by rules by };
 
     /// Both at once: whether the ask is allowed, and which rule denies it. A judge that finds both by
     /// one walk says so by a body of its own.
@@ -44,6 +48,10 @@ impl Judge for RuleList {
 
     fn allows(&self, ask: &Ask) -> bool {
         RuleList::allows(self, ask)
+    }
+
+    fn is_quiet(&self, by: Option<u16>) -> bool {
+        RuleList::is_quiet(self, by)
     }
 
     fn decide(&self, ask: &Ask) -> Decision {

@@ -1,6 +1,6 @@
 //! Laws of a policy, of every rule, list of rules and ask. The functions do nothing: their
 //! contracts are the laws.
-ghost use Rattle.std.specs.Prelude.{◌≡◌, ◌↔◌, ◌<◌, ◌-◌, ◌++◌, ℕ, List, [], ◌∷◌, IsTrue, IfSome, All, Option, filter, map, not, slice_get};
+ghost use Rattle.std.specs.Prelude.{◌≡◌, ◌↔◌, ◌<◌, ◌-◌, ◌++◌, ◌&&◌, ℕ, Some, None, false, List, [], ◌∷◌, IsTrue, IfSome, All, Option, filter, map, not, slice_get};
 ghost use Rattle.gw_rules.specs.declared.decision.Decision.{Decision};
 ghost use Rattle.gw_rules.specs.declared.field.FieldName.{FieldName};
 ghost use Rattle.gw_rules.specs.declared.format.Format.{Format};
@@ -15,7 +15,8 @@ ghost use Rattle.gw_rules.specs.Bounds.{HasBoundedRanges, are_bounded, bounds};
 ghost use Rattle.gw_rules.specs.Field.{field_number};
 ghost use Rattle.gw_rules.specs.Operation.{operation_name, operation_number};
 ghost use Rattle.gw_rules.specs.Rule.{Matches, matches};
-ghost use Rattle.gw_rules.specs.RuleList.{Allows, IsFirst, IsNumberOf, KeepsCounts, KeepsLongCounts, KeepsOrder, allows, decide, first, keeps_counts, keeps_long_counts, keeps_order};
+ghost use Rattle.gw_rules.specs.BothWays.{back_of, is_answer, is_on_way, judges, matches_stations, matches_way, mirrored, routes, way_of};
+ghost use Rattle.gw_rules.specs.RuleList.{Allows, IsFirst, IsNumberOf, KeepsCounts, KeepsLongCounts, KeepsOrder, allows, decide, first, has_no_quiet, is_logged, keeps_counts, keeps_long_counts, keeps_order, without_quiet};
 ghost use Rattle.gw_rules.specs.Service.{own_number, service_number};
 
 use crate::{
@@ -51,16 +52,50 @@ pub fn decision()
         (decide rules ask ≡ Decision.Deny by) ↔ ((¬ Allows rules ask) × (first rules ask ≡ by)) }
 {}
 
-/// What is refused of a list of asks are exactly the asks that aren't allowed, in their order, each
-/// by its first rule or by none. Asks that are put one after the other are refused so too.
+/// What is logged of a list of asks are exactly the asks that aren't allowed and whose first rule, if there is
+/// one, isn't quiet, in their order, each by that rule or by none. Asks that are put one after the other are
+/// logged so too. Where no rule is quiet, these are all that aren't allowed.
 pub fn refusals()
+    ensures logged { (rules : List Rule) (ask : Ask) → IsTrue (is_logged rules ask) ↔
+        ((¬ Allows rules ask) ×
+        ((number : ℕ) (is : IsFirst rules ask number) → is.rule.quiet ≡ false)) }
     ensures asks { (rules : List Rule) (asks : List Ask) →
+        map (λ r. r.ask) (denied_of rules asks) ≡ filter (is_logged rules) asks }
+    ensures none_quiet { (rules : List Rule) (ask : Ask) → IsTrue (has_no_quiet rules) →
+        is_logged rules ask ≡ not (allows rules ask) }
+    ensures all { (rules : List Rule) (asks : List Ask) → IsTrue (has_no_quiet rules) →
         map (λ r. r.ask) (denied_of rules asks) ≡ filter (λ ask. not (allows rules ask)) asks }
     ensures by { (rules : List Rule) (asks : List Ask) →
         map (λ r. r.by) (denied_of rules asks)
         ≡ map (λ r. first rules r.ask) (denied_of rules asks) }
     ensures joined { (rules : List Rule) (asks more : List Ask) →
         denied_of rules (asks ++ more) ≡ denied_of rules asks ++ denied_of rules more }
+{}
+
+/// Whether rules are quiet changes nothing of what matches and of what is allowed or denied by which rule: two
+/// lists that differ in that alone say the same of each ask.
+pub fn quiet()
+    ensures first { (one two : List Rule) (ask : Ask) → without_quiet one ≡ without_quiet two →
+        first one ask ≡ first two ask }
+    ensures allows { (one two : List Rule) (ask : Ask) → without_quiet one ≡ without_quiet two →
+        allows one ask ≡ allows two ask }
+    ensures decide { (one two : List Rule) (ask : Ask) → without_quiet one ≡ without_quiet two →
+        decide one ask ≡ decide two ask }
+{}
+
+/// What the two rules match that go with a rule: that of the requests' way each ask to route a request that the
+/// rule judges, or what acknowledges or aborts an answer, that the rule matches by port, networks, source, sender
+/// and station; that of the answers each ask to route an answer, which the rule, once its networks and its stations
+/// are exchanged, matches by networks and stations.
+pub fn both_ways()
+    ensures way { (rule way : Rule) (ask : Ask) → way_of rule ≡ Some way →
+        matches way ask ≡ (routes (is_on_way rule) ask && matches_way rule ask) }
+    ensures no_way { (rule : Rule) → (way_of rule ≡ None) ↔
+        ((judges Operation.Read 12 rule ≡ false) × (judges Operation.Read 14 rule ≡ false)
+        × (judges Operation.Write 15 rule ≡ false)) }
+    ensures back { (rule : Rule) (ask : Ask) →
+        matches (back_of rule) ask ≡ (routes is_answer ask && matches_stations rule (mirrored ask)) }
+    ensures numbers { operation_number Operation.Route ≡ 2 }
 {}
 
 /// The limits are 512 rules and 32 characters of a name; four ranges for a field, or in a long list 256
@@ -89,8 +124,8 @@ pub fn bounds()
         ∷ 281474976710655 ∷ 281474976710655 ∷ [] }
     ensures two { (field : FieldName) → bounds Format.Two field ≡ bounds Format.One field }
     ensures three { map (λ field. (bounds Format.Three field).high) FieldName.ALL ≡
-        13 ∷ 8 ∷ 65534 ∷ 281474976710655 ∷ 65535 ∷ 1031 ∷ 1023 ∷ 4194303 ∷ 4194303 ∷ 16
-        ∷ 281474976710655 ∷ 281474976710655 ∷ [] }
+        13 ∷ 8 ∷ 65534 ∷ 576460752303423487 ∷ 65535 ∷ 1031 ∷ 1023 ∷ 4194303 ∷ 4194303 ∷ 16
+        ∷ 281474976710655 ∷ 576460752303423487 ∷ [] }
     ensures bounded { (format : Format) (rule : Rule) →
         IsTrue (are_bounded format rule.ranges) ↔ HasBoundedRanges format rule }
 {}

@@ -9,6 +9,7 @@
 mod ask;
 mod asker;
 mod authorizer;
+mod both_ways;
 mod decision;
 mod fault;
 mod field;

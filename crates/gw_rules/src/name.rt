@@ -1,5 +1,5 @@
 //! The name of a rule.
-ghost use Rattle.std.specs.Prelude.{◌≡◌, ◌↔◌, codes, IfOk, IsErrOf, IsFalse, IsOkUnless, IsTrue};
+ghost use Rattle.std.specs.Prelude.{◌≡◌, ◌↔◌, ◌++◌, ◌+◌, ◌≤◌, codes, length, take, IfOk, IsErrOf, IsFalse, IsOkUnless, IsTrue};
 ghost use Rattle.std.specs.List.{list_all};
 ghost use Rattle.gw_rules.specs.Name.{is_name, is_name_character, is_no_rule};
 
@@ -61,11 +61,30 @@ impl RuleName {
         }
     }
 
+    /// The name with this text behind it. `Range`, its only fault, if that is no name.
+    pub fn followed_by(&self, end: &str) -> Result<Self, RuleFault>
+        ensures text { IfOk result (λ name. name ≡ self.now ++ end.now) }
+        ensures range { IsErrOf result RuleFault.Range ↔ IsFalse (is_name (self.now ++ end.now)) }
+        ensures only { IsOkUnless result RuleFault.Range }
+    {
+        let front = self.as_bytes();
+        let end = end.as_bytes();
+        if MAX_NAME - front.len() < end.len() {
+            return Err(RuleFault::Range);
+        }
+        let octets = joined(front, end);
+        let text = &octets[..front.len() + end.len()];
+        if !spells_name(text) {
+            return Err(RuleFault::Range);
+        }
+        Ok(kept(text))
+    }
+
     /// Whether a text is a name: 1 to 32 of the characters `a` to `z`, `0` to `9` and `-`.
     pub fn is_name(text: &str) -> bool
         ensures { result ≡ is_name text.now }
     {
-        1 <= text.len() && text.len() <= MAX_NAME && are_name_characters(text.as_bytes())
+        spells_name(text.as_bytes())
     }
 
     /// Whether a text is [`NO_RULE`].
@@ -104,6 +123,26 @@ fn kept(octets: &[u8]) -> RuleName
         octets: kept,
         len: octets.len() as u8,
     }
+}
+
+/// Octets with others behind them, in front of what they are kept in.
+fn joined(front: &[u8], end: &[u8]) -> [u8; MAX_NAME]
+    requires { length front.now + length end.now ≤ 32 }
+    ensures { take (length front.now + length end.now) result ≡ front.now ++ end.now }
+{
+    let mut octets = [0; MAX_NAME];
+    let (first, rest) = octets.split_at_mut(front.len());
+    first.copy_from_slice(front);
+    let (second, _) = rest.split_at_mut(end.len());
+    second.copy_from_slice(end);
+    octets
+}
+
+/// Whether octets are those of a name.
+fn spells_name(text: &[u8]) -> bool
+    ensures { result ≡ is_name text.now }
+{
+    1 <= text.len() && text.len() <= MAX_NAME && are_name_characters(text)
 }
 
 fn are_name_characters(octets: &[u8]) -> bool

@@ -38,7 +38,8 @@ pub fn admit(ranges: &[Range], value: Option<u64>) -> bool
     }
 }
 
-fn any_holds(ranges: &[Range], value: u64) -> bool
+/// Whether one of the ranges holds the value.
+pub(crate) fn any_holds(ranges: &[Range], value: u64) -> bool
     ensures { result ≡ list_any (holds value) ranges.now }
 {
     ranges.iter().any(|range| range.holds(value))

@@ -61,6 +61,7 @@ impl<'a, J: Judge> Recorder<'a, J> {
             ask: *ask,
             is_allowed,
             by,
+            is_quiet: self.judge.is_quiet(by),
         })?;
         Ok(is_allowed)
     }

@@ -26,6 +26,8 @@ pub struct Rule {
     pub name: RuleName,
     /// Whether an ask is allowed whose first matching rule this is.
     pub allow: bool,
+    /// Whether an ask that it denies is left out of the log.
+    pub quiet: bool,
     /// The ranges for each field.
     pub ranges: Fields<Ranges>,
 }
@@ -36,13 +38,14 @@ impl Drop for Rule {
         let Rule {
             name: _,
             allow: _,
+            quiet: _,
             ranges: _,
         } = self;
     }
 }
 
 impl Rule {
-    /// A rule that names no field, and so matches every ask. `Range`, its only fault, if its name is none, as
+    /// A rule that names no field, and so matches every ask, and isn't quiet. `Range`, its only fault, if its name is none, as
     /// [`RuleName`] says.
     pub fn new(alloc: Global, name: &str, allow: bool) -> Result<Self, RuleFault>
         ensures rule { IfOk result (λ rule. rule ≡ rule_without_fields name.now allow) }
@@ -52,6 +55,7 @@ impl Rule {
         Ok(Rule {
             name: RuleName::new(name)?,
             allow,
+            quiet: false,
             ranges: no_ranges(alloc),
         })
     }

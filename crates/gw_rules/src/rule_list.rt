@@ -5,7 +5,7 @@ ghost use Rattle.gw_rules.specs.declared.rule.Rule.{Rule};
 ghost use Rattle.gw_rules.specs.declared.rule_list.TheConstants.{MAX_RANGES_IN_ALL};
 ghost use Rattle.gw_rules.specs.Hides.{HidesFrom, HidesFromNetwork, IsHidden, hides, may_match, may_match_some, must_match, must_match_all, reading, settles};
 ghost use Rattle.gw_rules.specs.Rule.{each_field, has_few_ranges, has_long_ranges, matches};
-ghost use Rattle.gw_rules.specs.RuleList.{IsNumberOf, KeepsLongCounts, KeepsOrder, allows, decide, first, keeps_counts, keeps_long_counts, keeps_order, ranges_in_all};
+ghost use Rattle.gw_rules.specs.RuleList.{IsNumberOf, KeepsLongCounts, KeepsOrder, allows, decide, first, is_quiet_at, is_quiet_by, keeps_counts, keeps_long_counts, keeps_order, ranges_in_all};
 
 use crate::{Ask, Decision, FieldName, Operation, Rule, RuleFault};
 use std::marker::Model;
@@ -105,6 +105,25 @@ impl RuleList {
         ensures no_rules { self.now ≡ [] → result ≡ false }
     {
         self.verdict(ask).1
+    }
+
+    /// Whether the rule of a number is quiet, if it is one's. The number is counted from 1.
+    pub fn is_quiet(&self, by: Option<u16>) -> bool
+        ensures { result ≡ is_quiet_by self.now by }
+    {
+        match by {
+            Some(number) => self.is_quiet_at(number),
+            None => false,
+        }
+    }
+
+    fn is_quiet_at(&self, number: u16) -> bool
+        ensures { result ≡ is_quiet_at self.now number }
+    {
+        match self.rules.get(usize::from(number).saturating_sub(1)) {
+            Some(rule) => rule.quiet,
+            None => false,
+        }
     }
 
     /// Both at once, by one walk: whether the ask is allowed, and which rule denies it.

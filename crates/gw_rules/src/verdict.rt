@@ -12,6 +12,8 @@ pub struct Verdict {
     pub is_allowed: bool,
     /// The number of the first rule that matches it, counted from 1; `None` if no rule matches.
     pub by: Option<u16>,
+    /// Whether that rule is quiet, so a denial by it isn't logged.
+    pub is_quiet: bool,
 }
 
 /// Verdicts in order. Contracts see the list of them.
