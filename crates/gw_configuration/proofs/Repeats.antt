@@ -6,7 +6,7 @@ use Rattle.std.specs.List.{list_any}
 use Rattle.std.specs.Option.{option_map}
 use Rattle.gw_configuration.specs.declared.port.Port.{Port}
 use Rattle.gw_configuration.specs.Configuration.{Configuration}
-use Rattle.gw_configuration.specs.Duplicates.{address_twice, has_duplicates, has_twice, identifier_twice, identifiers, name_twice, names, network_twice, networks, or_else, peer_addresses, peer_twice, peers_twice, port_addresses, repetition, rule_names, rule_twice, second, set_names, set_twice}
+use Rattle.gw_configuration.specs.Duplicates.{address_twice, assertion_names, assertion_twice, has_duplicates, has_twice, identifier_twice, identifiers, name_twice, names, network_twice, networks, or_else, peer_addresses, peer_twice, peers_twice, port_addresses, repetition, rule_names, rule_twice, second, set_names, set_twice}
 use Rattle.gw_configuration.proofs.Twice.{same_numbers, same_texts, second_twice}
 
 mapped : {A B : Type 0} (f : A → B) (o : Option A) → is_some (option_map f o) ≡ is_some o
@@ -41,7 +41,8 @@ repetition_found c =
     (joined _ _ _ _ (number_found identifier_twice (identifiers c.objects))
     (joined _ _ _ _ (text_found name_twice (names c.device c.objects))
     (joined _ _ _ _ (text_found set_twice (set_names c.sets))
-    (text_found rule_twice (rule_names c.rules)))))))
+    (joined _ _ _ _ (text_found (rule_twice c.tables) (rule_names c.rules))
+    (text_found assertion_twice (assertion_names c.assertions))))))))
 
 pub none_stands_twice : (c : Configuration) → repetition c ≡ None → has_duplicates c ≡ false
 none_stands_twice c none = sym (repetition_found c) ∙ ap is_some none

@@ -1,6 +1,6 @@
 -- What may appear only once in a configuration.
 use Rattle.std.specs.Prelude.{◌≡◌, is_some, ℕ, ◌+◌, ◌-◌, ◌*◌, ◌/◌, ◌%◌, ◌^◌, ◌++◌, ◌==◌, Bool, false, ◌||◌, nat_eq}
-use Rattle.std.specs.Prelude.{nat_lt, List, [], ◌∷◌, length, map, codes, if◌then◌else◌, Option, Some, None, Ok}
+use Rattle.std.specs.Prelude.{nat_lt, List, [], ◌∷◌, length, map, codes, if◌then◌else◌, Option, Some, None, unwrap_or, Ok, slice_get}
 use Rattle.std.specs.Cmp.Lexicographic.{pointwise}
 use Rattle.std.specs.List.{flat_map, list_any}
 use Rattle.std.specs.Option.{option_map}
@@ -8,11 +8,13 @@ use Rattle.gw_addr.specs.Address.{big_endian, octets_of}
 use Rattle.gw_addr.specs.declared.bip.BipAddr.{BipAddr}
 use Rattle.gw_addr.specs.declared.entry.BdtEntry.{BdtEntry}
 use Rattle.gw_rules.specs.declared.rule.Rule.{Rule as RuleEntry}
+use Rattle.gw_configuration.specs.declared.assertion.Assertion.{Assertion as AssertionEntry}
 use Rattle.gw_configuration.specs.declared.device.Device.{Device as DeviceEntry}
 use Rattle.gw_configuration.specs.declared.fault.ConfigFault.TheVariants.{Duplicate}
 use Rattle.gw_configuration.specs.declared.object.Object.{Object as ObjectEntry}
 use Rattle.gw_configuration.specs.declared.located.Place.{Place}
 use Rattle.gw_configuration.specs.declared.located.Place.TheVariants.{Port, Peer, Device, Route, Object, Set, Rule}
+use Rattle.gw_configuration.specs.declared.located.Place.TheVariants.{Assertion}
 use Rattle.gw_configuration.specs.declared.port.Port.{Port as PortEntry}
 use Rattle.gw_configuration.specs.declared.set.Set.{Set as SetEntry}
 use Rattle.gw_configuration.specs.Configuration.{Configuration}
@@ -57,6 +59,9 @@ set_names sets = map (λ set. set.name) sets
 abbrev pub rule_names : List RuleEntry → List (List ℕ)
 rule_names rules = map (λ rule. rule.name) rules
 
+abbrev pub assertion_names : List AssertionEntry → List (List ℕ)
+assertion_names assertions = map (λ assertion. assertion.name) assertions
+
 -- something appears twice that may appear only once
 unfoldable pub has_duplicates : Configuration → Bool
 has_duplicates c =
@@ -66,7 +71,8 @@ has_duplicates c =
     || (has_twice nat_eq (identifiers c.objects)
     || (has_twice (pointwise nat_eq) (names c.device c.objects)
     || (has_twice (pointwise nat_eq) (set_names c.sets)
-    || has_twice (pointwise nat_eq) (rule_names c.rules))))))
+    || (has_twice (pointwise nat_eq) (rule_names c.rules)
+    || has_twice (pointwise nat_eq) (assertion_names c.assertions)))))))
 
 -- where it appears for the second time
 
@@ -105,8 +111,12 @@ name_twice index = twice (if index == 0 then Device else Object (index - 1)) (co
 abbrev pub set_twice : ℕ → Located
 set_twice index = twice (Set index) (codes "name")
 
-abbrev pub rule_twice : ℕ → Located
-rule_twice index = twice (Rule index) (codes "name")
+-- at the table that the rule of the list comes from
+abbrev pub rule_twice : List ℕ → ℕ → Located
+rule_twice tables index = twice (Rule (unwrap_or (slice_get tables index) 0)) (codes "name")
+
+abbrev pub assertion_twice : ℕ → Located
+assertion_twice index = twice (Assertion index) (codes "name")
 
 -- one after the other
 abbrev pub or_else : {A : Type 0} → Option A → Option A → Option A
@@ -127,7 +137,8 @@ repetition c =
     (or_else (option_map identifier_twice (second nat_eq (identifiers c.objects)))
     (or_else (option_map name_twice (second (pointwise nat_eq) (names c.device c.objects)))
     (or_else (option_map set_twice (second (pointwise nat_eq) (set_names c.sets)))
-    (option_map rule_twice (second (pointwise nat_eq) (rule_names c.rules))))))))
+    (or_else (option_map (rule_twice c.tables) (second (pointwise nat_eq) (rule_names c.rules)))
+    (option_map assertion_twice (second (pointwise nat_eq) (assertion_names c.assertions)))))))))
 
 -- law: such a place is found exactly if something appears twice
 abbrev pub RepetitionsAreNamed : Type 0

@@ -1,3 +1,4 @@
+pub mod Assertion
 pub mod Configuration
 pub mod Duplicates
 pub mod Kinds

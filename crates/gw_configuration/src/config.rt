@@ -3,12 +3,12 @@ ghost use Rattle.std.specs.Prelude.{◌≡◌, ◌≤◌, ◌||◌, ◌&&◌, �
 ghost use Rattle.std.specs.List.{list_all};
 ghost use Rattle.gw_addr.specs.declared.TheConstants.{MAX_PORTS};
 ghost use Rattle.gw_rules.specs.Format.{names_stations};
-ghost use Rattle.gw_configuration.specs.Configuration.{is_by, is_configurable, is_managed, is_named, is_plain};
+ghost use Rattle.gw_configuration.specs.Configuration.{are_places, is_assertable, is_by, is_configurable, is_managed, is_named, is_plain, policing_of};
 ghost use Rattle.gw_configuration.specs.Duplicates.{has_duplicates, unique};
 ghost use Rattle.gw_configuration.specs.Reading.{Finds};
 
 use crate::duplicates::repetition;
-use crate::{Device, Located, Object, Parts, Port, Route, Set, Text};
+use crate::{Assertion, Device, Located, Object, Parts, Port, Route, Set, Text};
 use gw_addr::NetNum;
 use gw_rules::{Format, RuleList};
 use std::alloc::{AllocError, Global};
@@ -56,9 +56,10 @@ impl Config {
     pub fn format(&self) -> Format
         ensures format { result ≡ self.now.format }
         // In formats 1 and 2 nothing is announced, no port has stations or another broadcast manager, there is no
-        // set, no note and no audit, and no rule has more than four ranges for a field.
-        ensures plain { IsTrue (names_stations self.now.format || (not self.now.announce
-            && is_plain self.now.ports self.now.rules self.now.notes self.now.audits self.now.sets)) }
+        // set, no note, no audit and no assertion, no rule has more than four ranges for a field or is quiet, and
+        // each is that of its own table.
+        ensures plain { IsTrue (names_stations self.now.format
+            || (not self.now.announce && is_plain self.now.ports (policing_of self.now))) }
     {
         self.parts.format()
     }
@@ -135,6 +136,24 @@ impl Config {
         self.parts.rules()
     }
 
+    /// For each rule in their order the position, from 0, of the table of the text that it comes from.
+    pub fn tables(&self) -> &[u16]
+        ensures tables { result.now ≡ self.now.tables }
+        ensures each { length self.now.tables ≡ length self.now.rules }
+        // In order, and each is that of a table.
+        ensures places { IsTrue (are_places self.now.written 0 self.now.tables) }
+    {
+        self.parts.tables()
+    }
+
+    /// How many tables of rules the text has, at most 512, those of rules that are turned off too.
+    pub fn written_rules(&self) -> u16
+        ensures written { result ≡ self.now.written }
+        ensures most { self.now.written ≤ 512 }
+    {
+        self.parts.written_rules()
+    }
+
     /// The note of each rule in their order, empty if it has none.
     pub fn notes(&self) -> &[Text]
         ensures notes { result.now ≡ self.now.notes }
@@ -156,6 +175,16 @@ impl Config {
         ensures { result.now ≡ self.now.sets }
     {
         self.parts.sets()
+    }
+
+    /// The assertions in order, at most 512, none of them named `default`, of fields that can have what they name in
+    /// format 3, with at most 256 ranges each.
+    pub fn assertions(&self) -> &[Assertion]
+        ensures assertions { result.now ≡ self.now.assertions }
+        ensures most { length self.now.assertions ≤ 512 }
+        ensures each { IsTrue (list_all is_assertable self.now.assertions) }
+    {
+        self.parts.assertions()
     }
 
     /// The policy, where the rest isn't wanted any more.

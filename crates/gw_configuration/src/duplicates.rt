@@ -1,11 +1,13 @@
 //! What may appear only once in a configuration.
-ghost use Rattle.std.specs.Prelude.{◌≡◌, ◌++◌, ◌∷◌, codes, length, map, nat_eq, option_map, IfOk, OnOk};
+ghost use Rattle.std.specs.Prelude.{◌≡◌, ◌++◌, ◌∷◌, codes, length, map, nat_eq, option_map, slice_get, unwrap_or, IfOk, OnOk};
 ghost use Rattle.std.specs.Cmp.Lexicographic.{pointwise};
 ghost use Rattle.gw_configuration.specs.Duplicates as spec;
 ghost use Rattle.gw_configuration.specs.Located.{located_view};
-ghost use Rattle.gw_configuration.specs.Duplicates.{identifier, identifiers, names, peer_addresses, peers_twice, port_addresses, repetition, rule_names, second, set_names, twice};
+ghost use Rattle.gw_configuration.specs.Duplicates.{assertion_names, identifier, identifiers, names, peer_addresses, peers_twice, port_addresses, repetition, rule_names, second, set_names, twice};
 
-use crate::{ConfigFault, Device, Located, Object, ObjectValue, Parts, Place, Port, Route, Set};
+use crate::{
+    Assertion, ConfigFault, Device, Located, Object, ObjectValue, Parts, Place, Port, Route, Set,
+};
 use gw_addr::BdtEntry;
 use gw_rules::Rule;
 use std::alloc::{AllocError, Global};
@@ -39,7 +41,10 @@ pub(crate) fn repetition<'a>(
     if let Some(located) = set_twice(alloc, parts.sets())? {
         return Ok(Some(located));
     }
-    rule_twice(alloc, parts.rules().rules())
+    if let Some(located) = rule_twice(alloc, parts.tables(), parts.rules().rules())? {
+        return Ok(Some(located));
+    }
+    assertion_twice(alloc, parts.assertions())
 }
 
 /// This key appears there for the second time.
@@ -245,12 +250,51 @@ fn second_rule(alloc: Global, rules: &[Rule]) -> Result<Option<usize>, AllocErro
     second_text(alloc, &all)
 }
 
-fn rule_twice<'a>(alloc: Global, rules: &[Rule]) -> Result<Option<Located<'a>>, AllocError>
-    ensures { let found = option_map spec.rule_twice (second (pointwise nat_eq) (rule_names rules.now)) in
+/// The tables are those that the rules come from, in their order.
+fn rule_twice<'a>(
+    alloc: Global,
+    tables: &[u16],
+    rules: &[Rule],
+) -> Result<Option<Located<'a>>, AllocError>
+    ensures { let found = option_map (spec.rule_twice tables.now) (second (pointwise nat_eq) (rule_names rules.now)) in
         IfOk result (λ l. option_map located_view l ≡ found) }
 {
     match second_rule(alloc, rules)? {
-        Some(index) => Ok(Some(twice(Place::Rule(index), "name"))),
+        Some(index) => Ok(Some(twice(Place::Rule(table_of(tables, index)), "name"))),
+        None => Ok(None),
+    }
+}
+
+/// The table that the rule at a position of the list comes from.
+fn table_of(tables: &[u16], index: usize) -> usize
+    ensures { result ≡ unwrap_or (slice_get tables.now index) 0 }
+{
+    match tables.get(index) {
+        Some(table) => usize::from(*table),
+        None => 0,
+    }
+}
+
+fn second_assertion(alloc: Global, assertions: &[Assertion]) -> Result<Option<usize>, AllocError>
+    ensures { IfOk result (λ p. p ≡ second (pointwise nat_eq) (assertion_names assertions.now)) }
+{
+    let mut all = Vec::new(alloc);
+    for assertion in assertions {
+        all.push(assertion.name.as_str())?;
+    }
+    second_text(alloc, &all)
+}
+
+fn assertion_twice<'a>(
+    alloc: Global,
+    assertions: &[Assertion],
+) -> Result<Option<Located<'a>>, AllocError>
+    ensures { let names = assertion_names assertions.now in
+        let found = option_map spec.assertion_twice (second (pointwise nat_eq) names) in
+        IfOk result (λ l. option_map located_view l ≡ found) }
+{
+    match second_assertion(alloc, assertions)? {
+        Some(index) => Ok(Some(twice(Place::Assertion(index), "name"))),
         None => Ok(None),
     }
 }

@@ -13,6 +13,7 @@ ghost use Rattle.gw_configuration.specs.Shown.{IsShownWhole, ShowsNoneHidden, hi
 ghost use Rattle.gw_rules.specs.declared.format.Format.TheVariants.{One, Three, Two};
 
 use crate::Subnet;
+use crate::assertion::{MAX_ASSERTIONS, READING_SERVICES, WRITING_SERVICES};
 use crate::instance::MAX_INSTANCE;
 use crate::object::MAX_STATES;
 use crate::parts::{MAX_OBJECTS, MAX_ROUTES};
@@ -21,8 +22,8 @@ use crate::stations::MAX_STATIONS;
 use crate::text::MAX_TEXT;
 use gw_addr::MAX_PORTS;
 
-/// The limits are 8 ports, 64 peers of each, 16 subnets of each, 512 routes, 256 objects, 64 states of each, 255 octets of a
-/// text, and the last instance, 4194302.
+/// The limits are 8 ports, 64 peers of each, 16 subnets of each, 512 routes, 256 objects, 64 states of each, 512 assertions, 255
+/// octets of a text, and the last instance, 4194302.
 pub fn limits()
     ensures ports { MAX_PORTS ≡ 8 }
     ensures peers { MAX_PEERS ≡ 64 }
@@ -30,6 +31,7 @@ pub fn limits()
     ensures routes { MAX_ROUTES ≡ 512 }
     ensures objects { MAX_OBJECTS ≡ 256 }
     ensures states { MAX_STATES ≡ 64 }
+    ensures assertions { MAX_ASSERTIONS ≡ 512 }
     ensures text { MAX_TEXT ≡ 255 }
     ensures instance { MAX_INSTANCE ≡ 4194302 }
 {}
@@ -39,6 +41,13 @@ pub fn formats()
     ensures one { format_of 1 ≡ One }
     ensures two { format_of 2 ≡ Two }
     ensures three { format_of 3 ≡ Three }
+{}
+
+/// The services by which a device is read, and those by which it is written or changed, without an ask that says so.
+pub fn services()
+    ensures reading { READING_SERVICES ≡ 3 ∷ 4 ∷ 5 ∷ 6 ∷ 13 ∷ 26 ∷ 28 ∷ 29 ∷ 30 ∷ 33 ∷ [] }
+    ensures writing { WRITING_SERVICES ≡ 0 ∷ 7 ∷ 8 ∷ 9 ∷ 10 ∷ 11 ∷ 16 ∷ 17 ∷ 18 ∷ 19 ∷ 20 ∷ 21 ∷ 22 ∷ 23 ∷ 27
+        ∷ 260 ∷ 261 ∷ 262 ∷ 265 ∷ 266 ∷ 270 ∷ [] }
 {}
 
 /// Each value of the type has a prefix of at most 32 bits, and zeros after them in its network.

@@ -2,6 +2,7 @@
 //! twice that may appear only once. Where a fault of a configuration is.
 #![tactic(auto)]
 
+mod assertion;
 mod config;
 mod device;
 mod display;
@@ -24,6 +25,7 @@ mod subnet;
 mod text;
 mod top;
 
+pub use assertion::{Assertion, MAX_ASSERTIONS, READING_SERVICES, WRITING_SERVICES};
 pub use config::Config;
 pub use device::Device;
 pub use display::{ShownOctets, put_shown, shown};
@@ -38,7 +40,7 @@ pub use port::{MAX_PEERS, Peers, Port};
 pub use route::Route;
 pub use run_options::RunOptions;
 pub use set::Set;
-pub use shape::{Names, Scalar, Shape};
+pub use shape::{Names, Naming, Scalar, Shape};
 pub use stations::{MAX_STATIONS, Stations};
 pub use subnet::Subnet;
 pub use text::{MAX_TEXT, Text};

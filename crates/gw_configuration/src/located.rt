@@ -27,6 +27,8 @@ pub enum Place {
     Set(usize),
     /// A rule.
     Rule(usize),
+    /// An assertion.
+    Assertion(usize),
 }
 
 /// A fault with its place. `located_view` is what contracts see of it.

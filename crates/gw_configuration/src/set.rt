@@ -6,7 +6,7 @@ use gw_rules::RuleName;
 pub struct Set {
     /// Its name.
     pub name: RuleName,
-    /// Whether a rule names it.
+    /// Whether a rule or an assertion names it.
     pub used: bool,
 }
 

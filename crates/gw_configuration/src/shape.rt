@@ -13,6 +13,17 @@ pub enum Names {
     Properties,
 }
 
+/// Whose a field is: what it may name hangs on that.
+#[derive(Clone, Copy)]
+pub enum Naming {
+    /// That of a rule of this format.
+    Rule(Format),
+    /// That of a rule of format 3 that goes both ways.
+    BothWays,
+    /// That of an assertion.
+    Assertion,
+}
+
 /// What a single value may be.
 #[derive(Clone, Copy)]
 pub enum Scalar {
@@ -24,12 +35,20 @@ pub enum Scalar {
     ObjectType,
     /// A text of at least so many octets, and at most 255.
     Text { least: usize },
-    /// The name of a rule.
+    /// The name of a rule, a set or an assertion.
     RuleName,
-    /// An operation that a rule of this format can name, by its name.
-    Operation(Format),
+    /// The name of a rule that goes both ways, of at most 27 octets.
+    ShortName,
+    /// An operation that can be named there, by its name.
+    Operation(Naming),
     /// True or false.
     Boolean,
+    /// True, as a rule allows that goes both ways.
+    True,
+    /// False, as a rule that allows isn't quiet.
+    False,
+    /// What an assertion says of asks: `allowed` or `denied`.
+    Verdict,
     /// An address, `a.b.c.d:port`.
     Address,
     /// The broadcast manager beside a port: an address `a.b.c.d:port` that is neither the port's own nor its
@@ -44,6 +63,9 @@ pub enum Scalar {
     /// Stations of BACnet/IP: one by its address, `a.b.c.d:port`; those at every UDP port of a node,
     /// `a.b.c.d`, or of a subnet, `a.b.c.d/n`.
     Stations,
+    /// Stations of every length: those of BACnet/IP, or one by its octets, `mac:` and 1, 2, 3, 4, 5 or 7 pairs of
+    /// hexadecimal digits.
+    AnyStations,
     /// A subnet, `a.b.c.d/n`.
     Subnet,
     /// An item of a set, whatever the field is in whose rule it is named: a text that doesn't begin with
@@ -62,10 +84,10 @@ pub enum Shape {
         least: usize,
         most: usize,
     },
-    /// A list of one to four items for a field of a rule, each of which is one value, or a list of
+    /// A list of one to four items for a field of a rule of format 1 or 2, each of which is one value, or a list of
     /// two, low and high.
     Ranges(Scalar),
-    /// A list of one to 64 items for a field of a rule, each of which is one value, a list of two, low and
+    /// A list of one to 64 items for a field of a rule or an assertion, each of which is one value, a list of two, low and
     /// high, or `@` and the name of a set, whose items are meant; at most 256 in all.
     Items(Scalar),
 }

@@ -1,9 +1,9 @@
 //! Whether two values are the same.
 ghost use Rattle.std.specs.Prelude.{◌≡◌, IsTrue};
 
-use crate::{Device, Object, ObjectValue, Port, Route, Subnet, Text, laws};
+use crate::{Assertion, Device, Object, ObjectValue, Port, Route, Subnet, Text, laws};
 use gw_addr::{BdtEntry, BipAddr};
-use gw_rules::{FieldName, Format, Range, Rule};
+use gw_rules::{FieldName, Fields, Format, Range, Ranges, Rule};
 
 /// What can be compared.
 pub trait Same {
@@ -34,6 +34,12 @@ impl Same for Text {
 }
 
 impl Same for bool {
+    fn is_same(&self, other: &Self) -> bool {
+        *self == *other
+    }
+}
+
+impl Same for u16 {
     fn is_same(&self, other: &Self) -> bool {
         *self == *other
     }
@@ -183,19 +189,29 @@ impl Same for Rule {
     fn is_same(&self, other: &Self) -> bool {
         self.name.as_str() == other.name.as_str()
             && self.allow == other.allow
-            && have_same_ranges(self, other)
+            && self.quiet == other.quiet
+            && have_same_ranges(&self.ranges, &other.ranges)
     }
 }
 
-/// Whether two rules have the same ranges for each field.
-fn have_same_ranges(rule: &Rule, other: &Rule) -> bool
-    ensures { IsTrue result → rule.now.ranges ≡ other.now.ranges }
+impl Same for Assertion {
+    fn is_same(&self, other: &Self) -> bool {
+        self.name.as_str() == other.name.as_str()
+            && self.is_allowed == other.is_allowed
+            && have_same_ranges(&self.ranges, &other.ranges)
+            && self.any_read == other.any_read
+            && self.any_write == other.any_write
+            && self.unnamed == other.unnamed
+            && self.note.is_same(&other.note)
+    }
+}
+
+/// Whether two have the same ranges for each field.
+fn have_same_ranges(ranges: &Fields<Ranges>, other: &Fields<Ranges>) -> bool
+    ensures { IsTrue result → ranges.now ≡ other.now }
 {
     for field in FieldName::ALL.iter() {
-        if !are_same(
-            rule.ranges(*field).as_slice(),
-            other.ranges(*field).as_slice(),
-        ) {
+        if !are_same(ranges.get(*field).as_slice(), other.get(*field).as_slice()) {
             return false;
         }
     }
