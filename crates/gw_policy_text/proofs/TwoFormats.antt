@@ -22,13 +22,15 @@ use Rattle.gw_configuration.specs.Configuration.{Configuration, format_of}
 use Rattle.gw_configuration.specs.Duplicates.{unique}
 use Rattle.gw_configuration.specs.Located.{Find, Located, Read, at_key, of_text, unless, whole}
 use Rattle.gw_policy_text.specs.keys.Field.{Field, at_field, fault_of, fault_where, field_fault, field_with, has, is_key, is_this, item_of, item_with, located_as, located_beside, located_in, position_in, stranger}
-use Rattle.gw_policy_text.specs.keys.Items.{each}
 use Rattle.gw_policy_text.specs.keys.Range.{is_kind, is_missing, is_range, is_too_many}
-use Rattle.gw_policy_text.specs.keys.Tables.{common_top_fields, format_in, format_read, may, needs, number, tables, top_fields}
-use Rattle.gw_policy_text.specs.keys.Value.{list_in, natural_within, number_in, reading}
+use Rattle.gw_policy_text.specs.keys.Tables.{common_rule_fields, common_top_fields, format_in, format_read, may, needs, number, tables, top_fields}
+use Rattle.gw_policy_text.specs.keys.Value.{list_in, natural_within, number_in, reading, table_in}
 use Rattle.gw_policy_text.specs.Document.{configuration_of, document, located_configuration, parts_of, parts_of_format}
 use Rattle.gw_policy_text.specs.Parts.{announce_at, each_at, list_at, number_at, port_in, ports_at}
-use Rattle.gw_policy_text.specs.Policy.{Policy, audit_in, crowd, note_in, policy_at, policy_of, rule_in, rule_of, rules_behind}
+use Rattle.gw_configuration.specs.declared.policing.Policing.{Policing}
+use Rattle.gw_configuration.specs.declared.located.Place.TheVariants as places
+use Rattle.gw_policy_text.specs.declared.written.Written.{Written}
+use Rattle.gw_policy_text.specs.Policy.{Listing, audits_of, crowd, listing_at, listing_of, notes_of, policy_at, policy_of, rule_in, rule_of, rules_behind, rules_of, tables_from, written_parts}
 use Rattle.gw_policy_text.specs.TwoFormats as two
 use Rattle.gw_policy_text.proofs.EachAt.{regroup, with_front}
 
@@ -48,60 +50,130 @@ same_port formats.One other k v = refl
 same_port formats.Two other k v = refl
 same_port formats.Three other k v = absurd (cc)
 
--- a rule
+-- a rule, which stands for itself
 
-same_rule : (format : Format) → names_stations format ≡ false → (k : ℕ) (v : Data) → rule_in format [] k v ≡ two.rule_in format k v
+plain : Rule → Written
+plain rule = record { rule = rule; note = []; audit = false; enabled = true; both_ways = false }
+
+abbrev read_plain : Format → ℕ → Data → Find Written
+read_plain format k v = two.rule_in format k v >>= λ rule. Ok (plain rule)
+
+push : (found : Option Located) (reading : Read Rule) → unless found (whole (reading >>= λ rule. Ok (plain rule))) ≡ (unless found (whole reading) >>= λ rule. Ok (plain rule))
+push (Some located) reading = refl
+push None (Ok rule) = refl
+push None (Err fault) = refl
+
+rule_parts_one : (table : Members) → written_parts formats.One [] table ≡ (two.rule_parts formats.One table >>= λ rule. Ok (plain rule))
+unfolding plain
+rule_parts_one table = refl
+
+rule_parts_two : (table : Members) → written_parts formats.Two [] table ≡ (two.rule_parts formats.Two table >>= λ rule. Ok (plain rule))
+unfolding plain
+rule_parts_two table = refl
+
+same_rule : (format : Format) → names_stations format ≡ false → (k : ℕ) (v : Data) → rule_in format [] k v ≡ read_plain format k v
 unfolding rule_of
-same_rule formats.One other k v = refl
-same_rule formats.Two other k v = refl
+same_rule formats.One other k v = on (table_in v)
+  where
+    on : (read : Read Members) → (whole read >>= rule_of formats.One [] k) ≡ ((whole read >>= λ table. unless (located_in (places.Rule k) (common_rule_fields formats.One) table) (whole (two.rule_parts formats.One table))) >>= λ rule. Ok (plain rule))
+    on (Err fault) = refl
+    on (Ok table) =
+        ap (λ (r : Read Written). unless (located_in (places.Rule k) (common_rule_fields formats.One) table) (whole r)) (rule_parts_one table)
+        ∙ push (located_in (places.Rule k) (common_rule_fields formats.One) table) (two.rule_parts formats.One table)
+same_rule formats.Two other k v = on (table_in v)
+  where
+    on : (read : Read Members) → (whole read >>= rule_of formats.Two [] k) ≡ ((whole read >>= λ table. unless (located_in (places.Rule k) (common_rule_fields formats.Two) table) (whole (two.rule_parts formats.Two table))) >>= λ rule. Ok (plain rule))
+    on (Err fault) = refl
+    on (Ok table) =
+        ap (λ (r : Read Written). unless (located_in (places.Rule k) (common_rule_fields formats.Two) table) (whole r)) (rule_parts_two table)
+        ∙ push (located_in (places.Rule k) (common_rule_fields formats.Two) table) (two.rule_parts formats.Two table)
 same_rule formats.Three other k v = absurd (cc)
 
 no_crowd : (format : Format) → names_stations format ≡ false → (k : ℕ) (rules : List Rule) → crowd format k rules ≡ None
 no_crowd format other k rules = rw other refl
 
-same_rules : (format : Format) → names_stations format ≡ false → (before : List Rule) (k : ℕ) (vs : List Data) → rules_behind format [] before k vs ≡ with_front before (each_at (two.rule_in format) k vs)
+same_rules : (format : Format) → names_stations format ≡ false → (before : List Written) (k : ℕ) (vs : List Data) → rules_behind format [] before k vs ≡ with_front before (each_at (read_plain format) k vs)
 same_rules format other before k [] = ap (λ rules. Ok rules) (sym (append-nil before))
 same_rules format other before k (v ∷ vs) =
-    ap (λ (r : Find Rule). r >>= next) (same_rule format other k v) ∙ step (λ (b : List Rule). same_rules format other b (k + 1) vs) (two.rule_in format k v)
+    ap (λ (r : Find Written). r >>= next) (same_rule format other k v) ∙ step (λ (b : List Written). same_rules format other b (k + 1) vs) (read_plain format k v)
   where
-    next : Rule → Find (List Rule)
-    next r = unless (crowd format k (before ++ r ∷ [])) (rules_behind format [] (before ++ r ∷ []) (k + 1) vs)
+    next : Written → Find (List Written)
+    next r = unless (crowd format k (rules_of (before ++ r ∷ []))) (rules_behind format [] (before ++ r ∷ []) (k + 1) vs)
 
-    step : ((b : List Rule) → rules_behind format [] b (k + 1) vs ≡ with_front b (each_at (two.rule_in format) (k + 1) vs))
-        → (read : Find Rule) → (read >>= next) ≡ with_front before (read >>= λ first. each_at (two.rule_in format) (k + 1) vs >>= λ others. Ok (first ∷ others))
+    step : ((b : List Written) → rules_behind format [] b (k + 1) vs ≡ with_front b (each_at (read_plain format) (k + 1) vs))
+        → (read : Find Written) → (read >>= next) ≡ with_front before (read >>= λ first. each_at (read_plain format) (k + 1) vs >>= λ others. Ok (first ∷ others))
     step later (Err e) = refl
     step later (Ok r) =
-        ap (λ (c : Option Located). unless c (rules_behind format [] (before ++ r ∷ []) (k + 1) vs)) (no_crowd format other k (before ++ r ∷ []))
-        ∙ later (before ++ r ∷ []) ∙ sym (regroup before r (each_at (two.rule_in format) (k + 1) vs))
+        ap (λ (c : Option Located). unless c (rules_behind format [] (before ++ r ∷ []) (k + 1) vs)) (no_crowd format other k (rules_of (before ++ r ∷ [])))
+        ∙ later (before ++ r ∷ []) ∙ sym (regroup before r (each_at (read_plain format) (k + 1) vs))
 
 no_front : {A : Type 0} (reading : Find (List A)) → with_front [] reading ≡ reading
 no_front (Ok xs) = refl
 no_front (Err e) = refl
 
-same_notes : (format : Format) → names_stations format ≡ false → (vs : List Data) → each (note_in format) vs ≡ Ok (two.no_notes vs)
-same_notes format other [] = refl
-same_notes format other (v ∷ vs) = rw (other, same_notes format other vs) refl
+each_plain : (f : ℕ → Data → Find Rule) (k : ℕ) (vs : List Data) → each_at (λ k v. f k v >>= λ rule. Ok (plain rule)) k vs ≡ (each_at f k vs >>= λ rules. Ok (map plain rules))
+each_plain f k [] = refl
+each_plain f k (v ∷ vs) = by (f k v) (each_plain f (k + 1) vs)
+  where
+    later : (r : Rule) (reading : Find (List Rule)) → ((reading >>= λ rules. Ok (map plain rules)) >>= λ others. Ok (plain r ∷ others)) ≡ ((reading >>= λ others. Ok (r ∷ others)) >>= λ rules. Ok (map plain rules))
+    later r (Ok rules) = refl
+    later r (Err e) = refl
 
-same_audits : (format : Format) → names_stations format ≡ false → (vs : List Data) → each (audit_in format) vs ≡ Ok (two.no_audits vs)
-same_audits format other [] = refl
-same_audits format other (v ∷ vs) = rw (other, same_audits format other vs) refl
+    by : (first : Find Rule) → each_at (λ k v. f k v >>= λ rule. Ok (plain rule)) (k + 1) vs ≡ (each_at f (k + 1) vs >>= λ rules. Ok (map plain rules))
+        → ((first >>= λ rule. Ok (plain rule)) >>= λ one. each_at (λ k v. f k v >>= λ rule. Ok (plain rule)) (k + 1) vs >>= λ others. Ok (one ∷ others))
+        ≡ ((first >>= λ one. each_at f (k + 1) vs >>= λ others. Ok (one ∷ others)) >>= λ rules. Ok (map plain rules))
+    by (Err e) same = refl
+    by (Ok r) same = ap (λ (x : Find (List Written)). x >>= λ others. Ok (plain r ∷ others)) same ∙ later r (each_at f (k + 1) vs)
+
+-- the list
+
+abbrev plain_listing : List Rule → Listing
+plain_listing rules = record { rules = rules; tables = two.positions 0 rules; notes = two.no_notes rules; audits = two.no_audits rules }
+
+rules_plain : (rules : List Rule) → rules_of (map plain rules) ≡ rules
+unfolding plain
+rules_plain [] = refl
+rules_plain (r ∷ rs) = ap (λ xs. r ∷ xs) (rules_plain rs)
+
+tables_plain : (from : ℕ) (rules : List Rule) → tables_from from (map plain rules) ≡ two.positions from rules
+unfolding plain
+tables_plain from [] = refl
+tables_plain from (r ∷ rs) = ap (λ xs. from ∷ xs) (tables_plain (from + 1) rs)
+
+notes_plain : (rules : List Rule) → notes_of (map plain rules) ≡ two.no_notes rules
+unfolding plain
+notes_plain [] = refl
+notes_plain (r ∷ rs) = ap (λ xs. [] ∷ xs) (notes_plain rs)
+
+audits_plain : (rules : List Rule) → audits_of (map plain rules) ≡ two.no_audits rules
+unfolding plain
+audits_plain [] = refl
+audits_plain (r ∷ rs) = ap (λ xs. false ∷ xs) (audits_plain rs)
+
+listing_plain : (rules : List Rule) → listing_of (map plain rules) ≡ plain_listing rules
+listing_plain rules = rw (rules_plain rules, tables_plain 0 rules, notes_plain rules, audits_plain rules) refl
+
+same_listing : (format : Format) → names_stations format ≡ false → (vs : List Data) → listing_at format [] vs ≡ (each_at (two.rule_in format) 0 vs >>= λ rules. Ok (plain_listing rules))
+same_listing format other vs =
+    ap (λ (r : Find (List Written)). r >>= λ all. Ok (listing_of all))
+    (same_rules format other [] 0 vs ∙ no_front (each_at (read_plain format) 0 vs) ∙ each_plain (two.rule_in format) 0 vs)
+    ∙ by (each_at (two.rule_in format) 0 vs)
+  where
+    by : (read : Find (List Rule)) → ((read >>= λ rules. Ok (map plain rules)) >>= λ all. Ok (listing_of all)) ≡ (read >>= λ rules. Ok (plain_listing rules))
+    by (Ok rules) = ap (λ (l : Listing). Ok l) (listing_plain rules)
+    by (Err e) = refl
 
 -- the policy
 
--- the rules, with their notes and audits as they are read
-abbrev with_rest : List Rule → Read (List (List ℕ)) → Read (List Bool) → Find Policy
-with_rest rules read_notes read_audits =
-    whole read_notes >>= λ notes.
-    whole read_audits >>= λ audits.
-    Ok (record { rules = rules; notes = notes; audits = audits; sets = [] })
+abbrev with_listing : Format → List Data → Listing → Find Policing
+with_listing format tables listing =
+    whole (policy_of format listing.rules) >>= λ rules.
+    Ok (record { rules = rules; tables = listing.tables; notes = listing.notes; audits = listing.audits; written = length tables; sets = []; assertions = [] })
 
--- of format 1 or 2 there are no sets
-abbrev policy_without_sets : Format → Members → Find Policy
+-- of format 1 or 2 there are no sets and no assertions
+abbrev policy_without_sets : Format → Members → Find Policing
 policy_without_sets format top =
-    whole (list_at 0 512 (codes "rule") top) >>= λ tables.
-    rules_behind format [] [] 0 tables >>= λ read.
-    whole (policy_of format read) >>= λ rules.
-    with_rest rules (each (note_in format) tables) (each (audit_in format) tables)
+    whole (list_at 0 512 (codes "rule") top) >>= λ tables. listing_at format [] tables >>= with_listing format tables
 
 without_sets : (format : Format) → names_stations format ≡ false → (top : Members) → policy_at format top ≡ policy_without_sets format top
 without_sets formats.One other top = refl
@@ -117,13 +189,14 @@ same_policy : (format : Format) → names_stations format ≡ false → (top : M
 same_policy format other top =
     without_sets format other top
     ∙ bind_same (whole (list_at 0 512 (codes "rule") top)) _ _ (λ tables.
-    ap (λ (r : Find (List Rule)). r >>= λ read. whole (policy_of format read) >>= λ rules. with_rest rules (each (note_in format) tables) (each (audit_in format) tables))
-    (same_rules format other [] 0 tables ∙ no_front (each_at (two.rule_in format) 0 tables))
-    ∙ bind_same (each_at (two.rule_in format) 0 tables) _ _ (λ read.
-    ap (λ (r : Read (List Rule)). whole r >>= λ rules. with_rest rules (each (note_in format) tables) (each (audit_in format) tables))
-    (same_policy_of format other read)
-    ∙ ap (λ (n : Read (List (List ℕ))). whole (two.policy_of read) >>= λ rules. with_rest rules n (each (audit_in format) tables)) (same_notes format other tables)
-    ∙ ap (λ (a : Read (List Bool)). whole (two.policy_of read) >>= λ rules. with_rest rules (Ok (two.no_notes tables)) a) (same_audits format other tables)))
+    ap (λ (r : Find Listing). r >>= with_listing format tables) (same_listing format other tables)
+    ∙ by tables (each_at (two.rule_in format) 0 tables))
+  where
+    by : (tables : List Data) (read : Find (List Rule)) → ((read >>= λ rules. Ok (plain_listing rules)) >>= with_listing format tables)
+        ≡ (read >>= λ rules. whole (two.policy_of rules) >>= λ kept. Ok (record { rules = kept; tables = two.positions 0 rules; notes = two.no_notes rules; audits = two.no_audits rules; written = length tables; sets = []; assertions = [] }))
+    by tables (Err e) = refl
+    by tables (Ok rules) =
+        ap (λ (r : Read (List Rule)). whole r >>= λ kept. Ok (record { rules = kept; tables = two.positions 0 rules; notes = two.no_notes rules; audits = two.no_audits rules; written = length tables; sets = []; assertions = [] })) (same_policy_of format other rules)
 
 same_ports : (format : Format) → names_stations format ≡ false → (top : Members) → ports_at format (codes "port") top ≡ two.ports_at top
 same_ports format other top =

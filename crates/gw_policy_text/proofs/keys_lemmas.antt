@@ -5,3 +5,5 @@ pub mod Bounds
 pub mod Named
 pub mod Values
 pub mod Written
+pub mod Lengths
+pub mod Macs

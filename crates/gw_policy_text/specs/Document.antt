@@ -33,9 +33,12 @@ parts_of_format format top = do
     routes = routes;
     objects = objects;
     rules = policy.rules;
+    tables = policy.tables;
     notes = policy.notes;
     audits = policy.audits;
+    written = policy.written;
     sets = policy.sets;
+    assertions = policy.assertions;
   })
 
 -- the format, and then the tables

@@ -293,17 +293,17 @@ object_in object value = whole (table_in value) >>= object_of object
 abbrev pub format_at : List ℕ → Members → Read Format
 format_at key table = number_at 1 3 key table >>= λ number. Ok (format_of number)
 
--- true or false, which may be missing: then it is false
-abbrev pub boolean_or : Option Data → Read Bool
-boolean_or None = Ok false
-boolean_or (Some value) = boolean_in value
+-- true or false, which may be missing
+abbrev pub boolean_or : Bool → Option Data → Read Bool
+boolean_or default None = Ok default
+boolean_or default (Some value) = boolean_in value
 
-abbrev pub optional_boolean : List ℕ → Members → Read Bool
-optional_boolean key table = boolean_or (get_member key table)
+abbrev pub optional_boolean : Bool → List ℕ → Members → Read Bool
+optional_boolean default key table = boolean_or default (get_member key table)
 
 -- whether networks are announced, which formats 1 and 2 don't
 abbrev pub announce_at : Format → List ℕ → Members → Read Bool
-announce_at format key table = if names_stations format then optional_boolean key table else Ok false
+announce_at format key table = if names_stations format then optional_boolean false key table else Ok false
 
 abbrev pub device_at : List ℕ → Members → Find Device
 device_at key table = whole (at key table >>= table_in) >>= device_of

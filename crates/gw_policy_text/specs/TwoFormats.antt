@@ -1,6 +1,6 @@
 -- Texts as they are read where there are formats 1 and 2 alone: no port has stations or another broadcast manager, nothing
--- is announced, and there are no sets, no notes and no audits.
-use Rattle.std.specs.Prelude.{◌≡◌, ℕ, Bool, false, not, nat_lt, if◌then◌else◌, List, [], ◌∷◌, length, map, codes, None, Ok, Err}
+-- is announced, there are no sets, no notes, no audits and no assertions, and each table of a rule is one rule of the list.
+use Rattle.std.specs.Prelude.{◌≡◌, ℕ, ◌+◌, Bool, false, not, nat_lt, if◌then◌else◌, List, [], ◌∷◌, length, map, codes, None, Ok, Err}
 use Rattle.toml.specs.Data.{Data, Members}
 use Rattle.gw_addr.specs.Reading.{◌>>=◌}
 use Rattle.gw_addr.specs.declared.TheConstants.{MAX_PORTS}
@@ -28,7 +28,8 @@ use Rattle.gw_policy_text.specs.keys.Tables.{common_port_fields, common_rule_fie
 use Rattle.gw_policy_text.specs.keys.Value.{table_in}
 use Rattle.gw_policy_text.specs.Document.{document, located_configuration}
 use Rattle.gw_policy_text.specs.Parts.{address_at, device_at, each_at, list_at, number_at, objects_at, peers_at, routes_at}
-use Rattle.gw_policy_text.specs.Policy.{Policy, boolean_at, rule_name_at}
+use Rattle.gw_configuration.specs.declared.policing.Policing.{Policing}
+use Rattle.gw_policy_text.specs.Policy.{boolean_at, rule_name_at}
 
 abbrev pub top_fields : List Field
 top_fields =
@@ -92,7 +93,7 @@ rule_parts format table = do
   name ← rule_name_at (codes "name") table
   allow ← boolean_at (codes "allow") table
   ranges ← fields_of format table
-  Ok (record { name = name; allow = allow; ranges = ranges })
+  Ok (record { name = name; allow = allow; quiet = false; ranges = ranges })
 
 abbrev pub rule_in : Format → ℕ → Data → Find Rule
 rule_in format rule value =
@@ -105,20 +106,32 @@ abbrev pub policy_of : List Rule → Read (List Rule)
 policy_of rules =
     if not (keeps_counts rules) then Err TooMany else if not (keeps_order rules) then Err Range else Ok rules
 
--- no note of each rule
-abbrev pub no_notes : List Data → List (List ℕ)
-no_notes tables = map (λ table. []) tables
+-- the position of each from this one on
+abbrev pub positions : ℕ → List Rule → List ℕ
+positions from [] = []
+positions from (rule ∷ later) = from ∷ positions (from + 1) later
 
--- and no audit
-abbrev pub no_audits : List Data → List Bool
-no_audits tables = map (λ table. false) tables
+-- no note of each rule, and no audit
+abbrev pub no_notes : List Rule → List (List ℕ)
+no_notes rules = map (λ rule. []) rules
 
-abbrev pub policy_at : Format → Members → Find Policy
+abbrev pub no_audits : List Rule → List Bool
+no_audits rules = map (λ rule. false) rules
+
+abbrev pub policy_at : Format → Members → Find Policing
 policy_at format top = do
   tables ← whole (list_at 0 512 (codes "rule") top)
   read ← each_at (rule_in format) 0 tables
   rules ← whole (policy_of read)
-  Ok (record { rules = rules; notes = no_notes tables; audits = no_audits tables; sets = [] })
+  Ok (record {
+    rules = rules;
+    tables = positions 0 read;
+    notes = no_notes read;
+    audits = no_audits read;
+    written = length tables;
+    sets = [];
+    assertions = [];
+  })
 
 abbrev pub ports_at : Members → Find (List Port)
 ports_at top = whole (list_at 1 MAX_PORTS (codes "port") top) >>= each_at port_in 0
@@ -138,9 +151,12 @@ parts_of_format format top = do
     routes = routes;
     objects = objects;
     rules = policy.rules;
+    tables = policy.tables;
     notes = policy.notes;
     audits = policy.audits;
+    written = policy.written;
     sets = policy.sets;
+    assertions = policy.assertions;
   })
 
 abbrev pub parts_of : Members → Find Configuration

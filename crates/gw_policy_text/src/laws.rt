@@ -2,6 +2,7 @@
 
 ghost use Rattle.std.specs.Prelude.{◌≡◌};
 ghost use Rattle.gw_policy_text.specs.TwoFormats.{TwoFormatsAreKept};
+ghost use Rattle.gw_policy_text.specs.OneEach.{TablesAreOneEach};
 
 use crate::read::MAX_OCTETS;
 
@@ -14,4 +15,10 @@ pub fn limits()
 /// configuration, or to the same fault at the same place.
 pub fn two_formats()
     ensures { TwoFormatsAreKept }
+{}
+
+/// Tables of rules that have none of the keys `both_ways`, `enabled` and `quiet` are read to one rule of the list each, in
+/// their order, and none is quiet.
+pub fn one_each()
+    ensures { TablesAreOneEach }
 {}

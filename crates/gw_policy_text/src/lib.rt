@@ -1,11 +1,13 @@
 //! The configuration of a gateway, read from TOML to values that keep every range and limit.
 #![tactic(auto)]
 
+mod assertions;
 mod device;
 pub mod faults;
 mod format;
 pub mod keys;
 pub mod laws;
+mod listing;
 mod objects;
 mod parts;
 mod policy;
@@ -16,6 +18,7 @@ mod route;
 mod rules;
 mod sets;
 mod setting;
+mod written;
 
 pub use gw_configuration::{
     Config, ConfigFault, Device, Format, Instance, MultiState, Object, ObjectKind, ObjectValue,

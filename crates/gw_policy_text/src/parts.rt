@@ -50,7 +50,7 @@ fn announce_at(format: Format, top: &Table) -> Result<bool, ConfigFault>
     ensures plain { IfOk result (λ a. IsTrue (names_stations format || not a)) }
 {
     if format.names_stations() {
-        optional_boolean("announce", top)
+        optional_boolean(false, "announce", top)
     } else {
         Ok(false)
     }

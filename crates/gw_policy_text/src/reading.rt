@@ -119,13 +119,13 @@ pub(crate) fn optional_text(
     }
 }
 
-/// The boolean at a key, false if it isn't there. `Kind`.
-pub(crate) fn optional_boolean(key: &str, table: &Table) -> Result<bool, ConfigFault>
-    ensures { plain.Gives (λ b. b) result (optional_boolean key.now (table_view table.now)) }
+/// The boolean at a key that may be missing. `Kind`.
+pub(crate) fn optional_boolean(default: bool, key: &str, table: &Table) -> Result<bool, ConfigFault>
+    ensures { plain.Gives (λ b. b) result (optional_boolean default key.now (table_view table.now)) }
 {
     match member(table, key) {
         Some(value) => value::boolean(value),
-        None => Ok(false),
+        None => Ok(default),
     }
 }
 

@@ -1,10 +1,11 @@
 //! What the rules of a configuration are read to.
-ghost use Rattle.std.specs.Prelude.{◌≡◌, [], find, length, map, nat_lt, option_map, IfOk, IsTrue, OnOk};
+ghost use Rattle.std.specs.Prelude.{◌≡◌, ◌==◌, ◌||◌, find, length, map, nat_le, nat_lt, not, option_map, IfOk, IsFalse, IsTrue};
 ghost use Rattle.std.specs.List.{list_all};
 ghost use Rattle.gw_addr.specs.Reading as plain;
 ghost use Rattle.toml.specs.View.{table_view, view};
-ghost use Rattle.gw_rules.specs.Bounds.{are_bounded, bounds, is_within};
+ghost use Rattle.gw_rules.specs.Bounds.{is_within};
 ghost use Rattle.gw_rules.specs.Format.{names_stations};
+ghost use Rattle.gw_rules.specs.Name.{is_name, is_no_rule};
 ghost use Rattle.gw_rules.specs.RuleList.{ranges_in_all};
 ghost use Rattle.gw_rules.specs.declared.field.TheConstants.FieldName.{ALL};
 ghost use Rattle.gw_rules.specs.declared.rule_list.TheConstants.{MAX_RANGES_IN_ALL};
@@ -15,51 +16,38 @@ ghost use Rattle.gw_configuration.specs.declared.located.Place.TheVariants as pl
 ghost use Rattle.gw_policy_text.specs.keys.Field.{located_beside};
 ghost use Rattle.gw_policy_text.specs.keys.Items.{each};
 ghost use Rattle.gw_policy_text.specs.keys.Range.{bounds_of, range_in};
-ghost use Rattle.gw_policy_text.specs.keys.Tables.{rule_fields};
-ghost use Rattle.gw_policy_text.specs.Parts.{within};
-ghost use Rattle.gw_policy_text.specs.Policy.{crowd, crowded, crowded_at, fields_of, long_ranges_at, ranges_at, rule_in, rule_of, rule_parts, rules_behind, short_ranges_at, station_ranges_at};
+ghost use Rattle.gw_policy_text.specs.keys.Tables.{is_both_ways, rule_fields};
+ghost use Rattle.gw_policy_text.specs.keys.Value.{is_bool};
+ghost use Rattle.gw_policy_text.specs.internal.Limits.{are_limited, is_joined, is_limited};
+ghost use Rattle.gw_policy_text.specs.internal.Listing.{is_listable};
+ghost use Rattle.gw_policy_text.specs.Policy.{crowd, crowded, crowded_at, fields_of, flag_at, long_crowd, long_ranges_at, name_in, note_at, ranges_at, rule_in, rule_of, rule_parts, short_ranges_at, station_ranges_at, written_parts};
 
 use crate::keys::range::range;
-use crate::keys::tables::{rule_located, scalar_of};
+use crate::keys::tables::{
+    format_by, is_both_ways, naming_by, rule_located, scalar_for, scalar_of,
+};
 use crate::keys::value::{self, table};
 use crate::keys::{MAX_ITEMS, items};
-use crate::reading::{at, list_at};
-use gw_configuration::{ConfigFault, Format, Located, Place, Scalar, Shape};
-use gw_rules::{FieldName, Fields, MAX_LONG_RANGES, MAX_RANGES, MAX_RANGES_IN_ALL, Ranges, Rule};
+use crate::reading::{at, list_at, optional_boolean, optional_text};
+use crate::written::Written;
+use gw_configuration::{ConfigFault, Format, Located, Naming, Place, Scalar, Shape, Text};
+use gw_rules::{
+    FieldName, Fields, MAX_LONG_RANGES, MAX_RANGES, MAX_RANGES_IN_ALL, MAX_RULES, Ranges, Rule,
+    RuleName,
+};
 use std::alloc::Global;
 use toml::{Table, Value};
 
-/// The rules that some values say, of a text with these sets, in order, or the first fault with its place.
-pub(crate) fn rules<'a>(
-    alloc: Global,
-    format: Format,
-    sets: &[Value],
-    values: &'a [Value],
-) -> Result<Vec<Rule>, Located<'a>>
-    ensures rules { Finds (λ rs. rs.items) result (rules_behind format (map view sets.now) [] 0 (map view values.now)) }
-    ensures count { IfOk result (λ rs. length rs.items ≡ length values.now) }
-    ensures configurable { IfOk result (λ rs. IsTrue (list_all (is_configurable format) rs.items)) }
-{
-    let mut all = Vec::new(alloc);
-    for (place, value) in values.iter().enumerate() {
-        all.push(rule(alloc, format, sets, place, value)?)?;
-        if let Some(located) = crowd(format, place, &all) {
-            return Err(located);
-        }
-    }
-    Ok(all)
-}
-
 /// The rule that a value says, at this position.
-fn rule<'a>(
+pub(crate) fn rule<'a>(
     alloc: Global,
     format: Format,
     sets: &[Value],
     rule: usize,
     value: &'a Value,
-) -> Result<Rule, Located<'a>>
-    ensures rule { Finds (λ r. r) result (rule_in format (map view sets.now) rule (view value.now)) }
-    ensures configurable { IfOk result (λ r. IsTrue (is_configurable format r)) }
+) -> Result<Written, Located<'a>>
+    ensures rule { Finds (λ w. w) result (rule_in format (map view sets.now) rule (view value.now)) }
+    ensures listable { IfOk result (λ w. IsTrue (is_listable format w)) }
 {
     rule_of_table(alloc, format, sets, rule, table(value)?)
 }
@@ -71,19 +59,42 @@ fn rule_of_table<'a>(
     sets: &[Value],
     rule: usize,
     table: &'a Table,
-) -> Result<Rule, Located<'a>>
-    ensures rule { Finds (λ r. r) result (rule_of format (map view sets.now) rule (table_view table.now)) }
-    ensures configurable { IfOk result (λ r. IsTrue (is_configurable format r)) }
-    ensures fault_named { NamesLocated result
-        (located_beside (map view sets.now) (places.Rule rule) (rule_fields format) (table_view table.now)) }
+) -> Result<Written, Located<'a>>
+    ensures rule { Finds (λ w. w) result (rule_of format (map view sets.now) rule (table_view table.now)) }
+    ensures listable { IfOk result (λ w. IsTrue (is_listable format w)) }
+    ensures fault_named { let members = table_view table.now in NamesLocated result
+        (located_beside (map view sets.now) (places.Rule rule) (rule_fields format members) members) }
 {
     match rule_located(format, sets, rule, table) {
         Some(located) => Err(located),
-        None => Ok(rule_parts(alloc, format, sets, table)?),
+        None => Ok(written_parts(alloc, format, sets, table)?),
     }
 }
 
 /// The parts of a table without a fault.
+fn written_parts(
+    alloc: Global,
+    format: Format,
+    sets: &[Value],
+    table: &Table,
+) -> Result<Written, ConfigFault>
+    ensures written { Gives (λ w. w) result (written_parts format (map view sets.now) (table_view table.now)) }
+    ensures listable { IfOk result (λ w. IsTrue (is_listable format w)) }
+{
+    let rule = rule_parts(alloc, format, sets, table)?;
+    let note = note_at(alloc, format, table)?;
+    let audit = flag_at(format, false, "audit", table)?;
+    let enabled = flag_at(format, true, "enabled", table)?;
+    Ok(Written {
+        rule,
+        note,
+        audit,
+        enabled,
+        both_ways: is_both_ways(format, table),
+    })
+}
+
+/// The rule itself.
 fn rule_parts(
     alloc: Global,
     format: Format,
@@ -92,77 +103,119 @@ fn rule_parts(
 ) -> Result<Rule, ConfigFault>
     ensures rule { Gives (λ r. r) result (rule_parts format (map view sets.now) (table_view table.now)) }
     ensures configurable { IfOk result (λ r. IsTrue (is_configurable format r)) }
+    ensures joined { let both = is_both_ways format (table_view table.now) in
+        IfOk result (λ r. IsTrue (is_joined format both r)) }
+    ensures loud { IfOk result (λ r. IsTrue (names_stations format || not r.quiet)) }
 {
-    let name = value::rule_name(at("name", table)?)?;
+    let both_ways = is_both_ways(format, table);
+    let name = name(both_ways, at("name", table)?)?;
     let allow = value::boolean(at("allow", table)?)?;
-    let mut rule = Rule::new(alloc, name, allow)?;
-    set_ranges(alloc, format, sets, &mut rule.ranges, table)?;
-    Ok(rule)
+    let ranges = fields_of(alloc, naming_by(format, both_ways), sets, table)?;
+    let quiet = flag_at(format, false, "quiet", table)?;
+    Ok(Rule {
+        name: RuleName::new(name)?,
+        allow,
+        quiet,
+        ranges,
+    })
 }
 
-/// Sets the ranges for each field of the rule.
-fn set_ranges(
-    alloc: Global,
-    format: Format,
-    sets: &[Value],
-    ranges: &mut Fields<Ranges>,
-    table: &Table,
-) -> Result<(), ConfigFault>
-    ensures fields { Gives (λ _. ranges.new) result (fields_of format (map view sets.now) (table_view table.now)) }
-    ensures bounded { OnOk result (IsTrue (are_bounded format ranges.new)) }
+/// The name of a rule, which is short where it goes both ways.
+fn name(both_ways: bool, value: &Value) -> Result<&str, ConfigFault>
+    ensures name { plain.Gives (λ t. t.now) result (name_in both_ways (view value.now)) }
+    ensures shape { IfOk result (λ t. IsTrue (is_name t.now)) }
+    ensures own { IfOk result (λ t. IsFalse (is_no_rule t.now)) }
+    ensures short { IfOk result (λ t. IsTrue (not both_ways || nat_le (length t.now) 27)) }
 {
-    ranges.operation = ranges_at(alloc, format, sets, FieldName::Operation, table)?;
-    ranges.port = ranges_at(alloc, format, sets, FieldName::Port, table)?;
-    ranges.source_network = ranges_at(alloc, format, sets, FieldName::SourceNetwork, table)?;
-    ranges.source_key = ranges_at(alloc, format, sets, FieldName::SourceKey, table)?;
-    ranges.destination_network = ranges_at(
-        alloc,
-        format,
-        sets,
-        FieldName::DestinationNetwork,
-        table,
-    )?;
-    ranges.service = ranges_at(alloc, format, sets, FieldName::Service, table)?;
-    ranges.object_type = ranges_at(alloc, format, sets, FieldName::ObjectType, table)?;
-    ranges.instance = ranges_at(alloc, format, sets, FieldName::Instance, table)?;
-    ranges.property = ranges_at(alloc, format, sets, FieldName::Property, table)?;
-    ranges.priority = ranges_at(alloc, format, sets, FieldName::Priority, table)?;
-    ranges.sender = station_ranges_at(alloc, format, sets, FieldName::Sender, table)?;
-    ranges.station = station_ranges_at(alloc, format, sets, FieldName::Station, table)?;
-    Ok(())
+    if both_ways {
+        value::short_name(value)
+    } else {
+        value::rule_name(value)
+    }
 }
 
-/// The ranges for a field, each within the bounds of the field.
+/// True or false at a key that format 3 alone has, and that may be missing.
+fn flag_at(format: Format, default: bool, key: &str, table: &Table) -> Result<bool, ConfigFault>
+    ensures flag { plain.Gives (λ b. b) result (flag_at format default key.now (table_view table.now)) }
+    ensures plain { IfOk result (λ b. IsTrue (names_stations format || is_bool default b)) }
+{
+    if format.names_stations() {
+        optional_boolean(default, key, table)
+    } else {
+        Ok(default)
+    }
+}
+
+/// The note of a rule.
+fn note_at(alloc: Global, format: Format, table: &Table) -> Result<Text, ConfigFault>
+    ensures note { Gives (λ n. n) result (note_at format (table_view table.now)) }
+    ensures plain { IfOk result (λ n. IsTrue (names_stations format || (length n == 0))) }
+{
+    if format.names_stations() {
+        optional_text(alloc, "", "note", table)
+    } else {
+        Text::new(alloc, 0, "")
+    }
+}
+
+/// The ranges for each field, by what may be named so.
+pub(crate) fn fields_of(
+    alloc: Global,
+    naming: Naming,
+    sets: &[Value],
+    table: &Table,
+) -> Result<Fields<Ranges>, ConfigFault>
+    ensures fields { Gives (λ fs. fs) result (fields_of naming (map view sets.now) (table_view table.now)) }
+    ensures limited { IfOk result (λ fs. IsTrue (are_limited naming fs)) }
+{
+    Ok(Fields {
+        operation: ranges_at(alloc, naming, sets, FieldName::Operation, table)?,
+        port: ranges_at(alloc, naming, sets, FieldName::Port, table)?,
+        source_network: ranges_at(alloc, naming, sets, FieldName::SourceNetwork, table)?,
+        source_key: ranges_at(alloc, naming, sets, FieldName::SourceKey, table)?,
+        destination_network: ranges_at(alloc, naming, sets, FieldName::DestinationNetwork, table)?,
+        service: ranges_at(alloc, naming, sets, FieldName::Service, table)?,
+        object_type: ranges_at(alloc, naming, sets, FieldName::ObjectType, table)?,
+        instance: ranges_at(alloc, naming, sets, FieldName::Instance, table)?,
+        property: ranges_at(alloc, naming, sets, FieldName::Property, table)?,
+        priority: ranges_at(alloc, naming, sets, FieldName::Priority, table)?,
+        sender: station_ranges_at(alloc, naming, sets, FieldName::Sender, table)?,
+        station: station_ranges_at(alloc, naming, sets, FieldName::Station, table)?,
+    })
+}
+
+/// The ranges for a field, each within its limits.
 fn ranges_at(
     alloc: Global,
-    format: Format,
+    naming: Naming,
     sets: &[Value],
     field: FieldName,
     table: &Table,
 ) -> Result<Ranges, ConfigFault>
-    ensures ranges { Gives (λ rs. rs) result (ranges_at format (map view sets.now) field (table_view table.now)) }
-    ensures within { IfOk result (λ rs. IsTrue (list_all (is_within (bounds format field)) rs)) }
+    ensures ranges { Gives (λ rs. rs) result (ranges_at naming (map view sets.now) field (table_view table.now)) }
+    ensures limited { IfOk result (λ rs. IsTrue (is_limited naming field rs)) }
 {
-    if format.names_stations() {
-        long_ranges_at(alloc, format, sets, field, table)
+    let of = scalar_for(naming, field);
+    if format_by(naming).names_stations() {
+        long_ranges_at(alloc, sets, of, field, table)
     } else {
-        short_ranges_at(alloc, format, field, table)
+        short_ranges_at(alloc, of, field, table)
     }
 }
 
 /// The ranges for the sender or the station, which formats 1 and 2 don't have.
 fn station_ranges_at(
     alloc: Global,
-    format: Format,
+    naming: Naming,
     sets: &[Value],
     field: FieldName,
     table: &Table,
 ) -> Result<Ranges, ConfigFault>
-    ensures ranges { Gives (λ rs. rs) result (station_ranges_at format (map view sets.now) field (table_view table.now)) }
-    ensures within { IfOk result (λ rs. IsTrue (list_all (is_within (bounds format field)) rs)) }
+    ensures ranges { Gives (λ rs. rs) result (station_ranges_at naming (map view sets.now) field (table_view table.now)) }
+    ensures limited { IfOk result (λ rs. IsTrue (is_limited naming field rs)) }
 {
-    if format.names_stations() {
-        long_ranges_at(alloc, format, sets, field, table)
+    if format_by(naming).names_stations() {
+        long_ranges_at(alloc, sets, scalar_for(naming, field), field, table)
     } else {
         Ok(Ranges::new(alloc))
     }
@@ -171,16 +224,17 @@ fn station_ranges_at(
 /// The ranges for a field in format 3.
 fn long_ranges_at(
     alloc: Global,
-    format: Format,
     sets: &[Value],
+    of: Scalar,
     field: FieldName,
     table: &Table,
 ) -> Result<Ranges, ConfigFault>
-    ensures ranges { Gives (λ rs. rs) result (long_ranges_at format (map view sets.now) field (table_view table.now)) }
-    ensures within { IfOk result (λ rs. IsTrue (list_all (is_within (bounds format field)) rs)) }
+    ensures ranges { Gives (λ rs. rs) result (long_ranges_at (map view sets.now) of field (table_view table.now)) }
+    ensures within { IfOk result (λ rs. IsTrue (list_all (is_within (bounds_of of)) rs)) }
+    ensures few { IfOk result (λ rs. IsTrue (nat_le (length rs) 256)) }
 {
     let list = list_at(0, MAX_ITEMS, field.key(), table)?;
-    let ranges = items::ranges(alloc, sets, scalar_of(format, field), list)?;
+    let ranges = items::ranges(alloc, sets, of, list)?;
     if MAX_LONG_RANGES < ranges.len() {
         return Err(ConfigFault::TooMany);
     }
@@ -190,15 +244,16 @@ fn long_ranges_at(
 /// The ranges for a field in formats 1 and 2.
 fn short_ranges_at(
     alloc: Global,
-    format: Format,
+    of: Scalar,
     field: FieldName,
     table: &Table,
 ) -> Result<Ranges, ConfigFault>
-    ensures ranges { Gives (λ rs. rs) result (short_ranges_at format field (table_view table.now)) }
-    ensures within { IfOk result (λ rs. IsTrue (list_all (is_within (bounds format field)) rs)) }
+    ensures ranges { Gives (λ rs. rs) result (short_ranges_at of field (table_view table.now)) }
+    ensures within { IfOk result (λ rs. IsTrue (list_all (is_within (bounds_of of)) rs)) }
+    ensures few { IfOk result (λ rs. IsTrue (nat_le (length rs) 256)) }
 {
     let items = list_at(0, MAX_RANGES, field.key(), table)?;
-    ranges(alloc, scalar_of(format, field), items)
+    ranges(alloc, of, items)
 }
 
 /// The ranges that some items name, in order.
@@ -213,16 +268,26 @@ fn ranges(alloc: Global, of: Scalar, values: &[Value]) -> Result<Ranges, ConfigF
     Ok(all)
 }
 
-/// The fault of the rules up to the one at this position that they have too many ranges for a field, in
-/// format 3.
-fn crowd<'a>(format: Format, rule: usize, rules: &[Rule]) -> Option<Located<'a>>
+/// The fault of the rules of the list up to those of the table at this position, in format 3: they are too many, or
+/// have too many ranges for a field.
+pub(crate) fn crowd<'a>(format: Format, rule: usize, rules: &[Rule]) -> Option<Located<'a>>
     ensures { option_map located_view result ≡ crowd format rule rules.now }
 {
     if format.names_stations() {
-        Some(crowded_at(format, rule, crowded(rules)?))
+        long_crowd(rule, rules)
     } else {
         None
     }
+}
+
+fn long_crowd<'a>(rule: usize, rules: &[Rule]) -> Option<Located<'a>>
+    ensures { option_map located_view result ≡ long_crowd rule rules.now }
+{
+    if MAX_RULES < rules.len() {
+        let place = Place::Rule(rule);
+        return Some(Located::at_table(place, ConfigFault::TooMany, None));
+    }
+    Some(crowded_at(Format::Three, rule, crowded(rules)?))
 }
 
 fn crowded_at<'a>(format: Format, rule: usize, field: FieldName) -> Located<'a>

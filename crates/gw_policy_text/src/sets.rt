@@ -5,7 +5,7 @@ ghost use Rattle.toml.specs.Data.{get_member};
 ghost use Rattle.toml.specs.View.{table_view, view};
 ghost use Rattle.gw_configuration.specs.Reading.{Finds, Gives};
 ghost use Rattle.gw_policy_text.specs.Parts.{each_at, list_or};
-ghost use Rattle.gw_policy_text.specs.Policy.{is_mention, is_used, mentions, mentions_for, mentions_in, set_in, set_of, set_parts};
+ghost use Rattle.gw_policy_text.specs.Policy.{is_mention, is_used, is_used_by, mentions, mentions_for, mentions_in, set_in, set_of, set_parts};
 ghost use Rattle.gw_policy_text.specs.keys.Value.{table_in};
 ghost use Rattle.gw_rules.specs.declared.field.TheConstants.FieldName.{ALL};
 
@@ -20,69 +20,87 @@ use gw_rules::{FieldName, RuleName};
 use std::alloc::Global;
 use toml::{Table, Value};
 
-/// The sets that some values say, in order, each with whether one of the rules names it, or the first fault
-/// with its place.
+/// The sets that some values say, in order, each with whether one of the rules or assertions names it, or the
+/// first fault with its place.
 pub(crate) fn sets<'a>(
     alloc: Global,
     rules: &[Value],
+    assertions: &[Value],
     values: &'a [Value],
 ) -> Result<Sequence<Set>, Located<'a>>
     ensures count { IfOk result (λ ss. length ss ≡ length values.now) }
-    ensures sets { Finds (λ ss. ss) result (each_at (set_in (map view rules.now)) 0 (map view values.now)) }
+    ensures sets { Finds (λ ss. ss) result
+        (each_at (set_in (map view rules.now) (map view assertions.now)) 0 (map view values.now)) }
 {
     let mut all = Sequence::new(alloc);
     for (place, value) in values.iter().enumerate() {
-        all.push(set(rules, place, value)?)?;
+        all.push(set(rules, assertions, place, value)?)?;
     }
     Ok(all)
 }
 
 /// The set that a value says, at this position.
-fn set<'a>(rules: &[Value], set: usize, value: &'a Value) -> Result<Set, Located<'a>>
-    ensures { Finds (λ s. s) result (set_in (map view rules.now) set (view value.now)) }
+fn set<'a>(
+    rules: &[Value],
+    assertions: &[Value],
+    set: usize,
+    value: &'a Value,
+) -> Result<Set, Located<'a>>
+    ensures { Finds (λ s. s) result (set_in (map view rules.now) (map view assertions.now) set (view value.now)) }
 {
-    set_of_table(rules, set, table(value)?)
+    set_of_table(rules, assertions, set, table(value)?)
 }
 
 #[tactic(auto, unfolding(crate::specs::Policy::set_of))]
-fn set_of_table<'a>(rules: &[Value], set: usize, table: &'a Table) -> Result<Set, Located<'a>>
-    ensures { Finds (λ s. s) result (set_of (map view rules.now) set (table_view table.now)) }
+fn set_of_table<'a>(
+    rules: &[Value],
+    assertions: &[Value],
+    set: usize,
+    table: &'a Table,
+) -> Result<Set, Located<'a>>
+    ensures { Finds (λ s. s) result (set_of (map view rules.now) (map view assertions.now) set (table_view table.now)) }
 {
     match located_in(Place::Set(set), &set_fields(), table) {
         Some(located) => Err(located),
-        None => Ok(set_parts(rules, table)?),
+        None => Ok(set_parts(rules, assertions, table)?),
     }
 }
 
 /// The parts of a table without a fault.
-fn set_parts(rules: &[Value], table: &Table) -> Result<Set, ConfigFault>
-    ensures { Gives (λ s. s) result (set_parts (map view rules.now) (table_view table.now)) }
+fn set_parts(rules: &[Value], assertions: &[Value], table: &Table) -> Result<Set, ConfigFault>
+    ensures { Gives (λ s. s) result (set_parts (map view rules.now) (map view assertions.now) (table_view table.now)) }
 {
     let text = value::rule_name(at("name", table)?)?;
-    let used = is_used(rules, text);
+    let used = is_used(rules, assertions, text);
     let name = RuleName::new(text)?;
     Ok(Set { name, used })
 }
 
-/// Whether one of the rules names a set.
+/// Whether one of the rules or assertions names a set.
+fn is_used(rules: &[Value], assertions: &[Value], name: &str) -> bool
+    ensures { result ≡ is_used (map view rules.now) (map view assertions.now) name.now }
+{
+    is_used_by(rules, name) || is_used_by(assertions, name)
+}
+
 #[tactic(auto, using(crate::proofs::keys_lemmas::Values::any_view))]
-fn is_used(rules: &[Value], name: &str) -> bool
-    ensures { result ≡ is_used (map view rules.now) name.now }
+fn is_used_by(tables: &[Value], name: &str) -> bool
+    ensures { result ≡ is_used_by (map view tables.now) name.now }
 {
-    any_mentions(rules, name)
+    any_mentions(tables, name)
 }
 
-fn any_mentions(rules: &[Value], name: &str) -> bool
-    ensures { result ≡ list_any (λ rule. mentions name.now (table_in (view rule))) rules.now }
+fn any_mentions(tables: &[Value], name: &str) -> bool
+    ensures { result ≡ list_any (λ table. mentions name.now (table_in (view table))) tables.now }
 {
-    rules.iter().any(|rule| mentions(name, rule))
+    tables.iter().any(|table| mentions(name, table))
 }
 
-/// Whether a rule names a set.
-fn mentions(name: &str, rule: &Value) -> bool
-    ensures { result ≡ mentions name.now (table_in (view rule.now)) }
+/// Whether a rule or an assertion names a set.
+fn mentions(name: &str, by: &Value) -> bool
+    ensures { result ≡ mentions name.now (table_in (view by.now)) }
 {
-    match table(rule) {
+    match table(by) {
         Ok(table) => mentions_for_any(name, table),
         Err(_) => false,
     }
@@ -96,7 +114,7 @@ fn mentions_for_any(name: &str, table: &Table) -> bool
         .any(|field| mentions_for(name, table, *field))
 }
 
-/// Whether a rule names a set for a field.
+/// Whether its table names a set for a field.
 fn mentions_for(name: &str, table: &Table, field: FieldName) -> bool
     ensures { result ≡ mentions_for name.now (table_view table.now) field }
 {

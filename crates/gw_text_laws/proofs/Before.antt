@@ -50,25 +50,25 @@ absent key k v ms h = on (slice_cmp nat_cmp key k) (is_eq-slice_cmp key k) h
     on Equal e h = absurd cc
     on Greater e h = (sym e, h)
 
-key_more : (fields : List Field) (field : Field) (key : List ℕ) → pointwise nat_eq field.key key ≡ false → is_key (fields ++ field ∷ []) key ≡ is_key fields key
-key_more [] field key e = rw e refl
-key_more (first ∷ fields) field key e = ap (λ (b : Bool). pointwise nat_eq first.key key || b) (key_more fields field key e)
+key_more : (fields rest : List Field) (field : Field) (key : List ℕ) → pointwise nat_eq field.key key ≡ false → is_key (fields ++ field ∷ rest) key ≡ is_key (fields ++ rest) key
+key_more [] rest field key e = rw e refl
+key_more (first ∷ fields) rest field key e = ap (λ (b : Bool). pointwise nat_eq first.key key || b) (key_more fields rest field key e)
 
-stranger_more : (fields : List Field) (field : Field) (table : Members) → get_member field.key table ≡ None → stranger (fields ++ field ∷ []) table ≡ stranger fields table
-stranger_more fields field no_members h = refl
-stranger_more fields field (member k v ms) h =
+stranger_more : (fields rest : List Field) (field : Field) (table : Members) → get_member field.key table ≡ None → stranger (fields ++ field ∷ rest) table ≡ stranger (fields ++ rest) table
+stranger_more fields rest field no_members h = refl
+stranger_more fields rest field (member k v ms) h =
     let parts = absent field.key k v ms h in
-    ap (λ (b : Bool). if b then stranger (fields ++ field ∷ []) ms else Some k) (key_more fields field k parts.0)
-    ∙ ap (λ (s : Option (List ℕ)). if is_key fields k then s else Some k) (stranger_more fields field ms parts.1)
+    ap (λ (b : Bool). if b then stranger (fields ++ field ∷ rest) ms else Some k) (key_more fields rest field k parts.0)
+    ∙ ap (λ (s : Option (List ℕ)). if is_key (fields ++ rest) k then s else Some k) (stranger_more fields rest field ms parts.1)
 
-has_more : (test : Option ConfigFault → Bool) (fields : List Field) (field : Field) (table : Members) → test (field_fault [] table field) ≡ false
-    → has [] test (fields ++ field ∷ []) table ≡ has [] test fields table
-has_more test [] field table e = rw e refl
-has_more test (first ∷ fields) field table e = ap (λ (b : Bool). test (field_fault [] table first) || b) (has_more test fields field table e)
+has_more : (test : Option ConfigFault → Bool) (fields rest : List Field) (field : Field) (table : Members) → test (field_fault [] table field) ≡ false
+    → has [] test (fields ++ field ∷ rest) table ≡ has [] test (fields ++ rest) table
+has_more test [] rest field table e = rw e refl
+has_more test (first ∷ fields) rest field table e = ap (λ (b : Bool). test (field_fault [] table first) || b) (has_more test fields rest field table e)
 
-find_more : (test : Field → Bool) (fields : List Field) (field : Field) → test field ≡ false → find test (fields ++ field ∷ []) ≡ find test fields
-find_more test [] field e = rw e refl
-find_more test (first ∷ fields) field e = ap (λ (o : Option Field). cond (test first) (Some first) o) (find_more test fields field e)
+find_more : (test : Field → Bool) (fields rest : List Field) (field : Field) → test field ≡ false → find test (fields ++ field ∷ rest) ≡ find test (fields ++ rest)
+find_more test [] rest field e = rw e refl
+find_more test (first ∷ fields) rest field e = ap (λ (o : Option Field). cond (test first) (Some first) o) (find_more test fields rest field e)
 
 -- a field without a fault, whose key isn't in the table
 pub record IsMissed (field : Field) (table : Members) : Type 0 where
@@ -78,36 +78,36 @@ pub record IsMissed (field : Field) (table : Members) : Type 0 where
 missed : (key : List ℕ) (shape : Shape) (table : Members) → get_member key table ≡ None → IsMissed (now.may key shape) table
 missed key shape table h = record { key = h; fault = ap (fault_where [] (now.may key shape)) h }
 
-fault_more : (fields : List Field) (field : Field) (table : Members) → IsMissed field table → fault_of [] (fields ++ field ∷ []) table ≡ fault_of [] fields table
-fault_more fields field table m =
-    rw (stranger_more fields field table m.key, has_more is_missing fields field table (ap is_missing m.fault), has_more is_kind fields field table (ap is_kind m.fault), has_more is_range fields field table (ap is_range m.fault), has_more is_too_many fields field table (ap is_too_many m.fault)) refl
+fault_more : (fields rest : List Field) (field : Field) (table : Members) → IsMissed field table → fault_of [] (fields ++ field ∷ rest) table ≡ fault_of [] (fields ++ rest) table
+fault_more fields rest field table m =
+    rw (stranger_more fields rest field table m.key, has_more is_missing fields rest field table (ap is_missing m.fault), has_more is_kind fields rest field table (ap is_kind m.fault), has_more is_range fields rest field table (ap is_range m.fault), has_more is_too_many fields rest field table (ap is_too_many m.fault)) refl
 
-with_more : (place : Place) (fault : ConfigFault) (fields : List Field) (field : Field) (table : Members) → is_this fault (field_fault [] table field) ≡ false
-    → at_field [] place fault table (field_with [] fault (fields ++ field ∷ []) table) ≡ at_field [] place fault table (field_with [] fault fields table)
-with_more place fault fields field table e =
-    ap (at_field [] place fault table) (find_more (λ f. is_this fault (field_fault [] table f)) fields field e)
+with_more : (place : Place) (fault : ConfigFault) (fields rest : List Field) (field : Field) (table : Members) → is_this fault (field_fault [] table field) ≡ false
+    → at_field [] place fault table (field_with [] fault (fields ++ field ∷ rest) table) ≡ at_field [] place fault table (field_with [] fault (fields ++ rest) table)
+with_more place fault fields rest field table e =
+    ap (at_field [] place fault table) (find_more (λ f. is_this fault (field_fault [] table f)) fields rest field e)
 
-as_more : (place : Place) (fault : ConfigFault) (fields : List Field) (field : Field) (table : Members) → IsMissed field table
-    → located_as [] place (fields ++ field ∷ []) table fault ≡ located_as [] place fields table fault
-as_more place faults.UnknownKey fields field table m = ap (λ (s : Option (List ℕ)). at_key place faults.UnknownKey s) (stranger_more fields field table m.key)
-as_more place faults.Missing fields field table m = with_more place faults.Missing fields field table (ap (is_this faults.Missing) m.fault)
-as_more place faults.Kind fields field table m = with_more place faults.Kind fields field table (ap (is_this faults.Kind) m.fault)
-as_more place faults.Range fields field table m = with_more place faults.Range fields field table (ap (is_this faults.Range) m.fault)
-as_more place faults.TooMany fields field table m = with_more place faults.TooMany fields field table (ap (is_this faults.TooMany) m.fault)
-as_more place faults.NotToml fields field table m = with_more place faults.NotToml fields field table refl
-as_more place faults.Duplicate fields field table m = with_more place faults.Duplicate fields field table refl
-as_more place faults.Memory fields field table m = with_more place faults.Memory fields field table refl
+as_more : (place : Place) (fault : ConfigFault) (fields rest : List Field) (field : Field) (table : Members) → IsMissed field table
+    → located_as [] place (fields ++ field ∷ rest) table fault ≡ located_as [] place (fields ++ rest) table fault
+as_more place faults.UnknownKey fields rest field table m = ap (λ (s : Option (List ℕ)). at_key place faults.UnknownKey s) (stranger_more fields rest field table m.key)
+as_more place faults.Missing fields rest field table m = with_more place faults.Missing fields rest field table (ap (is_this faults.Missing) m.fault)
+as_more place faults.Kind fields rest field table m = with_more place faults.Kind fields rest field table (ap (is_this faults.Kind) m.fault)
+as_more place faults.Range fields rest field table m = with_more place faults.Range fields rest field table (ap (is_this faults.Range) m.fault)
+as_more place faults.TooMany fields rest field table m = with_more place faults.TooMany fields rest field table (ap (is_this faults.TooMany) m.fault)
+as_more place faults.NotToml fields rest field table m = with_more place faults.NotToml fields rest field table refl
+as_more place faults.Duplicate fields rest field table m = with_more place faults.Duplicate fields rest field table refl
+as_more place faults.Memory fields rest field table m = with_more place faults.Memory fields rest field table refl
 
 -- the fault of a table is the same with it and without
-located_more : (place : Place) (fields : List Field) (field : Field) (table : Members) → IsMissed field table
-    → located_beside [] place (fields ++ field ∷ []) table ≡ located_beside [] place fields table
+located_more : (place : Place) (fields rest : List Field) (field : Field) (table : Members) → IsMissed field table
+    → located_beside [] place (fields ++ field ∷ rest) table ≡ located_beside [] place (fields ++ rest) table
 unfolding located_beside
-located_more place fields field table m =
-    ap (option_map (located_as [] place (fields ++ field ∷ []) table)) (fault_more fields field table m) ∙ on (fault_of [] fields table)
+located_more place fields rest field table m =
+    ap (option_map (located_as [] place (fields ++ field ∷ rest) table)) (fault_more fields rest field table m) ∙ on (fault_of [] (fields ++ rest) table)
   where
-    on : (found : Option ConfigFault) → option_map (located_as [] place (fields ++ field ∷ []) table) found ≡ option_map (located_as [] place fields table) found
+    on : (found : Option ConfigFault) → option_map (located_as [] place (fields ++ field ∷ rest) table) found ≡ option_map (located_as [] place (fields ++ rest) table) found
     on None = refl
-    on (Some fault) = ap (λ (l : Located). Some l) (as_more place fault fields field table m)
+    on (Some fault) = ap (λ (l : Located). Some l) (as_more place fault fields rest field table m)
 
 -- ---- the ports
 
@@ -116,7 +116,7 @@ same_port_table : (format : Format) (k : ℕ) (table : Members) → get_member (
 same_port_table formats.One k table none = refl
 same_port_table formats.Two k table none = refl
 same_port_table formats.Three k table none =
-    located_more (places.Port k) (before.port_fields formats.Three) now.manager_field table (missed (codes "bbmd") (One Manager) table none)
+    located_more (places.Port k) (before.port_fields formats.Three) [] now.manager_field table (missed (codes "bbmd") (One Manager) table none)
 
 same_port_parts : (format : Format) (k : ℕ) (table : Members) → get_member (codes "bbmd") table ≡ None → parts.port_parts format k table ≡ before.port_parts format k table
 same_port_parts formats.One k table none = refl
@@ -166,7 +166,7 @@ same_top : (format : Format) (top : Members) → get_member (codes "announce") t
 same_top formats.One top none = refl
 same_top formats.Two top none = refl
 same_top formats.Three top none =
-    located_more places.Top (before.top_fields formats.Three) (now.may (codes "announce") (One Boolean)) top (missed (codes "announce") (One Boolean) top none)
+    located_more places.Top (now.common_top_fields ++ now.may (codes "set") (now.tables 0 1048576) ∷ []) (now.may (codes "assert") (now.tables 0 512) ∷ []) (now.may (codes "announce") (One Boolean)) top (missed (codes "announce") (One Boolean) top none)
 
 silent : (format : Format) (top : Members) → get_member (codes "announce") top ≡ None → parts.announce_at format (codes "announce") top ≡ Ok false
 silent formats.One top none = refl

@@ -1,1 +1,2 @@
+pub mod WithoutMacs
 pub mod WithoutNeighbours

@@ -26,7 +26,8 @@ use Rattle.gw_policy_text.specs.Policy.{policy_at}
 -- the fields that there are then
 
 abbrev pub top_fields : Format → List Field
-top_fields formats.Three = common_top_fields ++ may (codes "set") (tables 0 1048576) ∷ []
+top_fields formats.Three =
+    common_top_fields ++ may (codes "set") (tables 0 1048576) ∷ may (codes "assert") (tables 0 512) ∷ []
 top_fields _ = common_top_fields
 
 abbrev pub port_fields : Format → List Field
@@ -76,9 +77,12 @@ parts_of_format format top = do
     routes = routes;
     objects = objects;
     rules = policy.rules;
+    tables = policy.tables;
     notes = policy.notes;
     audits = policy.audits;
+    written = policy.written;
     sets = policy.sets;
+    assertions = policy.assertions;
   })
 
 abbrev pub parts_of : Members → Find Configuration

@@ -1,21 +1,25 @@
 -- The first key of a table that is none of its fields' is the fault that the reader answers.
-use Rattle.std.proofs.Common.{◌≡◌, ℕ, List, [], if◌then◌else◌, Bool, Err, ap, refl, ◌∙◌}
+use Rattle.std.proofs.Common.{◌≡◌, ℕ, List, [], if◌then◌else◌, Bool, false, Err, ap, refl, ◌∙◌}
 use Rattle.std.specs.Prelude.{Option, Some, None, codes, is_some, option_map}
 use Rattle.toml.specs.Data.{Data, Members, no_members, member}
 use Rattle.gw_addr.specs.Reading.{◌>>=◌}
 use Rattle.gw_configuration.specs.declared.fault.ConfigFault.TheVariants.{UnknownKey}
 use Rattle.gw_configuration.specs.declared.located.Place.{Place}
-use Rattle.gw_configuration.specs.declared.located.Place.TheVariants.{Top, Device, Port, Peer, Route, Object, Set, Rule}
+use Rattle.gw_configuration.specs.declared.located.Place.TheVariants.{Top, Device, Port, Peer, Route, Object, Set, Rule, Assertion}
 use Rattle.gw_configuration.specs.declared.object.ObjectKind.{ObjectKind}
+use Rattle.gw_configuration.specs.declared.shape.Naming.{Naming}
+use Rattle.gw_configuration.specs.declared.shape.Naming.TheVariants as namings
+use Rattle.gw_rules.specs.declared.format.Format.{Format}
+use Rattle.gw_rules.specs.declared.format.Format.TheVariants as formats
 use Rattle.gw_configuration.specs.declared.object.ObjectKind.TheVariants as kinds
 use Rattle.gw_configuration.specs.Duplicates.{unique}
 use Rattle.gw_configuration.specs.Located.{Find, Located, at_key, unless, whole}
 use Rattle.gw_policy_text.specs.keys.Field.{Field, fault_of_fields, is_key, located_as, located_beside, located_in, stranger}
 use Rattle.gw_policy_text.specs.keys.Tables.{device_fields, format_in, object_fields, peer_fields, port_fields, route_fields}
-use Rattle.gw_policy_text.specs.keys.Tables.{rule_fields, set_fields, top_fields}
+use Rattle.gw_policy_text.specs.keys.Tables.{assertion_fields, every_rule_field, is_true_at, naming_of, rule_fields, set_fields, top_fields}
 use Rattle.gw_policy_text.specs.Document.{configuration_of, parts_of}
 use Rattle.gw_policy_text.specs.Parts.{count_at, device_of, device_parts, object_of_kind, object_parts, peer_parts, port_parts, route_parts}
-use Rattle.gw_policy_text.specs.Policy.{rule_of, rule_parts, set_of, set_parts}
+use Rattle.gw_policy_text.specs.Policy.{assertion_of, assertion_parts, rule_of, set_of, set_parts, written_parts}
 use Rattle.gw_policy_text.specs.faults.Keys.{AreKnown, Knows, fields_at, kind_fields}
 
 -- an unknown key is the fault of a table
@@ -66,14 +70,29 @@ of_object object kind table key is =
     refused [] (Object object) (object_fields kind states) table key (whole (object_parts kind table))
     (same_stranger (object_fields kind states) (object_fields kind 0) (of_states kind states) table ∙ is)
 
-of_set : (rules : List Data) (set : ℕ) → Knows (Set set) set_fields (set_of rules set)
+of_set : (rules assertions : List Data) (set : ℕ) → Knows (Set set) set_fields (set_of rules assertions set)
 unfolding set_of
-of_set rules set table key is = refused [] (Set set) set_fields table key (whole (set_parts rules table)) is
+of_set rules assertions set table key is = refused [] (Set set) set_fields table key (whole (set_parts rules assertions table)) is
 
-of_rule : (top : Members) (sets : List Data) (rule : ℕ) → Knows (Rule rule) (rule_fields (format_in top)) (rule_of (format_in top) sets rule)
+-- what a rule says of itself changes none of its keys
+of_manner : (naming : Naming) (allows : Bool) (key : List ℕ) → is_key (every_rule_field naming allows) key ≡ is_key (every_rule_field (namings.Rule formats.Three) false) key
+of_manner naming allows key = refl
+
+of_members : (format : Format) (table : Members) (key : List ℕ) → is_key (rule_fields format table) key ≡ is_key (rule_fields format no_members) key
+of_members formats.One table key = refl
+of_members formats.Two table key = refl
+of_members formats.Three table key = of_manner (naming_of formats.Three table) (is_true_at (codes "allow") table) key
+
+of_rule : (top : Members) (sets : List Data) (rule : ℕ) → Knows (Rule rule) (rule_fields (format_in top) no_members) (rule_of (format_in top) sets rule)
 unfolding rule_of
 of_rule top sets rule table key is =
-    refused sets (Rule rule) (rule_fields (format_in top)) table key (whole (rule_parts (format_in top) sets table)) is
+    refused sets (Rule rule) (rule_fields (format_in top) table) table key (whole (written_parts (format_in top) sets table))
+    (same_stranger (rule_fields (format_in top) table) (rule_fields (format_in top) no_members) (of_members (format_in top) table) table ∙ is)
+
+of_assertion : (sets : List Data) (assertion : ℕ) → Knows (Assertion assertion) assertion_fields (assertion_of sets assertion)
+unfolding assertion_of
+of_assertion sets assertion table key is =
+    refused sets (Assertion assertion) assertion_fields table key (whole (assertion_parts sets table)) is
 
 of_top : (top : Members) (key : List ℕ) → stranger (top_fields (format_in top)) top ≡ Some key
     → configuration_of top ≡ Err (at_key Top UnknownKey (Some key))
@@ -90,4 +109,5 @@ are_known top = record {
   object = of_object;
   set = of_set;
   rule = of_rule top;
+  assertion = of_assertion;
 }

@@ -22,11 +22,12 @@ use Rattle.gw_policy_text.specs.keys.Field.{Field, at_field, fault_of, fault_whe
 use Rattle.gw_policy_text.specs.keys.Range.{is_kind, is_missing, is_range, is_too_many}
 use Rattle.gw_policy_text.specs.keys.Tables.{rule_fields}
 use Rattle.gw_policy_text.specs.keys.Laws.{HasEleven, IsBefore, KnowsNoOther, NamesNoSets}
-use Rattle.gw_policy_text.specs.keys.Value.{is_of_format, list_in}
+use Rattle.gw_policy_text.specs.keys.Value.{is_nameable, list_in}
+use Rattle.gw_configuration.specs.declared.shape.Naming.TheVariants.{Rule}
 
 pub knows_no_other : (format : Format) → IsBefore format → KnowsNoOther format
-knows_no_other One e = record { set = refl; announce = refl; bbmd = refl; stations = refl; sender = refl; station = refl; note = refl; audit = refl }
-knows_no_other Two e = record { set = refl; announce = refl; bbmd = refl; stations = refl; sender = refl; station = refl; note = refl; audit = refl }
+knows_no_other One e = record { set = refl; announce = refl; assertion = refl; bbmd = refl; stations = refl; sender = refl; station = refl; note = refl; audit = refl; both_ways = refl; enabled = refl; quiet = refl }
+knows_no_other Two e = record { set = refl; announce = refl; assertion = refl; bbmd = refl; stations = refl; sender = refl; station = refl; note = refl; audit = refl; both_ways = refl; enabled = refl; quiet = refl }
 knows_no_other Three e = absurd cc
 
 -- fields whose items name no sets
@@ -146,8 +147,8 @@ located_same sets place fields table plain =
     on (Some fault) = ap (λ (l : Located). Some l) (as_same sets place fields table fault plain)
 
 pub names_no_sets : (format : Format) → IsBefore format → NamesNoSets format
-names_no_sets One e sets place table = located_same sets place (rule_fields One) table refl
-names_no_sets Two e sets place table = located_same sets place (rule_fields Two) table refl
+names_no_sets One e sets place table = located_same sets place (rule_fields One table) table refl
+names_no_sets Two e sets place table = located_same sets place (rule_fields Two table) table refl
 names_no_sets Three e sets place table = absurd cc
 
 -- what is found and kept is found among those that are kept, if they come first
@@ -181,9 +182,9 @@ first_kept keep test (x ∷ xs) ys all none = on (test x) parts.0 (first_kept ke
 named : List ℕ → Operation → Bool
 named text operation = pointwise nat_eq (operation_name operation) text
 
-eleven : (format : Format) → list_all (is_of_format format) (take 11 ALL) ≡ true → list_any (is_of_format format) (drop 11 ALL) ≡ false → HasEleven format
+eleven : (format : Format) → list_all (is_nameable (Rule format)) (take 11 ALL) ≡ true → list_any (is_nameable (Rule format)) (drop 11 ALL) ≡ false → HasEleven format
 unfolding kept named
-eleven format all none text = first_kept (is_of_format format) (named text) (take 11 ALL) (drop 11 ALL) all none
+eleven format all none text = first_kept (is_nameable (Rule format)) (named text) (take 11 ALL) (drop 11 ALL) all none
 
 pub has_eleven : (format : Format) → IsBefore format → HasEleven format
 has_eleven One e = eleven One refl refl

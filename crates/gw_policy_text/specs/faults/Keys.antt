@@ -2,21 +2,21 @@
 use Rattle.std.specs.Prelude.{◌≡◌, ℕ, List, [], ◌∷◌, ◌++◌, codes, Option, Some, None, option_and_then, Err}
 use Rattle.std.specs.List.{flat_map}
 use Rattle.std.specs.Result.{result_ok}
-use Rattle.toml.specs.Data.{Data, Members, get_member}
+use Rattle.toml.specs.Data.{Data, Members, get_member, no_members}
 use Rattle.gw_rules.specs.declared.format.Format.{Format}
 use Rattle.gw_configuration.specs.declared.fault.ConfigFault.TheVariants.{UnknownKey}
 use Rattle.gw_configuration.specs.declared.located.Place.{Place}
 use Rattle.gw_configuration.specs.declared.located.Place.TheVariants.{Text, Top, Device, Port, Peer, Route}
-use Rattle.gw_configuration.specs.declared.located.Place.TheVariants.{Object, Set, Rule}
+use Rattle.gw_configuration.specs.declared.located.Place.TheVariants.{Object, Set, Rule, Assertion}
 use Rattle.gw_configuration.specs.declared.object.ObjectKind.{ObjectKind}
 use Rattle.gw_configuration.specs.Located.{Find, at_key}
 use Rattle.gw_policy_text.specs.keys.Field.{Field, stranger}
 use Rattle.gw_policy_text.specs.keys.Tables.{device_fields, format_in, object_fields, peer_fields, port_fields, route_fields}
-use Rattle.gw_policy_text.specs.keys.Tables.{rule_fields, set_fields, top_fields}
+use Rattle.gw_policy_text.specs.keys.Tables.{assertion_fields, rule_fields, set_fields, top_fields}
 use Rattle.gw_policy_text.specs.keys.Value.{kind_in}
 use Rattle.gw_policy_text.specs.Document.{configuration_of}
 use Rattle.gw_policy_text.specs.Parts.{device_of, object_of_kind, peer_of, port_of, route_of}
-use Rattle.gw_policy_text.specs.Policy.{rule_of, set_of}
+use Rattle.gw_policy_text.specs.Policy.{assertion_of, rule_of, set_of}
 use Rattle.gw_policy_text.specs.faults.Place.{table_at}
 
 -- the fields of a table
@@ -31,7 +31,8 @@ abbrev pub kind_fields : Option ObjectKind → List Field
 kind_fields (Some kind) = object_fields kind 0
 kind_fields None = []
 
--- those of the table at a place; how many ports there are changes none of a route's keys
+-- those of the table at a place; how many ports there are changes none of a route's keys, and what a rule says of itself none
+-- of a rule's
 abbrev pub fields_at : Place → Members → List Field
 fields_at Text top = []
 fields_at Top top = top_fields (format_in top)
@@ -41,7 +42,8 @@ fields_at (Peer port peer) top = peer_fields
 fields_at (Route route) top = route_fields 0
 fields_at (Object object) top = kind_fields (kind_in_table (table_at (Object object) top))
 fields_at (Set set) top = set_fields
-fields_at (Rule rule) top = rule_fields (format_in top)
+fields_at (Rule rule) top = rule_fields (format_in top) no_members
+fields_at (Assertion assertion) top = assertion_fields
 
 -- their keys in words
 
@@ -74,5 +76,6 @@ pub record AreKnown (top : Members) : Type 0 where
   pub peer : (port peer : ℕ) → Knows (Peer port peer) (fields_at (Peer port peer) top) (peer_of port peer)
   pub route : (ports route : ℕ) → Knows (Route route) (fields_at (Route route) top) (route_of ports route)
   pub object : (object : ℕ) (kind : ObjectKind) → Knows (Object object) (kind_fields (Some kind)) (object_of_kind object kind)
-  pub set : (rules : List Data) (set : ℕ) → Knows (Set set) (fields_at (Set set) top) (set_of rules set)
+  pub set : (rules assertions : List Data) (set : ℕ) → Knows (Set set) (fields_at (Set set) top) (set_of rules assertions set)
+  pub assertion : (sets : List Data) (assertion : ℕ) → Knows (Assertion assertion) (fields_at (Assertion assertion) top) (assertion_of sets assertion)
   pub rule : (sets : List Data) (rule : ℕ) → Knows (Rule rule) (fields_at (Rule rule) top) (rule_of (format_in top) sets rule)

@@ -3,7 +3,7 @@ use Rattle.std.specs.Prelude.{ℕ, List, [], ◌++◌, codes, Option, Some, None
 use Rattle.toml.specs.Data.{Data, Members, as_str, as_table, at, get_member}
 use Rattle.gw_configuration.specs.declared.located.Place.{Place}
 use Rattle.gw_configuration.specs.declared.located.Place.TheVariants.{Text, Top, Device, Port, Peer, Route}
-use Rattle.gw_configuration.specs.declared.located.Place.TheVariants.{Object, Set, Rule}
+use Rattle.gw_configuration.specs.declared.located.Place.TheVariants.{Object, Set, Rule, Assertion}
 use Rattle.gw_configuration.specs.Located.{Located, numbered}
 
 -- what is at a place
@@ -24,16 +24,18 @@ table_at (Route route) top = listed_table (codes "route") route top
 table_at (Object object) top = listed_table (codes "object") object top
 table_at (Set set) top = listed_table (codes "set") set top
 table_at (Rule rule) top = listed_table (codes "rule") rule top
+table_at (Assertion assertion) top = listed_table (codes "assert") assertion top
 
 -- the text at the key `name`
 abbrev pub name_in : Option Members → Option (List ℕ)
 name_in found = option_and_then as_str (option_and_then (get_member (codes "name")) found)
 
--- the name of an object, a set or a rule, where it is a text
+-- the name of an object, a set, a rule or an assertion, where it is a text
 abbrev pub name_at : Place → Members → Option (List ℕ)
 name_at (Object object) top = name_in (table_at (Object object) top)
 name_at (Set set) top = name_in (table_at (Set set) top)
 name_at (Rule rule) top = name_in (table_at (Rule rule) top)
+name_at (Assertion assertion) top = name_in (table_at (Assertion assertion) top)
 name_at _ top = None
 
 -- the value, or of a list the item at this position
@@ -59,6 +61,7 @@ table_words (Route route) = numbered (codes "route ") route
 table_words (Object object) = numbered (codes "object ") object
 table_words (Set set) = numbered (codes "set ") set
 table_words (Rule rule) = numbered (codes "rule ") rule
+table_words (Assertion assertion) = numbered (codes "assert ") assertion
 
 -- a name in quotes
 abbrev pub name_words : Option (List ℕ) → List ℕ

@@ -13,12 +13,15 @@ use Rattle.gw_addr.specs.declared.mask.Mask.{Mask as Four}
 use Rattle.gw_rules.specs.Bounds.{last_operation}
 use Rattle.gw_rules.specs.Operation.{operation_name}
 use Rattle.gw_rules.specs.declared.format.Format.{Format}
+use Rattle.gw_configuration.specs.declared.shape.Naming.{Naming}
+use Rattle.gw_configuration.specs.declared.shape.Naming.TheVariants as namings
 use Rattle.gw_rules.specs.declared.format.Format.TheVariants.{Three}
 use Rattle.gw_rules.specs.declared.operation.TheConstants.Operation.{ALL}
 use Rattle.gw_configuration.specs.declared.fault.ConfigFault.{ConfigFault}
 use Rattle.gw_configuration.specs.declared.fault.ConfigFault.TheVariants.{UnknownKey, Kind, TooMany, Duplicate}
 use Rattle.gw_configuration.specs.declared.shape.Scalar.{Scalar}
 use Rattle.gw_configuration.specs.declared.shape.Scalar.TheVariants.{Number, Signed, ObjectType, Text, RuleName}
+use Rattle.gw_configuration.specs.declared.shape.Scalar.TheVariants.{ShortName, True, False, Verdict, AnyStations}
 use Rattle.gw_configuration.specs.declared.shape.Scalar.TheVariants.{Operation, Boolean, Address, Manager, Mask, Table}
 use Rattle.gw_configuration.specs.declared.shape.Scalar.TheVariants.{Named, Stations, Subnet, Item}
 use Rattle.gw_configuration.specs.declared.shape.Names.{Names}
@@ -47,14 +50,19 @@ kind_words Signed = codes "a whole number"
 kind_words ObjectType = codes "a whole number"
 kind_words (Text least) = codes "a text in quotes"
 kind_words RuleName = codes "a text in quotes"
-kind_words (Operation format) = codes "a text in quotes"
+kind_words ShortName = codes "a text in quotes"
+kind_words (Operation naming) = codes "a text in quotes"
+kind_words Verdict = codes "a text in quotes"
 kind_words Address = codes "an address in quotes"
 kind_words Manager = codes "an address in quotes"
 kind_words Mask = codes "a mask in quotes"
 kind_words Boolean = codes "true or false"
+kind_words True = codes "true or false"
+kind_words False = codes "true or false"
 kind_words Table = codes "a table"
 kind_words (Named names) = codes "a whole number or a name in quotes"
 kind_words Stations = codes "an address or a subnet in quotes"
+kind_words AnyStations = codes "an address, a subnet or a station's octets in quotes"
 kind_words Subnet = codes "a subnet in quotes"
 kind_words Item = codes "a text in quotes, a whole number or a list of two"
 
@@ -64,6 +72,14 @@ operations_words Three =
     codes "cast, route, register, delete, read-table, write-table, learn, network, read, write, list, enter, claim"
 operations_words _ =
     codes "cast, route, register, delete, read-table, write-table, learn, network, read, write, list"
+
+-- what can be named in the place of an operation
+abbrev pub deeds_words : Naming → List ℕ
+deeds_words (namings.Rule format) = operations_words format
+deeds_words namings.BothWays = codes "read, write, route, since the rule goes both ways"
+deeds_words namings.Assertion =
+    codes
+    "cast, route, register, delete, read-table, write-table, learn, network, read, write, list, enter, claim, any-read, any-write"
 
 -- the range of a number; where there are no states, a default is none of them
 abbrev pub number_words : ℕ → ℕ → List ℕ
@@ -87,14 +103,21 @@ fixed_words ObjectType =
     codes "5 Binary Value, 19 Multi-state Value, 40 CharacterString Value, 45 Integer Value, 48 Positive Integer Value"
 fixed_words (Text least) = []
 fixed_words RuleName = codes "1 to 32 of a to z, 0 to 9 and -, and not default"
-fixed_words (Operation format) = operations_words format
+fixed_words ShortName = codes "1 to 27 of a to z, 0 to 9 and -, and not default, since the rule goes both ways"
+fixed_words (Operation naming) = deeds_words naming
 fixed_words Address = codes "an address and its UDP port, as 10.0.1.255:47808"
 fixed_words Manager = manager_words
 fixed_words Mask = codes "a mask as 255.255.255.0"
 fixed_words Boolean = codes "true or false"
+fixed_words True = codes "true, since the rule goes both ways"
+fixed_words False = codes "false, since the rule allows"
+fixed_words Verdict = codes "allowed or denied"
 fixed_words Table = codes "a table"
 fixed_words (Named names) = []
 fixed_words Stations = codes "an address as 10.0.1.5:47808 or 10.0.1.5, or a subnet as 10.0.1.0/24"
+fixed_words AnyStations =
+    codes
+    "an address as 10.0.1.5:47808 or 10.0.1.5, a subnet as 10.0.1.0/24, or 1, 2, 3, 4, 5 or 7 octets as mac:07, two of one length in a list"
 fixed_words Subnet = codes "a subnet as 10.0.1.0/24"
 fixed_words Item = codes "a whole number, a list of two, or a text that doesn't begin with @"
 
@@ -113,7 +136,7 @@ range_words of = fixed_words of
 -- of a type or an operation all that there are, of others what is wanted
 abbrev pub other_front : Scalar → List ℕ
 other_front ObjectType = codes " is none of "
-other_front (Operation format) = codes " is none of "
+other_front (Operation naming) = codes " is none of "
 other_front of = codes " must be "
 
 abbrev pub other_words : Scalar → List ℕ
@@ -245,7 +268,7 @@ addresses_words (Some text) = subnet_words (subnet_in text)
 
 -- that it may be two values; not so of operations
 abbrev pub two_front : Scalar → List ℕ
-two_front (Operation format) = []
+two_front (Operation naming) = []
 two_front of = codes ", or a list of two such, low and high"
 
 abbrev pub address_text : Scalar → Data → Option (List ℕ)
@@ -335,11 +358,16 @@ kind_at located top =
     if pointwise nat_eq located.key (codes "instance")
     then option_and_then (get_member (codes "type")) (table_at located.place top) else None
 
--- of a value that isn't there, or is; without a field nothing is known
+-- of a rule with which the list gets too long
+abbrev pub unshaped_words : ConfigFault → List ℕ
+unshaped_words TooMany = codes "is past the 512 rules that there may be, those for the way and for the answers counted"
+unshaped_words fault = codes "is at fault"
+
+-- of a value that isn't there, or is; without a field it is that, or nothing is known
 abbrev pub shape_words : Members → ConfigFault → Option Shape → Option ℕ → Option Data → List ℕ
 shape_words top fault (Some shape) item None = missing_words shape
 shape_words top fault (Some shape) item (Some value) = must_words top fault shape item value
-shape_words top fault None item value = codes "is at fault"
+shape_words top fault None item value = unshaped_words fault
 
 -- by the fault, the shape of its field, and the value there; of an unknown key the known ones
 abbrev pub last_words : Members → Located → Option Data → Option Data → ConfigFault → List ℕ

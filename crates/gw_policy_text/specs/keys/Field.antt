@@ -1,5 +1,5 @@
 -- The fields of a table, and the fault of a table.
-use Rattle.std.specs.Prelude.{ℕ, Bool, false, ◌||◌, nat_lt, nat_eq, if◌then◌else◌, List, [], length}
+use Rattle.std.specs.Prelude.{ℕ, Bool, true, false, ◌||◌, nat_lt, nat_eq, if◌then◌else◌, List, [], length}
 use Rattle.std.specs.Prelude.{find, position, Option, Some, None, is_some, Ok, Err}
 use Rattle.std.specs.Cmp.Lexicographic.{pointwise}
 use Rattle.std.specs.List.{list_any}
@@ -11,6 +11,7 @@ use Rattle.gw_configuration.specs.declared.fault.ConfigFault.TheVariants.{Unknow
 use Rattle.gw_configuration.specs.declared.located.Place.{Place}
 use Rattle.gw_configuration.specs.declared.shape.Scalar.{Scalar}
 use Rattle.gw_configuration.specs.declared.shape.Scalar.TheVariants.{Number, Signed, ObjectType, Text, RuleName}
+use Rattle.gw_configuration.specs.declared.shape.Scalar.TheVariants.{ShortName, True, False, Verdict, AnyStations}
 use Rattle.gw_configuration.specs.declared.shape.Scalar.TheVariants.{Operation, Boolean, Address, Manager, Mask, Table}
 use Rattle.gw_configuration.specs.declared.shape.Scalar.TheVariants.{Named, Stations, Subnet, Item}
 use Rattle.gw_configuration.specs.declared.shape.Shape.{Shape}
@@ -19,8 +20,8 @@ use Rattle.gw_configuration.specs.Duplicates.{or_else}
 use Rattle.gw_configuration.specs.Located.{Located, Read, at_key}
 use Rattle.gw_policy_text.specs.keys.Items.{count_in, items_in, named_in, set_item_fault, stations_in}
 use Rattle.gw_policy_text.specs.keys.Range.{is_kind, is_missing, is_range, is_too_many, range_in}
-use Rattle.gw_policy_text.specs.keys.Value.{address_in, boolean_in, kind_in, list_in, mask_in, number_in, operation_in}
-use Rattle.gw_policy_text.specs.keys.Value.{rule_name_in, signed_in, subnet_in, table_in, text_in}
+use Rattle.gw_policy_text.specs.keys.Value.{address_in, boolean_in, deed_in, fixed_in, kind_in, list_in, mask_in, number_in}
+use Rattle.gw_policy_text.specs.keys.Value.{rule_name_in, short_name_in, signed_in, subnet_in, table_in, text_in, verdict_in}
 
 -- one value of its own
 
@@ -31,14 +32,19 @@ scalar_fault Signed value = result_err (signed_in value)
 scalar_fault ObjectType value = result_err (kind_in value)
 scalar_fault (Text least) value = result_err (text_in least value)
 scalar_fault RuleName value = result_err (rule_name_in value)
-scalar_fault (Operation format) value = result_err (operation_in format value)
+scalar_fault ShortName value = result_err (short_name_in value)
+scalar_fault (Operation naming) value = result_err (deed_in naming value)
 scalar_fault Boolean value = result_err (boolean_in value)
+scalar_fault True value = result_err (fixed_in true value)
+scalar_fault False value = result_err (fixed_in false value)
+scalar_fault Verdict value = result_err (verdict_in value)
 scalar_fault Address value = result_err (address_in value)
 scalar_fault Manager value = result_err (address_in value)
 scalar_fault Mask value = result_err (mask_in value)
 scalar_fault Table value = result_err (table_in value)
 scalar_fault (Named names) value = result_err (named_in names value)
-scalar_fault Stations value = result_err (stations_in value)
+scalar_fault Stations value = result_err (stations_in false value)
+scalar_fault AnyStations value = result_err (stations_in true value)
 scalar_fault Subnet value = result_err (subnet_in value)
 scalar_fault Item value = set_item_fault value
 

@@ -1,5 +1,5 @@
 -- Items for a field of a rule, as format 3 has them besides: names, stations, and sets.
-use Rattle.std.specs.Prelude.{ℕ, ◌++◌, ◌==◌, Bool, false, nat_eq, if◌then◌else◌, List, [], ◌∷◌, length, codes, find}
+use Rattle.std.specs.Prelude.{ℕ, ◌/◌, ◌++◌, ◌==◌, Bool, true, false, nat_eq, if◌then◌else◌, List, [], ◌∷◌, length, codes, find}
 use Rattle.std.specs.Prelude.{Option, Some, None, is_some, Ok, Err}
 use Rattle.std.specs.Cmp.Lexicographic.{pointwise}
 use Rattle.std.specs.List.{list_any, sum_by}
@@ -15,13 +15,13 @@ use Rattle.gw_configuration.specs.declared.fault.ConfigFault.TheVariants.{Kind, 
 use Rattle.gw_configuration.specs.declared.shape.Names.{Names}
 use Rattle.gw_configuration.specs.declared.shape.Names.TheVariants.{Services, ObjectTypes, Properties}
 use Rattle.gw_configuration.specs.declared.shape.Scalar.{Scalar}
-use Rattle.gw_configuration.specs.declared.shape.Scalar.TheVariants.{Number, Named, Stations}
+use Rattle.gw_configuration.specs.declared.shape.Scalar.TheVariants.{Number, Named, Stations, AnyStations}
 use Rattle.gw_configuration.specs.Duplicates.{key, or_else}
 use Rattle.gw_configuration.specs.Located.{Read}
 use Rattle.gw_configuration.specs.Subnet.{keys_of}
 use Rattle.gw_policy_text.specs.keys.Range.{bounds_of, is_kind, ordered, range_in}
 use Rattle.gw_policy_text.specs.keys.Value.{list_in, reading, values_of}
-use Rattle.gw_policy_text.specs.keys.Written.{address_written, mask_written, subnet_written}
+use Rattle.gw_policy_text.specs.keys.Written.{address_written, mac_written, mask_written, subnet_written}
 
 -- names of services, types of objects and properties
 
@@ -52,48 +52,72 @@ named_in names value = named_or names value (as_str value)
 abbrev pub key_with : ℕ → Mask → ℕ
 key_with udp ip = key (record { ip = ip.octets; udp = udp })
 
--- the end of a range: an address, or an IPv4 address without a port, which then has this one
-abbrev pub end_written : ℕ → List ℕ → Option ℕ
-end_written udp text =
-    or_else (option_map key (address_written text)) (option_map (key_with udp) (mask_written text))
+-- by its octets, where stations of every length may be named
+abbrev pub mac_if : Bool → List ℕ → Option ℕ
+mac_if every text = if every then mac_written text else None
 
-abbrev pub end_in : ℕ → Data → Read ℕ
-end_in udp value = reading (end_written udp) (as_str value)
+-- the end of a range: an address, an IPv4 address without a port, which then has this one, or a station by its octets
+abbrev pub address_end : ℕ → List ℕ → Option ℕ
+address_end udp text = or_else (option_map key (address_written text)) (option_map (key_with udp) (mask_written text))
+
+abbrev pub end_written : Bool → ℕ → List ℕ → Option ℕ
+end_written every udp text = or_else (address_end udp text) (mac_if every text)
+
+abbrev pub end_in : Bool → ℕ → Data → Read ℕ
+end_in every udp value = reading (end_written every udp) (as_str value)
 
 -- the stations at every UDP port of an IPv4 address
 abbrev pub keys_of_host : Mask → RuleRange
 keys_of_host ip = record { low = key_with 0 ip; high = key_with 65535 ip }
 
--- a station, the stations of an IPv4 address, or those of a subnet
-abbrev pub stations_written : List ℕ → Option RuleRange
-stations_written text =
+-- a station, the stations of an IPv4 address, those of a subnet, or a station by its octets
+abbrev pub addresses_written : List ℕ → Option RuleRange
+addresses_written text =
     or_else (option_map (λ address. only (key address)) (address_written text))
     (or_else (option_map keys_of_host (mask_written text)) (option_map keys_of (subnet_written text)))
 
+abbrev pub stations_written : Bool → List ℕ → Option RuleRange
+stations_written every text = or_else (addresses_written text) (option_map only (mac_if every text))
+
+-- keys of stations of one length have the same highest octet
+abbrev pub length_of : ℕ → ℕ
+length_of key = key / 72057594037927936
+
+-- a low end and a high end of one length, which isn't below it
+abbrev pub of_one_length : ℕ → ℕ → Read RuleRange
+of_one_length low high = if length_of low == length_of high then ordered low high else Err Range
+
 -- a list of two, low and high; a value of a wrong kind in it comes before all else
-abbrev pub stations_from : Data → Data → Read RuleRange
-stations_from low high = end_in 0 low >>= λ l. end_in 65535 high >>= λ h. ordered l h
+abbrev pub stations_from : Bool → Data → Data → Read RuleRange
+stations_from every low high = end_in every 0 low >>= λ l. end_in every 65535 high >>= λ h. of_one_length l h
 
-abbrev pub station_ends : List Data → Read RuleRange
-station_ends (low ∷ high ∷ []) = stations_from low high
-station_ends _ = Err Range
+abbrev pub station_ends : Bool → List Data → Read RuleRange
+station_ends every (low ∷ high ∷ []) = stations_from every low high
+station_ends every _ = Err Range
 
-abbrev pub stations_between : List Data → Read RuleRange
-stations_between ends =
-    if list_any (λ value. is_kind (result_err (end_in 0 value))) ends then Err Kind else station_ends ends
+abbrev pub stations_between : Bool → List Data → Read RuleRange
+stations_between every ends =
+    if list_any (λ value. is_kind (result_err (end_in every 0 value))) ends then Err Kind else station_ends every ends
 
-abbrev pub stations_or : Data → Read (List Data) → Read RuleRange
-stations_or value (Ok ends) = stations_between ends
-stations_or value (Err _) = reading stations_written (as_str value)
+abbrev pub stations_or : Bool → Data → Read (List Data) → Read RuleRange
+stations_or every value (Ok ends) = stations_between every ends
+stations_or every value (Err _) = reading (stations_written every) (as_str value)
 
-abbrev pub stations_in : Data → Read RuleRange
-stations_in value = stations_or value (list_in value)
+-- the stations that a text or a list of two names, of six octets or of every length
+abbrev pub stations_in : Bool → Data → Read RuleRange
+stations_in every value = stations_or every value (list_in value)
+
+-- the numbers of their keys
+abbrev pub station_bounds : Bool → RuleRange
+station_bounds true = bounds_of AnyStations
+station_bounds false = bounds_of Stations
 
 -- an item that names no set
 
 abbrev pub span_in : Scalar → Data → Read RuleRange
 span_in (Named names) value = named_in names value
-span_in Stations value = stations_in value
+span_in Stations value = stations_in false value
+span_in AnyStations value = stations_in true value
 span_in scalar value = range_in scalar value
 
 -- each value of a list, in order, up to the first fault

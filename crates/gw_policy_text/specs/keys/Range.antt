@@ -8,22 +8,23 @@ use Rattle.gw_addr.specs.Reading.{◌>>=◌}
 use Rattle.gw_rules.specs.declared.field.FieldName.{FieldName}
 use Rattle.gw_rules.specs.declared.field.FieldName.TheVariants as fields
 use Rattle.gw_rules.specs.declared.format.Format.TheVariants as formats
+use Rattle.gw_configuration.specs.declared.shape.Naming.{Naming}
+use Rattle.gw_configuration.specs.declared.shape.Naming.TheVariants as namings
 use Rattle.gw_rules.specs.declared.range.Range.{Range as RuleRange}
 use Rattle.gw_rules.specs.Bounds.{bounds}
-use Rattle.gw_rules.specs.Operation.{operation_number}
 use Rattle.gw_configuration.specs.declared.fault.ConfigFault.{ConfigFault}
 use Rattle.gw_configuration.specs.declared.fault.ConfigFault.TheVariants.{Missing, Kind, Range, TooMany}
 use Rattle.gw_configuration.specs.declared.shape.Names.{Names}
 use Rattle.gw_configuration.specs.declared.shape.Names.TheVariants.{Services, ObjectTypes, Properties}
 use Rattle.gw_configuration.specs.declared.shape.Scalar.{Scalar}
-use Rattle.gw_configuration.specs.declared.shape.Scalar.TheVariants.{Number, Operation, Address, Named, Stations}
+use Rattle.gw_configuration.specs.declared.shape.Scalar.TheVariants.{Number, Operation, Address, Named, Stations, AnyStations}
 use Rattle.gw_configuration.specs.Located.{Read}
-use Rattle.gw_policy_text.specs.keys.Value.{address_in, list_in, number_in, operation_in}
+use Rattle.gw_policy_text.specs.keys.Value.{address_in, deed_in, list_in, number_in}
 
 -- the number by which rules know a value
 abbrev pub point_in : Scalar → Data → Read ℕ
 point_in (Number low high) value = number_in low high value
-point_in (Operation format) value = operation_in format value >>= λ operation. Ok (operation_number operation)
+point_in (Operation naming) value = deed_in naming value
 point_in Address value = address_in value >>= λ address. Ok (big_endian (octets_of address))
 point_in _ value = Err Kind
 
@@ -33,13 +34,20 @@ field_named Services = fields.Service
 field_named ObjectTypes = fields.ObjectType
 field_named Properties = fields.Property
 
+-- the numbers of the operations that can be named there, and behind them those of what an assertion may have in their place
+abbrev pub deed_bounds : Naming → RuleRange
+deed_bounds (namings.Rule format) = bounds format fields.Operation
+deed_bounds namings.BothWays = bounds formats.Three fields.Operation
+deed_bounds namings.Assertion = record { low = 1; high = 15 }
+
 -- the numbers by which rules may know it; what is none of these is read to no number
 abbrev pub bounds_of : Scalar → RuleRange
 bounds_of (Number low high) = record { low = low; high = high }
-bounds_of (Operation format) = bounds format fields.Operation
+bounds_of (Operation naming) = deed_bounds naming
 bounds_of Address = bounds formats.One fields.SourceKey
 bounds_of (Named names) = bounds formats.Three (field_named names)
-bounds_of Stations = bounds formats.Three fields.SourceKey
+bounds_of Stations = bounds formats.Three fields.Sender
+bounds_of AnyStations = bounds formats.Three fields.SourceKey
 bounds_of _ = record { low = 0; high = 0 }
 
 -- which fault it is
@@ -77,7 +85,7 @@ range_between scalar ends =
 
 -- operations have no list of two
 abbrev pub range_of_list : Scalar → List Data → Read RuleRange
-range_of_list (Operation format) ends = Err Kind
+range_of_list (Operation naming) ends = Err Kind
 range_of_list scalar ends = range_between scalar ends
 
 -- an item: one value, or a list of two

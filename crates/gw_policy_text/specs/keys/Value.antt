@@ -1,21 +1,24 @@
 -- Single values of a configuration: what each is read to, or its fault.
 use Rattle.std.specs.Prelude.{ℕ, pos, negsuc, ℤ, ◌^◌, Bool, ◌&&◌, ◌==◌, not, nat_le, nat_lt, nat_eq}
-use Rattle.std.specs.Prelude.{if◌then◌else◌, List, [], ◌∷◌, Option, Some, None, Err, find}
+use Rattle.std.specs.Prelude.{true, false, if◌then◌else◌, List, [], ◌∷◌, length, codes, Option, Some, None, Err, find}
 use Rattle.std.specs.Cmp.Lexicographic.{pointwise}
 use Rattle.std.specs.Option.{ok_or, option_and_then, option_map}
 use Rattle.toml.specs.Data.{Data, Items, no_items, item, Members, as_str, as_integer, as_bool, as_array, as_table}
 use Rattle.gw_addr.specs.declared.bip.BipAddr.{BipAddr}
 use Rattle.gw_addr.specs.declared.mask.Mask.{Mask}
 use Rattle.gw_rules.specs.declared.operation.Operation.{Operation}
+use Rattle.gw_rules.specs.declared.operation.Operation.TheVariants.{Read as Reading, Route, Write}
 use Rattle.gw_rules.specs.declared.operation.TheConstants.Operation.{ALL}
 use Rattle.gw_rules.specs.declared.field.FieldName.TheVariants as fields
-use Rattle.gw_rules.specs.declared.format.Format.{Format}
 use Rattle.gw_rules.specs.Bounds.{bounds}
 use Rattle.gw_rules.specs.Name.{is_name, is_no_rule}
 use Rattle.gw_rules.specs.Operation.{operation_name, operation_number}
 use Rattle.gw_rules.specs.Range.{holds}
 use Rattle.gw_configuration.specs.declared.fault.ConfigFault.TheVariants.{Kind, Range}
 use Rattle.gw_configuration.specs.declared.object.ObjectKind.{ObjectKind}
+use Rattle.gw_configuration.specs.declared.shape.Naming.{Naming}
+use Rattle.gw_configuration.specs.declared.shape.Naming.TheVariants.{Rule, BothWays, Assertion}
+use Rattle.gw_configuration.specs.Duplicates.{or_else}
 use Rattle.gw_configuration.specs.Kinds.{kind_numbered}
 use Rattle.gw_configuration.specs.Located.{Read}
 use Rattle.gw_configuration.specs.Subnet.{Subnet}
@@ -68,21 +71,59 @@ rule_name text = if is_rule_name text then Some text else None
 abbrev pub rule_name_in : Data → Read (List ℕ)
 rule_name_in value = reading rule_name (as_str value)
 
--- an operation by its name, of those that a rule of the format can name
+-- the same of a rule that goes both ways, whose two others have five octets more
+abbrev pub short_name : List ℕ → Option (List ℕ)
+short_name text = if is_rule_name text && nat_le (length text) 27 then Some text else None
+
+abbrev pub short_name_in : Data → Read (List ℕ)
+short_name_in value = reading short_name (as_str value)
+
+-- whether what an assertion means is to be allowed
+abbrev pub verdict_named : List ℕ → Option Bool
+verdict_named text =
+    if pointwise nat_eq text (codes "allowed") then Some true
+    else if pointwise nat_eq text (codes "denied") then Some false
+    else None
+
+abbrev pub verdict_in : Data → Read Bool
+verdict_in value = reading verdict_named (as_str value)
+
+-- an operation by its name, of those that can be named there
 abbrev pub operation_named : List ℕ → Option Operation
 operation_named text = find (λ operation. pointwise nat_eq (operation_name operation) text) ALL
 
-abbrev pub is_of_format : Format → Operation → Bool
-is_of_format format operation = holds (operation_number operation) (bounds format fields.Operation)
+abbrev pub is_nameable : Naming → Operation → Bool
+is_nameable (Rule format) operation = holds (operation_number operation) (bounds format fields.Operation)
+is_nameable BothWays Reading = true
+is_nameable BothWays Write = true
+is_nameable BothWays Route = true
+is_nameable BothWays _ = false
+is_nameable Assertion operation = true
 
-abbrev pub if_of_format : Format → Operation → Option Operation
-if_of_format format operation = if is_of_format format operation then Some operation else None
+abbrev pub if_nameable : Naming → Operation → Option Operation
+if_nameable naming operation = if is_nameable naming operation then Some operation else None
 
-abbrev pub operation_of : Format → List ℕ → Option Operation
-operation_of format text = option_and_then (if_of_format format) (operation_named text)
+abbrev pub operation_of : Naming → List ℕ → Option Operation
+operation_of naming text = option_and_then (if_nameable naming) (operation_named text)
 
-abbrev pub operation_in : Format → Data → Read Operation
-operation_in format value = reading (operation_of format) (as_str value)
+-- what an assertion may have in the place of an operation: all that reads, and all that writes, by numbers behind those of
+-- operations
+abbrev pub any_named : List ℕ → Option ℕ
+any_named text =
+    if pointwise nat_eq text (codes "any-read") then Some 14
+    else if pointwise nat_eq text (codes "any-write") then Some 15
+    else None
+
+abbrev pub any_of : Naming → List ℕ → Option ℕ
+any_of Assertion text = any_named text
+any_of naming text = None
+
+-- the number of what is named
+abbrev pub deed_of : Naming → List ℕ → Option ℕ
+deed_of naming text = or_else (option_map operation_number (operation_of naming text)) (any_of naming text)
+
+abbrev pub deed_in : Naming → Data → Read ℕ
+deed_in naming value = reading (deed_of naming) (as_str value)
 
 -- addresses, masks and subnets
 
@@ -98,6 +139,17 @@ subnet_in value = reading subnet_written (as_str value)
 -- true or false
 abbrev pub boolean_in : Data → Read Bool
 boolean_in value = ok_or (as_bool value) Kind
+
+-- this one of the two
+abbrev pub is_bool : Bool → Bool → Bool
+is_bool true other = other
+is_bool false other = not other
+
+abbrev pub if_bool : Bool → Bool → Option Bool
+if_bool wanted other = if is_bool wanted other then Some other else None
+
+abbrev pub fixed_in : Bool → Data → Read Bool
+fixed_in wanted value = reading (if_bool wanted) (as_bool value)
 
 -- a table
 abbrev pub table_in : Data → Read Members

@@ -1,9 +1,14 @@
--- Addresses, masks and subnets as they are written.
-use Rattle.std.specs.Prelude.{ℕ, List, [], ◌∷◌, Bool, ◌&&◌, ◌==◌, nat_lt, if◌then◌else◌, Option, Some, None, option_map}
+-- Addresses, masks, subnets and stations as they are written.
+use Rattle.std.specs.Prelude.{ℕ, List, [], ◌∷◌, length, take, drop, codes, Bool, ◌&&◌, ◌||◌, ◌==◌, not, nat_eq, nat_lt, if◌then◌else◌}
+use Rattle.std.specs.Prelude.{Option, Some, None, option_map, Result, Ok, Err}
+use Rattle.std.specs.Cmp.Lexicographic.{pointwise}
 use Rattle.std.specs.Option.{option_and_then}
 use Rattle.std.specs.Str.{all_ascii_digits}
 use Rattle.std.specs.Str.Parse.{digits_value}
 use Rattle.gw_addr.specs.internal.Digits.{begins_canonical_of}
+use Rattle.hex.specs.Hex.{decode_of}
+use Rattle.hex.specs.declared.error.FromHexError.{FromHexError}
+use Rattle.gw_addr.specs.Station.{key_of}
 use Rattle.gw_addr.specs.declared.bip.BipAddr.{BipAddr}
 use Rattle.gw_addr.specs.declared.mask.Mask.{Mask}
 use Rattle.gw_configuration.specs.Subnet.{Subnet, subnet_of}
@@ -49,3 +54,17 @@ unfoldable pub subnet_written : List ℕ → Option Subnet
 subnet_written text =
     option_and_then (λ parts. option_and_then (λ ip. option_and_then (subnet_of ip.octets)
     (number_written 33 parts.1)) (mask_written parts.0)) (split_at 47 text)
+
+-- what follows `mac:`
+abbrev pub after_mac : List ℕ → Option (List ℕ)
+after_mac text =
+    if nat_lt (length text) 4 || not (pointwise nat_eq (take 4 text) (codes "mac:")) then None else Some (drop 4 text)
+
+-- the key of a station of another length than six octets
+abbrev pub other_key : Result (List ℕ) FromHexError → Option ℕ
+other_key (Ok octets) = if length octets == 6 then None else key_of octets
+other_key (Err fault) = None
+
+-- the key of the station that is written `mac:` and its octets in pairs of hexadecimal digits of either case, which aren't six
+unfoldable pub mac_written : List ℕ → Option ℕ
+mac_written text = option_and_then (λ pairs. other_key (decode_of pairs)) (after_mac text)

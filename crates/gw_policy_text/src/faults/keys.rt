@@ -1,6 +1,7 @@
 //! The keys of the table where a fault is, in words.
 ghost use Rattle.std.specs.Prelude.{◌≡◌, ◌++◌, codes, OnOk};
 ghost use Rattle.std.specs.List.{flat_map};
+ghost use Rattle.toml.specs.Data.{no_members};
 ghost use Rattle.toml.specs.View.{table_view};
 ghost use Rattle.gw_policy_text.specs.keys.Tables as spec;
 ghost use Rattle.gw_policy_text.specs.faults.Keys.{fields_at, keys_words, kind_fields, kind_in_table, one_more};
@@ -11,7 +12,7 @@ use crate::faults::words::table_at;
 use crate::keys::Field;
 use crate::keys::tables::{self, COMMON_RULE_FIELDS, format_of};
 use crate::keys::value::{kind, member};
-use gw_configuration::{Format, ObjectKind, Place};
+use gw_configuration::{Format, Naming, ObjectKind, Place};
 use std::alloc::AllocError;
 use toml::Table;
 
@@ -30,6 +31,7 @@ pub(crate) fn put_keys(line: &mut Vec<u8>, place: Place, top: &Table) -> Result<
         Place::Object(_) => put_keys_of_object(line, kind_at(place, top)),
         Place::Set(_) => put_keys_of(line, &tables::set_fields()),
         Place::Rule(_) => put_keys_of_rule(line, format_of(top)),
+        Place::Assertion(_) => put_keys_of(line, &tables::assertion_fields()),
     }
 }
 
@@ -112,9 +114,9 @@ fn put_keys_of_object(line: &mut Vec<u8>, kind: Option<ObjectKind>) -> Result<()
 }
 
 fn put_keys_of_rule(line: &mut Vec<u8>, format: Format) -> Result<(), AllocError>
-    ensures { OnOk result (line.new.items ≡ line.old.items ++ keys_words (spec.rule_fields format)) }
+    ensures { OnOk result (line.new.items ≡ line.old.items ++ keys_words (spec.rule_fields format no_members)) }
 {
-    let fields = tables::rule_fields(format);
+    let fields = tables::rule_fields(Naming::Rule(format), false);
     match format {
         Format::Three => put_keys_of(line, &fields),
         Format::One | Format::Two => put_keys_of(line, &fields[..COMMON_RULE_FIELDS]),

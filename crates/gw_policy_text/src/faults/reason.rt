@@ -7,7 +7,7 @@ ghost use Rattle.gw_configuration.specs.Located.{located_view};
 ghost use Rattle.gw_policy_text.specs.keys.Range.{bounds_of};
 ghost use Rattle.gw_policy_text.specs.keys.Items.{set_name_in};
 ghost use Rattle.gw_policy_text.specs.keys.Value.{list_in};
-ghost use Rattle.gw_policy_text.specs.faults.Wanted.{address_text, addresses_words, bits_in, bounds_words, due_words, end_of, every_port_words, first_address, first_octet, fixed_words, host_bits, is_reversed, is_slash, is_known, is_known_in, item_words, kind_at, kind_words, last_address, last_octet, length_range_words, length_words, list_kind_words, list_noun, list_words, long_item_words, long_length_words, mention_words, missing_words, must_words, name_words, named_text, named_words, number_words, other_front, other_words, range_words, reversed_ends, scalar_words, shape_words, single_words, straight_words, subnet_in, subnet_words, twice_words, two_front, two_words, type_words, wanted_words, within_32};
+ghost use Rattle.gw_policy_text.specs.faults.Wanted.{address_text, addresses_words, bits_in, bounds_words, due_words, end_of, every_port_words, first_address, first_octet, fixed_words, host_bits, is_reversed, is_slash, is_known, is_known_in, item_words, kind_at, kind_words, last_address, last_octet, length_range_words, length_words, list_kind_words, list_noun, list_words, long_item_words, long_length_words, mention_words, missing_words, must_words, name_words, named_text, named_words, number_words, other_front, other_words, range_words, reversed_ends, scalar_words, shape_words, single_words, straight_words, subnet_in, subnet_words, twice_words, two_front, two_words, type_words, unshaped_words, wanted_words, within_32};
 
 use crate::faults::keys::put_keys;
 use crate::faults::near::{noun_of, put_near};
@@ -17,7 +17,7 @@ use crate::keys::items::{items_named, set_name};
 use crate::keys::range::between;
 use crate::keys::value::{self, mask_of, member, string};
 use gw_addr::{BipAddr, Mask, put_decimal};
-use gw_configuration::{ConfigFault, Format, Located, MAX_TEXT, Names, Scalar, Shape};
+use gw_configuration::{ConfigFault, Format, Located, MAX_TEXT, Names, Naming, Scalar, Shape};
 use gw_rules::{FieldName, MAX_RANGES, Range};
 use std::alloc::AllocError;
 use toml::{Table, Value};
@@ -37,6 +37,17 @@ const MANAGER: &str =
 /// The operations, each by its name.
 const OPERATIONS: &str =
     "cast, route, register, delete, read-table, write-table, learn, network, read, write, list";
+/// Those of a rule that goes both ways.
+const PASSED: &str = "read, write, route, since the rule goes both ways";
+/// What an assertion may name.
+const ASSERTED: &str =
+    "cast, route, register, delete, read-table, write-table, learn, network, read, write, list, enter, claim, any-read, any-write";
+/// Stations of every length.
+const STATIONS: &str =
+    "an address as 10.0.1.5:47808 or 10.0.1.5, a subnet as 10.0.1.0/24, or 1, 2, 3, 4, 5 or 7 octets as mac:07, two of one length in a list";
+/// That a list of rules gets too long.
+const CROWD: &[u8] =
+    b"is past the 512 rules that there may be, those for the way and for the answers counted";
 /// Those of format 3.
 const LONG_OPERATIONS: &str =
     "cast, route, register, delete, read-table, write-table, learn, network, read, write, list, enter, claim";
@@ -74,7 +85,17 @@ fn put_shape(
     match (located.wanted, value) {
         (Some(shape), None) => put_missing(line, shape),
         (Some(shape), Some(value)) => put_must(line, located, shape, value, top),
-        (None, _) => line.extend_from_slice(b"is at fault"),
+        (None, _) => line.extend_from_slice(unshaped_words(located.fault)),
+    }
+}
+
+/// What is said where no shape is known.
+fn unshaped_words(fault: ConfigFault) -> &'static [u8]
+    ensures { result.now ≡ unshaped_words fault }
+{
+    match fault {
+        ConfigFault::TooMany => CROWD,
+        _ => b"is at fault",
     }
 }
 
@@ -579,13 +600,18 @@ fn kind_words(of: Scalar) -> &'static str
 {
     match of {
         Scalar::Number { .. } | Scalar::Signed | Scalar::ObjectType => "a whole number",
-        Scalar::Text { .. } | Scalar::RuleName | Scalar::Operation(_) => "a text in quotes",
+        Scalar::Text { .. }
+        | Scalar::RuleName
+        | Scalar::ShortName
+        | Scalar::Operation(_)
+        | Scalar::Verdict => "a text in quotes",
         Scalar::Address | Scalar::Manager => "an address in quotes",
         Scalar::Mask => "a mask in quotes",
-        Scalar::Boolean => "true or false",
+        Scalar::Boolean | Scalar::True | Scalar::False => "true or false",
         Scalar::Table => "a table",
         Scalar::Named(_) => "a whole number or a name in quotes",
         Scalar::Stations => "an address or a subnet in quotes",
+        Scalar::AnyStations => "an address, a subnet or a station's octets in quotes",
         Scalar::Subnet => "a subnet in quotes",
         Scalar::Item => "a text in quotes, a whole number or a list of two",
     }
@@ -602,7 +628,12 @@ fn put_range(line: &mut Vec<u8>, of: Scalar) -> Result<(), AllocError>
         Scalar::Signed
         | Scalar::ObjectType
         | Scalar::RuleName
+        | Scalar::ShortName
         | Scalar::Operation(_)
+        | Scalar::True
+        | Scalar::False
+        | Scalar::Verdict
+        | Scalar::AnyStations
         | Scalar::Address
         | Scalar::Manager
         | Scalar::Mask
@@ -632,12 +663,21 @@ fn fixed_words(of: Scalar) -> &'static str
         Scalar::Signed => "-2147483648 to 2147483647",
         Scalar::ObjectType => TYPES,
         Scalar::RuleName => "1 to 32 of a to z, 0 to 9 and -, and not default",
-        Scalar::Operation(Format::Three) => LONG_OPERATIONS,
-        Scalar::Operation(_) => OPERATIONS,
+        Scalar::ShortName => {
+            "1 to 27 of a to z, 0 to 9 and -, and not default, since the rule goes both ways"
+        }
+        Scalar::Operation(Naming::Rule(Format::Three)) => LONG_OPERATIONS,
+        Scalar::Operation(Naming::Rule(_)) => OPERATIONS,
+        Scalar::Operation(Naming::BothWays) => PASSED,
+        Scalar::Operation(Naming::Assertion) => ASSERTED,
         Scalar::Address => "an address and its UDP port, as 10.0.1.255:47808",
         Scalar::Manager => MANAGER,
         Scalar::Mask => "a mask as 255.255.255.0",
         Scalar::Boolean => "true or false",
+        Scalar::True => "true, since the rule goes both ways",
+        Scalar::False => "false, since the rule allows",
+        Scalar::Verdict => "allowed or denied",
+        Scalar::AnyStations => STATIONS,
         Scalar::Table => "a table",
         Scalar::Stations => "an address as 10.0.1.5:47808 or 10.0.1.5, or a subnet as 10.0.1.0/24",
         Scalar::Subnet => "a subnet as 10.0.1.0/24",

@@ -54,6 +54,7 @@ fn put_part(line: &mut Vec<u8>, place: Place) -> Result<(), AllocError>
         Place::Object(object) => put_numbered(line, "object ", object),
         Place::Set(set) => put_numbered(line, "set ", set),
         Place::Rule(rule) => put_numbered(line, "rule ", rule),
+        Place::Assertion(assertion) => put_numbered(line, "assert ", assertion),
     }
 }
 
@@ -105,12 +106,12 @@ fn put_item(line: &mut Vec<u8>, item: Option<usize>) -> Result<(), AllocError>
     }
 }
 
-/// The name of an object, a set or a rule, where it is a text.
+/// The name of an object, a set, a rule or an assertion, where it is a text.
 fn name_at(place: Place, top: &Table) -> Option<&str>
     ensures { option_map (λ n. n.now) result ≡ name_at place (table_view top.now) }
 {
     match place {
-        Place::Object(_) | Place::Set(_) | Place::Rule(_) => string(member(
+        Place::Object(_) | Place::Set(_) | Place::Rule(_) | Place::Assertion(_) => string(member(
             table_at(place, top)?,
             "name",
         )?),
@@ -132,6 +133,7 @@ pub(crate) fn table_at(place: Place, top: &Table) -> Option<&Table>
         Place::Object(object) => table_in(top, "object", object),
         Place::Set(set) => table_in(top, "set", set),
         Place::Rule(rule) => table_in(top, "rule", rule),
+        Place::Assertion(assertion) => table_in(top, "assert", assertion),
     }
 }
 

@@ -58,6 +58,19 @@ impl Field {
         }
     }
 
+    /// A field that must be there or may be missing.
+    pub fn new(key: &'static str, required: bool, shape: Shape) -> Self
+        ensures key { result.key ≡ key.now }
+        ensures required { result.required ≡ required }
+        ensures shape { result.shape ≡ shape }
+    {
+        Field {
+            key,
+            required,
+            shape,
+        }
+    }
+
     /// Its key.
     pub fn key(&self) -> &'static str
         ensures { result.now ≡ self.now.key }
@@ -128,13 +141,18 @@ fn scalar_fault(scalar: Scalar, value: &Value) -> Option<ConfigFault>
         Scalar::ObjectType => value::kind(value).err(),
         Scalar::Text { least } => value::text(least, value).err(),
         Scalar::RuleName => value::rule_name(value).err(),
-        Scalar::Operation(format) => value::operation(format, value).err(),
+        Scalar::ShortName => value::short_name(value).err(),
+        Scalar::Operation(naming) => value::deed(naming, value).err(),
         Scalar::Boolean => value::boolean(value).err(),
+        Scalar::True => value::fixed(true, value).err(),
+        Scalar::False => value::fixed(false, value).err(),
+        Scalar::Verdict => value::verdict(value).err(),
         Scalar::Address | Scalar::Manager => value::address(value).err(),
         Scalar::Mask => value::mask(value).err(),
         Scalar::Table => value::table(value).err(),
         Scalar::Named(names) => items::named(names, value).err(),
-        Scalar::Stations => items::stations(value).err(),
+        Scalar::Stations => items::stations(false, value).err(),
+        Scalar::AnyStations => items::stations(true, value).err(),
         Scalar::Subnet => value::subnet(value).err(),
         Scalar::Item => items::set_item_fault(value),
     }

@@ -10,7 +10,7 @@ ghost use Rattle.toml.specs.View.{table_view, view};
 ghost use Rattle.gw_configuration.specs.Subnet.{keys_of};
 ghost use Rattle.gw_configuration.specs.Reading.{Gives};
 ghost use Rattle.gw_policy_text.specs.keys.Field.{has_too_many};
-ghost use Rattle.gw_policy_text.specs.keys.Items.{added_to, count_of, end_in, end_written, is_set_named, items_in, items_named, items_of_set, key_with, keys_of_host, name_after_at, name_of_set, named_in, number_named, number_of, only, ranges_in, set_item_fault, set_name_in, span_in, spans_in, station_ends, stations_between, stations_from, stations_in, stations_written};
+ghost use Rattle.gw_policy_text.specs.keys.Items.{added_to, address_end, addresses_written, count_of, end_in, end_written, is_set_named, items_in, items_named, items_of_set, key_with, keys_of_host, mac_if, name_after_at, name_of_set, named_in, number_named, number_of, of_one_length, only, ranges_in, set_item_fault, set_name_in, span_in, spans_in, station_bounds, station_ends, stations_between, stations_from, stations_in, stations_written};
 ghost use Rattle.gw_policy_text.specs.keys.Range.{bounds_of, field_named, is_kind};
 ghost use Rattle.gw_policy_text.specs.keys.Value.{reading};
 ghost use Rattle.gw_policy_text.specs.keys.Written.{subnet_written};
@@ -24,6 +24,10 @@ use gw_configuration::{ConfigFault, Names, Scalar, Subnet};
 use gw_rules::{FieldName, Format, MAX_LONG_RANGES, Range, Ranges};
 use std::alloc::Global;
 use toml::Value;
+
+/// What the keys of stations of two lengths differ by at least, but for that of six octets: the place of their highest
+/// octet.
+const LENGTH: u64 = 1 << 56;
 
 /// The last UDP port.
 const LAST_PORT: u16 = u16::MAX;
@@ -85,9 +89,27 @@ fn key_with(udp: u16, ip: Mask) -> u64
     range::key(BipAddr { ip, udp })
 }
 
-/// The end of a range that a text is: an address, or an IPv4 address with this UDP port.
-fn end_written(udp: u16, text: &str) -> Option<u64>
-    ensures number { result ≡ end_written udp text.now }
+/// The key of the station that a text names by its octets, where stations of every length may be named.
+fn mac_if(every: bool, text: &str) -> Option<u64>
+    ensures number { result ≡ mac_if every text.now }
+    ensures held { IfSome result (λ n. IsTrue (holds n (station_bounds every))) }
+{
+    if every { value::mac_of(text) } else { None }
+}
+
+/// The end of a range that a text is: an address, an IPv4 address with this UDP port, or a station by its octets.
+fn end_written(every: bool, udp: u16, text: &str) -> Option<u64>
+    ensures number { result ≡ end_written every udp text.now }
+    ensures held { IfSome result (λ n. IsTrue (holds n (station_bounds every))) }
+{
+    match address_end(udp, text) {
+        Some(key) => Some(key),
+        None => mac_if(every, text),
+    }
+}
+
+fn address_end(udp: u16, text: &str) -> Option<u64>
+    ensures number { result ≡ address_end udp text.now }
     ensures held { IfSome result (λ n. IsTrue (holds n (bounds_of Scalar.Stations))) }
 {
     match value::address_of(text) {
@@ -99,20 +121,33 @@ fn end_written(udp: u16, text: &str) -> Option<u64>
     }
 }
 
-fn end(udp: u16, value: &Value) -> Result<u64, ConfigFault>
-    ensures number { plain.Gives (λ n. n) result (end_in udp (view value.now)) }
-    ensures held { IfOk result (λ n. IsTrue (holds n (bounds_of Scalar.Stations))) }
+fn end(every: bool, udp: u16, value: &Value) -> Result<u64, ConfigFault>
+    ensures number { plain.Gives (λ n. n) result (end_in every udp (view value.now)) }
+    ensures held { IfOk result (λ n. IsTrue (holds n (station_bounds every))) }
 {
     match string(value) {
-        Some(text) => end_written(udp, text).ok_or(ConfigFault::Range),
+        Some(text) => end_written(every, udp, text).ok_or(ConfigFault::Range),
         None => Err(ConfigFault::Kind),
     }
 }
 
-/// The stations that a text is: one by its address, or those at every UDP port of an IPv4 address or of a
-/// subnet.
-fn stations_written(text: &str) -> Option<Range>
-    ensures range { result ≡ stations_written text.now }
+/// The stations that a text is: one by its address, those at every UDP port of an IPv4 address or of a subnet, or one
+/// by its octets.
+fn stations_written(every: bool, text: &str) -> Option<Range>
+    ensures range { result ≡ stations_written every text.now }
+    ensures within { IfSome result (λ r. IsTrue (is_within (station_bounds every) r)) }
+{
+    match addresses_written(text) {
+        Some(range) => Some(range),
+        None => match mac_if(every, text) {
+            Some(key) => Some(Range::only(key)),
+            None => None,
+        },
+    }
+}
+
+fn addresses_written(text: &str) -> Option<Range>
+    ensures range { result ≡ addresses_written text.now }
     ensures within { IfSome result (λ r. IsTrue (is_within (bounds_of Scalar.Stations) r)) }
 {
     match value::address_of(text) {
@@ -144,61 +179,71 @@ fn keys_of_host(ip: Mask) -> Range
     }
 }
 
-fn have_kind(ends: &[Value]) -> bool
-    ensures { result ≡ list_any (λ value. is_kind (result_err (end_in 0 (view value)))) ends.now }
+fn have_kind(every: bool, ends: &[Value]) -> bool
+    ensures { result ≡ list_any (λ value. is_kind (result_err (end_in every 0 (view value)))) ends.now }
 {
-    ends.iter()
-        .any(|value| matches!(end(0, value), Err(ConfigFault::Kind)))
+    ends.iter().any(|value| matches!(end(every, 0, value), Err(ConfigFault::Kind)))
 }
 
-fn between(low: &Value, high: &Value) -> Result<Range, ConfigFault>
-    ensures range { plain.Gives (λ r. r) result (stations_from (view low.now) (view high.now)) }
-    ensures within { IfOk result (λ r. IsTrue (is_within (bounds_of Scalar.Stations) r)) }
+fn between(every: bool, low: &Value, high: &Value) -> Result<Range, ConfigFault>
+    ensures range { plain.Gives (λ r. r) result (stations_from every (view low.now) (view high.now)) }
+    ensures within { IfOk result (λ r. IsTrue (is_within (station_bounds every) r)) }
 {
-    let low = end(0, low)?;
-    let high = end(LAST_PORT, high)?;
-    range::ordered(low, high)
+    let low = end(every, 0, low)?;
+    let high = end(every, LAST_PORT, high)?;
+    of_one_length(low, high)
 }
 
-fn station_ends(ends: &[Value]) -> Result<Range, ConfigFault>
-    ensures range { plain.Gives (λ r. r) result (station_ends (map view ends.now)) }
-    ensures within { IfOk result (λ r. IsTrue (is_within (bounds_of Scalar.Stations) r)) }
+/// The range of two keys of stations of one length.
+fn of_one_length(low: u64, high: u64) -> Result<Range, ConfigFault>
+    ensures { plain.Gives (λ r. r) result (of_one_length low high) }
+{
+    if low / LENGTH == high / LENGTH {
+        range::ordered(low, high)
+    } else {
+        Err(ConfigFault::Range)
+    }
+}
+
+fn station_ends(every: bool, ends: &[Value]) -> Result<Range, ConfigFault>
+    ensures range { plain.Gives (λ r. r) result (station_ends every (map view ends.now)) }
+    ensures within { IfOk result (λ r. IsTrue (is_within (station_bounds every) r)) }
 {
     match ends {
-        [low, high] => between(low, high),
+        [low, high] => between(every, low, high),
         _ => Err(ConfigFault::Range),
     }
 }
 
 /// A list of two, low and high; a value of a wrong kind in it comes before all else.
 #[tactic(auto, using(crate::proofs::keys_lemmas::Values::any_view))]
-fn stations_between(ends: &[Value]) -> Result<Range, ConfigFault>
-    ensures range { plain.Gives (λ r. r) result (stations_between (map view ends.now)) }
-    ensures within { IfOk result (λ r. IsTrue (is_within (bounds_of Scalar.Stations) r)) }
+fn stations_between(every: bool, ends: &[Value]) -> Result<Range, ConfigFault>
+    ensures range { plain.Gives (λ r. r) result (stations_between every (map view ends.now)) }
+    ensures within { IfOk result (λ r. IsTrue (is_within (station_bounds every) r)) }
 {
-    if have_kind(ends) {
+    if have_kind(every, ends) {
         return Err(ConfigFault::Kind);
     }
-    station_ends(ends)
+    station_ends(every, ends)
 }
 
-/// The range of the stations that a text or a list of two is. `Kind` or `Range`.
-pub fn stations(value: &Value) -> Result<Range, ConfigFault>
-    ensures range { plain.Gives (λ r. r) result (stations_in (view value.now)) }
-    ensures within { IfOk result (λ r. IsTrue (is_within (bounds_of Scalar.Stations) r)) }
+/// The range of the stations that a text or a list of two is, of six octets or of every length. `Kind` or `Range`.
+pub fn stations(every: bool, value: &Value) -> Result<Range, ConfigFault>
+    ensures range { plain.Gives (λ r. r) result (stations_in every (view value.now)) }
+    ensures within { IfOk result (λ r. IsTrue (is_within (station_bounds every) r)) }
 {
     match list(value) {
-        Ok(ends) => stations_between(ends),
-        Err(_) => stations_of(value),
+        Ok(ends) => stations_between(every, ends),
+        Err(_) => stations_of(every, value),
     }
 }
 
-fn stations_of(value: &Value) -> Result<Range, ConfigFault>
-    ensures range { plain.Gives (λ r. r) result (reading stations_written (as_str (view value.now))) }
-    ensures within { IfOk result (λ r. IsTrue (is_within (bounds_of Scalar.Stations) r)) }
+fn stations_of(every: bool, value: &Value) -> Result<Range, ConfigFault>
+    ensures range { plain.Gives (λ r. r) result (reading (stations_written every) (as_str (view value.now))) }
+    ensures within { IfOk result (λ r. IsTrue (is_within (station_bounds every) r)) }
 {
     match string(value) {
-        Some(text) => stations_written(text).ok_or(ConfigFault::Range),
+        Some(text) => stations_written(every, text).ok_or(ConfigFault::Range),
         None => Err(ConfigFault::Kind),
     }
 }
@@ -210,7 +255,8 @@ pub fn span(of: Scalar, item: &Value) -> Result<Range, ConfigFault>
 {
     match of {
         Scalar::Named(names) => named(names, item),
-        Scalar::Stations => stations(item),
+        Scalar::Stations => stations(false, item),
+        Scalar::AnyStations => stations(true, item),
         _ => range(of, item),
     }
 }

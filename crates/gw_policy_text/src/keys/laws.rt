@@ -1,6 +1,6 @@
 //! Laws of the tables. Each function does nothing: its contract is the laws.
 ghost use Rattle.gw_rules.specs.declared.format.Format.{Format};
-ghost use Rattle.gw_policy_text.specs.keys.Laws.{AreCounted, AreFew, HasEleven, IsBefore, KnowsNoOther, NamesNoSets};
+ghost use Rattle.gw_policy_text.specs.keys.Laws.{AreCounted, AreFew, HasEleven, HaveOneLength, IsBefore, KnowsNoOther, NamesNoSets};
 
 /// In formats 1 and 2 the keys of format 3 are unknown, there are eleven operations, and a rule has the same
 /// fault whatever sets there are.
@@ -16,4 +16,10 @@ pub fn before()
 pub fn counts()
     ensures counted { AreCounted }
     ensures few { AreFew }
+{}
+
+/// No range of stations that an item names holds keys of stations of two lengths.
+#[tactic(auto, using(crate::proofs::keys_lemmas::Lengths::have_one_length))]
+pub fn lengths()
+    ensures { HaveOneLength }
 {}

@@ -6,17 +6,15 @@ ghost use Rattle.gw_addr.specs.Address.{big_endian, octets_of};
 ghost use Rattle.gw_addr.specs.Reading.{Gives};
 ghost use Rattle.gw_rules.specs.declared.field.FieldName.TheVariants as fields;
 ghost use Rattle.gw_rules.specs.Bounds.{bounds, is_within};
-ghost use Rattle.gw_rules.specs.Operation.{operation_number};
 ghost use Rattle.gw_rules.specs.Range.{holds};
 ghost use Rattle.toml.specs.View.{view};
 ghost use Rattle.gw_rules.specs.declared.format.Format.TheVariants as formats;
-ghost use Rattle.gw_policy_text.specs.keys.Value.{is_of_format};
 ghost use Rattle.gw_policy_text.specs.keys.Range.{between, bounds_of, is_kind, ordered, point_in, range_between, range_in, range_of_list, two_ends};
 
-use crate::keys::value::{address, list, number, operation, whole_address};
+use crate::keys::value::{address, deed, list, number, whole_address};
 use gw_addr::BipAddr;
 use gw_configuration::{ConfigFault, Scalar};
-use gw_rules::{Format, Operation, Range};
+use gw_rules::Range;
 use toml::Value;
 
 /// The number by which rules know a value.
@@ -26,19 +24,10 @@ fn point(of: Scalar, value: &Value) -> Result<u64, ConfigFault>
 {
     match of {
         Scalar::Number { low, high } => number(low, high, value),
-        Scalar::Operation(format) => Ok(operation_number(format, operation(format, value)?)),
+        Scalar::Operation(naming) => deed(naming, value),
         Scalar::Address => Ok(key(address(value)?)),
         _ => Err(ConfigFault::Kind),
     }
-}
-
-/// The number by which rules know an operation.
-fn operation_number(format: Format, operation: Operation) -> u64
-    requires { IsTrue (is_of_format format operation) }
-    ensures number { result ≡ operation_number operation }
-    ensures held { IsTrue (holds result (bounds format fields.Operation)) }
-{
-    operation.number()
 }
 
 /// The number by which rules know an address.

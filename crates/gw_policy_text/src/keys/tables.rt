@@ -12,11 +12,11 @@ ghost use Rattle.gw_configuration.specs.declared.object.ObjectKind.{ObjectKind};
 
 use crate::keys::Field;
 use crate::keys::field::{MAX_ITEMS, located_beside, located_in};
-use crate::keys::value::{member, number};
+use crate::keys::value::{is_true_at, member, number};
 use gw_addr::MAX_PORTS;
 use gw_configuration::{
-    ConfigFault, Located, MAX_OBJECTS, MAX_PEERS, MAX_ROUTES, MAX_STATES, MAX_STATIONS, Names,
-    Place, Scalar, Shape,
+    ConfigFault, Located, MAX_ASSERTIONS, MAX_OBJECTS, MAX_PEERS, MAX_ROUTES, MAX_STATES,
+    MAX_STATIONS, Names, Naming, Place, Scalar, Shape,
 };
 use gw_rules::{FieldName, Format, MAX_RULES, Range};
 use toml::{Table, Value};
@@ -52,6 +52,8 @@ const LONG: Shape = Shape::One(Scalar::Number {
 const TEXT: Shape = Shape::One(Scalar::Text { least: 0 });
 
 const NAME: Shape = Shape::One(Scalar::Text { least: 1 });
+
+const BOOLEAN: Shape = Shape::One(Scalar::Boolean);
 
 const ADDRESS: Shape = Shape::One(Scalar::Address);
 
@@ -117,7 +119,7 @@ pub fn top_fields() -> [Field; 6]
 }
 
 /// The fields of the top table in format 3.
-pub fn long_top_fields() -> [Field; 8]
+pub fn long_top_fields() -> [Field; 9]
     ensures { result ≡ spec.top_fields Format.Three }
 {
     [
@@ -129,6 +131,7 @@ pub fn long_top_fields() -> [Field; 8]
         Field::may("rule", tables(0, MAX_RULES)),
         Field::may("set", tables(0, MAX_SETS)),
         Field::may("announce", Shape::One(Scalar::Boolean)),
+        Field::may("assert", tables(0, MAX_ASSERTIONS)),
     ]
 }
 
@@ -313,7 +316,7 @@ pub fn positive_integer_fields() -> [Field; 6]
     ]
 }
 
-/// The fields of a set, whose items are judged in full in each rule that names it.
+/// The fields of a set, whose items are judged in full in each rule or assertion that names it.
 pub fn set_fields() -> [Field; 2]
     ensures { result ≡ spec.set_fields }
 {
@@ -330,20 +333,23 @@ pub fn set_fields() -> [Field; 2]
     ]
 }
 
-/// What a rule may name for a field: an operation by its name, a source, sender or station by its
-/// address, and of all else a number within the bounds of the field, of some in format 3 by its name too.
+/// What a rule may name for a field: an operation by its name, a source, sender or station by its address, in format 3
+/// a source or station of every length, and of all else a number within the bounds of the field, of some in format 3 by
+/// its name too.
 pub fn scalar_of(format: Format, field: FieldName) -> Scalar
     ensures scalar { result ≡ spec.scalar_of format field }
     ensures bounds { bounds_of result ≡ bounds format field }
 {
     match (format, field) {
-        (_, FieldName::Operation) => Scalar::Operation(format),
-        (Format::Three, FieldName::SourceKey) => Scalar::Stations,
+        (_, FieldName::Operation) => Scalar::Operation(Naming::Rule(format)),
+        (Format::Three, FieldName::SourceKey) => Scalar::AnyStations,
         (_, FieldName::SourceKey) => Scalar::Address,
         (Format::Three, FieldName::Service) => Scalar::Named(Names::Services),
         (Format::Three, FieldName::ObjectType) => Scalar::Named(Names::ObjectTypes),
         (Format::Three, FieldName::Property) => Scalar::Named(Names::Properties),
-        (_, FieldName::Sender | FieldName::Station) => Scalar::Stations,
+        (_, FieldName::Sender) => Scalar::Stations,
+        (Format::Three, FieldName::Station) => Scalar::AnyStations,
+        (_, FieldName::Station) => Scalar::Stations,
         _ => within(field.bounds(format)),
     }
 }
@@ -358,14 +364,75 @@ fn within(bounds: Range) -> Scalar
     }
 }
 
-/// Items for a field of a rule.
-fn ranges(format: Format, field: FieldName) -> Field
-    ensures { result ≡ spec.ranges format field }
+/// The format of whose names they are.
+pub(crate) fn format_by(naming: Naming) -> Format
+    ensures { result ≡ spec.format_by naming }
 {
-    let of = scalar_of(format, field);
+    match naming {
+        Naming::Rule(format) => format,
+        Naming::BothWays | Naming::Assertion => Format::Three,
+    }
+}
+
+/// What may be named for a field: a rule that goes both ways has operations and a destination of its own, and an
+/// assertion operations.
+pub(crate) fn scalar_for(naming: Naming, field: FieldName) -> Scalar
+    ensures scalar { result ≡ spec.scalar_for naming field }
+    ensures limits { bounds_of result ≡ spec.limits_for naming field }
+{
+    match (naming, field) {
+        (_, FieldName::Operation) => Scalar::Operation(naming),
+        (Naming::BothWays, FieldName::DestinationNetwork) => Scalar::Number {
+            low: 1,
+            high: 65534,
+        },
+        _ => scalar_of(format_by(naming), field),
+    }
+}
+
+/// Items for a field.
+fn ranges(naming: Naming, field: FieldName) -> Field
+    ensures { result ≡ spec.ranges naming field }
+{
+    let of = scalar_for(naming, field);
+    let shape = match format_by(naming) {
+        Format::Three => Shape::Items(of),
+        Format::One | Format::Two => Shape::Ranges(of),
+    };
+    Field::new(field.key(), is_due(naming, field), shape)
+}
+
+/// Whether a field must be named: operations and networks, by a rule that goes both ways.
+fn is_due(naming: Naming, field: FieldName) -> bool
+    ensures { result ≡ spec.is_due naming field }
+{
+    matches!(
+        (naming, field),
+        (
+            Naming::BothWays,
+            FieldName::Operation | FieldName::SourceNetwork | FieldName::DestinationNetwork
+        )
+    )
+}
+
+/// Whether a rule goes both ways, as one of format 3 may.
+pub(crate) fn is_both_ways(format: Format, table: &Table) -> bool
+    ensures { result ≡ spec.is_both_ways format (table_view table.now) }
+{
     match format {
-        Format::Three => Field::may(field.key(), Shape::Items(of)),
-        Format::One | Format::Two => Field::may(field.key(), Shape::Ranges(of)),
+        Format::Three => is_true_at("both_ways", table),
+        Format::One | Format::Two => false,
+    }
+}
+
+/// How a rule names what it names, that goes both ways or doesn't.
+pub(crate) fn naming_by(format: Format, both_ways: bool) -> Naming
+    ensures { result ≡ spec.naming_by format both_ways }
+{
+    if both_ways {
+        Naming::BothWays
+    } else {
+        Naming::Rule(format)
     }
 }
 
@@ -377,39 +444,101 @@ pub fn rule_located<'a>(
     rule: usize,
     table: &'a Table,
 ) -> Option<Located<'a>>
-    ensures { option_map located_view result ≡
-        located_beside (map view sets.now) (places.Rule rule) (spec.rule_fields format) (table_view table.now) }
+    ensures { let members = table_view table.now in option_map located_view result ≡
+        located_beside (map view sets.now) (places.Rule rule) (spec.rule_fields format members) members }
 {
-    let fields = rule_fields(format);
     let place = Place::Rule(rule);
     match format {
-        Format::Three => located_beside(sets, place, &fields, table),
+        Format::Three => {
+            let naming = naming_by(format, is_both_ways(format, table));
+            let fields = rule_fields(naming, is_true_at("allow", table));
+            located_beside(sets, place, &fields, table)
+        }
         Format::One | Format::Two => {
+            let fields = rule_fields(Naming::Rule(format), false);
             located_beside(sets, place, &fields[..COMMON_RULE_FIELDS], table)
         }
     }
 }
 
-/// All that a rule of this format may have, of which the last four are format 3's alone.
-pub fn rule_fields(format: Format) -> [Field; 16]
-    ensures { result ≡ spec.every_rule_field format }
+/// All that a rule may have that names so, and allows or doesn't, of which the last seven are format 3's alone.
+pub fn rule_fields(naming: Naming, allows: bool) -> [Field; 19]
+    ensures { result ≡ spec.every_rule_field naming allows }
+{
+    [
+        Field::needs("name", Shape::One(name_for(naming))),
+        Field::needs("allow", Shape::One(allow_for(naming))),
+        ranges(naming, FieldName::Operation),
+        ranges(naming, FieldName::Port),
+        ranges(naming, FieldName::SourceNetwork),
+        ranges(naming, FieldName::SourceKey),
+        ranges(naming, FieldName::DestinationNetwork),
+        ranges(naming, FieldName::Service),
+        ranges(naming, FieldName::ObjectType),
+        ranges(naming, FieldName::Instance),
+        ranges(naming, FieldName::Property),
+        ranges(naming, FieldName::Priority),
+        ranges(naming, FieldName::Sender),
+        ranges(naming, FieldName::Station),
+        Field::may("note", TEXT),
+        Field::may("audit", BOOLEAN),
+        Field::may("both_ways", BOOLEAN),
+        Field::may("enabled", BOOLEAN),
+        Field::may("quiet", Shape::One(quiet_for(allows))),
+    ]
+}
+
+/// The name of a rule, which is short where it goes both ways.
+fn name_for(naming: Naming) -> Scalar
+    ensures { result ≡ spec.name_for naming }
+{
+    match naming {
+        Naming::BothWays => Scalar::ShortName,
+        Naming::Rule(_) | Naming::Assertion => Scalar::RuleName,
+    }
+}
+
+/// Whether a rule allows, as one must that goes both ways.
+fn allow_for(naming: Naming) -> Scalar
+    ensures { result ≡ spec.allow_for naming }
+{
+    match naming {
+        Naming::BothWays => Scalar::True,
+        Naming::Rule(_) | Naming::Assertion => Scalar::Boolean,
+    }
+}
+
+/// Whether a rule is quiet, as none is that allows.
+fn quiet_for(allows: bool) -> Scalar
+    ensures { result ≡ spec.quiet_for allows }
+{
+    if allows {
+        Scalar::False
+    } else {
+        Scalar::Boolean
+    }
+}
+
+/// The fields of an assertion.
+pub fn assertion_fields() -> [Field; 16]
+    ensures { result ≡ spec.assertion_fields }
 {
     [
         Field::needs("name", Shape::One(Scalar::RuleName)),
-        Field::needs("allow", Shape::One(Scalar::Boolean)),
-        ranges(format, FieldName::Operation),
-        ranges(format, FieldName::Port),
-        ranges(format, FieldName::SourceNetwork),
-        ranges(format, FieldName::SourceKey),
-        ranges(format, FieldName::DestinationNetwork),
-        ranges(format, FieldName::Service),
-        ranges(format, FieldName::ObjectType),
-        ranges(format, FieldName::Instance),
-        ranges(format, FieldName::Property),
-        ranges(format, FieldName::Priority),
-        ranges(format, FieldName::Sender),
-        ranges(format, FieldName::Station),
+        Field::needs("verdict", Shape::One(Scalar::Verdict)),
+        ranges(Naming::Assertion, FieldName::Operation),
+        ranges(Naming::Assertion, FieldName::Port),
+        ranges(Naming::Assertion, FieldName::SourceNetwork),
+        ranges(Naming::Assertion, FieldName::SourceKey),
+        ranges(Naming::Assertion, FieldName::DestinationNetwork),
+        ranges(Naming::Assertion, FieldName::Service),
+        ranges(Naming::Assertion, FieldName::ObjectType),
+        ranges(Naming::Assertion, FieldName::Instance),
+        ranges(Naming::Assertion, FieldName::Property),
+        ranges(Naming::Assertion, FieldName::Priority),
+        ranges(Naming::Assertion, FieldName::Sender),
+        ranges(Naming::Assertion, FieldName::Station),
+        Field::may("unnamed", BOOLEAN),
         Field::may("note", TEXT),
-        Field::may("audit", Shape::One(Scalar::Boolean)),
     ]
 }

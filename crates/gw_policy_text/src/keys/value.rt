@@ -8,14 +8,31 @@ ghost use Rattle.std.specs.Option.{option_and_then};
 ghost use Rattle.toml.specs.Data.{Data, as_array, as_str, as_table, get_member};
 ghost use Rattle.toml.specs.View.{table_view, view};
 ghost use Rattle.gw_policy_text.specs.keys.Items.{list_of};
-ghost use Rattle.gw_policy_text.specs.keys.Written.{address_written, mask_written, subnet_written};
+ghost use Rattle.gw_policy_text.specs.keys.Written.{address_written, after_mac, mac_written, mask_written, other_key, subnet_written};
 ghost use Rattle.gw_configuration.specs.Subnet.{IsSubnet};
-ghost use Rattle.gw_policy_text.specs.keys.Value.{address_in, boolean_in, if_of_format, is_of_format, is_rule_name, kind_in, list_in, mask_in, number_in, operation_in, operation_named, operation_of, rule_name_in, signed_in, subnet_in, table_in, text_in};
+ghost use Rattle.gw_policy_text.specs.keys.Value.{address_in, any_named, any_of, boolean_in, deed_in, deed_of, fixed_in, if_nameable, is_nameable, is_rule_name, kind_in, list_in, mask_in, number_in, operation_named, operation_of, rule_name_in, short_name_in, signed_in, subnet_in, table_in, text_in, verdict_in, verdict_named};
+ghost use Rattle.hex.specs.Hex.{decode_of};
+ghost use Rattle.gw_rules.specs.Bounds.{bounds};
+ghost use Rattle.gw_rules.specs.Operation.{operation_number};
+ghost use Rattle.gw_rules.specs.Range.{holds};
+ghost use Rattle.gw_rules.specs.declared.field.FieldName.TheVariants as fields;
+ghost use Rattle.gw_rules.specs.declared.format.Format.TheVariants as formats;
+ghost use Rattle.gw_policy_text.specs.keys.Range.{deed_bounds};
+ghost use Rattle.gw_policy_text.specs.keys.Tables.{is_true_at};
 
 use gw_addr::{BipAddr, Mask};
-use gw_configuration::{ConfigFault, MAX_TEXT, ObjectKind, Subnet, laws};
-use gw_rules::{FieldName, Format, Operation, RuleName};
+use gw_configuration::{ConfigFault, MAX_TEXT, Naming, ObjectKind, Subnet, laws};
+use gw_rules::{FieldName, Operation, RuleName};
 use toml::{Table, Value};
+
+/// How many octets the name of a rule has at most that goes both ways.
+const MAX_SHORT_NAME: usize = 27;
+/// How many octets a station has at most that has a key.
+const MAX_KEYED: usize = 7;
+/// What is read for all that reads, in the place of an operation.
+pub const ANY_READ: u64 = 14;
+/// What is read for all that writes.
+pub const ANY_WRITE: u64 = 15;
 
 /// The value at a key.
 pub fn member<'a>(table: &'a Table, key: &str) -> Option<&'a Value>
@@ -95,6 +112,27 @@ pub fn boolean(value: &Value) -> Result<bool, ConfigFault>
     value.as_bool().ok_or(ConfigFault::Kind)
 }
 
+/// This one of true and false. `Kind` where it is neither, `Range` where it is the other.
+pub fn fixed(wanted: bool, value: &Value) -> Result<bool, ConfigFault>
+    ensures { Gives (λ b. b) result (fixed_in wanted (view value.now)) }
+{
+    match value.as_bool() {
+        Some(found) if found == wanted => Ok(found),
+        Some(_) => Err(ConfigFault::Range),
+        None => Err(ConfigFault::Kind),
+    }
+}
+
+/// Whether true is at a key.
+pub(crate) fn is_true_at(key: &str, table: &Table) -> bool
+    ensures { result ≡ is_true_at key.now (table_view table.now) }
+{
+    match member(table, key) {
+        Some(value) => value.as_bool() == Some(true),
+        None => false,
+    }
+}
+
 /// A table. `Kind` where it is none.
 pub fn table(value: &Value) -> Result<&Table, ConfigFault>
     ensures { Gives (λ t. table_view t.now) result (table_in (view value.now)) }
@@ -154,39 +192,133 @@ fn is_rule_name(text: &str) -> bool
     RuleName::is_name(text) && !RuleName::is_no_rule(text)
 }
 
-/// An operation that a rule of the format can name, by its name. `Kind` if it is no text, `Range` if it
-/// names none.
-pub fn operation(format: Format, value: &Value) -> Result<Operation, ConfigFault>
-    ensures operation { Gives (λ o. o) result (operation_in format (view value.now)) }
-    ensures held { IfOk result (λ o. IsTrue (is_of_format format o)) }
+/// The name of a rule that goes both ways, of at most 27 octets. `Kind` where it is no text, `Range` where it is
+/// another.
+pub fn short_name(value: &Value) -> Result<&str, ConfigFault>
+    ensures name { Gives (λ t. t.now) result (short_name_in (view value.now)) }
+    ensures shape { IfOk result (λ t. IsTrue (is_name t.now)) }
+    ensures own { IfOk result (λ t. IsFalse (is_no_rule t.now)) }
+    ensures short { IfOk result (λ t. length t.now ≤ 27) }
 {
     let Some(text) = string(value) else {
         return Err(ConfigFault::Kind);
     };
-    operation_of(format, text).ok_or(ConfigFault::Range)
+    if !is_rule_name(text) || MAX_SHORT_NAME < text.len() {
+        return Err(ConfigFault::Range);
+    }
+    Ok(text)
 }
 
-fn operation_of(format: Format, text: &str) -> Option<Operation>
-    ensures operation { result ≡ operation_of format text.now }
-    ensures held { IfSome result (λ o. IsTrue (is_of_format format o)) }
+/// Whether what an assertion means is to be allowed: `allowed` or `denied`. `Kind` where it is no text, `Range` where
+/// it is another.
+pub fn verdict(value: &Value) -> Result<bool, ConfigFault>
+    ensures { Gives (λ b. b) result (verdict_in (view value.now)) }
+{
+    let Some(text) = string(value) else {
+        return Err(ConfigFault::Kind);
+    };
+    verdict_named(text).ok_or(ConfigFault::Range)
+}
+
+fn verdict_named(text: &str) -> Option<bool>
+    ensures { result ≡ verdict_named text.now }
+{
+    if text == "allowed" {
+        Some(true)
+    } else if text == "denied" {
+        Some(false)
+    } else {
+        None
+    }
+}
+
+/// The number of an operation that can be named there, by its name, or of what an assertion may have in its place.
+/// `Kind` if it is no text, `Range` if it names none.
+pub fn deed(naming: Naming, value: &Value) -> Result<u64, ConfigFault>
+    ensures number { Gives (λ n. n) result (deed_in naming (view value.now)) }
+    ensures held { IfOk result (λ n. IsTrue (holds n (deed_bounds naming))) }
+{
+    let Some(text) = string(value) else {
+        return Err(ConfigFault::Kind);
+    };
+    deed_of(naming, text).ok_or(ConfigFault::Range)
+}
+
+fn deed_of(naming: Naming, text: &str) -> Option<u64>
+    ensures number { result ≡ deed_of naming text.now }
+    ensures held { IfSome result (λ n. IsTrue (holds n (deed_bounds naming))) }
+{
+    match operation_of(naming, text) {
+        Some(operation) => Some(number_of(naming, operation)),
+        None => any_of(naming, text),
+    }
+}
+
+/// The number of an operation that can be named there.
+fn number_of(naming: Naming, operation: Operation) -> u64
+    requires { IsTrue (is_nameable naming operation) }
+    ensures number { result ≡ operation_number operation }
+    ensures held { IsTrue (holds result (deed_bounds naming)) }
+{
+    operation.number()
+}
+
+fn any_of(naming: Naming, text: &str) -> Option<u64>
+    ensures number { result ≡ any_of naming text.now }
+    ensures held { IfSome result (λ n. IsTrue (holds n (deed_bounds naming))) }
+{
+    match naming {
+        Naming::Assertion => any_named(text),
+        Naming::Rule(_) | Naming::BothWays => None,
+    }
+}
+
+fn any_named(text: &str) -> Option<u64>
+    ensures { result ≡ any_named text.now }
+{
+    if text == "any-read" {
+        Some(ANY_READ)
+    } else if text == "any-write" {
+        Some(ANY_WRITE)
+    } else {
+        None
+    }
+}
+
+fn operation_of(naming: Naming, text: &str) -> Option<Operation>
+    ensures operation { result ≡ operation_of naming text.now }
+    ensures nameable { IfSome result (λ o. IsTrue (is_nameable naming o)) }
 {
     match operation_named(text) {
-        Some(operation) => if_of_format(format, operation),
+        Some(operation) => if_nameable(naming, operation),
         None => None,
     }
 }
 
-fn if_of_format(format: Format, operation: Operation) -> Option<Operation>
-    ensures operation { result ≡ if_of_format format operation }
-    ensures held { IfSome result (λ o. IsTrue (is_of_format format o)) }
+fn if_nameable(naming: Naming, operation: Operation) -> Option<Operation>
+    ensures operation { result ≡ if_nameable naming operation }
+    ensures nameable { IfSome result (λ o. IsTrue (is_nameable naming o)) }
 {
-    if FieldName::Operation
-        .bounds(format)
-        .holds(operation.number())
-    {
+    if is_nameable(naming, operation) {
         Some(operation)
     } else {
         None
+    }
+}
+
+/// Whether an operation can be named there.
+fn is_nameable(naming: Naming, operation: Operation) -> bool
+    ensures { result ≡ is_nameable naming operation }
+{
+    match naming {
+        Naming::Rule(format) => FieldName::Operation
+            .bounds(format)
+            .holds(operation.number()),
+        Naming::BothWays => matches!(
+            operation,
+            Operation::Read | Operation::Write | Operation::Route
+        ),
+        Naming::Assertion => true,
     }
 }
 
@@ -269,6 +401,44 @@ pub(crate) fn subnet_of(text: &str) -> Option<Subnet>
     match Subnet::parse(text) {
         Some(subnet) => Some(whole_subnet(subnet)),
         None => None,
+    }
+}
+
+/// The key of the station that is written `mac:` and its octets in pairs of hexadecimal digits, which aren't six.
+#[tactic(auto, unfolding(crate::specs::keys::Written::mac_written))]
+pub(crate) fn mac_of(text: &str) -> Option<u64>
+    ensures number { result ≡ mac_written text.now }
+    ensures held { IfSome result (λ n. IsTrue (holds n (bounds formats.Three fields.SourceKey))) }
+{
+    other_key(after_mac(text.as_bytes())?)
+}
+
+/// What follows `mac:`.
+fn after_mac(text: &[u8]) -> Option<&[u8]>
+    ensures { option_map (λ t. t.now) result ≡ after_mac text.now }
+{
+    if text.len() < 4 || &text[..4] != b"mac:".as_slice() {
+        return None;
+    }
+    Some(&text[4..])
+}
+
+/// The key of the station whose octets a text is in pairs of hexadecimal digits, which aren't six.
+fn other_key(digits: &[u8]) -> Option<u64>
+    ensures { result ≡ other_key (decode_of digits.now) }
+{
+    let len = digits.len() / 2;
+    if len == 6 {
+        return None;
+    }
+    if MAX_KEYED < len {
+        return None;
+    }
+    let mut octets = [0; MAX_KEYED];
+    let octets = &mut octets[..len];
+    match hex::decode_to_slice(digits, octets) {
+        Ok(()) => gw_addr::key_of(octets),
+        Err(_) => None,
     }
 }
 
