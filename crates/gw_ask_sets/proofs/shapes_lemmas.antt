@@ -1,4 +1,5 @@
 pub mod Covering
+pub mod KeyLaw
 pub mod Listing
 pub mod Lying
 pub mod Narrowing

@@ -1,2 +1,3 @@
+pub mod assertions
 pub mod regions
 pub mod shapes

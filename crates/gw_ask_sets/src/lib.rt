@@ -1,5 +1,7 @@
-//! Sets of asks: regions, which are sets of field values, and shapes, which are the asks that a configuration can raise.
+//! Sets of asks: regions, which are sets of field values, shapes, which are the asks that a configuration can raise, and
+//! assertions, which speak of some of these.
 #![tactic(auto)]
 
+pub mod assertions;
 pub mod regions;
 pub mod shapes;

@@ -12,4 +12,4 @@ pub use piece::numbers;
 pub use regions::region_of;
 pub use search::{Outcome, rule_at, search_for};
 pub use shapes::{Entrance, Origin, aimed, bound, is_manager, only, shapes_of};
-pub use side::{Shape, Side, has_number, meets, overlaps};
+pub use side::{KEY_RANGES, Shape, Side, has_number, meets, overlaps};

@@ -11,7 +11,7 @@ mod object_details;
 mod parts;
 mod port_details;
 mod rule_details;
-mod words;
+pub(crate) mod words;
 
 pub use asks::asks_of;
 pub use comparing::{Comparing, put_steps};

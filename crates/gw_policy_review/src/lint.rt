@@ -11,3 +11,4 @@ mod trust_note;
 
 pub use finding::{Finding, MAX_STEPS, findings_of};
 pub use lint::put_lint;
+pub use text::put_ask;

@@ -7,7 +7,7 @@ use Rattle.std.proofs.lemmas.List.Folds.{list_any-append}
 use Rattle.gw_rules.specs.Ask.{Ask}
 use Rattle.gw_rules.specs.Fields.{value_of, with_value}
 use Rattle.gw_rules.specs.Range.{admits}
-use Rattle.gw_rules.specs.Rule.{matches, ranges_of}
+use Rattle.gw_rules.specs.Rule.{each_field, matches, ranges_of}
 use Rattle.gw_rules.specs.declared.field.FieldName.{FieldName}
 use Rattle.gw_rules.specs.declared.field.FieldName.TheVariants.{Operation, Port, SourceNetwork, SourceKey, DestinationNetwork, Service, ObjectType, Instance, Property, Priority, Sender, Station}
 use Rattle.gw_rules.specs.declared.field.TheConstants.FieldName.{ALL}
@@ -216,3 +216,31 @@ pub inside_step : (fields : List FieldName) (place : ℕ) (d : FieldName) (rule 
 inside_step fields place d rule region next all within left is =
     ap (λ (r : Region). inside (drop (place + 1) fields) rule r) left
     ∙ sym (ap (λ (fs : List FieldName). inside fs rule region) (next_item fields place d within)) ∙ is
+
+-- ---- two tests of each field
+
+all_both : (one two both : FieldName → Bool) → ((field : FieldName) → both field ≡ (one field && two field)) → (fields : List FieldName)
+    → list_all both fields ≡ (list_all one fields && list_all two fields)
+all_both one two both is [] = refl
+all_both one two both is (field ∷ fields) =
+    ap (λ b. b && list_all both fields) (is field) ∙ ap (λ b. (one field && two field) && b) (all_both one two both is fields)
+    ∙ by (one field) (two field) (list_all one fields) (list_all two fields)
+  where
+    by : (a b c d : Bool) → ((a && b) && (c && d)) ≡ ((a && c) && (b && d))
+    by true true c d = refl
+    by true false true d = refl
+    by true false false d = refl
+    by false b c d = refl
+
+pub each_both : (one two both : FieldName → Bool) → ((field : FieldName) → both field ≡ (one field && two field))
+    → each_field both ≡ (each_field one && each_field two)
+each_both one two both is = all_both one two both is ALL
+
+-- an ask lies in what the rule admits of a region if it lies there and the rule matches it
+pub within_lies : (rule : Rule) (region made : Region)
+    → ((field : FieldName) → value_of field made ≡ admitted (value_of field region) (ranges_of field rule))
+    → (ask : Ask) → lies made ask ≡ (lies region ask && matches rule ask)
+unfolding matches
+within_lies rule region made is ask =
+    each_both (λ field. has (value_of field region) (value_of field ask)) (λ field. yes_at rule ask field) (λ field. has (value_of field made) (value_of field ask))
+    (λ field. ap (λ v. has v (value_of field ask)) (is field) ∙ admitted_law (value_of field region) (ranges_of field rule) (value_of field ask))

@@ -15,6 +15,7 @@ use Rattle.gw_ask_sets.specs.shapes.Cover.{MatchesNothing, TakesAll, lies_in, li
 use Rattle.gw_ask_sets.specs.shapes.Meeting.{meets, overlaps}
 use Rattle.gw_ask_sets.specs.shapes.Shape.{IsIn, IsWithin, LiesIn, Shape}
 use Rattle.gw_ask_sets.specs.declared.shapes.side.Side.{Side}
+use Rattle.gw_ask_sets.proofs.shapes_lemmas.Lying.{in_range}
 use Rattle.gw_ask_sets.proofs.shapes_lemmas.Narrowing.{Admitted, met, not_empty}
 
 -- ---- nothing is met
@@ -83,12 +84,14 @@ sided side (e ∷ es) [] None t is admitted named =
     let t = rw (not_empty e es) at t in
     let parts = and_parts (not side.absent) (lies_in_any (e ∷ es) side.range) t in
     absurd (untrue side.absent is parts.0)
-sided side (e ∷ es) [] (Some number) t is admitted named =
+sided side (e ∷ es) [] (Some number) t within admitted named =
+    let is = in_range side number within in
     let t = rw (not_empty e es) at t in
     let parts = and_parts (not side.absent) (lies_in_any (e ∷ es) side.range) t in
     wider number (e ∷ es) side.range parts.1 is
 sided side (e ∷ es) (l ∷ ls) None t is admitted named = absurd (admitted (omega arith))
-sided side (e ∷ es) (l ∷ ls) (Some number) t is admitted named =
+sided side (e ∷ es) (l ∷ ls) (Some number) t within admitted named =
+    let is = in_range side number within in
     let t = rw (not_empty e es, not_empty l ls) at t in
     let all = AllPass-from_list_all (takes_range side (e ∷ es)) (l ∷ ls) t in
     let some = admitted (omega arith) in

@@ -1,9 +1,18 @@
 -- Which asks lie in a shape, and in one of several.
-use Rattle.std.proofs.Common.{◌⊎◌, inl, inr, List, [], ◌∷◌, ◌++◌}
+use Rattle.std.proofs.Common.{◌⊎◌, inl, inr, ℕ, Bool, true, false, List, [], ◌∷◌, ◌++◌, Some}
 use Rattle.gw_rules.specs.Ask.{Ask}
 use Rattle.gw_rules.specs.Fields.{value_of}
 use Rattle.gw_rules.specs.declared.field.FieldName.TheVariants.{Operation, Port, SourceNetwork, SourceKey, DestinationNetwork, Service, ObjectType, Instance, Property, Priority, Sender, Station}
-use Rattle.gw_ask_sets.specs.shapes.Shape.{IsWithin, LiesIn, LiesInOne, Shape}
+use Rattle.gw_ask_sets.specs.shapes.Shape.{IsIn, IsOneOf, IsWithin, LiesIn, LiesInOne, Shape}
+use Rattle.gw_ask_sets.specs.declared.shapes.side.Side.{Side}
+
+-- a number that a field may be is between the ends of the side's range
+pub in_range : (side : Side) (number : ℕ) → IsWithin side (Some number) → IsIn side.range number
+in_range side number is = by side.keyed is
+  where
+    by : (keyed : Bool) → IsOneOf keyed side.range number → IsIn side.range number
+    by false is = is
+    by true is = is.0
 
 -- an ask lies in a shape by its twelve fields
 pub lies_by : (shape : Shape) (ask : Ask)

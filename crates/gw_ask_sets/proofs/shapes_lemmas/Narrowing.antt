@@ -23,6 +23,7 @@ use Rattle.gw_ask_sets.specs.shapes.Regions.{region_of}
 use Rattle.gw_ask_sets.specs.shapes.Search.{AreMatched, IsFirstFor, IsNeverFirst}
 use Rattle.gw_ask_sets.specs.shapes.Shape.{IsIn, IsWithin, LiesIn, Shape}
 use Rattle.gw_ask_sets.specs.declared.shapes.side.Side.{Side}
+use Rattle.gw_ask_sets.proofs.shapes_lemmas.Lying.{in_range}
 use Rattle.gw_ask_sets.proofs.shapes_lemmas.RegionLaw.{inner_one, is_inner, whole_one}
 
 -- the ranges admit the value, where there are some
@@ -36,12 +37,14 @@ not_empty range ranges = ne_eqb (length (range ∷ ranges)) 0 (λ e. omega arith
 
 met_side : (side : Side) (ranges : List Range) (value : Option ℕ) → IsWithin side value → Admitted ranges value → meets_side side ranges ≡ true
 met_side side [] None is admitted = or_left side.absent (has_number side) is
-met_side side [] (Some number) is admitted =
+met_side side [] (Some number) within admitted =
+    let is = in_range side number within in
     let from = is.0 in
     let to = is.1 in
     or_right side.absent (has_number side) (le-leb side.range.low side.range.high (omega arith))
 met_side side (range ∷ ranges) None is admitted = absurd (admitted (omega arith))
-met_side side (range ∷ ranges) (Some number) is admitted =
+met_side side (range ∷ ranges) (Some number) within admitted =
+    let is = in_range side number within in
     let from = is.0 in
     let to = is.1 in
     let all = range ∷ ranges in

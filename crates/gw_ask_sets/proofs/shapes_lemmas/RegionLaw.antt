@@ -3,6 +3,7 @@ use Rattle.std.proofs.Common.{◌≡◌, ◌∙◌, inl, inr, sym, ap, refl, sub
 use Rattle.std.specs.Prelude.{◌⊎◌, if◌then◌else◌}
 use Rattle.std.specs.List.{list_any}
 use Rattle.std.proofs.lemmas.Bool.{and_from, and_parts, both_ways, le-leb, leb-true, or_cases, or_left, or_right}
+use Rattle.gw_ask_sets.specs.regions.Ranges.{shared}
 use Rattle.gw_ask_sets.specs.regions.Regions.{Region, lies, lies_in_one}
 use Rattle.gw_ask_sets.specs.regions.Values.{has}
 use Rattle.gw_rules.specs.Ask.{Ask}
@@ -13,8 +14,9 @@ use Rattle.gw_rules.specs.declared.field.FieldName.TheVariants.{Operation, Port,
 use Rattle.gw_rules.proofs.EachField.{each_field_at, each_field_from}
 use Rattle.gw_ask_sets.specs.shapes.Meeting.{has_number}
 use Rattle.gw_ask_sets.specs.shapes.Regions.{IsRegionOf, region_of, values_of}
-use Rattle.gw_ask_sets.specs.shapes.Shape.{IsIn, IsWithin, LiesIn, LiesInOne, Shape}
+use Rattle.gw_ask_sets.specs.shapes.Shape.{IsIn, IsOneOf, IsWithin, LiesIn, LiesInOne, Shape, is_key, key_ranges}
 use Rattle.gw_ask_sets.specs.declared.shapes.side.Side.{Side}
+use Rattle.gw_ask_sets.proofs.regions_lemmas.RangeLaw.{shared_law}
 
 -- ---- one field
 
@@ -37,19 +39,39 @@ number_in side n true e = by (or_cases (holds n side.range) false e)
         (leb-true side.range.low n parts.0, leb-true n side.range.high parts.1)
     by (inr never) = absurd (both_ways false refl never)
 
+number_there : (side : Side) (n : ℕ) → IsIn side.range n → numbers side true n ≡ true
+number_there side n (low, high) =
+    or_left (holds n side.range) false (and_from (nat_le side.range.low n) (nat_le n side.range.high) (le-leb side.range.low n low) (le-leb n side.range.high high))
+
 number_from : (side : Side) (n : ℕ) → IsIn side.range n → numbers side (has_number side) n ≡ true
 number_from side n (low, high) =
     let some : has_number side ≡ true = le-leb side.range.low side.range.high (omega (arith, low, high)) in
     ap (λ c. numbers side c n) some
     ∙ or_left (holds n side.range) false (and_from (nat_le side.range.low n) (nat_le n side.range.high) (le-leb side.range.low n low) (le-leb n side.range.high high))
 
+-- those of it that count
+abbrev counting : Side → Bool → ℕ → Bool
+counting side keyed n =
+    list_any (holds n) (if keyed then shared key_ranges (side.range ∷ []) else if has_number side then side.range ∷ [] else [])
+
+one_in : (side : Side) (n : ℕ) (keyed : Bool) → counting side keyed n ≡ true → IsOneOf keyed side.range n
+one_in side n false e = number_in side n (has_number side) e
+one_in side n true e =
+    let parts = and_parts (is_key n) (numbers side true n) (sym (shared_law n key_ranges (side.range ∷ [])) ∙ e) in
+    (number_in side n true parts.1, parts.0)
+
+one_from : (side : Side) (n : ℕ) (keyed : Bool) → IsOneOf keyed side.range n → counting side keyed n ≡ true
+one_from side n false is = number_from side n is
+one_from side n true is =
+    shared_law n key_ranges (side.range ∷ []) ∙ and_from (is_key n) (numbers side true n) is.1 (number_there side n is.0)
+
 within : (side : Side) (value : Option ℕ) → has (values_of side) value ≡ true → IsWithin side value
 within side None e = e
-within side (Some n) e = number_in side n (has_number side) e
+within side (Some n) e = one_in side n side.keyed e
 
 has_within : (side : Side) (value : Option ℕ) → IsWithin side value → has (values_of side) value ≡ true
 has_within side None is = is
-has_within side (Some n) is = number_from side n is
+has_within side (Some n) is = one_from side n side.keyed is
 
 -- ---- a shape
 

@@ -3,9 +3,9 @@ use Rattle.std.specs.Prelude.{ℕ, ◌+◌, ◌-◌, false, nat_lt, if◌then◌
 use Rattle.gw_rules.specs.declared.range.Range.{Range}
 use Rattle.gw_ask_sets.specs.declared.shapes.side.Side.{Side}
 
--- numbers alone
+-- numbers alone, any of them
 abbrev pub numbers : ℕ → ℕ → Side
-numbers low high = record { absent = false; range = record { low = low; high = high } }
+numbers low high = record { absent = false; range = record { low = low; high = high }; keyed = false }
 
 -- a range that has no number
 abbrev pub no_range : Range

@@ -1,17 +1,21 @@
 -- The regions of shapes.
 use Rattle.std.specs.Prelude.{◌≡◌, true, if◌then◌else◌, [], ◌∷◌}
+use Rattle.gw_ask_sets.specs.regions.Ranges.{shared}
 use Rattle.gw_ask_sets.specs.regions.Regions.{Region, lies}
 use Rattle.gw_ask_sets.specs.declared.regions.values.Values.{Values}
 use Rattle.gw_rules.specs.Ask.{Ask}
 use Rattle.gw_ask_sets.specs.shapes.Meeting.{has_number}
-use Rattle.gw_ask_sets.specs.shapes.Shape.{LiesIn, Shape}
+use Rattle.gw_ask_sets.specs.shapes.Shape.{LiesIn, Shape, key_ranges}
 use Rattle.gw_ask_sets.specs.declared.shapes.side.Side.{Side}
 
--- the values of a side: one range, or none if the side has no number
+-- the values of a side: one range, or none if the side has no number; where keys alone count, those of the range
 abbrev pub values_of : Side → Values
 values_of side = record {
   absent = side.absent;
-  ranges = if has_number side then side.range ∷ [] else [];
+  ranges =
+      if side.keyed then shared key_ranges (side.range ∷ [])
+      else if has_number side then side.range ∷ []
+      else [];
 }
 
 -- and so for each field of a shape

@@ -26,14 +26,14 @@ abbrev pub only : ℕ → Side
 only number = numbers number number
 
 abbrev pub nothing : Side
-nothing = record { absent = true; range = no_range }
+nothing = record { absent = true; range = no_range; keyed = false }
 
 -- a number that the field can have, as rules of format 3 name it; and that, or an absent field
 abbrev pub some : FieldName → Side
-some field = record { absent = false; range = bounds Three field }
+some field = record { absent = false; range = bounds Three field; keyed = false }
 
 abbrev pub perhaps : FieldName → Side
-perhaps field = record { absent = true; range = bounds Three field }
+perhaps field = record { absent = true; range = bounds Three field; keyed = false }
 
 -- a network (clause 6)
 abbrev pub network : Side
@@ -41,18 +41,30 @@ network = numbers 1 65534
 
 -- what a message asks for: a request or a network layer message, or an APDU that can't be read; and an APDU that answers
 abbrev pub request_or_message : Side
-request_or_message = record { absent = true; range = record { low = 0; high = 767 } }
+request_or_message = record { absent = true; range = record { low = 0; high = 767 }; keyed = false }
 
 abbrev pub answer : Side
 answer = numbers 1026 1031
 
--- a station in format 3, and absent in the others
-abbrev pub some_in : Format → FieldName → Side
-some_in format field = if names_stations format then some field else nothing
+-- the key of an address, which has six octets (Annex J.1.2)
+abbrev pub address : Side
+address = numbers 0 281474976710655
 
--- either in format 3, and absent in the others
-abbrev pub perhaps_in : Format → FieldName → Side
-perhaps_in format field = if names_stations format then perhaps field else nothing
+-- the key of a station of any length, absent where it has none
+abbrev pub any_key : Side
+any_key = record { absent = true; range = record { low = 0; high = 576460752303423487 }; keyed = true }
+
+-- an address that asks name in format 3 alone
+abbrev pub address_in : Format → Side
+address_in format = if names_stations format then address else nothing
+
+-- the source of another network: in format 3 a station of any length, in the others one of six octets has a key
+abbrev pub source_in : Format → Side
+source_in format = if names_stations format then any_key else record address { absent = true }
+
+-- the station that a message may name, in format 3 alone
+abbrev pub station_in : Format → Side
+station_in format = if names_stations format then any_key else nothing
 
 -- ---- shapes, whose first fields say whence the asks come
 
@@ -89,7 +101,7 @@ named from operation service destination priority = record (bound from operation
 
 -- these asks, of messages that may name one station
 abbrev pub aimed : Format → Shape → Shape
-aimed format shape = record shape { station = perhaps_in format fields.Station }
+aimed format shape = record shape { station = station_in format }
 
 -- frames that read or change a table of a broadcast manager, by their function; one that deletes names a station
 abbrev pub frame_shapes : Format → Origin → List Shape
@@ -98,7 +110,7 @@ frame_shapes format from =
     ∷ plain from operations.ReadTable (only 770)
     ∷ plain from operations.Register (only 773)
     ∷ plain from operations.ReadTable (only 774)
-    ∷ record (plain from operations.Delete (only 776)) { station = some_in format fields.Station }
+    ∷ record (plain from operations.Delete (only 776)) { station = address_in format }
     ∷ []
 
 -- nobody is asked for them at a port that has another manager beside it
@@ -190,8 +202,8 @@ abbrev pub own : Format → ℕ → ℕ → Bool → Origin
 own format number net manages = record {
   port = only number;
   network = only net;
-  key = some fields.SourceKey;
-  sender = some_in format fields.Sender;
+  key = address;
+  sender = address_in format;
   manages = manages;
 }
 
@@ -241,8 +253,8 @@ abbrev pub foreign : Format → Entrance → Side → Origin
 foreign format by networks = record {
   port = by.port;
   network = networks;
-  key = perhaps fields.SourceKey;
-  sender = some_in format fields.Sender;
+  key = source_in format;
+  sender = address_in format;
   manages = by.manages;
 }
 

@@ -74,7 +74,8 @@ pub(crate) fn covers(values: &Values, ranges: &[Range]) -> bool
     ranges.is_empty() || !values.absent && holds_all(values.ranges.as_slice(), ranges)
 }
 
-fn meets_each(rule: &Rule, region: &Region) -> bool
+/// Whether the rule may match some of it.
+pub(crate) fn meets_each(rule: &Rule, region: &Region) -> bool
     ensures { result ≡ each_field (λ field. meets (value_of field region.now) (ranges_of field rule.now)) }
 {
     FieldName::ALL.iter().all(|field| meets(region.get(*field), rule.ranges(*field).as_slice()))

@@ -78,12 +78,8 @@ fn push_shared(out: &mut Sequence<Range>, x: &Range, ys: &[Range]) -> Result<(),
     Ok(())
 }
 
-/// The numbers that both lists hold.
-pub(crate) fn shared(
-    alloc: Global,
-    xs: &[Range],
-    ys: &[Range],
-) -> Result<Sequence<Range>, AllocError>
+/// The numbers that both lists hold. An `Err` if there is no memory.
+pub fn shared(alloc: Global, xs: &[Range], ys: &[Range]) -> Result<Sequence<Range>, AllocError>
     ensures { IfOk result (λ list. list ≡ shared xs.now ys.now) }
 {
     let mut out = Sequence::new(alloc);

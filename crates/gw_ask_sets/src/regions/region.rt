@@ -1,8 +1,9 @@
 //! Regions of asks, and how a rule parts one.
-ghost use Rattle.std.specs.Prelude.{◌≡◌, ◌++◌, List, IfOk, OnOk};
+ghost use Rattle.std.specs.Prelude.{◌≡◌, ◌&&◌, ◌++◌, List, IfOk, OnOk};
 ghost use Rattle.std.specs.List.{list_any};
 ghost use Rattle.gw_rules.specs.Fields.{value_of, with_value};
-ghost use Rattle.gw_rules.specs.Rule.{each_field};
+ghost use Rattle.gw_rules.specs.Ask.{Ask as SpecAsk};
+ghost use Rattle.gw_rules.specs.Rule.{each_field, matches};
 ghost use Rattle.gw_rules.specs.declared.field.TheConstants.FieldName.{ALL};
 ghost use Rattle.gw_ask_sets.specs.regions.Regions.{IsParted, inside, inside_at, lies, piece, piece_at, pieces};
 ghost use Rattle.gw_ask_sets.specs.regions.Regions.{Region as SpecRegion};
@@ -28,6 +29,19 @@ fn copy_region(alloc: Global, region: &Region) -> Result<Region, AllocError>
     ensures { IfOk result (λ copied. copied ≡ region.now) }
 {
     Fields::try_from_each(|field| region.get(field).copy(alloc))
+}
+
+/// What of a region the rule matches.
+pub(crate) fn region_within(
+    alloc: Global,
+    rule: &Rule,
+    region: &Region,
+) -> Result<Region, AllocError>
+    ensures { IfOk result (λ made. (ask : SpecAsk) → lies made ask ≡ (lies region.now ask && matches rule.now ask)) }
+{
+    Fields::try_from_each(|field| region
+        .get(field)
+        .admitted(alloc, rule.ranges(field).as_slice()))
 }
 
 /// The region with other values for a field.

@@ -31,6 +31,7 @@ pub fn tidied(alloc: Global, rule: &Rule) -> Result<Rule, AllocError>
     Ok(Rule {
         name: rule.name.copy(),
         allow: rule.allow,
+        quiet: rule.quiet,
         ranges,
     })
 }

@@ -8,13 +8,14 @@ use gw_rules::Range;
 /// A range that has no number.
 pub(crate) const NO_RANGE: Range = Range { low: 1, high: 0 };
 
-/// The numbers from `low` to `high`; the field may not be absent.
+/// The numbers from `low` to `high`, any of them; the field may not be absent.
 pub fn numbers(low: u64, high: u64) -> Side
     ensures { result ≡ numbers low high }
 {
     Side {
         absent: false,
         range: Range { low, high },
+        keyed: false,
     }
 }
 

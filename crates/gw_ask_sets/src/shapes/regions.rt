@@ -2,25 +2,35 @@
 ghost use Rattle.std.specs.Prelude.{◌≡◌, IfOk};
 ghost use Rattle.gw_ask_sets.specs.shapes.Regions.{IsRegionOf, region_of, values_of};
 
+use crate::regions::ranges::shared;
 use crate::regions::{Region, Values};
-use crate::shapes::side::has_number;
+use crate::shapes::side::{KEY_RANGES, has_number};
 use crate::shapes::{Shape, Side};
 use gw_addr::Sequence;
-use gw_rules::Fields;
+use gw_rules::{Fields, Range};
 use std::alloc::{AllocError, Global};
 
 /// The values of a side.
 fn values_of(alloc: Global, side: &Side) -> Result<Values, AllocError>
     ensures { IfOk result (λ values. values ≡ values_of side.now) }
 {
+    Ok(Values {
+        absent: side.absent,
+        ranges: ranges_of(alloc, side)?,
+    })
+}
+
+fn ranges_of(alloc: Global, side: &Side) -> Result<Sequence<Range>, AllocError>
+    ensures { IfOk result (λ ranges. ranges ≡ (values_of side.now).ranges) }
+{
+    if side.keyed {
+        return shared(alloc, &KEY_RANGES, &[side.range]);
+    }
     let mut ranges = Sequence::new(alloc);
     if has_number(side) {
         ranges.push(side.range)?;
     }
-    Ok(Values {
-        absent: side.absent,
-        ranges,
-    })
+    Ok(ranges)
 }
 
 /// The region of a shape: an ask lies in it exactly if it lies in the shape. An `Err` if there is no memory.

@@ -3,13 +3,13 @@
 ghost use Rattle.std.specs.Prelude.{◌≡◌, ◌≤◌, ◌++◌, [], ◌∷◌, IfOk, OnOk, length};
 ghost use Rattle.std.specs.List.{flat_map, list_all};
 ghost use Rattle.std.specs.Option.{option_to_list};
-ghost use Rattle.gw_ask_sets.specs.shapes.Shapes.{aimed, any_entrance, bound, broadcast_shapes, cast_shapes, claim_shapes, enter_shapes};
+ghost use Rattle.gw_ask_sets.specs.shapes.Shapes.{address_in, aimed, any_entrance, bound, broadcast_shapes, cast_shapes, claim_shapes, enter_shapes};
 ghost use Rattle.gw_ask_sets.specs.shapes.Shapes.{entrances, entrances_from, foreign, foreign_shapes, frame_shapes, gaps};
 ghost use Rattle.gw_ask_sets.specs.shapes.Shapes.{gaps_between, is_manager, message_shapes, named, near_shapes, network};
 ghost use Rattle.gw_ask_sets.specs.shapes.Shapes.{only, own, passed_to, shapes_by};
-ghost use Rattle.gw_ask_sets.specs.shapes.Shapes.{own_shapes, passed_reads, passed_shapes, passed_writes, perhaps, perhaps_in};
+ghost use Rattle.gw_ask_sets.specs.shapes.Shapes.{own_shapes, passed_reads, passed_shapes, passed_writes, perhaps};
 ghost use Rattle.gw_ask_sets.specs.shapes.Shapes.{plain, request_shapes, shapes, shapes_beyond, shapes_from, shapes_within};
-ghost use Rattle.gw_ask_sets.specs.shapes.Shapes.{some, some_in, split, table_shapes};
+ghost use Rattle.gw_ask_sets.specs.shapes.Shapes.{some, source_in, split, station_in, table_shapes};
 
 use crate::shapes::piece::{NO_RANGE, above, below, numbers};
 use crate::shapes::{Shape, Side};
@@ -24,7 +24,7 @@ pub struct Origin {
     pub port: Side,
     /// The source networks.
     pub network: Side,
-    /// The addresses of the sources: absent, if one doesn't have six octets.
+    /// The keys of the sources: absent, if one has none.
     pub key: Side,
     /// The senders, whom asks name in format 3 alone.
     pub sender: Side,
@@ -45,6 +45,27 @@ pub struct Entrance {
 const NOTHING: Side = Side {
     absent: true,
     range: NO_RANGE,
+    keyed: false,
+};
+
+/// The key of an address, which has six octets (Annex J.1.2).
+const ADDRESS: Side = Side {
+    absent: false,
+    range: Range {
+        low: 0,
+        high: (1 << 48) - 1,
+    },
+    keyed: false,
+};
+
+/// The key of a station of any length, absent where it has none.
+const ANY_KEY: Side = Side {
+    absent: true,
+    range: Range {
+        low: 0,
+        high: (8 << 56) - 1,
+    },
+    keyed: true,
 };
 
 /// A network (clause 6).
@@ -54,6 +75,7 @@ const NETWORK: Side = Side {
         low: 1,
         high: 65534,
     },
+    keyed: false,
 };
 
 /// A network, or all of them.
@@ -63,12 +85,14 @@ const NETWORKS: Side = Side {
         low: 1,
         high: 65534,
     },
+    keyed: false,
 };
 
 /// A request or a network layer message, or an APDU that can't be read.
 const REQUEST_OR_MESSAGE: Side = Side {
     absent: true,
     range: Range { low: 0, high: 767 },
+    keyed: false,
 };
 
 /// An APDU that answers, by its type (clause 20.1).
@@ -78,6 +102,7 @@ const ANSWER: Side = Side {
         low: 1026,
         high: 1031,
     },
+    keyed: false,
 };
 
 /// A number that the field can have, as rules of format 3 name it; the field may not be absent.
@@ -87,6 +112,7 @@ fn some(field: FieldName) -> Side
     Side {
         absent: false,
         range: field.bounds(Format::Three),
+        keyed: false,
     }
 }
 
@@ -97,6 +123,7 @@ fn perhaps(field: FieldName) -> Side
     Side {
         absent: true,
         range: field.bounds(Format::Three),
+        keyed: false,
     }
 }
 
@@ -107,23 +134,37 @@ pub fn only(number: u64) -> Side
     numbers(number, number)
 }
 
-/// A station in format 3, and an absent field in the others.
-fn some_in(format: Format, field: FieldName) -> Side
-    ensures { result ≡ some_in format field }
+/// An address that asks name in format 3 alone.
+fn address_in(format: Format) -> Side
+    ensures { result ≡ address_in format }
 {
     if format.names_stations() {
-        some(field)
+        ADDRESS
     } else {
         NOTHING
     }
 }
 
-/// Either in format 3, and an absent field in the others.
-fn perhaps_in(format: Format, field: FieldName) -> Side
-    ensures { result ≡ perhaps_in format field }
+/// The source of another network: in format 3 a station of any length, in the others one of six octets has a key.
+fn source_in(format: Format) -> Side
+    ensures { result ≡ source_in format }
 {
     if format.names_stations() {
-        perhaps(field)
+        ANY_KEY
+    } else {
+        Side {
+            absent: true,
+            ..ADDRESS
+        }
+    }
+}
+
+/// The station that a message may name, in format 3 alone.
+fn station_in(format: Format) -> Side
+    ensures { result ≡ station_in format }
+{
+    if format.names_stations() {
+        ANY_KEY
     } else {
         NOTHING
     }
@@ -137,8 +178,8 @@ impl Origin {
         Origin {
             port: only(number),
             network: only(network),
-            key: some(FieldName::SourceKey),
-            sender: some_in(format, FieldName::Sender),
+            key: ADDRESS,
+            sender: address_in(format),
             manages,
         }
     }
@@ -150,8 +191,8 @@ impl Origin {
         Origin {
             port: by.port,
             network: *networks,
-            key: perhaps(FieldName::SourceKey),
-            sender: some_in(format, FieldName::Sender),
+            key: source_in(format),
+            sender: address_in(format),
             manages: by.manages,
         }
     }
@@ -211,7 +252,7 @@ pub fn aimed(format: Format, shape: &Shape) -> Shape
     ensures { result ≡ aimed format shape.now }
 {
     Fields {
-        station: perhaps_in(format, FieldName::Station),
+        station: station_in(format),
         ..*shape
     }
 }
@@ -226,7 +267,7 @@ fn frame_shapes(format: Format, from: &Origin) -> [Shape; 5]
         plain(from, Operation::Register, only(773)),
         plain(from, Operation::ReadTable, only(774)),
         Fields {
-            station: some_in(format, FieldName::Station),
+            station: address_in(format),
             ..plain(from, Operation::Delete, only(776))
         },
     ]

@@ -13,7 +13,41 @@ pub struct Side {
     pub absent: bool,
     /// The numbers that the field may have.
     pub range: Range,
+    /// Whether only those of them count that are the key of a station ([`KEY_RANGES`]).
+    pub keyed: bool,
 }
+
+/// The keys of stations: those of six octets, then those of one to five and of seven.
+pub const KEY_RANGES: [Range; 7] = [
+    Range {
+        low: 0,
+        high: (1 << 48) - 1,
+    },
+    Range {
+        low: 1 << 56,
+        high: (1 << 56) + ((1 << 8) - 1),
+    },
+    Range {
+        low: 2 << 56,
+        high: (2 << 56) + ((1 << 16) - 1),
+    },
+    Range {
+        low: 3 << 56,
+        high: (3 << 56) + ((1 << 24) - 1),
+    },
+    Range {
+        low: 4 << 56,
+        high: (4 << 56) + ((1 << 32) - 1),
+    },
+    Range {
+        low: 5 << 56,
+        high: (5 << 56) + ((1 << 40) - 1),
+    },
+    Range {
+        low: 7 << 56,
+        high: (8 << 56) - 1,
+    },
+];
 
 /// Asks that lie in a side each for the twelve fields.
 pub type Shape = Fields<Side>;
@@ -49,7 +83,7 @@ fn any_overlaps(range: &Range, ranges: &[Range]) -> bool
 }
 
 /// Whether a rule matches an ask that lies in the shape, as far as none of the shape's sides and of
-/// the rule's ranges is the wrong way round.
+/// the rule's ranges is the wrong way round, and each number between the ends of a side counts.
 pub fn meets(shape: &Shape, rule: &Rule) -> bool
     ensures { result ≡ meets shape.now rule.now }
 {

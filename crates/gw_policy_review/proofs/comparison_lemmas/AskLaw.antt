@@ -1,5 +1,7 @@
 -- An ask lies in one of the regions exactly if it lies in a shape of one of two configurations.
-use Rattle.std.proofs.Common.{◌≡◌, ◌∙◌, inl, inr, sym, refl, subst, Bool, true, false, List, [], ◌∷◌, ◌++◌, map, Option, Some, None, ℕ}
+use Rattle.std.proofs.Common.{◌≡◌, ◌∙◌, ◌+◌, ◌<◌, inl, inr, sym, refl, subst, Bool, true, false, List, [], ◌∷◌, ◌++◌, add-one, ap, append_assoc, get_or, length, map, take, Option, Some, None, ℕ}
+use Rattle.std.proofs.Math.Seq.{take-suc}
+use Rattle.std.proofs.lemmas.List.{map-append}
 use Rattle.std.specs.Prelude.{◌⊎◌, ◌||◌, ◌&&◌, ◌==◌, not, if◌then◌else◌}
 use Rattle.std.specs.List.{flat_map, list_any}
 use Rattle.std.proofs.lemmas.Bool.{and_parts, both_ways, eqb-true, or_cases, or_left, or_right}
@@ -10,31 +12,46 @@ use Rattle.gw_rules.specs.Ask.{Ask}
 use Rattle.gw_rules.specs.Fields.{value_of}
 use Rattle.gw_rules.proofs.EachField.{each_field_at}
 use Rattle.gw_ask_sets.specs.shapes.Regions.{region_of}
-use Rattle.gw_ask_sets.specs.shapes.Shape.{IsWithin, LiesIn, LiesInOne, Shape}
+use Rattle.gw_ask_sets.specs.shapes.Shape.{IsIn, IsOneOf, IsWithin, LiesIn, LiesInOne, Shape}
 use Rattle.gw_ask_sets.specs.shapes.Shapes.{shapes}
 use Rattle.gw_ask_sets.specs.declared.shapes.side.Side.{Side}
 use Rattle.gw_ask_sets.proofs.shapes_lemmas.RegionLaw.{either, inner_one, is_inner, whole_one}
-use Rattle.gw_policy_review.specs.comparison.Asks.{AreAsksOf, asks_of, is_same, is_same_side, other_region}
+use Rattle.gw_policy_review.specs.comparison.Asks.{AreAsksOf, asks_of, is_alike, is_same, is_same_side, other_region}
 
 parted : (xs ys : List Region) (ask : Ask) → lies_in_one (xs ++ ys) ask ≡ (lies_in_one xs ask || lies_in_one ys ask)
 parted xs ys ask = list_any-append (λ region. lies region ask) xs ys
 
 -- ---- shapes that are the same have the same asks
 
-alike : (a b : Bool) → (if a then b else not b) ≡ true → a ≡ true → b ≡ true
+alike : (a b : Bool) → is_alike a b ≡ true → a ≡ true → b ≡ true
 alike true b e t = e
 alike false b e t = absurd cc
 
 same_side : (a b : Side) (value : Option ℕ) → is_same_side a b ≡ true → IsWithin a value → IsWithin b value
 same_side a b value e is =
-    let parts = and_parts (if a.absent then b.absent else not b.absent) (a.range.low == b.range.low && a.range.high == b.range.high) e in
-    let ends = and_parts (a.range.low == b.range.low) (a.range.high == b.range.high) parts.1 in
+    let parts = and_parts (is_alike a.absent b.absent) (is_alike a.keyed b.keyed && (a.range.low == b.range.low && a.range.high == b.range.high)) e in
+    let rest = and_parts (is_alike a.keyed b.keyed) (a.range.low == b.range.low && a.range.high == b.range.high) parts.1 in
+    let ends = and_parts (a.range.low == b.range.low) (a.range.high == b.range.high) rest.1 in
     by value (eqb-true a.range.low b.range.low ends.0) (eqb-true a.range.high b.range.high ends.1) parts.0 is
   where
-    by : (value : Option ℕ) → a.range.low ≡ b.range.low → a.range.high ≡ b.range.high → (if a.absent then b.absent else not b.absent) ≡ true
+    in_same : a.range.low ≡ b.range.low → a.range.high ≡ b.range.high → (n : ℕ) → IsIn a.range n → IsIn b.range n
+    in_same low high n (from, to) = (rw (← low) from, rw (← high) to)
+
+    one_of : (keyed other : Bool) (n : ℕ) → is_alike keyed other ≡ true → a.range.low ≡ b.range.low → a.range.high ≡ b.range.high
+        → IsOneOf keyed a.range n → IsOneOf other b.range n
+    one_of true true n same low high is = (in_same low high n is.0, is.1)
+    one_of true false n same low high is = absurd cc
+    one_of false true n same low high is = absurd cc
+    one_of false false n same low high is = in_same low high n is
+
+    by : (value : Option ℕ) → a.range.low ≡ b.range.low → a.range.high ≡ b.range.high → is_alike a.absent b.absent ≡ true
         → IsWithin a value → IsWithin b value
     by None low high absent is = alike a.absent b.absent absent is
-    by (Some n) low high absent (from, to) = (rw (← low) from, rw (← high) to)
+    by (Some n) low high absent is =
+        one_of a.keyed b.keyed n
+        (and_parts (is_alike a.keyed b.keyed) (a.range.low == b.range.low && a.range.high == b.range.high)
+        (and_parts (is_alike a.absent b.absent) (is_alike a.keyed b.keyed && (a.range.low == b.range.low && a.range.high == b.range.high)) e).1).0
+        low high is
 
 same_shape : (a b : Shape) (ask : Ask) → is_same a b ≡ true → LiesIn a ask → LiesIn b ask
 same_shape a b ask e is field =
@@ -108,3 +125,17 @@ all_asks old new =
 
 pub are_asks_of : (old new : Configuration) (regions : List Region) → regions ≡ asks_of old new → AreAsksOf old new regions
 are_asks_of old new regions e = subst (λ (rs : List Region). AreAsksOf old new rs) (sym e) (all_asks old new)
+
+-- ---- regions of shapes
+
+-- one more
+pub region_next : (shapes : List Shape) (place : ℕ) (d : Shape) (before regions new : List Region) (made : Region) → place < length shapes
+    → new ≡ regions ++ made ∷ [] → made ≡ region_of (get_or shapes place d)
+    → regions ≡ before ++ map region_of (take place shapes) → new ≡ before ++ map region_of (take (place + 1) shapes)
+region_next shapes place d before regions new made within grown is was =
+    let one = get_or shapes place d in
+    let next : take (place + 1) shapes ≡ take place shapes ++ one ∷ [] =
+    ap (λ n. take n shapes) (add-one place) ∙ take-suc shapes place d within in
+    grown ∙ ap (λ (r : Region). regions ++ r ∷ []) is ∙ ap (λ (rs : List Region). rs ++ region_of one ∷ []) was
+    ∙ append_assoc before (map region_of (take place shapes)) (region_of one ∷ [])
+    ∙ ap (λ (rs : List Region). before ++ rs) (sym (ap (map region_of) next ∙ map-append region_of (take place shapes) (one ∷ [])))

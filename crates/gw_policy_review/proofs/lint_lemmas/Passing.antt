@@ -24,6 +24,7 @@ use Rattle.gw_ask_sets.specs.shapes.Meeting.{meets}
 use Rattle.gw_ask_sets.specs.shapes.Shape.{IsWithin, LiesIn, Shape}
 use Rattle.gw_ask_sets.proofs.shapes_lemmas.Covering.{sided}
 use Rattle.gw_ask_sets.proofs.shapes_lemmas.Narrowing.{met}
+use Rattle.gw_ask_sets.proofs.shapes_lemmas.Lying.{in_range}
 use Rattle.gw_policy_review.specs.lint.Laws.{NoBroadcastIsAllowed}
 use Rattle.gw_policy_review.specs.lint.Notes.{lets_broadcasts}
 use Rattle.gw_policy_review.specs.lint.Passage.{holds_shape, is_cast, opener, settles}
@@ -128,7 +129,8 @@ held range number is = and_from (nat_le range.low number) (nat_le number range.h
 
 casts : (shape : Shape) (ask : Ask) → LiesIn shape ask → IsFor Cast ask → is_cast shape ≡ true
 casts shape ask lies is =
-    held shape.operation.range (operation_number Cast) (subst (λ (o : Option ℕ). IsWithin shape.operation o) is (lies Operation))
+    held shape.operation.range (operation_number Cast)
+    (in_range shape.operation (operation_number Cast) (subst (λ (o : Option ℕ). IsWithin shape.operation o) is (lies Operation)))
 
 pub no_broadcast_is_allowed : NoBroadcastIsAllowed
 no_broadcast_is_allowed [] rules ask none lies is = absurd lies

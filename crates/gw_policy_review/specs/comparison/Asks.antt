@@ -12,9 +12,13 @@ use Rattle.gw_ask_sets.specs.shapes.Shapes.{shapes}
 use Rattle.gw_ask_sets.specs.declared.shapes.side.Side.{Side}
 
 -- two sides are the same, and two shapes
+abbrev pub is_alike : Bool → Bool → Bool
+is_alike a b = if a then b else not b
+
 abbrev pub is_same_side : Side → Side → Bool
 is_same_side a b =
-    (if a.absent then b.absent else not b.absent) && (a.range.low == b.range.low && a.range.high == b.range.high)
+    is_alike a.absent b.absent
+    && (is_alike a.keyed b.keyed && (a.range.low == b.range.low && a.range.high == b.range.high))
 
 abbrev pub is_same : Shape → Shape → Bool
 is_same a b = each_field (λ field. is_same_side (value_of field a) (value_of field b))

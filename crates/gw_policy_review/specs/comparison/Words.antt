@@ -1,16 +1,17 @@
 -- The words for the asks of a region. They are this project's own, the names in them the standard's.
-use Rattle.std.specs.Prelude.{ℕ, ◌==◌, nat_lt, if◌then◌else◌, List, [], ◌∷◌, ◌++◌, length, drop, codes}
+use Rattle.std.specs.Prelude.{ℕ, ◌==◌, Bool, true, false, nat_lt, if◌then◌else◌, List, [], ◌∷◌, ◌++◌, length, drop, codes}
 use Rattle.std.specs.Prelude.{decimal}
 use Rattle.std.specs.Int.{w64, to_be_bytes}
 use Rattle.std.specs.List.{flat_map, list_all}
-use Rattle.std.specs.Option.{option_to_list}
 use Rattle.gw_addr.specs.Address.{address_in, text_of}
+use Rattle.gw_audit.specs.Line.{key_text}
 use Rattle.gw_log_words.specs.Words.{name_text}
 use Rattle.gw_codecs.specs.names.Names.{object_type_name, property_name, service_name}
-use Rattle.gw_ask_sets.specs.regions.Ranges.{both}
+use Rattle.gw_ask_sets.specs.regions.Ranges.{shared}
 use Rattle.gw_ask_sets.specs.regions.Regions.{Region}
 use Rattle.gw_ask_sets.specs.regions.Values.{has_operation, is_any}
 use Rattle.gw_ask_sets.specs.declared.regions.values.Values.{Values}
+use Rattle.gw_ask_sets.specs.shapes.Shape.{key_ranges}
 use Rattle.gw_rules.specs.Bounds.{bounds}
 use Rattle.gw_rules.specs.Field.{field_key}
 use Rattle.gw_rules.specs.Fields.{value_of}
@@ -58,10 +59,10 @@ word_of DestinationNetwork = codes "to network "
 word_of Station = codes "to "
 word_of field = noun_of field ++ codes " "
 
--- a station by its key: as an address, if the key has the 48 bits of one
+-- a station by its key: one of six octets as an address, another one by its octets
 abbrev pub station_text : ℕ → List ℕ
 station_text key =
-    if nat_lt key 281474976710656 then text_of (address_in (drop 2 (to_be_bytes w64 key))) else decimal key
+    if nat_lt key 281474976710656 then text_of (address_in (drop 2 (to_be_bytes w64 key))) else codes "mac:" ++ key_text key
 
 -- an end of a range of a field
 abbrev pub end_text : FieldName → ℕ → List ℕ
@@ -77,20 +78,30 @@ named_text ObjectType number = name_text (object_type_name number)
 named_text Property number = name_text (property_name number)
 named_text _ number = []
 
+-- the field is the key of a station of any length
+abbrev pub is_keyed : FieldName → Bool
+is_keyed SourceKey = true
+is_keyed Station = true
+is_keyed _ = false
+
+-- the numbers that a field can have: those of its bounds, or the keys of stations
+abbrev pub numbers_of : FieldName → List Range
+numbers_of field = if is_keyed field then key_ranges else bounds Three field ∷ []
+
+-- the greatest one: of keys that of six octets
+abbrev pub last_of : FieldName → ℕ
+last_of field = if is_keyed field then 281474976710655 else (bounds Three field).high
+
 -- the values without numbers that the field can't have
 abbrev pub possible : FieldName → Values → Values
-possible field values = record {
-  absent = values.absent;
-  ranges = flat_map (λ range. option_to_list (both range (bounds Three field))) values.ranges;
-}
+possible field values = record { absent = values.absent; ranges = shared values.ranges (numbers_of field) }
 
 -- `7`, `7..9`, or `7 or more` if it ends with the greatest number of the field, and a single number also by its name
 abbrev pub range_text : FieldName → Range → List ℕ
 range_text field range =
     if range.low == range.high then end_text field range.low ++ named_text field range.low
-    else if nat_lt range.high (bounds Three field).high
-    then end_text field range.low ++ (codes ".." ++ end_text field range.high)
-    else end_text field range.low ++ codes " or more"
+    else if range.high == last_of field then end_text field range.low ++ codes " or more"
+    else end_text field range.low ++ (codes ".." ++ end_text field range.high)
 
 -- some numbers, and absent if the field may be so
 abbrev pub numbers_text : FieldName → Values → List ℕ

@@ -1,10 +1,8 @@
 -- The line that `bacgwctl lint` has for a rule.
-use Rattle.std.specs.Prelude.{ℕ, ◌-◌, Bool, true, not, nat_lt, if◌then◌else◌, List, [], ◌∷◌, ◌++◌, drop, slice_get}
+use Rattle.std.specs.Prelude.{ℕ, ◌-◌, Bool, true, not, if◌then◌else◌, List, [], ◌∷◌, ◌++◌, slice_get}
 use Rattle.std.specs.Prelude.{Option, codes, decimal}
-use Rattle.std.specs.Int.{w64, to_be_bytes}
 use Rattle.std.specs.List.{flat_map}
 use Rattle.std.specs.Option.{is_some, option_map_or}
-use Rattle.gw_addr.specs.Address.{address_in, text_of}
 use Rattle.gw_audit.specs.Line.{absent, field_text, operation_text}
 use Rattle.gw_rules.specs.Field.{field_key}
 use Rattle.gw_rules.specs.Ask.{Ask}
@@ -15,22 +13,18 @@ use Rattle.gw_rules.specs.declared.field.FieldName.TheVariants.{Operation, Sourc
 use Rattle.gw_rules.specs.declared.field.FieldName.TheVariants.{Sender, Station}
 use Rattle.gw_rules.specs.declared.field.TheConstants.FieldName.{ALL}
 use Rattle.gw_rules.specs.declared.rule.Rule.{Rule}
+use Rattle.gw_policy_review.specs.comparison.Words.{station_text}
 use Rattle.gw_policy_review.specs.declared.lint.finding.Finding.{Finding}
 use Rattle.gw_policy_review.specs.declared.lint.finding.Finding.TheVariants as finding
 
 -- ---- an ask
 
--- a source key as the address that it is, or as its number where it has more than the 48 bits of one
-abbrev pub source_text : ℕ → List ℕ
-source_text key =
-    if nat_lt key 281474976710656 then text_of (address_in (drop 2 (to_be_bytes w64 key))) else decimal key
-
 -- what an ask has for a field: an operation by its name, the key of a station as an address, else a number
 abbrev pub value_text : FieldName → Option ℕ → List ℕ
 value_text Operation value = operation_text value
-value_text SourceKey value = option_map_or source_text value absent
-value_text Sender value = option_map_or source_text value absent
-value_text Station value = option_map_or source_text value absent
+value_text SourceKey value = option_map_or station_text value absent
+value_text Sender value = option_map_or station_text value absent
+value_text Station value = option_map_or station_text value absent
 value_text _ value = field_text value
 
 -- an ask without a sender is one of formats 1 and 2, which have neither sender nor station

@@ -1,7 +1,7 @@
 //! The regions of the asks that the gateways of two configurations may raise.
 ghost use Rattle.std.specs.Prelude.{◌≡◌, ◌++◌, IfOk, OnOk, map};
 ghost use Rattle.std.specs.List.{flat_map, list_any};
-ghost use Rattle.gw_policy_review.specs.comparison.Asks.{AreAsksOf, asks_of, is_same, is_same_side, other_region};
+ghost use Rattle.gw_policy_review.specs.comparison.Asks.{AreAsksOf, asks_of, is_alike, is_same, is_same_side, other_region};
 ghost use Rattle.gw_ask_sets.specs.shapes.Regions.{region_of};
 
 use gw_ask_sets::regions::Region;
@@ -19,11 +19,18 @@ fn push_regions(alloc: Global, out: &mut Vec<Region>, shapes: &[Shape]) -> Resul
     Ok(())
 }
 
+fn is_alike(a: bool, b: bool) -> bool
+    ensures { result ≡ is_alike a b }
+{
+    if a { b } else { !b }
+}
+
 fn is_same_side(a: &Side, b: &Side) -> bool
     ensures { result ≡ is_same_side a.now b.now }
 {
-    let alike = if a.absent { b.absent } else { !b.absent };
-    alike && (a.range.low == b.range.low && a.range.high == b.range.high)
+    is_alike(a.absent, b.absent)
+        && (is_alike(a.keyed, b.keyed)
+            && (a.range.low == b.range.low && a.range.high == b.range.high))
 }
 
 fn is_same(a: &Shape, b: &Shape) -> bool

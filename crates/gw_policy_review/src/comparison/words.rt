@@ -1,24 +1,22 @@
 //! The words for the asks of a region.
 ghost use Rattle.std.specs.Prelude.{◌≡◌, ◌++◌, ◌∷◌, [], codes, option_map, if◌then◌else◌, IfOk, OnOk, Some};
 ghost use Rattle.std.specs.List.{flat_map};
-ghost use Rattle.std.specs.Option.{option_to_list};
 ghost use Rattle.gw_log_words.specs.Words.{name_text};
-ghost use Rattle.gw_ask_sets.specs.regions.Ranges.{both};
+ghost use Rattle.gw_ask_sets.specs.regions.Ranges.{shared};
 ghost use Rattle.gw_ask_sets.specs.regions.Values.{has_operation};
 ghost use Rattle.gw_rules.specs.Operation.{operation_name};
 ghost use Rattle.gw_rules.specs.declared.operation.TheConstants.Operation.{ALL};
-ghost use Rattle.gw_policy_review.specs.comparison.Words.{any_of, end_text, item_text, items, named_text, noun_of};
-ghost use Rattle.gw_policy_review.specs.comparison.Words.{numbers_text, operations_of, operations_text, possible, range_text};
+ghost use Rattle.gw_policy_review.specs.comparison.Words.{any_of, end_text, is_keyed, item_text, items, last_of, named_text, noun_of};
+ghost use Rattle.gw_policy_review.specs.comparison.Words.{numbers_of, numbers_text, operations_of, operations_text, possible, range_text};
 ghost use Rattle.gw_policy_review.specs.comparison.Words.{region_text, station_text, values_text, word_of};
 
 use gw_addr::{BipAddr, Sequence, put_decimal};
-use gw_ask_sets::regions::{Region, Values, both};
+use gw_ask_sets::regions::{Region, Values, shared};
+use gw_ask_sets::shapes::KEY_RANGES;
+use gw_audit::{KEYS, put_key};
 use gw_codecs::names::{object_type_name, property_name, service_name};
 use gw_rules::{FieldName, Format, Operation, Range};
 use std::alloc::{AllocError, Global};
-
-/// The least number that is no key of a station's address: those have 48 bits.
-const KEYS: u64 = 1 << 48;
 
 /// The fields but the operation, in the order in which they are named.
 const ITEMS: [FieldName; 11] = [
@@ -144,40 +142,47 @@ fn put_item(
     put_values(out, field, &values)
 }
 
-/// Appends the numbers of both ranges, if there are some.
-fn push_both(out: &mut Sequence<Range>, a: &Range, b: &Range) -> Result<(), AllocError>
-    ensures { OnOk result (out.new ≡ out.old ++ option_to_list (both a.now b.now)) }
+/// Whether the field is the key of a station of any length.
+fn is_keyed(field: FieldName) -> bool
+    ensures { result ≡ is_keyed field }
 {
-    if let Some(range) = both(a, b) {
-        out.push(range)?;
-    }
-    Ok(())
+    matches!(field, FieldName::SourceKey | FieldName::Station)
 }
 
-/// The numbers of the ranges that a range has too.
-fn ranges_within(
+/// The numbers of the ranges that a field can have.
+fn possible_ranges(
     alloc: Global,
+    field: FieldName,
     ranges: &[Range],
-    outer: &Range,
 ) -> Result<Sequence<Range>, AllocError>
-    ensures { IfOk result (λ list. list ≡ flat_map (λ range. option_to_list (both range outer.now)) ranges.now) }
+    ensures { IfOk result (λ list. list ≡ shared ranges.now (numbers_of field)) }
 {
-    let mut out = Sequence::new(alloc);
-    for range in ranges {
-        push_both(&mut out, range, outer)?;
+    if is_keyed(field) {
+        shared(alloc, ranges, &KEY_RANGES)
+    } else {
+        shared(alloc, ranges, &[field.bounds(Format::Three)])
     }
-    Ok(out)
 }
 
 /// The values without numbers that the field can't have.
 fn possible(alloc: Global, field: FieldName, values: &Values) -> Result<Values, AllocError>
     ensures { IfOk result (λ made. made ≡ possible field values.now) }
 {
-    let bounds = field.bounds(Format::Three);
     Ok(Values {
         absent: values.absent,
-        ranges: ranges_within(alloc, values.ranges.as_slice(), &bounds)?,
+        ranges: possible_ranges(alloc, field, values.ranges.as_slice())?,
     })
+}
+
+/// The greatest number of a field: of keys the greatest of six octets.
+fn last_of(field: FieldName) -> u64
+    ensures { result ≡ last_of field }
+{
+    if is_keyed(field) {
+        KEYS - 1
+    } else {
+        field.bounds(Format::Three).high
+    }
 }
 
 fn put_values(out: &mut Vec<u8>, field: FieldName, values: &Values) -> Result<(), AllocError>
@@ -244,11 +249,11 @@ fn put_range(out: &mut Vec<u8>, field: FieldName, range: &Range) -> Result<(), A
     if range.low == range.high {
         return put_named(out, field, range.low);
     }
-    if range.high < field.bounds(Format::Three).high {
-        out.extend_from_slice(b"..")?;
-        return put_end(out, field, range.high);
+    if range.high == last_of(field) {
+        return out.extend_from_slice(b" or more");
     }
-    out.extend_from_slice(b" or more")
+    out.extend_from_slice(b"..")?;
+    put_end(out, field, range.high)
 }
 
 /// Appends an end of a range.
@@ -261,12 +266,13 @@ fn put_end(out: &mut Vec<u8>, field: FieldName, number: u64) -> Result<(), Alloc
     }
 }
 
-/// Appends a station by its key: as an address, if the key has the 48 bits of one.
-fn put_station(out: &mut Vec<u8>, key: u64) -> Result<(), AllocError>
+/// Appends a station by its key: one of six octets as an address, another one by its octets.
+pub(crate) fn put_station(out: &mut Vec<u8>, key: u64) -> Result<(), AllocError>
     ensures { OnOk result (out.new.items ≡ out.old.items ++ station_text key) }
 {
     if KEYS <= key {
-        return put_decimal(out, key);
+        out.extend_from_slice(b"mac:")?;
+        return put_key(out, key);
     }
     let [_, _, a, b, c, d, high, low] = key.to_be_bytes();
     BipAddr::from_octets(&[a, b, c, d, high, low]).put_text(out)

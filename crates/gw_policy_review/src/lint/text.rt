@@ -4,11 +4,12 @@ ghost use Rattle.std.specs.List.{flat_map};
 ghost use Rattle.gw_audit.specs.Line.{operation_text};
 ghost use Rattle.gw_rules.specs.RuleList.{allows_at};
 ghost use Rattle.gw_script.specs.Order.{in_order};
-ghost use Rattle.gw_policy_review.specs.lint.Text.{found_text, is_shown, is_listed, item_text, likeness_text, line_text, rule_text};
-ghost use Rattle.gw_policy_review.specs.lint.Text.{says_same, source_text, value_text};
+ghost use Rattle.gw_policy_review.specs.lint.Text.{ask_fields_text, found_text, is_shown, is_listed, item_text, likeness_text, line_text, rule_text};
+ghost use Rattle.gw_policy_review.specs.lint.Text.{says_same, value_text};
 
+use crate::comparison::words::put_station;
 use crate::lint::Finding;
-use gw_addr::{BipAddr, put_decimal};
+use gw_addr::put_decimal;
 use gw_ask_sets::shapes::rule_at;
 use gw_audit::operation_named;
 use gw_rules::{Ask, FieldName, RuleList};
@@ -16,9 +17,6 @@ use std::alloc::AllocError;
 
 /// What is written for a field that the ask doesn't have.
 const ABSENT: &[u8] = b"-";
-
-/// The least number that is no source key: those have 48 bits.
-const KEYS: u64 = 1 << 48;
 
 /// Appends the lines of what is found of the rules, in their order.
 pub(crate) fn put_lines(
@@ -101,7 +99,7 @@ fn put_found(
         ),
         Finding::Decides(ask) => {
             out.extend_from_slice(b"decides, for one,")?;
-            put_items(out, ask, &FieldName::ALL)
+            put_ask(out, ask)
         }
         Finding::Unknown => out.extend_from_slice(b"can't tell within the steps given"),
     }
@@ -151,6 +149,14 @@ pub(crate) fn allows_at(rules: &RuleList, number: u16) -> bool
     }
 }
 
+/// Appends what an ask has, ` <key>=<value>` for each of its twelve fields, or for ten where it has no sender, as those of
+/// formats 1 and 2. An `Err` if there is no memory.
+pub fn put_ask(out: &mut Vec<u8>, ask: &Ask) -> Result<(), AllocError>
+    ensures { OnOk result (out.new.items ≡ out.old.items ++ ask_fields_text ask.now) }
+{
+    put_items(out, ask, &FieldName::ALL)
+}
+
 /// Appends what an ask has for these fields, each by its key in a configuration.
 fn put_items(out: &mut Vec<u8>, ask: &Ask, fields: &[FieldName]) -> Result<(), AllocError>
     ensures { OnOk result
@@ -195,7 +201,7 @@ fn put_value(out: &mut Vec<u8>, field: FieldName, value: Option<u64>) -> Result<
     };
     match field {
         FieldName::Operation => put_operation(out, number),
-        FieldName::SourceKey | FieldName::Sender | FieldName::Station => put_source(out, number),
+        FieldName::SourceKey | FieldName::Sender | FieldName::Station => put_station(out, number),
         _ => put_decimal(out, number),
     }
 }
@@ -208,16 +214,4 @@ fn put_operation(out: &mut Vec<u8>, number: u64) -> Result<(), AllocError>
         Some(operation) => out.extend_from_slice(operation.name().as_bytes()),
         None => put_decimal(out, number),
     }
-}
-
-/// Appends the key of a station as the address that it is, or as its number where it has more than the
-/// 48 bits of one.
-fn put_source(out: &mut Vec<u8>, key: u64) -> Result<(), AllocError>
-    ensures { OnOk result (out.new.items ≡ out.old.items ++ source_text key) }
-{
-    if KEYS <= key {
-        return put_decimal(out, key);
-    }
-    let [_, _, a, b, c, d, high, low] = key.to_be_bytes();
-    BipAddr::from_octets(&[a, b, c, d, high, low]).put_text(out)
 }

@@ -20,6 +20,7 @@ pub(crate) struct Point {
 const NOTHING: Side = Side {
     absent: true,
     range: Range { low: 1, high: 0 },
+    keyed: false,
 };
 
 /// Any network (clause 6).
@@ -29,6 +30,7 @@ const ANY_NETWORK: Side = Side {
         low: 1,
         high: 65534,
     },
+    keyed: false,
 };
 
 /// Any of so many ports.

@@ -1,0 +1,8 @@
+use Rattle.std.proofs.Common.{◌≡◌, true, false, take}
+use Rattle.gw_rules.specs.Ask.{Ask}
+use Rattle.gw_rules.specs.Rule.{matches}
+use Rattle.gw_ask_sets.specs.regions.Regions.{lies_in_one}
+use Rattle.gw_ask_sets.proofs.assertions.passing.may_match.Given as goal
+
+abbrev pub invariant-loop-region : goal.invariant-loop-region
+invariant-loop-region l = (ask : Ask) → lies_in_one (take l.region-index l.regions) ask ≡ true → matches l.rule ask ≡ false

@@ -1,0 +1,3 @@
+pub mod Asserted
+pub mod Judging
+pub mod internal
