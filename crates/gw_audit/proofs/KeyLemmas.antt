@@ -1,22 +1,23 @@
 -- The keys of stations: what is read is what was written, and what is written is read back.
-use Rattle.std.proofs.Common.{◌≡◌, ℕ, zero, suc, ◌^◌, ◌<◌, Bool, true, false, List, [], ◌∷◌, length, drop, get_or, Option, Some, None, refl, sym, ap, subst, ◌∙◌, arith}
-use Rattle.std.specs.Prelude.{◌==◌, nat_lt, if◌then◌else◌}
+use Rattle.std.proofs.Common.{◌≡◌, ℕ, zero, suc, ◌+◌, ◌^◌, ◌<◌, ◌≤◌, Bool, true, false, List, [], ◌∷◌, length, drop, get_or, Option, Some, None, refl, sym, ap, subst, ◌∙◌, arith}
+use Rattle.std.specs.Prelude.{◌==◌, is_some, if◌then◌else◌}
 use Rattle.std.specs.Cmp.Lexicographic.{pointwise, same_text}
 use Rattle.std.specs.Prelude.{nat_eq}
 use Rattle.std.specs.Int.{w64, from_be_bytes, to_be_bytes}
 use Rattle.std.specs.List.{flat_map}
-use Rattle.std.proofs.lemmas.Bool.{eqb-true, ltb-true, lt-ltb}
+use Rattle.std.specs.Option.{option_map_or}
+use Rattle.std.proofs.lemmas.Bool.{eqb-true}
+use Rattle.std.proofs.lemmas.Bool.Decides.{nat_tests}
 use Rattle.std.proofs.lemmas.Nat.{be_bytes_8, from_be_bytes-to_be_bytes_8}
 use Rattle.gw_addr.specs.Address.{big_endian}
 use Rattle.gw_addr.specs.Reading.{AreOctets}
-use Rattle.gw_addr.specs.Station.{is_station, two_digits}
+use Rattle.gw_addr.specs.Station.{has_key, is_station, key48, key_base, key_of, station_at, two_digits}
 use Rattle.gw_addr.specs.Text.{Lacks}
-use Rattle.gw_addr.proofs.Addresses.{key_below}
+use Rattle.gw_addr.proofs.Keys.{key_of_station, keys_of_others, keys_of_six, keys_of_six_below, octets_of_station, station_at_small, station_of_key}
 use Rattle.gw_addr.proofs.Lacking.{lacks_cons}
-use Rattle.gw_addr.proofs.Reading.{AreOctets-drop}
 use Rattle.gw_audit.specs.Line.{absent, key_octets, key_text}
 use Rattle.gw_audit.specs.internal.Parts.{station_text}
-use Rattle.gw_audit.specs.internal.Reading.{◌>>=◌, key_in, key_of_mac, long_key, mac_in, or_else, station_key}
+use Rattle.gw_audit.specs.internal.Reading.{◌>>=◌, key_in, key_of_mac, long_key, long_key_in, mac_in, or_else, station_key}
 use Rattle.gw_audit.proofs.Fields.{IsSmall, digits_lack, lacks_in_none}
 use Rattle.gw_audit.proofs.MacLemmas.{mac_again, mac_takes}
 use Rattle.gw_audit.proofs.ReadingLemmas.{not_same, some_is, step_of}
@@ -47,46 +48,58 @@ are_octets n (suc (suc (suc (suc (suc (suc zero)))))) = omega arith
 are_octets n (suc (suc (suc (suc (suc (suc (suc zero))))))) = omega arith
 are_octets n (suc (suc (suc (suc (suc (suc (suc (suc i)))))))) = omega arith
 
--- the last six of a number of 48 bits are it
-six_are : (n : ℕ) → n < 281474976710656 → big_endian (drop 2 (to_be_bytes w64 n)) ≡ n
-six_are n small = omega (arith, small)
-
-with_zeros : (six : List ℕ) → AreOctets six → AreOctets (0 ∷ 0 ∷ six)
-with_zeros six fits zero = omega arith
-with_zeros six fits (suc zero) = omega arith
-with_zeros six fits (suc (suc i)) = fits i
-
-zeros_are : (eight : List ℕ) → length eight ≡ 8 → AreOctets eight → get_or eight 0 0 ≡ 0 → get_or eight 1 0 ≡ 0 → big_endian (drop 2 eight) ≡ from_be_bytes w64 eight
-zeros_are =
-    of_eight (λ (o : List ℕ). AreOctets o → get_or o 0 0 ≡ 0 → get_or o 1 0 ≡ 0 → big_endian (drop 2 o) ≡ from_be_bytes w64 o)
-    (λ a b c d e f g h fits x y. omega (arith, x, y, fits 0, fits 1, fits 2, fits 3, fits 4, fits 5, fits 6, fits 7))
-
--- six octets are the last six of their number
-six_back : (six : List ℕ) → length six ≡ 6 → AreOctets six → drop 2 (to_be_bytes w64 (big_endian six)) ≡ six
-six_back six len fits =
-    let eight : length (0 ∷ 0 ∷ six) ≡ 8 = omega (arith, len) in
-    ap (drop 2) (be_bytes_8 (0 ∷ 0 ∷ six) (big_endian six) eight (with_zeros six fits) (zeros_are (0 ∷ 0 ∷ six) eight (with_zeros six fits) refl refl))
-
 -- ---- a key
-
-abbrev keys : ℕ
-keys = 281474976710656
 
 record AreKeyOctets (mac : List ℕ) (n : ℕ) : Type 0 where
   station : is_station mac ≡ true
   octets : AreOctets mac
   key : key_of_mac mac ≡ Some n
 
-octets_again : (n : ℕ) → n < 2 ^ 64 → AreKeyOctets (key_octets n) n
-octets_again n small = by (nat_lt n keys) refl
+-- the octets of a number where the station that has it is found
+abbrev octets_of_found : ℕ → Option (List ℕ) → List ℕ
+octets_of_found n found = option_map_or (λ octets. octets) found (to_be_bytes w64 n)
+
+-- a station that has a key has one to seven octets
+abbrev IsCounted : List ℕ → Type 0
+IsCounted octets = (1 ≤ length octets) × (length octets ≤ 7)
+
+keyed_count : (octets : List ℕ) (n : ℕ) → key_of octets ≡ Some n → IsCounted octets
+keyed_count octets n e = by (has_key octets) refl e
   where
-    by : (b : Bool) → nat_lt n keys ≡ b → AreKeyOctets (if b then drop 2 (to_be_bytes w64 n) else to_be_bytes w64 n) n
-    by true f = record {
-      station = refl;
-      octets = AreOctets-drop 2 (to_be_bytes w64 n) (are_octets n);
-      key = ap (λ (k : ℕ). Some k) (six_are n (ltb-true n keys f));
-    }
-    by false f = record {
+    by : (b : Bool) → has_key octets ≡ b → (if b then Some (key_base (length octets) + big_endian octets) else None) ≡ Some n → IsCounted octets
+    by true f h = (grind (arith, nat_tests, f), grind (arith, nat_tests, f))
+    by false f h = absurd cc
+
+counted_is : (octets : List ℕ) → IsCounted octets → is_station octets ≡ true
+counted_is octets is = grind (arith, nat_tests, is.0, is.1)
+
+pub keyed_below : (octets : List ℕ) (n : ℕ) → AreOctets octets → key_of octets ≡ Some n → n < 2 ^ 64
+keyed_below octets n fits e = by (key48 octets) refl
+  where
+    by : (k : Option ℕ) → key48 octets ≡ k → n < 2 ^ 64
+    by (Some k) f =
+        let is : k ≡ n = some_is k n (sym (keys_of_six octets k f) ∙ e) in
+        omega (arith, is, keys_of_six_below octets k fits f)
+    by None f =
+        let lies = keys_of_others octets n fits f e in
+        omega (arith, lies.1, (keyed_count octets n e).1)
+
+-- the six octets of a number of 48 bits
+pub six_octets : (n : ℕ) → n < 281474976710656 → key_octets n ≡ drop 2 (to_be_bytes w64 n)
+six_octets n small = ap (octets_of_found n) (station_at_small n (omega (arith, small)))
+
+octets_again : (n : ℕ) → n < 2 ^ 64 → AreKeyOctets (key_octets n) n
+octets_again n small = by (station_at n) refl
+  where
+    by : (found : Option (List ℕ)) → station_at n ≡ found → AreKeyOctets (octets_of_found n found) n
+    by (Some octets) f =
+        let is = key_of_station octets n small f in
+        record {
+          station = counted_is octets (keyed_count octets n is);
+          octets = octets_of_station n octets f;
+          key = ap (λ (k : Option ℕ). or_else k (long_key_in octets)) is;
+        }
+    by None f = record {
       station = refl;
       octets = are_octets n;
       key = ap long_key (from_be_bytes-to_be_bytes_8 n small) ∙ rw f refl;
@@ -98,31 +111,27 @@ key_again n small =
     ap (λ x. x >>= key_of_mac) (mac_again (key_octets n) is.station is.octets) ∙ is.key
 
 octets_take : (mac : List ℕ) (n : ℕ) → AreOctets mac → key_of_mac mac ≡ Some n → (mac ≡ key_octets n) × (n < 2 ^ 64)
-octets_take mac n fits e = by (length mac == 6) (length mac == 8) refl refl e
+octets_take mac n fits e = by (key_of mac) (length mac == 8) refl refl e
   where
-    long : (b : Bool) → nat_lt (from_be_bytes w64 mac) keys ≡ b → length mac ≡ 8 → (if b then None else Some (from_be_bytes w64 mac)) ≡ Some n
-        → (mac ≡ key_octets n) × (n < 2 ^ 64)
-    long true f len h = absurd cc
-    long false f len h =
+    long : (found : Option (List ℕ)) → station_at (from_be_bytes w64 mac) ≡ found → length mac ≡ 8
+        → (if is_some found then None else Some (from_be_bytes w64 mac)) ≡ Some n → (mac ≡ key_octets n) × (n < 2 ^ 64)
+    long (Some octets) f len h = absurd cc
+    long None f len h =
         let is : from_be_bytes w64 mac ≡ n = some_is (from_be_bytes w64 mac) n h in
         let spelled = be_bytes_8 mac (from_be_bytes w64 mac) len fits refl in
-        let great : nat_lt n keys ≡ false = ap (λ k. nat_lt k keys) (sym is) ∙ f in
+        let none : station_at n ≡ None = ap station_at (sym is) ∙ f in
         let below : from_be_bytes w64 mac < 2 ^ 64 =
         of_eight (λ (o : List ℕ). AreOctets o → from_be_bytes w64 o < 2 ^ 64)
         (λ a b c d e f g h are. omega (arith, are 0, are 1, are 2, are 3, are 4, are 5, are 6, are 7)) mac len fits in
-        (rw great (sym spelled ∙ ap (to_be_bytes w64) is), subst (λ (k : ℕ). k < 2 ^ 64) is below)
+        (sym spelled ∙ ap (to_be_bytes w64) is ∙ ap (octets_of_found n) (sym none), subst (λ (k : ℕ). k < 2 ^ 64) is below)
 
-    by : (six eight : Bool) → (length mac == 6) ≡ six → (length mac == 8) ≡ eight
-        → or_else (if six then Some (big_endian mac) else None) (if eight then long_key (from_be_bytes w64 mac) else None) ≡ Some n
-        → (mac ≡ key_octets n) × (n < 2 ^ 64)
-    by true eight f g h =
-        let is : big_endian mac ≡ n = some_is (big_endian mac) n h in
-        let len = eqb-true (length mac) 6 f in
-        let below : n < keys = subst (λ (k : ℕ). k < keys) is (key_below mac len fits) in
-        let small : nat_lt n keys ≡ true = lt-ltb n keys below in
-        (rw small (sym (six_back mac len fits) ∙ ap (λ (k : ℕ). drop 2 (to_be_bytes w64 k)) is), omega (arith, below))
-    by false true f g h = long (nat_lt (from_be_bytes w64 mac) keys) refl (eqb-true (length mac) 8 g) h
-    by false false f g h = absurd cc
+    by : (found : Option ℕ) (eight : Bool) → key_of mac ≡ found → (length mac == 8) ≡ eight
+        → or_else found (if eight then long_key (from_be_bytes w64 mac) else None) ≡ Some n → (mac ≡ key_octets n) × (n < 2 ^ 64)
+    by (Some m) eight f g h =
+        let is : key_of mac ≡ Some n = f ∙ h in
+        (ap (octets_of_found n) (sym (station_of_key mac n fits is)), keyed_below mac n fits is)
+    by None true f g h = long (station_at (from_be_bytes w64 mac)) refl (eqb-true (length mac) 8 g) h
+    by None false f g h = absurd cc
 
 pub key_takes : (text : List ℕ) (n : ℕ) → key_in text ≡ Some n → (text ≡ key_text n) × (n < 2 ^ 64)
 key_takes text n e =

@@ -14,17 +14,19 @@ use Rattle.gw_addr.specs.Text.{Lacks}
 use Rattle.gw_addr.proofs.Addresses.{key_below}
 use Rattle.gw_addr.proofs.Lacking.{not_in_decimal, same_split}
 use Rattle.gw_rules.specs.Fields.{value_of}
+use Rattle.gw_rules.specs.Format.{key_in}
 use Rattle.gw_rules.specs.declared.field.FieldName.{FieldName}
 use Rattle.gw_rules.specs.declared.field.FieldName.TheVariants.{Operation, Port, SourceNetwork, SourceKey, DestinationNetwork, Service, ObjectType, Instance, Property, Priority, Sender, Station}
 use Rattle.gw_audit.specs.declared.denial.Denial.{Denial}
 use Rattle.gw_audit.specs.declared.entry.ShownAsk.{ShownAsk}
 use Rattle.gw_audit.specs.declared.entry.Stations.{Stations}
-use Rattle.gw_audit.specs.Entry.{IsAskInWords, IsLineOf, IsShowable, IsShownAsk, ShowsAsk, ask_shown, shown_ask}
+use Rattle.gw_audit.specs.Entry.{IsAskInWords, IsLineOf, IsShowable, IsShownAsk, ShowsAsk, ask_shown, format_shown, shown_ask}
 use Rattle.gw_audit.specs.Laws.{AreShownAlike, IsDenial}
 use Rattle.gw_audit.specs.Line.{field_text, line_text, operation_word, stations_of, stations_text}
 use Rattle.gw_audit.specs.internal.Reading.{◌>>=◌, Gives, ask_at, ask_in, ask_of_parts, behind, denial_of_parts, line_in, name_of, number_to, rule_at, rule_of, shown_by, whole_ask, with_both, word_at}
 use Rattle.gw_audit.proofs.AskLemmas.{WholeRead, ask_again, ask_on, ask_takes, ask_whole, behind_again, behind_takes, net_small, number_to_again, number_to_takes, priority_on, request_of, request_on, source_on, stations_end, target_of, target_on, whole_again, whole_takes, word_again, word_lacks, word_takes}
 use Rattle.gw_audit.proofs.Fields.{IsSmall, colon, operation_spaceless, space}
+use Rattle.gw_audit.proofs.KeyLemmas.{keyed_below}
 use Rattle.gw_audit.proofs.LineLemmas.{AreSmall, names_both, stations_from, stations_small, step}
 use Rattle.gw_audit.proofs.ReadingLemmas.{first_is, name_takes, name_there, pair, second_is, some, some_is, step_of}
 
@@ -84,12 +86,17 @@ line_is text d e = append_cancel_right text (body d) (10 ∷ []) (e ∙ fed d) �
 
 -- ---- the numbers of a denial
 
-key_small : (mac : List ℕ) → AreOctets mac → IfSome (key_of mac) (λ n. n < 2 ^ 64)
-key_small mac fits = by (length mac == 6) refl
+key_small : (stations : Option Stations) (mac : List ℕ) → AreOctets mac → IfSome (key_in (format_shown stations) mac) (λ n. n < 2 ^ 64)
+key_small None mac fits = by (length mac == 6) refl
   where
     by : (b : Bool) → (length mac == 6) ≡ b → IfSome (if b then Some (big_endian mac) else None) (λ n. n < 2 ^ 64)
     by true e = omega (arith, key_below mac (eqb-true (length mac) 6 e) fits)
     by false e = tt
+key_small (Some s) mac fits = by (key_of mac) refl
+  where
+    by : (found : Option ℕ) → key_of mac ≡ found → IfSome found (λ n. n < 2 ^ 64)
+    by None e = tt
+    by (Some n) e = keyed_below mac n fits e
 
 sender_small : (stations : Option Stations) → AreSmall stations → IsSmall (option_map (λ s. s.sender) stations)
 sender_small None fits = tt
@@ -104,7 +111,7 @@ asked_small s is field = elim field as (λ field. IfSome (value_of field (ask_sh
   | Operation ↦ is.operation
   | Port ↦ omega (arith, is.port)
   | SourceNetwork ↦ omega (arith, net_small s.source.net is.network)
-  | SourceKey ↦ key_small s.source.mac is.mac
+  | SourceKey ↦ key_small s.stations s.source.mac is.mac
   | DestinationNetwork ↦ is.destination_network
   | Service ↦ is.service
   | ObjectType ↦ is.object_type

@@ -1,12 +1,15 @@
 -- What a line shows of a denial, and the ask that it shows.
-use Rattle.std.specs.Prelude.{◌≡◌, ◌⊎◌, ℕ, ◌^◌, ◌<◌, true, is_some, List, [], ◌∷◌, ◌++◌, Some, IfSome, codes}
+use Rattle.std.specs.Prelude.{◌≡◌, ◌⊎◌, ℕ, ◌^◌, ◌<◌, true, is_some, if◌then◌else◌, List, [], ◌∷◌, ◌++◌, Option, Some, IfSome, codes}
 use Rattle.std.specs.Fmt.{decimal}
 use Rattle.std.specs.List.{flat_map}
 use Rattle.std.specs.Option.{option_and_then, option_map}
 use Rattle.std.specs.Str.{IsUtf8}
 use Rattle.gw_addr.specs.Reading.{AreOctets}
-use Rattle.gw_addr.specs.Station.{is_network, is_station, key_of, two_digits}
+use Rattle.gw_addr.specs.Station.{is_network, is_station, two_digits}
 use Rattle.gw_rules.specs.Ask.{Ask}
+use Rattle.gw_rules.specs.Format.{key_in}
+use Rattle.gw_rules.specs.declared.format.Format.{Format}
+use Rattle.gw_rules.specs.declared.format.Format.TheVariants.{One, Three}
 use Rattle.gw_audit.specs.declared.denial.Denial.{Denial}
 use Rattle.gw_audit.specs.declared.entry.Shown.{Shown}
 use Rattle.gw_audit.specs.declared.entry.ShownAsk.{ShownAsk}
@@ -40,13 +43,17 @@ shown_ask d = record {
   stations = stations_of d.ask;
 }
 
--- the ask that is shown so: its port and its source are those of the line
+-- the format of the policy whose log the line is of: a line names stations in format 3 alone
+abbrev pub format_shown : Option Stations → Format
+format_shown stations = if is_some stations then Three else One
+
+-- the ask that is shown so: its port and its source are those of the line, and its source's key is that of the line's format
 abbrev pub ask_shown : ShownAsk → Ask
 ask_shown s = record {
   operation = s.operation;
   port = Some s.port;
   source_network = Some s.source.net;
-  source_key = key_of s.source.mac;
+  source_key = key_in (format_shown s.stations) s.source.mac;
   destination_network = s.destination_network;
   service = s.service;
   object_type = s.object_type;

@@ -1,11 +1,11 @@
 -- The line that shows a denial in the log. Its form is this project's own.
-use Rattle.std.specs.Prelude.{ℕ, ◌==◌, Bool, nat_lt, ◌||◌, is_some, if◌then◌else◌, List, [], ◌∷◌, ◌++◌, drop, Option}
+use Rattle.std.specs.Prelude.{ℕ, ◌==◌, Bool, nat_lt, ◌||◌, is_some, if◌then◌else◌, List, [], ◌∷◌, ◌++◌, Option}
 use Rattle.std.specs.Prelude.{None, codes}
 use Rattle.std.specs.Fmt.{decimal}
 use Rattle.std.specs.Int.{w64, to_be_bytes}
 use Rattle.std.specs.List.{find, flat_map}
 use Rattle.std.specs.Option.{option_map, option_map_or}
-use Rattle.gw_addr.specs.Station.{two_digits}
+use Rattle.gw_addr.specs.Station.{station_at, two_digits}
 use Rattle.gw_addr.specs.declared.station.Source.{Source}
 use Rattle.gw_rules.specs.Ask.{Ask}
 use Rattle.gw_rules.specs.declared.operation.Operation.{Operation}
@@ -43,10 +43,9 @@ operation_word has_sender value =
 
 -- ---- stations
 
--- the six octets of a key of 48 bits, or the eight of a greater one
+-- the octets of the station that has this key, one to seven, or the eight of a number that no station has
 abbrev pub key_octets : ℕ → List ℕ
-key_octets key =
-    if nat_lt key 281474976710656 then drop 2 (to_be_bytes w64 key) else to_be_bytes w64 key
+key_octets key = option_map_or (λ octets. octets) (station_at key) (to_be_bytes w64 key)
 
 -- a station by its key: each octet as two upper-case hexadecimal digits
 abbrev pub key_text : ℕ → List ℕ

@@ -2,7 +2,8 @@
 
 ghost use Rattle.std.specs.Prelude.{◌≡◌};
 ghost use Rattle.std.specs.Option.{option_map};
-ghost use Rattle.gw_audit.specs.Entry.{ask_shown};
+ghost use Rattle.gw_rules.specs.Format.{key_in};
+ghost use Rattle.gw_audit.specs.Entry.{ask_shown, format_shown};
 
 use gw_addr::Source;
 use gw_rules::Ask;
@@ -20,8 +21,9 @@ pub struct Shown<'a> {
     pub rule: &'a str,
 }
 
-/// The two stations that a line names besides the one that is claimed, each by the number of 48 bits
-/// that its BACnet/IP address is (Annex J.1.2). Formats 1 and 2 of a policy have none.
+/// The two stations that a line names besides the one that is claimed, each by its key, as [`gw_addr::Mac::key`]
+/// says: that of a BACnet/IP address is its number of 48 bits (Annex J.1.2). Formats 1 and 2 of a policy
+/// have none.
 #[derive(Clone, Copy)]
 pub struct Stations {
     /// The station whose datagram it was.
@@ -59,7 +61,8 @@ pub struct ShownAsk {
 
 impl ShownAsk {
     /// The ask that the policy judges: its port, its source network and its source key are those of
-    /// the line.
+    /// the line. The source has a key if it has six octets, and in a line that names stations, which is
+    /// of format 3, if it has one to seven.
     pub fn ask(&self) -> Ask
         ensures { result ≡ ask_shown self.now }
     {
@@ -67,7 +70,7 @@ impl ShownAsk {
             operation: self.operation,
             port: Some(u64::from(self.port)),
             source_network: Some(u64::from(self.source.net.get())),
-            source_key: self.source.mac.key48(),
+            source_key: self.source_key(),
             destination_network: self.destination_network,
             service: self.service,
             object_type: self.object_type,
@@ -76,6 +79,16 @@ impl ShownAsk {
             priority: self.priority,
             sender: self.sender(),
             station: self.stations.and_then(|stations| stations.station),
+        }
+    }
+
+    /// The key of the station that it claims to come from.
+    fn source_key(&self) -> Option<u64>
+        ensures { result ≡ key_in (format_shown self.now.stations) self.now.source.mac }
+    {
+        match self.stations {
+            Some(_) => self.source.mac.key(),
+            None => self.source.mac.key48(),
         }
     }
 

@@ -12,7 +12,7 @@ ghost use Rattle.gw_audit.specs.Laws.{AreShownAlike};
 ghost use Rattle.gw_audit.specs.internal.Reading.{Gives, ask_at, ask_in, behind, field_in, field_to, is_lower, key_in, key_to, labelled_to, line_in, long_key, long_key_in, mac_in, mac_to, name_of, named_number, named_stations, net_of, number_in, number_to, operation_in, other_number, parted_at, port_at, port_of, priority_at, request_at, rule_at, source_at, station_in, station_key, stations_in, target_at, shown_by, whole_ask, word_at};
 
 use crate::entry::{Shown, ShownAsk, Stations};
-use crate::text::{KEYS, operation_named};
+use crate::text::operation_named;
 use gw_addr::{Mac, NetNum, Source};
 use gw_rules::Operation;
 use itoa::Buffer;
@@ -157,13 +157,13 @@ fn key_in(text: &[u8]) -> Option<u64>
     ensures { result ≡ key_in text.now }
 {
     let mac = mac_in(text)?;
-    match mac.key48() {
+    match mac.key() {
         Some(key) => Some(key),
         None => long_key_in(mac.as_slice()),
     }
 }
 
-/// The key of eight octets if it has more than 48 bits.
+/// The number of eight octets if it is no station's key.
 fn long_key_in(octets: &[u8]) -> Option<u64>
     ensures { result ≡ long_key_in octets.now }
 {
@@ -175,11 +175,14 @@ fn long_key_in(octets: &[u8]) -> Option<u64>
     }
 }
 
-/// A key of more than 48 bits.
+/// A number that is no station's key.
 fn long_key(key: u64) -> Option<u64>
     ensures { result ≡ long_key key }
 {
-    if key < KEYS { None } else { Some(key) }
+    match Mac::of_key(key) {
+        Some(_) => None,
+        None => Some(key),
+    }
 }
 
 /// A name of UTF-8.

@@ -9,7 +9,7 @@ ghost use Rattle.gw_audit.specs.internal.Parts.{ask_pieces_text, asked_text, cou
 
 use crate::denial::Denial;
 use crate::entry::Stations;
-use gw_addr::{Source, keep_whole, put_decimal, put_octet, put_slice};
+use gw_addr::{Mac, Source, keep_whole, put_decimal, put_octet, put_slice};
 use gw_rules::{Ask, Operation, RuleName};
 use std::alloc::AllocError;
 
@@ -25,7 +25,7 @@ const HUNDRED: u64 = RADIX * RADIX;
 /// The least number of four digits.
 const THOUSAND: u64 = HUNDRED * RADIX;
 
-/// How many keys of 48 bits there are.
+/// How many keys of six octets there are: they come before all others.
 pub const KEYS: u64 = 1 << 48;
 
 /// Appends the line of a denial, which shows its number, its tick, its port, the station that the
@@ -180,15 +180,18 @@ fn put_station(out: &mut Vec<u8>, station: Option<u64>) -> Result<(), AllocError
     }
 }
 
-/// Appends a station by its key: the six octets of 48 bits, or the eight of a greater key.
+/// Appends a station by its key: its one to seven octets, or the eight of a number that no station has.
+#[tactic(auto, using(crate::proofs::KeyLemmas::six_octets))]
 pub fn put_key(out: &mut Vec<u8>, key: u64) -> Result<(), AllocError>
     ensures { IsAppended (key_text key) out.old out.new result }
 {
     let octets = key.to_be_bytes();
     if key < KEYS {
-        put_octets(out, &octets[2..])
-    } else {
-        put_octets(out, &octets)
+        return put_octets(out, &octets[2..]);
+    }
+    match Mac::of_key(key) {
+        Some(mac) => mac.put_text(out),
+        None => put_octets(out, &octets),
     }
 }
 

@@ -1,1 +1,2 @@
 pub mod CountingLemmas
+pub mod LineLaw

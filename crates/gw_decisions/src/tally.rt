@@ -2,9 +2,10 @@
 //!
 //! [`count_asks`] reads the asks line by line and keeps only the counts; [`put_tally`] writes them, a line for each rule.
 mod counting;
+pub mod laws;
 mod tally;
 mod text;
 
 pub use counting::count_asks;
 pub use tally::Tally;
-pub use text::put_tally;
+pub use text::{put_tally, quiet_mark};

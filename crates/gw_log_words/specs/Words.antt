@@ -1,12 +1,11 @@
 -- The words that say what a line of the log shows. They are this project's own, the names in them the standard's.
-use Rattle.std.specs.Prelude.{ℕ, ◌==◌, Bool, false, nat_lt, is_some, if◌then◌else◌, List, [], ◌∷◌, ◌++◌, length, drop, codes}
+use Rattle.std.specs.Prelude.{ℕ, ◌==◌, Bool, false, is_some, if◌then◌else◌, List, [], ◌∷◌, ◌++◌, length, codes}
 use Rattle.std.specs.Prelude.{Option, None}
 use Rattle.std.specs.Fmt.{decimal}
-use Rattle.std.specs.Int.{w64, to_be_bytes}
 use Rattle.std.specs.List.{flat_map}
 use Rattle.std.specs.Option.{option_and_then, option_map_or}
 use Rattle.gw_addr.specs.Address.{address_in, text_of}
-use Rattle.gw_addr.specs.Station.{key_of, two_digits}
+use Rattle.gw_addr.specs.Station.{key48, station_at, two_digits}
 use Rattle.gw_addr.specs.declared.station.Source.{Source}
 use Rattle.gw_rules.specs.declared.operation.Operation.{Operation}
 use Rattle.gw_rules.specs.declared.operation.Operation.TheVariants.{Cast, Route, Register, Delete, ReadTable}
@@ -34,11 +33,9 @@ station_text mac =
 abbrev pub source_text : Source → List ℕ
 source_text source = station_text source.mac ++ codes " on network " ++ decimal source.net
 
--- a station by its key: 48 bits as an address of BACnet/IP, more as digits
-abbrev pub key_name : ℕ → List ℕ
-key_name key =
-    if nat_lt key 281474976710656 then text_of (address_in (drop 2 (to_be_bytes w64 key)))
-    else codes "station " ++ key_text key
+-- a station by its key, as a station that asks; a number that no station has as digits
+unfoldable pub key_name : ℕ → List ℕ
+key_name key = option_map_or station_text (station_at key) (codes "station " ++ key_text key)
 
 abbrev pub is_one : ℕ → Option ℕ → Bool
 is_one number value = option_map_or (λ n. n == number) value false
@@ -46,7 +43,7 @@ is_one number value = option_map_or (λ n. n == number) value false
 -- `<station>, for <station> on network <net>,` if the sender isn't the station that it claims to be
 abbrev pub claim_text : ℕ → Source → List ℕ
 claim_text sender source =
-    if is_one sender (key_of source.mac) then source_text source
+    if is_one sender (key48 source.mac) then source_text source
     else key_name sender ++ codes ", for " ++ source_text source ++ codes ","
 
 -- the sender of a `claim`, 13, alone, since what it is asked for is the claim

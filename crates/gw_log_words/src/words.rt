@@ -8,8 +8,8 @@ ghost use Rattle.gw_log_words.specs.Translation.{IsTranslatedAs};
 ghost use Rattle.gw_log_words.specs.Words.{asker_text, by_other_text, by_text, claim_text, deed_of, deed_text, device_name, device_text, digits_text, foreign_text, goal_text, is_one, key_name, kind_text, name_text, network_name, network_text, object_text, priority_text, property_text, sender_text, service_text, source_text, station_of, station_text, target_text, verdict_text, words_of};
 
 use crate::moment::Moment;
-use gw_addr::{BipAddr, Mac, Source, bip_from_slice, put_decimal, put_octet, put_slice};
-use gw_audit::{KEYS, Shown, ShownAsk, operation_named, put_key, read_line};
+use gw_addr::{Mac, Source, bip_from_slice, put_decimal, put_octet, put_slice};
+use gw_audit::{Shown, ShownAsk, operation_named, put_key, read_line};
 use gw_codecs::names::{object_type_name, property_name, service_name};
 use gw_rules::Operation;
 use std::alloc::{AllocError, Global};
@@ -160,13 +160,13 @@ fn put_claim(out: &mut Vec<u8>, sender: u64, source: &Source) -> Result<(), Allo
     put_octet(out, b',')
 }
 
-/// Appends a station by its key: 48 bits as an address of BACnet/IP, more as digits.
+/// Appends a station by its key, as a station that asks; a number that no station has as digits.
+#[tactic(auto, unfolding(crate::specs::Words::key_name))]
 fn put_key_name(out: &mut Vec<u8>, key: u64) -> Result<(), AllocError>
     ensures { IsAppended (key_name key) out.old out.new result }
 {
-    if key < KEYS {
-        let [_, _, a, b, c, d, high, low] = key.to_be_bytes();
-        return BipAddr::from_octets(&[a, b, c, d, high, low]).put_text(out);
+    if let Some(mac) = Mac::of_key(key) {
+        return put_station(out, &mac);
     }
     put_slice(out, b"station ")?;
     put_key(out, key)

@@ -11,7 +11,7 @@ use Rattle.std.specs.Str.Parse.{digits_value}
 use Rattle.hex.specs.Hex.{decode_of}
 use Rattle.hex.specs.declared.error.FromHexError.{FromHexError}
 use Rattle.gw_addr.specs.declared.station.Source.{Source}
-use Rattle.gw_addr.specs.Station.{key_of, network_of, station_of}
+use Rattle.gw_addr.specs.Station.{key_of, network_of, station_at, station_of}
 use Rattle.gw_rules.specs.declared.operation.Operation.{Operation}
 use Rattle.gw_rules.specs.declared.operation.TheConstants.Operation.{ALL}
 use Rattle.gw_rules.specs.Operation.{operation_name, operation_number}
@@ -92,9 +92,9 @@ station_in (Err fault) = None
 abbrev pub mac_in : List ℕ → Option (List ℕ)
 mac_in text = if list_any is_lower text then None else station_in (decode_of text)
 
--- the key of six octets, or of eight if it has more than 48 bits
+-- the key of one to seven octets, or the number of eight if no station has it
 abbrev pub long_key : ℕ → Option ℕ
-long_key key = if nat_lt key 281474976710656 then None else Some key
+long_key key = if is_some (station_at key) then None else Some key
 
 abbrev pub long_key_in : List ℕ → Option ℕ
 long_key_in octets = if length octets == 8 then long_key (from_be_bytes w64 octets) else None

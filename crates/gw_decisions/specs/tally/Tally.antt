@@ -1,5 +1,5 @@
 -- How many asks each rule of a policy decides.
-use Rattle.std.specs.Prelude.{◌≡◌, ℕ, ◌+◌, ◌-◌, ◌^◌, ◌<◌, ◌==◌, min, if◌then◌else◌, List, [], ◌∷◌, ◌++◌, length, count_by, slice_index, cond, codes, decimal, Option}
+use Rattle.std.specs.Prelude.{◌≡◌, ℕ, ◌+◌, ◌-◌, ◌^◌, ◌<◌, ◌==◌, false, min, if◌then◌else◌, List, [], ◌∷◌, ◌++◌, length, count_by, slice_index, cond, codes, decimal, Option}
 use Rattle.std.specs.Option.{option_map_or}
 use Rattle.gw_rules.specs.Ask.{Ask}
 use Rattle.gw_rules.specs.RuleList.{first}
@@ -38,10 +38,22 @@ pub record CountsOne (at : ℕ) (before after : List ℕ) : Type 0 where
   pub each : (k : ℕ) → k < length before
       → slice_index after k ≡ (if at == k then one_more (slice_index before k) else slice_index before k)
 
--- the line of a rule: `rule 3 all: 1201`
+-- what stands behind the name of a rule that is quiet: the log leaves out what it denies
+abbrev pub quiet_mark : Rule → List ℕ
+quiet_mark rule = if rule.quiet then codes " (quiet)" else []
+
+-- a rule by its number and its name
+abbrev pub rule_text : ℕ → Rule → List ℕ
+rule_text number rule = codes "rule " ++ decimal number ++ codes " " ++ rule.name ++ quiet_mark rule
+
+-- the line of a rule: `rule 3 all: 1201`, or `rule 2 hush (quiet): 17`
 abbrev pub rule_line : ℕ → Rule → ℕ → List ℕ
-rule_line number rule count =
-    codes "rule " ++ decimal number ++ codes " " ++ rule.name ++ codes ": " ++ decimal count ++ codes "\n"
+rule_line number rule count = rule_text number rule ++ codes ": " ++ decimal count ++ codes "\n"
+
+-- the line of a rule that isn't quiet is that of its number, its name and its count
+abbrev pub PlainLineStays : Type 0
+PlainLineStays = (number count : ℕ) (rule : Rule) → rule.quiet ≡ false
+    → rule_line number rule count ≡ codes "rule " ++ decimal number ++ codes " " ++ rule.name ++ codes ": " ++ decimal count ++ codes "\n"
 
 -- the line of the rule of this number by these counts
 abbrev pub line_in : List ℕ → ℕ → Rule → List ℕ

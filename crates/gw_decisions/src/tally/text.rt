@@ -3,7 +3,7 @@
 ghost use Rattle.std.specs.Prelude.{◌≡◌, ◌++◌, ◌+◌, length, OnOk};
 ghost use Rattle.gw_addr.specs.Appending.{IsAppended};
 ghost use Rattle.gw_script.specs.Order.{in_order};
-ghost use Rattle.gw_decisions.specs.tally.Tally.{line_in, rule_line, tally_text};
+ghost use Rattle.gw_decisions.specs.tally.Tally.{line_in, quiet_mark, rule_line, rule_text, tally_text};
 
 use crate::tally::tally::Tally;
 use gw_addr::{put_decimal, put_slice};
@@ -14,7 +14,8 @@ use std::alloc::AllocError;
 ///
 /// ```text
 /// rule 1 hide: 12
-/// rule 2 all: 1201
+/// rule 2 hush (quiet): 17
+/// rule 3 all: 1201
 /// default: 3
 /// ```
 ///
@@ -39,14 +40,29 @@ fn put_rules(rules: &[Rule], tally: &Tally, out: &mut Vec<u8>) -> Result<(), All
     Ok(())
 }
 
+/// What stands behind the name of a rule that is quiet, and nothing behind that of another one.
+pub fn quiet_mark(rule: &Rule) -> &'static str
+    ensures { result.now ≡ quiet_mark rule.now }
+{
+    if rule.quiet { " (quiet)" } else { "" }
+}
+
 fn put_rule(number: usize, rule: &Rule, count: u64, out: &mut Vec<u8>) -> Result<(), AllocError>
     ensures { OnOk result (out.new.items ≡ out.old.items ++ rule_line number rule.now count) }
+{
+    put_named(number, rule, out)?;
+    put_slice(out, b": ")?;
+    put_decimal(out, count)?;
+    put_slice(out, b"\n")
+}
+
+/// Appends a rule by its number and its name.
+fn put_named(number: usize, rule: &Rule, out: &mut Vec<u8>) -> Result<(), AllocError>
+    ensures { OnOk result (out.new.items ≡ out.old.items ++ rule_text number rule.now) }
 {
     put_slice(out, b"rule ")?;
     put_decimal(out, number)?;
     put_slice(out, b" ")?;
     put_slice(out, rule.name.as_str().as_bytes())?;
-    put_slice(out, b": ")?;
-    put_decimal(out, count)?;
-    put_slice(out, b"\n")
+    put_slice(out, quiet_mark(rule).as_bytes())
 }
