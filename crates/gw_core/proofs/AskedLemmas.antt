@@ -3,7 +3,7 @@ use Rattle.std.proofs.Common.{◌≡◌, ◌∙◌, sym, ap, refl, Bool, true, f
 use Rattle.gw_rules.specs.Ask.{Ask}
 use Rattle.gw_rules.specs.Asker.{verdicts_of}
 use Rattle.gw_rules.specs.Authorizer.{denied_of, refusal}
-use Rattle.gw_rules.specs.RuleList.{allows}
+use Rattle.gw_rules.specs.RuleList.{allows, first, is_quiet_by}
 use Rattle.gw_rules.specs.declared.refusal.Refusal.{Refusal}
 use Rattle.gw_rules.specs.declared.rule.Rule.{Rule}
 use Rattle.gw_objects.specs.Objects.{Database}
@@ -25,12 +25,14 @@ use Rattle.gw_core.proofs.DenialLemmas.{asks_received, origin_admitted}
 -- the refusals among the verdicts on asks are the asks that are denied
 pub refused_are : (rules : List Rule) (asked : List Ask) → refused_of (verdicts_of rules asked) ≡ denied_of rules asked
 refused_are rules [] = refl
-refused_are rules (ask ∷ asked) = by (allows rules ask) refl (refused_are rules asked)
+refused_are rules (ask ∷ asked) = by (allows rules ask) (is_quiet_by rules (first rules ask)) refl refl (refused_are rules asked)
   where
-    by : (b : Bool) → allows rules ask ≡ b → refused_of (verdicts_of rules asked) ≡ denied_of rules asked
+    by : (b quiet : Bool) → allows rules ask ≡ b → is_quiet_by rules (first rules ask) ≡ quiet
+        → refused_of (verdicts_of rules asked) ≡ denied_of rules asked
         → refused_of (verdicts_of rules (ask ∷ asked)) ≡ denied_of rules (ask ∷ asked)
-    by true is later = rw is later
-    by false is later = rw is (ap (λ (l : List Refusal). refusal rules ask ∷ l) later)
+    by true quiet is said later = rw is later
+    by false true is said later = rw (is, said) later
+    by false false is said later = rw (is, said) (ap (λ (l : List Refusal). refusal rules ask ∷ l) later)
 
 -- ---- whence it comes
 

@@ -1,5 +1,5 @@
 -- What an event asks, with what the policy says of each ask.
-use Rattle.std.specs.Prelude.{List, [], ◌∷◌, ◌++◌, Option, Some, None, filter, map, not}
+use Rattle.std.specs.Prelude.{List, [], ◌∷◌, ◌++◌, Option, Some, None, filter, map, not, ◌&&◌}
 use Rattle.gw_rules.specs.Asker.{verdicts_of}
 use Rattle.gw_rules.specs.declared.refusal.Refusal.{Refusal}
 use Rattle.gw_rules.specs.declared.verdict.Verdict.{Verdict}
@@ -32,6 +32,6 @@ run_asked w (e ∷ events) = asked_at w e ++ run_asked (next w e) events
 abbrev pub refused : Verdict → Refusal
 refused v = record { ask = v.ask; by = v.by }
 
--- the refusals among verdicts
+-- the refusals among verdicts: those that deny, but by quiet rules
 abbrev pub refused_of : List Verdict → List Refusal
-refused_of verdicts = map refused (filter (λ v. not v.is_allowed) verdicts)
+refused_of verdicts = map refused (filter (λ v. not v.is_allowed && not v.is_quiet) verdicts)

@@ -1,4 +1,4 @@
--- What the policy denies of what an event asks, and the record of it.
+-- What the policy denies of what an event asks, but by quiet rules, and the record of it.
 use Rattle.std.specs.Prelude.{ℕ, ◌+◌, ◌-◌, ◌==◌, List, [], ◌∷◌, Option, Some, None, codes, slice_get, if◌then◌else◌}
 use Rattle.std.specs.Option.{option_map_or}
 use Rattle.gw_rules.specs.Authorizer.{denied_of}
@@ -41,13 +41,13 @@ abbrev pub denials_of : List Rule → ℕ → ℕ → Option Origin → List Ref
 denials_of rules number tick None refusals = []
 denials_of rules number tick (Some from) refusals = denials_from rules number tick from refusals
 
--- what is denied of what is received in this state
+-- what is denied of what is received in this state, but by quiet rules
 abbrev pub denials_for : State → Received → List Denial
 denials_for w received =
     denials_of w.rules (w.denials + 1) w.ticks (origin received)
     (denied_of w.rules (asks_for w.rules w.relay w.device received))
 
--- The denials of an event: the first is numbered one more than the last before, and each has the ticks
+-- The denials of an event, but those of quiet rules: the first is numbered one more than the last before, and each has the ticks
 -- so far.
 unfoldable pub denials_at : State → Event → List Denial
 denials_at w e = denials_for w (receive w e)

@@ -3,13 +3,13 @@
 use Rattle.std.specs.Prelude.{ℕ, ◌-◌, Bool, true, false, List, [], ◌∷◌, length, slice_index, Option, Some, None}
 use Rattle.std.specs.Prelude.{is_some, ◌==◌, ◌&&◌, ◌||◌, not, if◌then◌else◌}
 use Rattle.std.specs.Option.{option_map}
-use Rattle.gw_addr.specs.Station.{key_of}
 use Rattle.gw_frames.specs.npdu.Npdu.{Fields, Address, Destination, Payload, apdu, message}
 use Rattle.gw_frames.specs.npdu.Numbers.{every_network, max_len}
 use Rattle.gw_frames.specs.npdu.Npdu as npdu
 use Rattle.gw_relay.specs.Asks.{sender_of}
 use Rattle.gw_relay.specs.Sends.{Sending}
 use Rattle.gw_relay.specs.Steps.{broadcast, unicast}
+use Rattle.gw_rules.specs.Format.{key_in}
 use Rattle.gw_rules.specs.declared.format.Format.{Format}
 use Rattle.gw_device.specs.declared.context.Context.{Context}
 use Rattle.gw_device.specs.Response.{Answer}
@@ -89,7 +89,7 @@ abbrev pub context_of : Format → ℕ → Message → Context
 context_of format network m = record {
   port = m.here.port.number;
   source_network = m.claim.net;
-  source_key = key_of m.claim.mac;
+  source_key = key_in format m.claim.mac;
   sender = sender_of format m.from;
   broadcast = goes_to_all network m.npdu.destination;
   room = max_reply_apdu network m.npdu;

@@ -130,14 +130,14 @@ pub(crate) fn asked_of(
     Ok(asked)
 }
 
-/// The refusals among verdicts. If there is none it takes no memory.
+/// The refusals among verdicts, which are those that deny, but by quiet rules. If there is none it takes no memory.
 pub(crate) fn refused_of(alloc: Global, verdicts: &[Verdict]) -> Result<Refusals, AllocError>
     ensures refusals { IfOk result (λ refusals. refusals ≡ refused_of verdicts.now) }
     ensures silent { verdicts.now ≡ [] → IsOk result }
 {
     let mut refusals = Refusals::new(alloc);
     for verdict in verdicts {
-        if !verdict.is_allowed {
+        if !verdict.is_allowed && !verdict.is_quiet {
             refusals.push(Refusal {
                 ask: verdict.ask,
                 by: verdict.by,

@@ -1,4 +1,4 @@
-//! The record of what the policy denies.
+//! The record of what the policy denies, but by quiet rules.
 
 ghost use Rattle.std.specs.Prelude.{◌≡◌, ◌<◌, ◌+◌, ◌^◌, [], length, IfOk, IsOk, vec_capacity};
 ghost use Rattle.std.specs.Option.{option_map, option_map_or};

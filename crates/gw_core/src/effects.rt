@@ -1,4 +1,4 @@
-//! What an event does: the datagrams to send, and the policy's denials.
+//! What an event does: the datagrams to send, and the policy's denials, but those of its quiet rules.
 
 ghost use Rattle.std.specs.Prelude.{◌≡◌, []};
 
@@ -11,7 +11,7 @@ use std::alloc::Global;
 pub struct Effects {
     /// The datagrams to send.
     pub sends: Sends,
-    /// The policy's denials.
+    /// The policy's denials, but those of its quiet rules.
     pub denials: Denials,
 }
 

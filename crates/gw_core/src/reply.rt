@@ -154,7 +154,7 @@ pub fn context_of(format: Format, network: NetNum, message: &Message<'_>) -> Con
     Context {
         port: message.here.port.number,
         source_network: message.source_network(),
-        source_key: message.source_key(),
+        source_key: message.source_key(format),
         sender: sender_of(format, message.from),
         broadcast: goes_to_all(network, &message.npdu.destination),
         room: max_reply_apdu(message.npdu),

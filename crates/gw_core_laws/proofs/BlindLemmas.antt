@@ -6,7 +6,6 @@ use Rattle.std.specs.Option.{option_map_or}
 use Rattle.gw_addr.specs.declared.bip.BipAddr.{BipAddr}
 use Rattle.gw_addr.specs.declared.station.Source.{Source}
 use Rattle.gw_addr.specs.Address.{big_endian, octets_of}
-use Rattle.gw_addr.specs.Station.{key_of}
 use Rattle.gw_frames.specs.declared.bvll.fault.BvllFault.{BvllFault}
 use Rattle.gw_frames.specs.bvll.Bvll.{Message as Frame}
 use Rattle.gw_frames.specs.bvll.Reading.{bvll_at}
@@ -29,7 +28,7 @@ use Rattle.gw_rules.specs.Ask.{Ask, IsFor, IsFrom}
 use Rattle.gw_rules.specs.declared.format.Format.{Format}
 use Rattle.gw_rules.specs.declared.operation.Operation.{Operation}
 use Rattle.gw_rules.specs.declared.operation.Operation.TheVariants as operations
-use Rattle.gw_rules.specs.Format.{names_stations}
+use Rattle.gw_rules.specs.Format.{key_in, names_stations}
 use Rattle.gw_rules.specs.RuleList.{allows}
 use Rattle.gw_rules.specs.declared.rule.Rule.{Rule}
 use Rattle.gw_rules.proofs.EachAsk.{each_both, each_weaker, none_allowed}
@@ -43,9 +42,10 @@ use Rattle.gw_core.specs.Receive.{Received, admit, barred, comes_in, dropped, ma
 use Rattle.gw_core.specs.Reply.{apdu_for, context_of}
 use Rattle.gw_core.specs.State.{State, device_network}
 use Rattle.gw_core.proofs.RespondLemmas.{four_none}
+use Rattle.gw_core_laws.proofs.FormatLemmas.{format_stays, format_stays_on}
 use Rattle.gw_core_laws.proofs.WriteLemmas.{writes_are_unread, writes_go_unread}
 use Rattle.gw_core_laws.specs.Onward.{WritesGoHidden}
-use Rattle.gw_core.specs.History.{next, state_from}
+use Rattle.gw_core.specs.History.{history_after, next, state_from}
 
 -- ---- the claim of a message
 
@@ -155,10 +155,10 @@ each_part P rules relay d m entered cast routed answered served =
 
 -- the asks once a message is taken are of its claim, and so are all of which this follows
 each_claimed : (P : Ask → Type 0) (rules : List Rule) (relay : Relay) (d : Database) (m : Message)
-    → ((ask : Ask) → IsFrom m.claim.net (key_of m.claim.mac) ask → P ask) → AllByRecursion P (entry_asks rules relay m)
+    → ((ask : Ask) → IsFrom m.claim.net (key_in relay.format m.claim.mac) ask → P ask) → AllByRecursion P (entry_asks rules relay m)
     → AllByRecursion P (asks_for rules relay d (message m))
 each_claimed P rules relay d m so entered =
-    let each = IsFrom m.claim.net (key_of m.claim.mac) in
+    let each = IsFrom m.claim.net (key_in relay.format m.claim.mac) in
     let network = device_network d in
     each_part P rules relay d m entered
     (each_weaker each P so _ (broadcasts_carry_their_claim relay.format m))
@@ -181,16 +181,16 @@ entered_by P rules relay m enter claim =
     none true asks p = p
     none false asks p = tt
 
-of_message : (rules : List Rule) (relay : Relay) (d : Database) (m : Message) → AllByRecursion (IsOf m) (asks_for rules relay d (message m))
+of_message : (rules : List Rule) (relay : Relay) (d : Database) (m : Message) → AllByRecursion (IsOf relay.format m) (asks_for rules relay d (message m))
 of_message rules relay d m =
-    each_claimed (IsOf m) rules relay d m (λ ask is. by_claim is)
-    (entered_by (IsOf m) rules relay m (by_entry refl (record { source_network = refl; source_key = refl }))
+    each_claimed (IsOf relay.format m) rules relay d m (λ ask is. by_claim is)
+    (entered_by (IsOf relay.format m) rules relay m (by_entry refl (record { source_network = refl; source_key = refl }))
     (by_claim (record { source_network = refl; source_key = refl })))
 
 from_message : (rules : List Rule) (relay : Relay) (d : Database) (m : Message) → names_stations relay.format ≡ false
-    → AreFrom m.claim (asks_for rules relay d (message m))
+    → AreFrom relay.format m.claim (asks_for rules relay d (message m))
 from_message rules relay d m off =
-    let each = IsFrom m.claim.net (key_of m.claim.mac) in
+    let each = IsFrom m.claim.net (key_in relay.format m.claim.mac) in
     each_claimed each rules relay d m (λ ask is. is) (subst (AllByRecursion each) (sym (entry_is_unasked rules relay m off)) tt)
 
 claimed_so : (w : State) (e : Event) (m : Message) → receive w e ≡ message m → IsSpoken m
@@ -201,9 +201,9 @@ unfolding asks
 asks_carry_their_claim w e m is =
     let so = claimed_so w e m is in (
       so.claim,
-      subst (λ (received : Received). AllByRecursion (IsOf m) (asks_for w.rules w.relay w.device received)) (sym is)
+      subst (λ (received : Received). AllByRecursion (IsOf w.relay.format m) (asks_for w.rules w.relay w.device received)) (sym is)
           (of_message w.rules w.relay w.device m),
-      λ off. subst (λ (received : Received). AreFrom m.claim (asks_for w.rules w.relay w.device received)) (sym is)
+      λ off. subst (λ (received : Received). AreFrom w.relay.format m.claim (asks_for w.rules w.relay w.device received)) (sym is)
           (from_message w.rules w.relay w.device m off),
     )
 
@@ -219,7 +219,7 @@ table_from format port from frame (Some operation) = by (is_manager port)
     by false = tt
 
 theirs : (rules : List Rule) (relay : Relay) (d : Database) (received : Received) → IfMessage received
-    → AreTheirs received (asks_for rules relay d received)
+    → AreTheirs relay.format received (asks_for rules relay d received)
 theirs rules relay d dropped is = refl
 theirs rules relay d (unregistered m) is = refl
 theirs rules relay d (managed on from frame) is =
@@ -227,8 +227,8 @@ theirs rules relay d (managed on from frame) is =
     (sym (four_none (link_asks relay.format on.port from frame))) (table_from relay.format on.port from frame (management_of frame))
 theirs rules relay d (barred m) is = (
   is.claim,
-  subst (AllByRecursion (IsOf m)) (sym (four_none (entry_asks rules relay m)))
-      (entered_by (IsOf m) rules relay m (by_entry refl (record { source_network = refl; source_key = refl }))
+  subst (AllByRecursion (IsOf relay.format m)) (sym (four_none (entry_asks rules relay m)))
+      (entered_by (IsOf relay.format m) rules relay m (by_entry refl (record { source_network = refl; source_key = refl }))
       (by_claim (record { source_network = refl; source_key = refl }))),
 )
 theirs rules relay d (message m) is = (is.claim, of_message rules relay d m)
@@ -240,9 +240,9 @@ asks_have_their_origin w e = theirs w.rules w.relay w.device (receive w e) (mess
 -- ---- who is blind
 
 -- an ask of a source that is blind is no ask to read that is allowed
-blind_source : (rules : List Rule) (sources : List Source) (o : Object) (source : Source) → AreBlind rules sources o
-    → Contains sources source → (ask : Ask) → IsFrom source.net (key_of source.mac) ask → AsksToRead o ask → allows rules ask ≡ false
-blind_source rules sources o source blind is ask by reads = blind source is ask (record {
+blind_source : (format : Format) (rules : List Rule) (sources : List Source) (o : Object) (source : Source) → AreBlind format rules sources o
+    → Contains sources source → (ask : Ask) → IsFrom source.net (key_in format source.mac) ask → AsksToRead o ask → allows rules ask ≡ false
+blind_source format rules sources o source blind is ask by reads = blind source is ask (record {
   operation = reads.operation;
   source_network = by.source_network;
   source_key = by.source_key;
@@ -268,7 +268,7 @@ blind_entry rules o relay m =
     no_read_either : IsFor operations.Read (claim_ask relay.format m) → ⊥
     no_read_either e = cc
 
-blind_asks : (rules : List Rule) (sources : List Source) (o : Object) (relay : Relay) (d : Database) (received : Received) → AreBlind rules sources o
+blind_asks : (rules : List Rule) (sources : List Source) (o : Object) (relay : Relay) (d : Database) (received : Received) → AreBlind relay.format rules sources o
     → IfMessage received → IfSome (claim received) (Contains sources) → NoReadAllowed rules o (asks_for rules relay d received)
 blind_asks rules sources o relay d dropped blind is claims = tt
 blind_asks rules sources o relay d (unregistered m) blind is claims = tt
@@ -277,10 +277,10 @@ blind_asks rules sources o relay d (managed on from frame) blind is claims =
 blind_asks rules sources o relay d (barred m) blind is claims =
     subst (NoReadAllowed rules o) (sym (four_none (entry_asks rules relay m))) (blind_entry rules o relay m)
 blind_asks rules sources o relay d (message m) blind is claims =
-    each_claimed (λ ask. AsksToRead o ask → allows rules ask ≡ false) rules relay d m (blind_source rules sources o m.claim blind claims)
+    each_claimed (λ ask. AsksToRead o ask → allows rules ask ≡ false) rules relay d m (blind_source relay.format rules sources o m.claim blind claims)
     (blind_entry rules o relay m)
 
-blind_at : (w : State) (sources : List Source) (o : Object) (e : Event) → AreBlind w.rules sources o → IfSome (claim (receive w e)) (Contains sources)
+blind_at : (w : State) (sources : List Source) (o : Object) (e : Event) → AreBlind w.relay.format w.rules sources o → IfSome (claim (receive w e)) (Contains sources)
     → NoReadAllowed w.rules o (asks w e)
 unfolding asks
 blind_at w sources o e blind claims = blind_asks w.rules sources o w.relay w.device (receive w e) blind (message_at w e) claims
@@ -290,7 +290,8 @@ writes_are_hidden c k sources o marks l blind out place e there claims =
     writes_are_unread c k o marks l out place e there
     (each_weaker (λ ask. AsksToRead o ask → allows c.rules ask ≡ false) (λ ask. AsksToReadOn c.device.network o ask → allows c.rules ask ≡ false)
     (λ ask none reads. none reads.reads) (asks (state_before c k (kept marks l) place) e)
-    (blind_at (state_before c k (kept marks l) place) sources o e blind claims))
+    (blind_at (state_before c k (kept marks l) place) sources o e
+    (subst (λ (format : Format). AreBlind format c.rules sources o) (sym (format_stays c k (history_after [] (take place (kept marks l))))) blind) claims))
 
 -- ---- from any state on
 
@@ -306,7 +307,8 @@ writes_go_hidden w sources o marks l blind out place e there claims =
     let network = w.device.configured.device.network in
     let same : v.rules ≡ w.rules = rules_from w (take place (kept marks l)) in
     let here = subst (λ (rules : List Rule). NoReadAllowed rules o (asks v e)) same
-    (blind_at v sources o e (subst (λ (rules : List Rule). AreBlind rules sources o) (sym same) blind) claims) in
+    (blind_at v sources o e (subst (λ (format : Format). AreBlind format v.rules sources o) (sym (format_stays_on w (take place (kept marks l))))
+    (subst (λ (rules : List Rule). AreBlind w.relay.format rules sources o) (sym same) blind)) claims) in
     writes_go_unread w o marks l out place e there
     (each_weaker (λ ask. AsksToRead o ask → allows w.rules ask ≡ false) (λ ask. AsksToReadOn network o ask → allows w.rules ask ≡ false)
     (λ ask none reads. none reads.reads) (asks v e) here)

@@ -12,7 +12,7 @@ use Rattle.gw_frames.specs.declared.bvll.fault.BvllFault.{BvllFault}
 use Rattle.gw_frames.specs.npdu.Npdu.{Fields}
 use Rattle.gw_rules.specs.Ask.{Ask}
 use Rattle.gw_rules.specs.Authorizer.{denied_of, refusal}
-use Rattle.gw_rules.specs.RuleList.{allows, first}
+use Rattle.gw_rules.specs.RuleList.{allows, is_logged}
 use Rattle.gw_rules.specs.declared.format.Format.{Format}
 use Rattle.gw_rules.specs.declared.refusal.Refusal.{Refusal}
 use Rattle.gw_rules.specs.declared.rule.Rule.{Rule}
@@ -43,7 +43,8 @@ use Rattle.gw_core.specs.Receive.{Origin, Received, admit, barred, comes_in, dro
 use Rattle.gw_core.specs.Reply.{apdu_for, context_of}
 use Rattle.gw_core.specs.State.{State, device_network}
 use Rattle.gw_core.specs.declared.effects.Effects.{Effects}
-use Rattle.gw_core_laws.specs.Decisions.{DecideAlike, DecideAlikeAlong, DoAlike, RunAlike, SameDecisionsDoAlike, SameDecisionsRunAlike, nameless, under, unnamed}
+use Rattle.gw_core_laws.specs.Decisions.{DecideAlike, DecideAlikeAlong, DoAlike, LogAlike, LogAlikeAlong, RunAlike, RunSendAlike, SameDecisionsDoAlike, SameDecisionsRunAlike, SameDecisionsRunSendAlike, SameDecisionsSendAlike, SendAlike, counting, nameless, under, unnamed}
+use Rattle.gw_core_laws.proofs.CountingLemmas.{next_counting, sends_counting}
 use Rattle.gw_core_laws.proofs.DeviceDecisionLemmas.{same_device}
 use Rattle.gw_core_laws.proofs.RelayDecisionLemmas.{admits_alike, casts_alike, entry_asks_alike, entry_sends_alike, learnings_alike, link_answers_alike, link_changes_alike, manages_alike, steps_alike, strangers_alike}
 
@@ -247,22 +248,22 @@ nameless_of ask number tick from = record {
   rule = [];
 }
 
-denied_alike : (r s : List Rule) (names others : List Rule) (number tick : ℕ) (from : Origin) (asked : List Ask) → DecideAlike r s asked
+denied_alike : (r s : List Rule) (names others : List Rule) (number tick : ℕ) (from : Origin) (asked : List Ask) → LogAlike r s asked
     → map nameless (denials_from names number tick from (denied_of r asked)) ≡ map nameless (denials_from others number tick from (denied_of s asked))
 denied_alike r s names others number tick from [] alike = refl
 denied_alike r s names others number tick from (ask ∷ asked) alike =
-    by (allows r ask) (allows s ask) alike.0 (λ (n : ℕ). denied_alike r s names others n tick from asked alike.1)
+    by (is_logged r ask) (is_logged s ask) alike.0 (λ (n : ℕ). denied_alike r s names others n tick from asked alike.1)
   where
     by : (b c : Bool) → b ≡ c
         → ((n : ℕ) → map nameless (denials_from names n tick from (denied_of r asked)) ≡ map nameless (denials_from others n tick from (denied_of s asked)))
-        → map nameless (denials_from names number tick from (map (refusal r) (cond (not b) (ask ∷ filter (λ ask. not (allows r ask)) asked) (filter (λ ask. not (allows r ask)) asked))))
-        ≡ map nameless (denials_from others number tick from (map (refusal s) (cond (not c) (ask ∷ filter (λ ask. not (allows s ask)) asked) (filter (λ ask. not (allows s ask)) asked))))
-    by true true e later = later number
+        → map nameless (denials_from names number tick from (map (refusal r) (cond b (ask ∷ filter (is_logged r) asked) (filter (is_logged r) asked))))
+        ≡ map nameless (denials_from others number tick from (map (refusal s) (cond c (ask ∷ filter (is_logged s) asked) (filter (is_logged s) asked))))
+    by false false e later = later number
     by true false e later = absurd (true≢false e)
     by false true e later = absurd (true≢false (sym e))
-    by false false e later = ap (λ (denials : List Denial). nameless_of ask number tick from ∷ denials) (later (number + 1))
+    by true true e later = ap (λ (denials : List Denial). nameless_of ask number tick from ∷ denials) (later (number + 1))
 
-recorded_alike : (r s : List Rule) (number tick : ℕ) (from : Option Origin) (asked : List Ask) → DecideAlike r s asked
+recorded_alike : (r s : List Rule) (number tick : ℕ) (from : Option Origin) (asked : List Ask) → LogAlike r s asked
     → map nameless (denials_of r number tick from (denied_of r asked)) ≡ map nameless (denials_of s number tick from (denied_of s asked))
 recorded_alike r s number tick None asked alike = refl
 recorded_alike r s number tick (Some from) asked alike = denied_alike r s r s number tick from asked alike
@@ -273,7 +274,7 @@ counted_alike x y same = sym (length-map x nameless) ∙ (ap (λ (z : List Denia
 -- ---- an event
 
 module _ (w : State) (others : List Rule) where
-  received_alike : (e : Event) → DecideAlike w.rules others (asks w e) → receive (under others w) e ≡ receive w e
+  pub received_alike : (e : Event) → DecideAlike w.rules others (asks w e) → receive (under others w) e ≡ receive w e
   unfolding receive asks
   received_alike (Datagram port from octets) alike =
       sym (admit_alike w.rules others w.relay w.device (receive_on w.relay.ports (device_network w.device) port from octets) alike)
@@ -286,30 +287,31 @@ module _ (w : State) (others : List Rule) where
       (on_fits w.relay.ports (device_network w.device) (port_at w.relay.ports port) from octets)
   received_fits Tick = tt
 
-  same_asks : (e : Event) → DecideAlike w.rules others (asks w e) → asks (under others w) e ≡ asks w e
+  pub same_asks : (e : Event) → DecideAlike w.rules others (asks w e) → asks (under others w) e ≡ asks w e
   unfolding asks
   same_asks e alike =
       ap (λ (x : Received). asks_for others w.relay w.device x) (received_alike e alike)
       ∙ sym (asks_alike w.rules others w.relay w.device (receive w e) alike)
 
-  same_sends : (e : Event) → DecideAlike w.rules others (asks w e) → (effects_at (under others w) e).sends ≡ (effects_at w e).sends
+  pub same_sends : (e : Event) → DecideAlike w.rules others (asks w e) → (effects_at (under others w) e).sends ≡ (effects_at w e).sends
   unfolding asks effects_at
   same_sends e alike =
       ap (λ (x : Received). sends_for others w.relay w.device x) (received_alike e alike)
       ∙ sym (sends_alike w.rules others w.relay w.device (receive w e) (received_fits e) alike)
 
-  same_denials : (e : Event) → DecideAlike w.rules others (asks w e)
+  same_denials : (e : Event) → DecideAlike w.rules others (asks w e) → LogAlike w.rules others (asks w e)
       → map nameless (denials_at (under others w) e) ≡ map nameless (denials_at w e)
   unfolding asks denials_at
-  same_denials e alike =
+  same_denials e alike logged =
       let x = receive w e in
       ap (λ (y : Received). map nameless (denials_for (under others w) y)) (received_alike e alike)
       ∙ (ap (λ (asked : List Ask). map nameless (denials_of others (w.denials + 1) w.ticks (origin x) (denied_of others asked)))
       (sym (asks_alike w.rules others w.relay w.device x alike))
-      ∙ sym (recorded_alike w.rules others (w.denials + 1) w.ticks (origin x) (asks_for w.rules w.relay w.device x) alike))
+      ∙ sym (recorded_alike w.rules others (w.denials + 1) w.ticks (origin x) (asks_for w.rules w.relay w.device x) logged))
 
-  same_count : (e : Event) → DecideAlike w.rules others (asks w e) → length (denials_at (under others w) e) ≡ length (denials_at w e)
-  same_count e alike = counted_alike (denials_at (under others w) e) (denials_at w e) (same_denials e alike)
+  same_count : (e : Event) → DecideAlike w.rules others (asks w e) → LogAlike w.rules others (asks w e)
+      → length (denials_at (under others w) e) ≡ length (denials_at w e)
+  same_count e alike logged = counted_alike (denials_at (under others w) e) (denials_at w e) (same_denials e alike logged)
 
   same_moves : (e : Event) → DecideAlike w.rules others (asks w e) → move_at (under others w) e ≡ move_at w e
   unfolding asks move_at
@@ -335,51 +337,111 @@ module _ (w : State) (others : List Rule) where
     denials = w.denials + denials;
   }
 
-  same_next : (e : Event) → DecideAlike w.rules others (asks w e) → next (under others w) e ≡ under others (next w e)
+  same_next : (e : Event) → DecideAlike w.rules others (asks w e) → LogAlike w.rules others (asks w e)
+      → next (under others w) e ≡ under others (next w e)
   unfolding next next_of
-  same_next e alike =
+  same_next e alike logged =
       ap (λ (moves : Option Move). next_of e moves (change_at (under others w) e) (length (denials_at (under others w) e))) (same_moves e alike)
       ∙ (ap (λ (write : Option Write). next_of e (move_at w e) write (length (denials_at (under others w) e))) (same_writes e alike)
-      ∙ ap (λ (n : ℕ). next_of e (move_at w e) (change_at w e) n) (same_count e alike))
+      ∙ ap (λ (n : ℕ). next_of e (move_at w e) (change_at w e) n) (same_count e alike logged))
 
-  same_ends : (e : Event) → DecideAlike w.rules others (asks w e) → passes_end (under others w) e ≡ passes_end w e
+  -- but for the number of the last denial
+  next_but : Event → Option Move → Option Write → State
+  next_but e moves write = record w {
+    relay = moved moves w.relay;
+    device = changed write w.device;
+    rules = others;
+    ticks = w.ticks + ticks_of e;
+    denials = 0;
+  }
+
+  pub same_next_but : (e : Event) → DecideAlike w.rules others (asks w e) → counting 0 (next (under others w) e) ≡ counting 0 (under others (next w e))
+  unfolding next next_but
+  same_next_but e alike = ap₂ (λ (moves : Option Move) (write : Option Write). next_but e moves write) (same_moves e alike) (same_writes e alike)
+
+  same_ends : (e : Event) → DecideAlike w.rules others (asks w e) → LogAlike w.rules others (asks w e)
+      → passes_end (under others w) e ≡ passes_end w e
   unfolding passes_end
-  same_ends e alike =
-      ap (λ (n : ℕ). nat_lt last_count (w.ticks + ticks_of e) || nat_lt last_count (w.denials + n)) (same_count e alike)
+  same_ends e alike logged =
+      ap (λ (n : ℕ). nat_lt last_count (w.ticks + ticks_of e) || nat_lt last_count (w.denials + n)) (same_count e alike logged)
 
   abbrev effects_of : List Sending → List Denial → Effects
   effects_of sent denied = record { sends = sent; denials = denied }
 
-  same_effects : (e : Event) → DecideAlike w.rules others (asks w e) → unnamed (effects_at (under others w) e) ≡ unnamed (effects_at w e)
+  same_effects : (e : Event) → DecideAlike w.rules others (asks w e) → LogAlike w.rules others (asks w e)
+      → unnamed (effects_at (under others w) e) ≡ unnamed (effects_at w e)
   unfolding effects_at denials_at
-  same_effects e alike =
-      ap₂ (λ (sent : List Sending) (denied : List Denial). effects_of sent denied) (same_sends e alike) (same_denials e alike)
+  same_effects e alike logged =
+      ap₂ (λ (sent : List Sending) (denied : List Denial). effects_of sent denied) (same_sends e alike) (same_denials e alike logged)
 
 pub same_decisions_do_alike : SameDecisionsDoAlike
-same_decisions_do_alike w others e alike = record {
+same_decisions_do_alike w others e alike logged = record {
   asks = same_asks w others e alike;
-  effects = same_effects w others e alike;
-  next = same_next w others e alike;
-  ends = same_ends w others e alike;
+  effects = same_effects w others e alike logged;
+  next = same_next w others e alike logged;
+  ends = same_ends w others e alike logged;
+}
+
+pub same_decisions_send_alike : SameDecisionsSendAlike
+same_decisions_send_alike w others e alike = record {
+  asks = same_asks w others e alike;
+  sends = same_sends w others e alike;
+  next = same_next_but w others e alike;
 }
 
 -- ---- a run
 
-effects_along : (w : State) (others : List Rule) (l : List Event) → DecideAlikeAlong others w l
+effects_along : (w : State) (others : List Rule) (l : List Event) → DecideAlikeAlong others w l → LogAlikeAlong others w l
     → map unnamed (run_from (under others w) l) ≡ map unnamed (run_from w l)
-unfolding run_from DecideAlikeAlong
-effects_along w others [] alike = refl
-effects_along w others (e ∷ l) alike =
-    ap₂ (λ (given : Effects) (later : List Effects). given ∷ later) (same_effects w others e alike.0)
-    (ap (λ (v : State). map unnamed (run_from v l)) (same_next w others e alike.0) ∙ effects_along (next w e) others l alike.1)
+unfolding run_from DecideAlikeAlong LogAlikeAlong
+effects_along w others [] alike logged = refl
+effects_along w others (e ∷ l) alike logged =
+    ap₂ (λ (given : Effects) (later : List Effects). given ∷ later) (same_effects w others e alike.0 logged.0)
+    (ap (λ (v : State). map unnamed (run_from v l)) (same_next w others e alike.0 logged.0)
+    ∙ effects_along (next w e) others l alike.1 logged.1)
 
-state_along : (w : State) (others : List Rule) (l : List Event) → DecideAlikeAlong others w l
+state_along : (w : State) (others : List Rule) (l : List Event) → DecideAlikeAlong others w l → LogAlikeAlong others w l
     → state_from (under others w) l ≡ under others (state_from w l)
-unfolding state_from DecideAlikeAlong
-state_along w others [] alike = refl
-state_along w others (e ∷ l) alike =
-    ap (λ (v : State). state_from v l) (same_next w others e alike.0) ∙ state_along (next w e) others l alike.1
+unfolding state_from DecideAlikeAlong LogAlikeAlong
+state_along w others [] alike logged = refl
+state_along w others (e ∷ l) alike logged =
+    ap (λ (v : State). state_from v l) (same_next w others e alike.0 logged.0) ∙ state_along (next w e) others l alike.1 logged.1
 
 -- the rules of the next state are those of the state
 pub same_decisions_run_alike : SameDecisionsRunAlike
-same_decisions_run_alike w others l alike = record { effects = effects_along w others l alike; state = state_along w others l alike }
+same_decisions_run_alike w others l alike logged =
+    record { effects = effects_along w others l alike logged; state = state_along w others l alike logged }
+
+-- ---- a run, whatever is logged
+
+-- the state after an event is that of the other gateway, but for the number of its last denial
+pub next_beside : (w : State) (others : List Rule) (n : ℕ) (e : Event) → DecideAlike w.rules others (asks w e)
+    → next (counting n (under others w)) e ≡ counting (next (counting n (under others w)) e).denials (under others (next w e))
+next_beside w others n e alike =
+    let v = under others w in
+    let k = (next (counting n v) e).denials in
+    next_counting n v e
+    ∙ ap (λ (s : State). counting k s) (same_next_but w others e alike)
+
+pub sends_along : (w : State) (others : List Rule) (n : ℕ) (l : List Event) → DecideAlikeAlong others w l
+    → map (λ given. given.sends) (run_from (counting n (under others w)) l) ≡ map (λ given. given.sends) (run_from w l)
+unfolding run_from DecideAlikeAlong
+sends_along w others n [] alike = refl
+sends_along w others n (e ∷ l) alike =
+    let v = counting n (under others w) in
+    ap₂ (λ (sent : List Sending) (later : List (List Sending)). sent ∷ later)
+    (sends_counting n (under others w) e ∙ same_sends w others e alike.0)
+    (ap (λ (s : State). map (λ given. given.sends) (run_from s l)) (next_beside w others n e alike.0)
+    ∙ sends_along (next w e) others (next v e).denials l alike.1)
+
+pub left_along : (w : State) (others : List Rule) (n : ℕ) (l : List Event) → DecideAlikeAlong others w l
+    → counting 0 (state_from (counting n (under others w)) l) ≡ counting 0 (under others (state_from w l))
+unfolding state_from DecideAlikeAlong
+left_along w others n [] alike = refl
+left_along w others n (e ∷ l) alike =
+    ap (λ (s : State). counting 0 (state_from s l)) (next_beside w others n e alike.0)
+    ∙ left_along (next w e) others (next (counting n (under others w)) e).denials l alike.1
+
+pub same_decisions_run_send_alike : SameDecisionsRunSendAlike
+same_decisions_run_send_alike w others l alike =
+    record { sends = sends_along w others w.denials l alike; state = left_along w others w.denials l alike }

@@ -73,13 +73,10 @@ received_so w Tick off = refl
 
 -- ---- part by part
 
-no_sender : (format : Format) (m : Message) → names_stations format ≡ false → ◌≡◌ {A = Option ℕ} (sender_of format m.from) None
-no_sender One m off = refl
-no_sender Two m off = refl
-no_sender Three m off = absurd cc
-
 same_context : (format : Format) (network : ℕ) (m : Message) → names_stations format ≡ false → context_of format network m ≡ context_before network m
-same_context format network m off = ap (λ (s : Option ℕ). record (context_before network m) { sender = s }) (no_sender format m off)
+same_context One network m off = refl
+same_context Two network m off = refl
+same_context Three network m off = absurd cc
 
 five : {A : Type 0} (a b c d e v w x y z : List A) → a ≡ v → b ≡ w → c ≡ x → d ≡ y → e ≡ z → a ++ b ++ c ++ d ++ e ≡ v ++ w ++ x ++ y ++ z
 five a b c d e v w x y z e1 e2 e3 e4 e5 = rw (e1, e2, e3, e4, e5) refl

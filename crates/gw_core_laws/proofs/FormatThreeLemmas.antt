@@ -13,6 +13,8 @@ use Rattle.gw_frames.specs.npdu.Npdu.{Fields}
 use Rattle.gw_audit.specs.declared.denial.Denial.{Denial}
 use Rattle.gw_configuration.specs.Configuration.{Configuration}
 use Rattle.gw_configuration.specs.declared.port.Port.{Port as ConfiguredPort}
+use Rattle.gw_device.specs.declared.context.Context.{Context}
+use Rattle.gw_device.specs.Device.{device_response}
 use Rattle.gw_device.specs.Response.{Response}
 use Rattle.gw_objects.specs.Objects.{Database}
 use Rattle.gw_objects.specs.Write.{Write}
@@ -52,10 +54,10 @@ use Rattle.gw_core.specs.State.{State, device_network}
 use Rattle.gw_core.proofs.EntryLemmas.{entry_is_unasked}
 use Rattle.gw_core.proofs.HistoryLemmas.{run_from-after, state_from-after}
 use Rattle.gw_core.proofs.RespondLemmas.{four_none, three_none}
-use Rattle.gw_core_laws.specs.FormatThree.{AreTakenAlike, FormatThreeIsAsTwo, FormatThreeRunsAsTwo, HaveNoStations, IsAsUnderTwo, IsTakenAlike, NameNoStation, before, claimed_from, claims_at, claims_of, in_format_two, is_property_request, unstationed, unstationed_denial, unstationed_effects}
+use Rattle.gw_core_laws.specs.FormatThree.{AreTakenAlike, FormatThreeIsAsTwo, FormatThreeRunsAsTwo, HaveNoStations, IsAsUnderTwo, IsKeyedAlike, IsTakenAlike, NameNoStation, before, claimed_from, claims_at, claims_of, in_format_two, is_property_request, unstationed, unstationed_denial, unstationed_effects}
 use Rattle.gw_core_laws.specs.FormatTwo.{asked_from, received_before}
 use Rattle.gw_core_laws.specs.Laws.{under}
-use Rattle.gw_core_laws.proofs.DeviceAlikeLemmas.{device_alike}
+use Rattle.gw_core_laws.proofs.DeviceAlikeLemmas.{device_alike, senderless, unstationed_response}
 use Rattle.gw_core_laws.proofs.FormatLemmas.{moved_under, one_move, received_so}
 use Rattle.gw_core_laws.proofs.RelayAlikeLemmas.{HasNone, cast_asks_alike, cast_sends_alike, claims_alone, link_answer_alike, link_asks_alike, link_change_alike, manage_change_alike, manage_steps_alike, onward_alike, port_open, relay_three, relay_two, route_steps_alike, steps_asked, steps_sent, strange_sends_alike}
 use Rattle.gw_core_laws.proofs.StationLemmas.{entry_each}
@@ -173,33 +175,44 @@ received_two w Tick = received_so (under Two w) Tick refl
 
 -- ---- an APDU
 
-module _ (rules : List Rule) (none : NameNoStation rules) (d : Database) (m : Message) where
+-- what the device knows of a message whose source has one key in both formats
+context_alike : (network : ℕ) (m : Message) → IsKeyedAlike m → senderless (context_of Three network m) ≡ context_of Two network m
+context_alike network m keyed = ap (λ (key : Option ℕ). record (context_of Two network m) { source_key = key }) keyed
+
+module _ (rules : List Rule) (none : NameNoStation rules) (d : Database) (m : Message) (keyed : IsKeyedAlike m) where
+  served : (octets : List ℕ)
+      → unstationed_response (device_response rules d (context_of Three (device_network d) m) octets)
+      ≡ device_response rules d (context_of Two (device_network d) m) octets
+  served octets =
+      device_alike rules none d (context_of Three (device_network d) m) octets
+      ∙ ap (λ (context : Context). device_response rules d context octets) (context_alike (device_network d) m keyed)
+
   served_asks : (octets : Option (List ℕ))
       → map unstationed (apdu_asks rules d (context_of Three (device_network d) m) octets)
       ≡ apdu_asks rules d (context_of Two (device_network d) m) octets
   served_asks None = refl
   served_asks (Some octets) =
-      ap (λ (r : Response). r.asks) (device_alike rules none d (context_of Three (device_network d) m) octets)
+      ap (λ (r : Response). r.asks) (served octets)
 
   served_sends : (octets : Option (List ℕ))
       → answer_sends (device_network d) m (apdu_answer rules d (context_of Three (device_network d) m) octets)
       ≡ answer_sends (device_network d) m (apdu_answer rules d (context_of Two (device_network d) m) octets)
   served_sends None = refl
   served_sends (Some octets) =
-      ap (λ (r : Response). answer_sends (device_network d) m r.answer) (device_alike rules none d (context_of Three (device_network d) m) octets)
+      ap (λ (r : Response). answer_sends (device_network d) m r.answer) (served octets)
 
   served_change : (octets : Option (List ℕ))
       → apdu_change rules d (context_of Three (device_network d) m) octets
       ≡ apdu_change rules d (context_of Two (device_network d) m) octets
   served_change None = refl
   served_change (Some octets) =
-      ap (λ (r : Response). r.change) (device_alike rules none d (context_of Three (device_network d) m) octets)
+      ap (λ (r : Response). r.change) (served octets)
 
 -- ---- part by part
 
--- what is no broadcast of a request that names properties
+-- what is no broadcast of a request that names properties, and has a source of one key in both formats
 abbrev Quiet : Received → Type 0
-Quiet (message m) = (is_broadcast m.frame && is_property_request m.npdu.payload) ≡ false
+Quiet (message m) = ((is_broadcast m.frame && is_property_request m.npdu.payload) ≡ false) × IsKeyedAlike m
 Quiet other = Unit {0}
 
 -- what is asked after the asks to claim
@@ -249,10 +262,10 @@ module _ (w : State) (none : NameNoStation w.rules) (all : HaveNoStations w.rela
   asked_alike (barred m) fine quiet = absurd fine
   asked_alike (message m) fine quiet =
       map_four (cast_asks Three m) (route_asks (relay_three w.relay) m) (manage_asks (relay_three w.relay) m) (message_asks w.rules Three w.device m)
-      ∙ four _ _ _ _ _ _ _ _ (cast_asks_alike m quiet)
-      (steps_asked (route_steps (relay_three w.relay) m) ∙ ap asks_of (route_steps_alike w.relay m all))
-      (steps_asked (manage_steps (relay_three w.relay) m) ∙ ap asks_of (manage_steps_alike w.relay m))
-      (served_asks w.rules none w.device m (apdu_for (device_network w.device) m.npdu))
+      ∙ four _ _ _ _ _ _ _ _ (cast_asks_alike m quiet.1 quiet.0)
+      (steps_asked (route_steps (relay_three w.relay) m) ∙ ap asks_of (route_steps_alike w.relay m all quiet.1))
+      (steps_asked (manage_steps (relay_three w.relay) m) ∙ ap asks_of (manage_steps_alike w.relay m quiet.1))
+      (served_asks w.rules none w.device m quiet.1 (apdu_for (device_network w.device) m.npdu))
       ∙ ap (λ (l : List Ask). l ++ cast_asks Two m ++ route_asks (relay_two w.relay) m ++ manage_asks (relay_two w.relay) m ++ message_asks w.rules Two w.device m)
       (sym (entry_is_unasked w.rules (relay_two w.relay) m refl))
 
@@ -266,27 +279,27 @@ module _ (w : State) (none : NameNoStation w.rules) (all : HaveNoStations w.rela
       three_none (cast_sends w.rules Three m) ∙ strange_sends_alike w.rules none m fine ∙ sym (three_none (cast_sends w.rules Two m))
   sent_alike (barred m) fine quiet = absurd fine
   sent_alike (message m) fine quiet =
-      four _ _ _ _ _ _ _ _ (cast_sends_alike w.rules none m quiet)
-      (steps_sent w.rules none (route_steps (relay_three w.relay) m) ∙ ap (sends_of w.rules) (route_steps_alike w.relay m all))
+      four _ _ _ _ _ _ _ _ (cast_sends_alike w.rules none m quiet.1 quiet.0)
+      (steps_sent w.rules none (route_steps (relay_three w.relay) m) ∙ ap (sends_of w.rules) (route_steps_alike w.relay m all quiet.1))
       (ap₂ (λ (x y : List Sending). x ++ y)
-      (steps_sent w.rules none (manage_steps (relay_three w.relay) m) ∙ ap (sends_of w.rules) (manage_steps_alike w.relay m))
-      (onward_alike w.rules none w.relay m))
-      (served_sends w.rules none w.device m (apdu_for (device_network w.device) m.npdu))
+      (steps_sent w.rules none (manage_steps (relay_three w.relay) m) ∙ ap (sends_of w.rules) (manage_steps_alike w.relay m quiet.1))
+      (onward_alike w.rules none w.relay m quiet.1))
+      (served_sends w.rules none w.device m quiet.1 (apdu_for (device_network w.device) m.npdu))
 
-  relay_changed : (r : Received) → Fine r
+  relay_changed : (r : Received) → Fine r → Quiet r
       → relay_change_for w.rules (relay_three w.relay) r ≡ relay_change_for w.rules (relay_two w.relay) r
-  relay_changed dropped fine = refl
-  relay_changed (managed on from frame) fine = link_change_alike w.rules none on from frame
-  relay_changed (unregistered m) fine = refl
-  relay_changed (barred m) fine = refl
-  relay_changed (message m) fine = manage_change_alike w.rules none w.relay m
+  relay_changed dropped fine quiet = refl
+  relay_changed (managed on from frame) fine quiet = link_change_alike w.rules none on from frame
+  relay_changed (unregistered m) fine quiet = refl
+  relay_changed (barred m) fine quiet = refl
+  relay_changed (message m) fine quiet = manage_change_alike w.rules none w.relay m quiet.1
 
-  device_changed : (r : Received) → change_for w.rules Three w.device r ≡ change_for w.rules Two w.device r
-  device_changed dropped = refl
-  device_changed (managed on from frame) = refl
-  device_changed (unregistered m) = refl
-  device_changed (barred m) = refl
-  device_changed (message m) = served_change w.rules none w.device m (apdu_for (device_network w.device) m.npdu)
+  device_changed : (r : Received) → Quiet r → change_for w.rules Three w.device r ≡ change_for w.rules Two w.device r
+  device_changed dropped quiet = refl
+  device_changed (managed on from frame) quiet = refl
+  device_changed (unregistered m) quiet = refl
+  device_changed (barred m) quiet = refl
+  device_changed (message m) quiet = served_change w.rules none w.device m quiet.1 (apdu_for (device_network w.device) m.npdu)
 
 -- ---- an event
 
@@ -301,7 +314,7 @@ claim_undenied rules true k rest allowed = by (allows rules k) refl allowed
     by false is so = absurd cc
 
 quiet_so : (w : State) (e : Event) (r : Received) → receive w e ≡ r → IsTakenAlike w e → Quiet r
-quiet_so w e (message m) is alike = alike.broadcast m is
+quiet_so w e (message m) is alike = (alike.broadcast m is, alike.keyed m is)
 quiet_so w e dropped is alike = tt
 quiet_so w e (managed on from frame) is alike = tt
 quiet_so w e (unregistered m) is alike = tt
@@ -391,7 +404,7 @@ module _ (w : State) (e : Event) (none : NameNoStation w.rules) (all : HaveNoSta
   writes_event : change_at (under Three w) e ≡ change_at (under Two w) e
   unfolding change_at
   writes_event =
-      ap (change_for w.rules Three w.device) is_got ∙ device_changed w none all got
+      ap (change_for w.rules Three w.device) is_got ∙ device_changed w none all got is_quiet
       ∙ sym (ap (change_for w.rules Two w.device) (received_two w e))
 
 moves_event : (w : State) (e : Event) → NameNoStation w.rules → HaveNoStations w.relay.ports → IsTakenAlike (under Three w) e
@@ -400,7 +413,8 @@ unfolding move_at
 moves_event w (Datagram port from octets) none all alike =
     let e = Datagram port from octets in
     ap (λ (r : Received). option_map move.Commit (relay_change_for w.rules (relay_three w.relay) r)) (received_three w e all alike)
-    ∙ ap (option_map move.Commit) (relay_changed w none all (received_before w e) (fine_before w e all))
+    ∙ ap (option_map move.Commit) (relay_changed w none all (received_before w e) (fine_before w e all)
+    (quiet_so (under Three w) e (received_before w e) (received_three w e all alike) alike))
     ∙ sym (ap (λ (r : Received). option_map move.Commit (relay_change_for w.rules (relay_two w.relay) r)) (received_two w e))
 moves_event w Tick none all alike = refl
 

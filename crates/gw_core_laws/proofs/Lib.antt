@@ -27,3 +27,7 @@ pub mod Whence
 pub mod DeviceDecisionLemmas
 pub mod RelayDecisionLemmas
 pub mod DecisionLemmas
+pub mod LoggedLemmas
+pub mod CountingLemmas
+pub mod QuietRuleLemmas
+pub mod KeyLemmas

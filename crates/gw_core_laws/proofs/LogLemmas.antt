@@ -5,7 +5,7 @@ use Rattle.std.specs.Prelude.{count_by, filter, not, replicate}
 use Rattle.std.specs.List.{fold}
 use Rattle.gw_rules.specs.Ask.{Ask}
 use Rattle.gw_rules.specs.Authorizer.{denied_of, refusal}
-use Rattle.gw_rules.specs.RuleList.{allows}
+use Rattle.gw_rules.specs.RuleList.{is_logged}
 use Rattle.gw_rules.specs.declared.refusal.Refusal.{Refusal}
 use Rattle.gw_rules.specs.declared.rule.Rule.{Rule}
 use Rattle.gw_script.specs.Event.{Event, Datagram, Tick}
@@ -135,18 +135,18 @@ entries_from rules number tick from (ask ∷ others) = ap (λ (l : List (Ask × 
 -- what is dropped, and an unregistered sender's, asks nothing
 entries_of : (w : State) (received : Received)
     → map (λ d. (d.ask, d.rule)) (denials_for w received) ≡ map (entry w.rules)
-    (filter (λ ask. not (allows w.rules ask)) (asks_for w.rules w.relay w.device received))
+    (filter (is_logged w.rules) (asks_for w.rules w.relay w.device received))
 entries_of w dropped = refl
 entries_of w (managed on from frame) =
     entries_from w.rules (w.denials + 1) w.ticks (node_origin on from)
-    (filter (λ ask. not (allows w.rules ask)) (asks_for w.rules w.relay w.device (managed on from frame)))
+    (filter (is_logged w.rules) (asks_for w.rules w.relay w.device (managed on from frame)))
 entries_of w (unregistered m) = refl
 entries_of w (barred m) =
     entries_from w.rules (w.denials + 1) w.ticks (message_origin m)
-    (filter (λ ask. not (allows w.rules ask)) (asks_for w.rules w.relay w.device (barred m)))
+    (filter (is_logged w.rules) (asks_for w.rules w.relay w.device (barred m)))
 entries_of w (message m) =
     entries_from w.rules (w.denials + 1) w.ticks (message_origin m)
-    (filter (λ ask. not (allows w.rules ask)) (asks_for w.rules w.relay w.device (message m)))
+    (filter (is_logged w.rules) (asks_for w.rules w.relay w.device (message m)))
 
 pub denied_asks_are_logged : DeniedAsksAreLogged
 unfolding effects_at asks

@@ -5,7 +5,7 @@ use Rattle.std.specs.List.{list_all}
 use Rattle.std.specs.Option.{option_map}
 use Rattle.std.proofs.lemmas.Bool.{and_from, and_parts}
 use Rattle.gw_addr.specs.declared.bip.BipAddr.{BipAddr}
-use Rattle.gw_configuration.specs.Configuration.{are_named, is_managed, is_plain_port, keeps_counts, keeps_rules}
+use Rattle.gw_configuration.specs.Configuration.{are_named, is_managed, is_plain_port, keeps_assertions, keeps_counts, keeps_rules, policing_of}
 use Rattle.gw_configuration.specs.Configuration as configuration
 use Rattle.gw_configuration.specs.declared.port.Port.{Port as ConfiguredPort}
 use Rattle.gw_rules.specs.Ask.{Ask}
@@ -234,8 +234,9 @@ first_formats_are_plain c off limits =
     let counts = and_parts (keeps_counts c) _ limits in
     let names = and_parts (are_named c.device c.objects) _ counts.1 in
     let ports = and_parts (list_all is_managed c.ports) _ names.1 in
-    let rules = and_parts (keeps_rules c.format c.rules c.notes c.audits) _ ports.1 in
-    let both = and_parts (not c.announce) (configuration.is_plain c.ports c.rules c.notes c.audits c.sets) (or_last (names_stations c.format) _ rules.1 off) in
+    let rules = and_parts (keeps_rules c.format (policing_of c)) _ ports.1 in
+    let asserted = and_parts (keeps_assertions c.assertions) _ rules.1 in
+    let both = and_parts (not c.announce) (configuration.is_plain c.ports (policing_of c)) (or_last (names_stations c.format) _ asserted.1 off) in
     let each = and_parts (list_all is_plain_port c.ports) _ both.1 in
     and_from (not c.announce) (are_managers (port_states_from 1 c.ports)) both.0 (managers_from 1 c.ports each.0)
 

@@ -23,7 +23,7 @@ use Rattle.gw_codecs.specs.services.Write.{Write, write_at}
 use Rattle.gw_frames.specs.bvll.Bvll.{Message as Frame}
 use Rattle.gw_frames.specs.bvll.Bvll as bvll
 use Rattle.gw_frames.specs.npdu.Npdu.{Destination, Fields, Payload, apdu, message, payload_octets}
-use Rattle.gw_tables.specs.routes.Table.{way}
+use Rattle.gw_tables.specs.routes.Table.{reachable_from, way}
 use Rattle.gw_tables.specs.declared.routes.route.Way.{Way}
 use Rattle.gw_tables.specs.declared.routes.route.Way.TheVariants as ways
 use Rattle.gw_tables.specs.bdt_fdt.Registrations.{contains}
@@ -33,13 +33,14 @@ use Rattle.gw_rules.specs.Format.{names_stations}
 use Rattle.gw_rules.specs.RuleList.{allows}
 use Rattle.gw_rules.specs.declared.format.Format.TheVariants.{Two, Three}
 use Rattle.gw_rules.specs.declared.operation.Operation.{Operation}
+use Rattle.gw_rules.specs.declared.operation.Operation.TheVariants as operations
 use Rattle.gw_rules.specs.declared.rule.Rule.{Rule}
-use Rattle.gw_relay.specs.Asks.{bound_for, deleted_station, link_ask, link_asks, management_of}
+use Rattle.gw_relay.specs.Asks.{bound_for, deleted_station, link_ask, link_asks, management_of, message_ask}
 use Rattle.gw_relay.specs.Cast.{accepts, cast_ask, cast_asks, cast_sends, carried_asks, goes_on, is_broadcast, is_carried, is_unregistered, passed_on, targets}
 use Rattle.gw_relay.specs.Entry.{claim_asks, enter_ask, enters, entry_asks, is_stranger}
 use Rattle.gw_relay.specs.Link.{answer_to, change_of, granted, is_granted, is_misplaced, link_answer, link_change, refused}
 use Rattle.gw_tables.specs.routes.Table.{new_networks, route_by}
-use Rattle.gw_relay.specs.Manage.{announced_but, onward_sends, answer_steps, answer_who_is_router, is_i_am_router, is_what_is_network_number, is_who_is_router, keep_allowed, learn_ask, learn_steps, manage_change, manage_steps, named_networks, network_ask, number_step, question_of, question_steps}
+use Rattle.gw_relay.specs.Manage.{announced_but, onward_sends, answer_steps, answer_who_is_router, i_am_router, is_i_am_router, network_number_is, is_what_is_network_number, is_who_is_router, keep_allowed, learn_ask, learn_steps, manage_change, manage_steps, named_networks, network_ask, number_step, question_of, question_steps}
 use Rattle.gw_relay.specs.Message.{Message}
 use Rattle.gw_relay.specs.Named.{apdu_asks, body_asks, forward_asks, header_asks, multi_asks, payload_asks, read_asks, reference_ask, segment_asks, write_asks}
 use Rattle.gw_relay.specs.Route.{copy, copy_to_port, delivered, forward, is_local, last_hop, leaves, on_way, others, route_ask, route_steps, steps_by}
@@ -50,7 +51,7 @@ use Rattle.gw_relay.specs.Steps.{Step, asks_of, broadcast, sends_of, step, unica
 use Rattle.gw_relay.specs.declared.change.Change.TheVariants.{Learnings}
 use Rattle.gw_relay.specs.declared.port.Port.{Port}
 use Rattle.gw_relay.specs.declared.port.PortState.{PortState}
-use Rattle.gw_core_laws.specs.FormatThree.{HaveNoStations, NameNoStation, apdu_names, header_names, is_property_request, unstationed}
+use Rattle.gw_core_laws.specs.FormatThree.{HaveNoStations, IsKeyedAlike, NameNoStation, apdu_names, header_names, is_property_request, unstationed}
 use Rattle.gw_core_laws.proofs.UnstationedLemmas.{all_alike, allowed_alike}
 
 -- a relay of the third format, and of the second
@@ -67,6 +68,12 @@ unstationed_step s = record s { asks = map unstationed s.asks }
 -- a step of these asks and these sends
 abbrev step_so : List Ask → List Sending → Step
 step_so asks sends = record { asks = asks; sends = sends }
+
+-- the ask of a message whose source has one key in both formats
+message_alike : (m : Message) → IsKeyedAlike m → (operation : Operation) (destination : Option ℕ)
+    → unstationed (message_ask Three operation m destination) ≡ message_ask Two operation m destination
+message_alike m keyed operation destination =
+    ap (λ (key : Option ℕ). record (message_ask Two operation m destination) { source_key = key }) keyed
 
 -- a port without stations
 abbrev pub HasNone : PortState → Type 0
@@ -209,23 +216,24 @@ link_asks_alike port from frame = link_by port from frame (management_of frame)
 
 -- ---- broadcasts, routing and network layer messages
 
-cast_by : (m : Message) (on wide : Bool) → (wide && is_property_request m.npdu.payload) ≡ false
+cast_by : (m : Message) (on wide : Bool) → IsKeyedAlike m → (wide && is_property_request m.npdu.payload) ≡ false
     → map unstationed (if on && wide then cast_ask Three m ∷ carried_asks Three m else [])
     ≡ (if on && wide then cast_ask Two m ∷ carried_asks Two m else [])
-cast_by m true true e =
-    ap (λ (l : List Ask). cast_ask Two m ∷ map unstationed l) (none_payload (cast_ask Three m) m.npdu.payload e)
-cast_by m true false e = refl
-cast_by m false wide e = refl
+cast_by m true true keyed e =
+    ap (λ (l : List Ask). unstationed (cast_ask Three m) ∷ map unstationed l) (none_payload (cast_ask Three m) m.npdu.payload e)
+    ∙ ap (λ (ask : Ask). ask ∷ []) (message_alike m keyed operations.Cast (bound_for m.npdu))
+cast_by m true false keyed e = refl
+cast_by m false wide keyed e = refl
 
 narrower : (a b c : Bool) → (b && c) ≡ false → ((a && b) && c) ≡ false
 narrower true b c e = e
 narrower false b c e = refl
 
-pub cast_asks_alike : (m : Message) → (is_broadcast m.frame && is_property_request m.npdu.payload) ≡ false
+pub cast_asks_alike : (m : Message) → IsKeyedAlike m → (is_broadcast m.frame && is_property_request m.npdu.payload) ≡ false
     → map unstationed (cast_asks Three m) ≡ cast_asks Two m
 unfolding cast_asks
-cast_asks_alike m e =
-    cast_by m (goes_on m.here m.from m.frame) (is_carried m.here m.frame)
+cast_asks_alike m keyed e =
+    cast_by m (goes_on m.here m.from m.frame) (is_carried m.here m.frame) keyed
     (narrower (is_manager m.here.port) (is_broadcast m.frame) (is_property_request m.npdu.payload) e)
 
 -- a sender who isn't registered is refused whatever is asked
@@ -280,44 +288,50 @@ forward_alike relay m d ways.Unknown all = refl
 forward_alike relay m d ways.Everywhere all = refl
 forward_alike relay m d ways.Device all = refl
 
-way_alike : (relay : Relay) (m : Message) (d : Destination) (by : Way) → HaveNoStations relay.ports
+routed : (m : Message) → IsKeyedAlike m → (network : Option ℕ)
+    → map unstationed (forward_asks Three (route_ask Three m network) m.npdu.payload) ≡ forward_asks Two (route_ask Two m network) m.npdu.payload
+routed m keyed network =
+    forwarded (route_ask Three m network) m.npdu.payload
+    ∙ ap (λ (route : Ask). forward_asks Two route m.npdu.payload) (message_alike m keyed operations.Route network)
+
+way_alike : (relay : Relay) (m : Message) (d : Destination) (by : Way) → HaveNoStations relay.ports → IsKeyedAlike m
     → unstationed_step (on_way (relay_three relay) m d by) ≡ on_way (relay_two relay) m d by
-way_alike relay m d by all =
+way_alike relay m d by all keyed =
     ap₂ (λ (asks : List Ask) (sends : List Sending). step_so asks sends)
-    (forwarded (route_ask Three m (bound_for m.npdu)) m.npdu.payload) (forward_alike relay m d by all)
+    (routed m keyed (bound_for m.npdu)) (forward_alike relay m d by all)
 
-copies_alike : (m : Message) (d : Destination) (ports : List PortState)
+copies_alike : (m : Message) (d : Destination) (ports : List PortState) → IsKeyedAlike m
     → map unstationed_step (map (copy Three m d) ports) ≡ map (copy Two m d) ports
-copies_alike m d [] = refl
-copies_alike m d (state ∷ ports) =
+copies_alike m d [] keyed = refl
+copies_alike m d (state ∷ ports) keyed =
     ap₂ (λ (asks : List Ask) (l : List Step). step_so asks (copy_to_port m d state) ∷ l)
-    (forwarded (route_ask Three m (Some state.port.network)) m.npdu.payload) (copies_alike m d ports)
+    (routed m keyed (Some state.port.network)) (copies_alike m d ports keyed)
 
-one_way : (relay : Relay) (m : Message) (d : Destination) (by : Way) → HaveNoStations relay.ports
+one_way : (relay : Relay) (m : Message) (d : Destination) (by : Way) → HaveNoStations relay.ports → IsKeyedAlike m
     → map unstationed_step (if leaves m.here.port.number by then on_way (relay_three relay) m d by ∷ [] else [])
     ≡ (if leaves m.here.port.number by then on_way (relay_two relay) m d by ∷ [] else [])
-one_way relay m d by all =
+one_way relay m d by all keyed =
     if_steps (leaves m.here.port.number by) (on_way (relay_three relay) m d by ∷ []) [] (on_way (relay_two relay) m d by ∷ []) []
-    (ap (λ (s : Step). s ∷ []) (way_alike relay m d by all)) refl
+    (ap (λ (s : Step). s ∷ []) (way_alike relay m d by all keyed)) refl
 
-steps_alike : (relay : Relay) (m : Message) (d : Destination) (by : Way) → HaveNoStations relay.ports
+steps_alike : (relay : Relay) (m : Message) (d : Destination) (by : Way) → HaveNoStations relay.ports → IsKeyedAlike m
     → map unstationed_step (steps_by (relay_three relay) m d by) ≡ steps_by (relay_two relay) m d by
-steps_alike relay m d ways.Everywhere all = copies_alike m d (others m.here.port.number relay.ports)
-steps_alike relay m d (ways.Port number) all = one_way relay m d (ways.Port number) all
-steps_alike relay m d (ways.Router route) all = one_way relay m d (ways.Router route) all
-steps_alike relay m d ways.Unknown all = one_way relay m d ways.Unknown all
-steps_alike relay m d ways.Device all = one_way relay m d ways.Device all
+steps_alike relay m d ways.Everywhere all keyed = copies_alike m d (others m.here.port.number relay.ports) keyed
+steps_alike relay m d (ways.Port number) all keyed = one_way relay m d (ways.Port number) all keyed
+steps_alike relay m d (ways.Router route) all keyed = one_way relay m d (ways.Router route) all keyed
+steps_alike relay m d ways.Unknown all keyed = one_way relay m d ways.Unknown all keyed
+steps_alike relay m d ways.Device all keyed = one_way relay m d ways.Device all keyed
 
-pub route_steps_alike : (relay : Relay) (m : Message) → HaveNoStations relay.ports
+pub route_steps_alike : (relay : Relay) (m : Message) → HaveNoStations relay.ports → IsKeyedAlike m
     → map unstationed_step (route_steps (relay_three relay) m) ≡ route_steps (relay_two relay) m
-route_steps_alike relay m all = by (is_local m.npdu.payload) m.npdu.destination
+route_steps_alike relay m all keyed = by (is_local m.npdu.payload) m.npdu.destination
   where
     by : (local : Bool) (d : Option Destination)
         → map unstationed_step (if local then [] else option_map_or (λ d. steps_by (relay_three relay) m d (way relay.routes d.address.network)) d [])
         ≡ (if local then [] else option_map_or (λ d. steps_by (relay_two relay) m d (way relay.routes d.address.network)) d [])
     by true d = refl
     by false None = refl
-    by false (Some d) = steps_alike relay m d (way relay.routes d.address.network) all
+    by false (Some d) = steps_alike relay m d (way relay.routes d.address.network) all keyed
 
 answers_alike : (relay : Relay) (m : Message) (network : ℕ) (by : Way)
     → answer_who_is_router (relay_three relay) m network by ≡ answer_who_is_router (relay_two relay) m network by
@@ -327,36 +341,40 @@ answers_alike relay m network (ways.Router route) = refl
 answers_alike relay m network ways.Unknown = refl
 answers_alike relay m network ways.Everywhere = refl
 
-question_alike : (relay : Relay) (m : Message) (network : ℕ)
+question_alike : (relay : Relay) (m : Message) (network : ℕ) → IsKeyedAlike m
     → unstationed_step (question_of (relay_three relay) m network) ≡ question_of (relay_two relay) m network
-question_alike relay m network =
-    ap (λ (sends : List Sending). step (network_ask Two m (Some network)) sends) (answers_alike relay m network (way relay.routes network))
+question_alike relay m network keyed =
+    ap₂ (λ (ask : Ask) (sends : List Sending). step ask sends) (message_alike m keyed operations.Network (Some network))
+    (answers_alike relay m network (way relay.routes network))
 
-questions_alike : (relay : Relay) (m : Message) (octets : List ℕ)
+questions_alike : (relay : Relay) (m : Message) (octets : List ℕ) → IsKeyedAlike m
     → map unstationed_step (question_steps (relay_three relay) m octets) ≡ question_steps (relay_two relay) m octets
-questions_alike relay m [] = refl
-questions_alike relay m (octet ∷ []) = refl
-questions_alike relay m (high ∷ low ∷ []) = by (network_of (from_be_bytes w16 (high ∷ low ∷ [])))
+questions_alike relay m [] keyed =
+    ap (λ (ask : Ask). step ask (broadcast (i_am_router (reachable_from relay.routes m.here.port.number)) m.here) ∷ []) (message_alike m keyed operations.Network None)
+questions_alike relay m (octet ∷ []) keyed = refl
+questions_alike relay m (high ∷ low ∷ []) keyed = by (network_of (from_be_bytes w16 (high ∷ low ∷ [])))
   where
     by : (network : Option ℕ) → map unstationed_step (option_map_or (λ network. question_of (relay_three relay) m network ∷ []) network [])
         ≡ option_map_or (λ network. question_of (relay_two relay) m network ∷ []) network []
     by None = refl
-    by (Some network) = ap (λ (s : Step). s ∷ []) (question_alike relay m network)
-questions_alike relay m (a ∷ b ∷ c ∷ octets) = refl
+    by (Some network) = ap (λ (s : Step). s ∷ []) (question_alike relay m network keyed)
+questions_alike relay m (a ∷ b ∷ c ∷ octets) keyed = refl
 
-learned_alike : (m : Message) (networks : List ℕ)
+learned_alike : (m : Message) (networks : List ℕ) → IsKeyedAlike m
     → map unstationed_step (map (λ n. step (learn_ask Three m n) []) networks) ≡ map (λ n. step (learn_ask Two m n) []) networks
-learned_alike m [] = refl
-learned_alike m (n ∷ networks) = ap (λ (l : List Step). step (learn_ask Two m n) [] ∷ l) (learned_alike m networks)
+learned_alike m [] keyed = refl
+learned_alike m (n ∷ networks) keyed =
+    ap₂ (λ (ask : Ask) (l : List Step). step ask [] ∷ l) (message_alike m keyed operations.Learn (Some n)) (learned_alike m networks keyed)
 
-pub manage_steps_alike : (relay : Relay) (m : Message)
+pub manage_steps_alike : (relay : Relay) (m : Message) → IsKeyedAlike m
     → map unstationed_step (manage_steps (relay_three relay) m) ≡ manage_steps (relay_two relay) m
-manage_steps_alike relay m =
+manage_steps_alike relay m keyed =
     if_steps (is_i_am_router m.npdu) (learn_steps Three m) (answer_steps (relay_three relay) m) (learn_steps Two m) (answer_steps (relay_two relay) m)
-    (learned_alike m (named_networks m))
+    (learned_alike m (named_networks m) keyed)
     (if_steps (is_who_is_router m.npdu) (question_steps (relay_three relay) m (payload_octets m.npdu.payload)) _ (question_steps (relay_two relay) m (payload_octets m.npdu.payload)) _
-    (questions_alike relay m (payload_octets m.npdu.payload))
-    (if_steps (is_what_is_network_number m.npdu) (number_step Three m ∷ []) [] (number_step Two m ∷ []) [] refl refl))
+    (questions_alike relay m (payload_octets m.npdu.payload) keyed)
+    (if_steps (is_what_is_network_number m.npdu) (number_step Three m ∷ []) [] (number_step Two m ∷ []) []
+    (ap (λ (ask : Ask). step ask (broadcast (network_number_is m.here.port.network) m.here) ∷ []) (message_alike m keyed operations.Network None)) refl))
 
 -- ---- who enters, and who claims
 
@@ -396,17 +414,17 @@ module _ (rules : List Rule) (none : NameNoStation rules) where
   link_change_alike on from frame =
       ap (λ (b : Bool). if not (is_misplaced on.port frame) && (b && is_granted on from frame) then change_of on.port from frame else None) (table_allowed on from frame)
 
-  pub cast_sends_alike : (m : Message) → (is_broadcast m.frame && is_property_request m.npdu.payload) ≡ false
+  pub cast_sends_alike : (m : Message) → IsKeyedAlike m → (is_broadcast m.frame && is_property_request m.npdu.payload) ≡ false
       → cast_sends rules Three m ≡ cast_sends rules Two m
   unfolding cast_sends
-  cast_sends_alike m e =
+  cast_sends_alike m keyed e =
       ap (λ (b : Bool). if not (accepts m.here m.from m.frame) then []
       else if is_unregistered m.here m.from m.frame || not b
       then map (answer_to m.here.port m.from) (refused m.frame)
       else if is_manager m.here.port
       then sent m.here.port.number (targets m.here m.from m.frame) (passed_on m.from m.frame)
       else [])
-      (all_alike rules none (cast_asks Three m) ∙ ap (list_all (allows rules)) (cast_asks_alike m e))
+      (all_alike rules none (cast_asks Three m) ∙ ap (list_all (allows rules)) (cast_asks_alike m keyed e))
 
   pub strange_sends_alike : (m : Message) → is_unregistered m.here m.from m.frame ≡ true → cast_sends rules Three m ≡ cast_sends rules Two m
   unfolding cast_sends
@@ -425,18 +443,19 @@ module _ (rules : List Rule) (none : NameNoStation rules) where
   steps_sent (s ∷ steps) =
       ap₂ (λ (b : Bool) (l : List Sending). (if b then s.sends else []) ++ l) (all_alike rules none s.asks) (steps_sent steps)
 
-  kept_alike : (m : Message) (networks : List ℕ) → keep_allowed rules Three m networks ≡ keep_allowed rules Two m networks
-  kept_alike m [] = refl
-  kept_alike m (n ∷ networks) =
-      ap₂ (λ (b : Bool) (l : List ℕ). cond b (n ∷ l) l) (allowed_alike rules none (learn_ask Three m n)) (kept_alike m networks)
+  kept_alike : (m : Message) (networks : List ℕ) → IsKeyedAlike m → keep_allowed rules Three m networks ≡ keep_allowed rules Two m networks
+  kept_alike m [] keyed = refl
+  kept_alike m (n ∷ networks) keyed =
+      ap₂ (λ (b : Bool) (l : List ℕ). cond b (n ∷ l) l)
+      (allowed_alike rules none (learn_ask Three m n) ∙ ap (allows rules) (message_alike m keyed operations.Learn (Some n))) (kept_alike m networks keyed)
 
-  pub onward_alike : (relay : Relay) (m : Message) → onward_sends rules (relay_three relay) m ≡ onward_sends rules (relay_two relay) m
+  pub onward_alike : (relay : Relay) (m : Message) → IsKeyedAlike m → onward_sends rules (relay_three relay) m ≡ onward_sends rules (relay_two relay) m
   unfolding onward_sends
-  onward_alike relay m =
+  onward_alike relay m keyed =
       ap (λ (l : List ℕ). if relay.announce && is_i_am_router m.npdu
       then announced_but m.here.port.number relay.ports (new_networks relay.routes l (route_by m.here.port.number m.link)) else [])
-      (kept_alike m (named_networks m))
+      (kept_alike m (named_networks m) keyed)
 
-  pub manage_change_alike : (relay : Relay) (m : Message) → manage_change rules (relay_three relay) m ≡ manage_change rules (relay_two relay) m
-  manage_change_alike relay m =
-      ap (λ (l : List ℕ). if is_i_am_router m.npdu then Some (Learnings m.here.port.number m.link l) else None) (kept_alike m (named_networks m))
+  pub manage_change_alike : (relay : Relay) (m : Message) → IsKeyedAlike m → manage_change rules (relay_three relay) m ≡ manage_change rules (relay_two relay) m
+  manage_change_alike relay m keyed =
+      ap (λ (l : List ℕ). if is_i_am_router m.npdu then Some (Learnings m.here.port.number m.link l) else None) (kept_alike m (named_networks m) keyed)

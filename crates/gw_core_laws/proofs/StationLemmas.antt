@@ -1,6 +1,6 @@
 -- What an event does that is kept out, and where a message is delivered.
 use Rattle.std.proofs.Common.{◌≡◌, ◌∙◌, sym, ap, refl, subst, Bool, true, false, List, [], ◌∷◌, ◌++◌, length, map}
-use Rattle.std.specs.Prelude.{if◌then◌else◌}
+use Rattle.std.specs.Prelude.{filter, if◌then◌else◌, not}
 use Rattle.std.specs.List.{AllByRecursion, list_all}
 use Rattle.std.specs.Option.{option_map}
 use Rattle.gw_relay.specs.Entry.{admits, claim_ask, enter_ask, entry_asks, entry_sends, is_stranger, speaks_for_others}
@@ -13,7 +13,7 @@ use Rattle.gw_rules.specs.Allowed.{NoneAllowed}
 use Rattle.gw_rules.specs.Ask.{Ask}
 use Rattle.gw_rules.specs.Authorizer.{denied_of}
 use Rattle.gw_rules.specs.Format.{names_stations}
-use Rattle.gw_rules.specs.RuleList.{allows}
+use Rattle.gw_rules.specs.RuleList.{allows, first, is_quiet_by}
 use Rattle.gw_rules.specs.declared.format.Format.{Format}
 use Rattle.gw_rules.specs.declared.rule.Rule.{Rule}
 use Rattle.gw_rules.proofs.EachAsk.{each_front}
@@ -28,6 +28,7 @@ use Rattle.gw_core.specs.Receive.{Received, admit, barred, message, receive}
 use Rattle.gw_core.specs.State.{State}
 use Rattle.gw_core.proofs.DenialLemmas.{counted_for}
 use Rattle.gw_core.proofs.RespondLemmas.{four_none}
+use Rattle.gw_core_laws.proofs.LoggedLemmas.{logged_once}
 
 -- ---- one denial
 
@@ -37,26 +38,30 @@ two_asks rules e k strange speaks =
     (if strange then e ∷ [] else [])
     ++ (if list_all (allows rules) (if strange then e ∷ [] else []) then (if speaks then k ∷ [] else []) else [])
 
+-- one of these is denied
+abbrev OneDenied : List Rule → List Ask → Type 0
+OneDenied rules asks = (refused : Ask) × (filter (λ ask. not (allows rules ask)) asks ≡ refused ∷ [])
+
 -- if they aren't all allowed, one is denied
 one_denied : (rules : List Rule) (e k : Ask) (strange speaks x y : Bool) → allows rules e ≡ x → allows rules k ≡ y
     → list_all (allows rules) (two_asks rules e k strange speaks) ≡ false
-    → length (denied_of rules (two_asks rules e k strange speaks)) ≡ 1
+    → OneDenied rules (two_asks rules e k strange speaks)
 one_denied rules e k false false x y is_x is_y out = absurd cc
-one_denied rules e k false true x false is_x is_y out = rw is_y refl
+one_denied rules e k false true x false is_x is_y out = (k, rw is_y refl)
 one_denied rules e k false true x true is_x is_y out =
     let all : list_all (allows rules) (k ∷ []) ≡ true = rw is_y refl in
     absurd cc
-one_denied rules e k true speaks false y is_x is_y out = rw is_x refl
+one_denied rules e k true speaks false y is_x is_y out = (e, rw is_x refl)
 one_denied rules e k true false true y is_x is_y out =
     let all : list_all (allows rules) (two_asks rules e k true false) ≡ true = rw is_x refl in
     absurd cc
-one_denied rules e k true true true false is_x is_y out = rw (is_x, is_y) refl
+one_denied rules e k true true true false is_x is_y out = (k, rw (is_x, is_y) refl)
 one_denied rules e k true true true true is_x is_y out =
     let all : list_all (allows rules) (two_asks rules e k true true) ≡ true = rw (is_x, is_y) refl in
     absurd cc
 
 denied_once : (rules : List Rule) (relay : Relay) (m : Message) → admits rules relay m ≡ false
-    → length (denied_of rules (entry_asks rules relay m)) ≡ 1
+    → OneDenied rules (entry_asks rules relay m)
 denied_once rules relay m out =
     one_denied rules (enter_ask relay.format m) (claim_ask relay.format m) (is_stranger relay.format m) (speaks_for_others relay m) _ _ refl refl out
 
@@ -93,20 +98,25 @@ asks_are : (w : State) (e : Event) (m : Message) → receive w e ≡ barred m �
 unfolding asks
 asks_are w e m is = ap (asks_for w.rules w.relay w.device) is ∙ four_none (entry_asks w.rules w.relay m)
 
-denials_are : (w : State) (e : Event) (m : Message) → receive w e ≡ barred m → admits w.rules w.relay m ≡ false
-    → length (effects_at w e).denials ≡ 1
+denials_are : (w : State) (e : Event) (m : Message) → receive w e ≡ barred m
+    → (one : OneDenied w.rules (entry_asks w.rules w.relay m))
+    → length (effects_at w e).denials ≡ (if is_quiet_by w.rules (first w.rules one.0) then 0 else 1)
 unfolding effects_at
-denials_are w e m is out =
+denials_are w e m is one =
     ap (λ (r : Received). length (denials_for w r)) is ∙ counted_for w (barred m)
-    ∙ ap (λ (l : List Ask). length (denied_of w.rules l)) (four_none (entry_asks w.rules w.relay m)) ∙ denied_once w.rules w.relay m out
+    ∙ ap (λ (l : List Ask). length (denied_of w.rules l)) (four_none (entry_asks w.rules w.relay m))
+    ∙ logged_once w.rules (entry_asks w.rules w.relay m) one.0 one.1
 
 kept_out : (w : State) (e : Event) (m : Message) → received_before w e ≡ message m → admits w.rules w.relay m ≡ false → IsKeptOut w e m
 kept_out w e m is out =
-    let barred_so = is_barred w e m is out in record {
+    let barred_so = is_barred w e m is out in
+    let one = denied_once w.rules w.relay m out in record {
       sends = sends_are w e m barred_so
           ∙ ap (λ (b : Bool). if b then [] else map (answer_to m.here.port m.from) (refused m.frame)) out;
       asked = asks_are w e m barred_so;
-      denied = denials_are w e m barred_so out;
+      refused = one.0;
+      alone = ap (λ (l : List Ask). filter (λ ask. not (allows w.rules ask)) l) (asks_are w e m barred_so) ∙ one.1;
+      denied = denials_are w e m barred_so one;
       relay = relay_stays w e m barred_so;
       device = device_stays w e m barred_so;
     }

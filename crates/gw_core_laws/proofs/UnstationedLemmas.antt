@@ -8,7 +8,7 @@ use Rattle.gw_rules.specs.Authorizer.{denied_of, refusal}
 use Rattle.gw_rules.specs.Fields.{value_of}
 use Rattle.gw_rules.specs.Range.{admits}
 use Rattle.gw_rules.specs.Rule.{matches, ranges_of}
-use Rattle.gw_rules.specs.RuleList.{allows, allows_at, first}
+use Rattle.gw_rules.specs.RuleList.{allows, allows_at, first, is_logged, is_quiet_by}
 use Rattle.gw_rules.specs.declared.field.FieldName.{FieldName}
 use Rattle.gw_rules.specs.declared.field.FieldName.TheVariants.{Operation, Port, SourceNetwork, SourceKey, DestinationNetwork, Service, ObjectType, Instance, Property, Priority, Sender, Station}
 use Rattle.gw_rules.specs.declared.field.TheConstants.FieldName.{ALL}
@@ -71,6 +71,10 @@ unfolding allows
 allowed_alike rules none ask =
     ap (λ (number : Option ℕ). option_map_or (allows_at rules) number false) (first_alike rules none ask)
 
+pub logged_alike : (rules : List Rule) → NameNoStation rules → (ask : Ask) → is_logged rules ask ≡ is_logged rules (unstationed ask)
+logged_alike rules none ask =
+    ap₂ (λ (allowed : Bool) (by : Option ℕ). not allowed && not (is_quiet_by rules by)) (allowed_alike rules none ask) (first_alike rules none ask)
+
 -- ---- lists of asks
 
 pub all_alike : (rules : List Rule) → NameNoStation rules → (asks : List Ask)
@@ -99,18 +103,18 @@ denied_by rules number tick from ask by = record {
 
 module _ (rules : List Rule) (none : NameNoStation rules) where
   one_refused : (b : Bool) (ask : Ask) (xs ys : List Ask) → map unstationed_refusal (map (refusal rules) xs) ≡ map (refusal rules) ys
-      → map unstationed_refusal (map (refusal rules) (cond (not b) (ask ∷ xs) xs)) ≡ map (refusal rules) (cond (not b) (unstationed ask ∷ ys) ys)
-  one_refused true ask xs ys same = same
-  one_refused false ask xs ys same =
+      → map unstationed_refusal (map (refusal rules) (cond b (ask ∷ xs) xs)) ≡ map (refusal rules) (cond b (unstationed ask ∷ ys) ys)
+  one_refused false ask xs ys same = same
+  one_refused true ask xs ys same =
       ap₂ (λ (by : Option ℕ) (l : List Refusal). refused_by (unstationed ask) by ∷ l) (first_alike rules none ask) same
 
   pub denied_alike : (asks : List Ask) → map unstationed_refusal (denied_of rules asks) ≡ denied_of rules (map unstationed asks)
   denied_alike [] = refl
   denied_alike (ask ∷ asks) =
-      let xs = filter (λ x. not (allows rules x)) asks in
-      let ys = filter (λ x. not (allows rules x)) (map unstationed asks) in
-      one_refused (allows rules ask) ask xs ys (denied_alike asks)
-      ∙ ap (λ (b : Bool). map (refusal rules) (cond (not b) (unstationed ask ∷ ys) ys)) (allowed_alike rules none ask)
+      let xs = filter (is_logged rules) asks in
+      let ys = filter (is_logged rules) (map unstationed asks) in
+      one_refused (is_logged rules ask) ask xs ys (denied_alike asks)
+      ∙ ap (λ (b : Bool). map (refusal rules) (cond b (unstationed ask ∷ ys) ys)) (logged_alike rules none ask)
 
   -- ---- their record
 

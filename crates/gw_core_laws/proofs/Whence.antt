@@ -60,13 +60,13 @@ port_bounds number (p ∷ ports) port (inr later) =
 -- ---- what is received
 
 -- of one of the ports; and from its network if it names no source, else from none of the direct ones
-pub record IsHeard (states : List PortState) (device : ℕ) (Is : Port → Type 0) (m : Message) : Type 0 where
-  pub port : Is m.here.port
+pub record IsHeard (states : List PortState) (device : ℕ) (Is : PortState → Type 0) (m : Message) : Type 0 where
+  pub port : Is m.here
   pub claim : ((m.npdu.source ≡ None) × (m.claim.net ≡ m.here.port.network)) ⊎ (is_direct states device m.claim.net ≡ false)
 
-abbrev pub Heard : List PortState → ℕ → (Port → Type 0) → Received → Type 0
+abbrev pub Heard : List PortState → ℕ → (PortState → Type 0) → Received → Type 0
 Heard states device Is dropped = Unit {0}
-Heard states device Is (managed on from frame) = Is on.port
+Heard states device Is (managed on from frame) = Is on
 Heard states device Is (unregistered m) = Unit {0}
 Heard states device Is (barred m) = IsHeard states device Is m
 Heard states device Is (message m) = IsHeard states device Is m
@@ -98,13 +98,13 @@ claim_by : (states : List PortState) (device : ℕ) (on : PortState) (from : Bip
 claim_by states device on from frame npdu None is none = inl (is, rw is refl)
 claim_by states device on from frame npdu (Some s) is none = inr (rw is none)
 
-heard_if : (states : List PortState) (device : ℕ) (Is : Port → Type 0) (b : Bool) (m : Message) → IsHeard states device Is m
+heard_if : (states : List PortState) (device : ℕ) (Is : PortState → Type 0) (b : Bool) (m : Message) → IsHeard states device Is m
     → Heard states device Is (if b then unregistered m else message m)
 heard_if states device Is true m is = tt
 heard_if states device Is false m is = is
 
-heard_npdu : (states : List PortState) (device : ℕ) (Is : Port → Type 0) (on : PortState) (from : BipAddr) (frame : Frame) (octets : List ℕ)
-    → Is on.port → Heard states device Is (receive_npdu states device on from frame octets)
+heard_npdu : (states : List PortState) (device : ℕ) (Is : PortState → Type 0) (on : PortState) (from : BipAddr) (frame : Frame) (octets : List ℕ)
+    → Is on → Heard states device Is (receive_npdu states device on from frame octets)
 heard_npdu states device Is on from frame octets is = by (npdu_of states device octets) (undirect states device octets)
   where
     by : (npdu : Option Fields) → ((f : Fields) → npdu ≡ Some f → claims_direct states device f.source ≡ false) → Heard states device Is (elim npdu [
@@ -120,7 +120,7 @@ heard_npdu states device Is on from frame octets is = by (npdu_of states device 
           claim = claim_by states device on from frame npdu npdu.source refl (none npdu refl);
         })
 
-heard_frame : (states : List PortState) (device : ℕ) (Is : Port → Type 0) (on : PortState) (from : BipAddr) (frame : Frame) → Is on.port
+heard_frame : (states : List PortState) (device : ℕ) (Is : PortState → Type 0) (on : PortState) (from : BipAddr) (frame : Frame) → Is on
     → Heard states device Is (receive_frame states device on from frame)
 heard_frame states device Is on from frame is = by (manages frame) (accepts on from frame) (payload_of frame)
   where
@@ -135,7 +135,7 @@ heard_frame states device Is on from frame is = by (manages frame) (accepts on f
     by false true None = tt
     by false true (Some octets) = heard_npdu states device Is on from frame octets is
 
-heard_datagram : (states : List PortState) (device : ℕ) (Is : Port → Type 0) (on : PortState) (from : BipAddr) (octets : List ℕ) → Is on.port
+heard_datagram : (states : List PortState) (device : ℕ) (Is : PortState → Type 0) (on : PortState) (from : BipAddr) (octets : List ℕ) → Is on
     → Heard states device Is (receive_datagram states device on from octets)
 heard_datagram states device Is on from octets is = by (comes_in on.port.address from octets) (bvll_at octets)
   where
@@ -148,30 +148,30 @@ heard_datagram states device Is on from octets is = by (comes_in on.port.address
     by true (Ok frame) = heard_frame states device Is on from frame is
 
 -- a state that is found is one of the states
-found_link : (states : List PortState) (Is : Port → Type 0) (number : ℕ) (on : PortState) (b : Bool) → (number == 0) ≡ b
-    → port_at states number ≡ Some on → AllByRecursion (λ state. Is state.port) states → Is on.port
+found_link : (states : List PortState) (Is : PortState → Type 0) (number : ℕ) (on : PortState) (b : Bool) → (number == 0) ≡ b
+    → port_at states number ≡ Some on → AllByRecursion (λ state. Is state) states → Is on
 found_link states Is number on true e there each =
     let gone : None ≡ Some on = sym (rw e refl) ∙ there in
     absurd cc
 found_link states Is number on false e there each =
     let at : slice_get states (number - 1) ≡ Some on = sym (rw e refl) ∙ there in
     let same : get_or states (number - 1) on ≡ on = get_or_from_slice_get states (number - 1) on on at in
-    let all = All-from_recursion (λ (state : PortState). Is state.port) states each in
-    subst (λ (state : PortState). Is state.port) same (all (number - 1) on (slice_get_within states (number - 1) on at))
+    let all = All-from_recursion (λ (state : PortState). Is state) states each in
+    subst (λ (state : PortState). Is state) same (all (number - 1) on (slice_get_within states (number - 1) on at))
 
-heard_on : (states : List PortState) (device : ℕ) (Is : Port → Type 0) (number : ℕ) (from : BipAddr) (octets : List ℕ)
-    → AllByRecursion (λ state. Is state.port) states → Heard states device Is (receive_on states device number from octets)
+heard_on : (states : List PortState) (device : ℕ) (Is : PortState → Type 0) (number : ℕ) (from : BipAddr) (octets : List ℕ)
+    → AllByRecursion (λ state. Is state) states → Heard states device Is (receive_on states device number from octets)
 heard_on states device Is number from octets each =
     by (port_at states number) (λ on there. found_link states Is number on (number == 0) refl there each)
   where
-    by : (on : Option PortState) → ((state : PortState) → on ≡ Some state → Is state.port) → Heard states device Is (elim on [
+    by : (on : Option PortState) → ((state : PortState) → on ≡ Some state → Is state) → Heard states device Is (elim on [
       | Some on ↦ receive_datagram states device on from octets
       | None ↦ dropped
     ])
     by None is = tt
     by (Some on) is = heard_datagram states device Is on from octets (is on refl)
 
-heard_admitted : (rules : List Rule) (relay : Relay) (states : List PortState) (device : ℕ) (Is : Port → Type 0) (received : Received)
+heard_admitted : (rules : List Rule) (relay : Relay) (states : List PortState) (device : ℕ) (Is : PortState → Type 0) (received : Received)
     → Heard states device Is received → Heard states device Is (admit rules relay received)
 heard_admitted rules relay states device Is dropped is = tt
 heard_admitted rules relay states device Is (managed on from frame) is = is
@@ -183,7 +183,7 @@ heard_admitted rules relay states device Is (message m) is = by (admits rules re
     by true = is
     by false = is
 
-pub heard_at : (w : State) (Is : Port → Type 0) (e : Event) → AllByRecursion (λ state. Is state.port) w.relay.ports
+pub heard_at : (w : State) (Is : PortState → Type 0) (e : Event) → AllByRecursion (λ state. Is state) w.relay.ports
     → Heard w.relay.ports (device_network w.device) Is (receive w e)
 unfolding receive
 heard_at w Is (Datagram port from octets) each =

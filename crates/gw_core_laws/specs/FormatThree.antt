@@ -26,7 +26,7 @@ use Rattle.gw_relay.specs.Route.{route_asks}
 use Rattle.gw_relay.specs.State.{Relay}
 use Rattle.gw_relay.specs.declared.port.PortState.{PortState}
 use Rattle.gw_rules.specs.Ask.{Ask, IsFor}
-use Rattle.gw_rules.specs.Format.{names_stations}
+use Rattle.gw_rules.specs.Format.{key_in, names_stations}
 use Rattle.gw_rules.specs.Rule.{ranges_of}
 use Rattle.gw_rules.specs.RuleList.{allows}
 use Rattle.gw_rules.specs.declared.field.FieldName.TheVariants.{Sender, Station}
@@ -87,11 +87,17 @@ abbrev pub is_property_request : Payload → Bool
 is_property_request (network_message m) = false
 is_property_request (apdu octets) = apdu_names (apdu_at octets)
 
+-- the source that a message claims has the same key in both formats: it has six octets, or more than seven, or none
+abbrev pub IsKeyedAlike : Message → Type 0
+IsKeyedAlike m = key_in Three m.claim.mac ≡ key_in Two m.claim.mac
+
 -- An event that the third format doesn't treat otherwise: each of its asks to claim is allowed (none is to enter where no
--- port has stations), and it is no broadcast of a confirmed request that reads or writes properties.
+-- port has stations), it is no broadcast of a confirmed request that reads or writes properties, and its source has the
+-- same key in both formats.
 pub record IsTakenAlike (w : State) (e : Event) : Type 0 where
   pub claims : AllByRecursion (λ ask. IsFor Claim ask → allows w.rules ask ≡ true) (asks w e)
   pub broadcast : (m : Message) → receive w e ≡ message m → (is_broadcast m.frame && is_property_request m.npdu.payload) ≡ false
+  pub keyed : (m : Message) → receive w e ≡ message m → IsKeyedAlike m
 
 -- each event of a list is such a one, after those before it
 abbrev pub AreTakenAlike : State → List Event → Type 0

@@ -3,7 +3,7 @@
 -- is delivered to whatever address it names. Nothing here looks at the format but routing.
 use Rattle.std.specs.Prelude.{ℕ, ◌+◌, List, [], ◌∷◌, ◌++◌, length, Option, Some, None}
 use Rattle.std.specs.Option.{option_map}
-use Rattle.gw_addr.specs.Station.{key_of}
+use Rattle.gw_addr.specs.Station.{key48}
 use Rattle.gw_device.specs.declared.context.Context.{Context}
 use Rattle.gw_objects.specs.Write.{Write}
 use Rattle.gw_rules.specs.Ask.{Ask}
@@ -40,7 +40,7 @@ abbrev pub context_before : ℕ → Message → Context
 context_before network m = record {
   port = m.here.port.number;
   source_network = m.claim.net;
-  source_key = key_of m.claim.mac;
+  source_key = key48 m.claim.mac;
   sender = None;
   broadcast = goes_to_all network m.npdu.destination;
   room = max_reply_apdu network m.npdu;

@@ -1,6 +1,6 @@
 -- Laws over the definitions of the headline: what the folds of a history say in plain words.
 use Rattle.std.specs.Prelude.{◌≡◌, Some, None, ℕ, zero, suc, ◌+◌, Bool, true, false, List, [], ◌∷◌, ◌++◌, length, map, filter, not}
-use Rattle.std.specs.Prelude.{replicate, count_by}
+use Rattle.std.specs.Prelude.{replicate, count_by, if◌then◌else◌}
 use Rattle.std.specs.List.{AllByRecursion, flat_map, list_all}
 use Rattle.gw_addr.specs.declared.bip.BipAddr.{BipAddr}
 use Rattle.gw_relay.specs.Cast.{accepts}
@@ -28,7 +28,7 @@ use Rattle.gw_rules.specs.Ask.{Ask, IsFor}
 use Rattle.gw_rules.specs.Format.{names_stations}
 use Rattle.gw_rules.specs.declared.operation.Operation.TheVariants.{Claim, Enter}
 use Rattle.gw_rules.specs.declared.rule.Rule.{Rule}
-use Rattle.gw_rules.specs.RuleList.{first, allows}
+use Rattle.gw_rules.specs.RuleList.{allows, first, is_logged, is_quiet_by}
 use Rattle.gw_codecs.specs.declared.apdu.header.ConfirmedRequest.{ConfirmedRequest}
 use Rattle.gw_codecs.specs.apdu.Answers.{error}
 use Rattle.gw_objects.specs.Objects.{Database, database_of}
@@ -113,13 +113,13 @@ NothingAskedIsLogged = (w : State) (e : Event) → asks w e ≡ [] → (effects_
 abbrev pub entry : List Rule → Ask → Ask × List ℕ
 entry rules ask = (ask, rule_name rules (first rules ask))
 
--- An ask is in the log exactly where the event raises it and the policy doesn't allow it, in order, under
--- the first rule that matches, or `default`.
+-- An ask is in the log exactly where the event raises it, the policy doesn't allow it, and its first rule isn't quiet; in
+-- order, under that rule, or `default` where none matches.
 abbrev pub DeniedAsksAreLogged : Type 0
 DeniedAsksAreLogged =
     (w : State) (e : Event) →
     map (λ d. (d.ask, d.rule)) (effects_at w e).denials
-    ≡ map (entry w.rules) (filter (λ ask. not (allows w.rules ask)) (asks w e))
+    ≡ map (entry w.rules) (filter (is_logged w.rules) (asks w e))
 
 -- Each denial has the count of ticks of its moment.
 abbrev pub DenialsHaveTheirTick : Type 0
@@ -255,12 +255,15 @@ FormatStays = (c : Configuration) (k : Counts) (h : List Event) → (state_after
 
 -- ---- the third format
 
--- An event does nothing but what a refusal is: one denial, and for a Distribute-Broadcast-To-Network its negative code.
--- No table, no route and no value of the device changes.
+-- An event does nothing but what a refusal is: one of its asks is denied, which is its only denial unless the rule that
+-- denies it is quiet, and for a Distribute-Broadcast-To-Network there is its negative code. No table, no route and no value
+-- of the device changes.
 pub record IsKeptOut (w : State) (e : Event) (m : Message) : Type 0 where
   pub sends : (effects_at w e).sends ≡ map (answer_to m.here.port m.from) (refused m.frame)
   pub asked : asks w e ≡ entry_asks w.rules w.relay m
-  pub denied : length (effects_at w e).denials ≡ 1
+  pub refused : Ask
+  pub alone : filter (λ ask. not (allows w.rules ask)) (asks w e) ≡ refused ∷ []
+  pub denied : length (effects_at w e).denials ≡ (if is_quiet_by w.rules (first w.rules refused) then 0 else 1)
   pub relay : (next w e).relay ≡ w.relay
   pub device : (next w e).device ≡ w.device
 

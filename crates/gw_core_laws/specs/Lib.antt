@@ -11,3 +11,5 @@ pub mod NoLeak
 pub mod Onward
 pub mod Examples
 pub mod Refused
+pub mod Quiet
+pub mod Keys

@@ -5,7 +5,6 @@ use Rattle.std.specs.List.{AllByRecursion, Contains}
 use Rattle.std.specs.Option.{option_map, option_and_then}
 use Rattle.gw_addr.specs.declared.station.Source.{Source}
 use Rattle.gw_addr.specs.Address.{big_endian, octets_of}
-use Rattle.gw_addr.specs.Station.{key_of}
 use Rattle.gw_audit.specs.declared.denial.Denial.{Denial}
 use Rattle.gw_device.specs.Laws.{AsksToRead, object_written}
 use Rattle.gw_objects.specs.Objects.{Database}
@@ -15,7 +14,8 @@ use Rattle.gw_relay.specs.Claim.{claimed, link_source, local_source}
 use Rattle.gw_relay.specs.Laws.{AreFrom}
 use Rattle.gw_rules.specs.Allowed.{NoChangeAllowed, NoneAllowed}
 use Rattle.gw_rules.specs.Ask.{Ask, IsFor, IsFrom}
-use Rattle.gw_rules.specs.Format.{names_stations}
+use Rattle.gw_rules.specs.Format.{key_in, names_stations}
+use Rattle.gw_rules.specs.declared.format.Format.{Format}
 use Rattle.gw_rules.specs.declared.operation.Operation.TheVariants as operations
 use Rattle.gw_rules.specs.declared.rule.Rule.{Rule}
 use Rattle.gw_rules.specs.Hides.{IsHidden}
@@ -96,10 +96,10 @@ IsQuiet w (Datagram port from octets) = NoChangeAllowed w.rules (asks w (Datagra
 -- ---- who sees
 
 -- No ask of one of these sources to read the object is allowed, whatever else it says.
-abbrev pub AreBlind : List Rule → List Source → Object → Type 0
-AreBlind rules sources o =
+abbrev pub AreBlind : Format → List Rule → List Source → Object → Type 0
+AreBlind format rules sources o =
     (source : Source) → Contains sources source →
-    IsHidden rules source.net (key_of source.mac) o.kind o.instance
+    IsHidden rules source.net (key_in format source.mac) o.kind o.instance
 
 -- whom an event claims to come from, where it isn't dropped (clause 6.2.2)
 abbrev pub claim : Received → Option Source
@@ -116,39 +116,39 @@ abbrev pub IsClaimed : Message → Type 0
 IsClaimed m = m.claim ≡ claimed m.here.port.network (link_source m.from m.frame) m.npdu
 
 -- an ask is of the source that the message claims, or is one to enter, of the link source
-pub data IsOf (m : Message) (ask : Ask) : Type 0 where
-  by_claim : IsFrom m.claim.net (key_of m.claim.mac) ask → IsOf m ask
-  by_entry : IsFor operations.Enter ask → IsFrom m.here.port.network (key_of (octets_of m.link)) ask → IsOf m ask
+pub data IsOf (format : Format) (m : Message) (ask : Ask) : Type 0 where
+  by_claim : IsFrom m.claim.net (key_in format m.claim.mac) ask → IsOf format m ask
+  by_entry : IsFor operations.Enter ask → IsFrom m.here.port.network (key_in format (octets_of m.link)) ask → IsOf format m ask
 
 -- A message claims what its NPDU and its frame say, and each ask that it raises is of that source; but in format 3, where
 -- the policy is also asked who may enter, an ask to enter is of the link source.
 abbrev pub AsksCarryTheirClaim : Type 0
 AsksCarryTheirClaim =
     (w : State) (e : Event) (m : Message) → receive w e ≡ message m →
-    IsClaimed m × AllByRecursion (IsOf m) (asks w e)
-    × (names_stations w.relay.format ≡ false → AreFrom m.claim (asks w e))
+    IsClaimed m × AllByRecursion (IsOf w.relay.format m) (asks w e)
+    × (names_stations w.relay.format ≡ false → AreFrom w.relay.format m.claim (asks w e))
 
 -- whose the asks of what is received are
-abbrev pub AreTheirs : Received → List Ask → Type 0
-AreTheirs dropped asked = asked ≡ []
-AreTheirs (unregistered m) asked = asked ≡ []
-AreTheirs (managed on from frame) asked =
+abbrev pub AreTheirs : Format → Received → List Ask → Type 0
+AreTheirs format dropped asked = asked ≡ []
+AreTheirs format (unregistered m) asked = asked ≡ []
+AreTheirs format (managed on from frame) asked =
     AllByRecursion (IsFrom on.port.network (Some (big_endian (octets_of from)))) asked
-AreTheirs (barred m) asked = IsClaimed m × AllByRecursion (IsOf m) asked
-AreTheirs (message m) asked = IsClaimed m × AllByRecursion (IsOf m) asked
+AreTheirs format (barred m) asked = IsClaimed m × AllByRecursion (IsOf format m) asked
+AreTheirs format (message m) asked = IsClaimed m × AllByRecursion (IsOf format m) asked
 
 -- The same of whatever is received. A frame that manages a table asks for its sender alone, as a node of the port's
 -- network. A message that is kept out asks for whom it claims to come from, or to enter for the link source, as one that
 -- is taken does. A sender who isn't registered asks nothing, and nor does what is dropped.
 abbrev pub AsksHaveTheirOrigin : Type 0
-AsksHaveTheirOrigin = (w : State) (e : Event) → AreTheirs (receive w e) (asks w e)
+AsksHaveTheirOrigin = (w : State) (e : Event) → AreTheirs w.relay.format (receive w e) (asks w e)
 
 -- Where all that is left out are writes of an object, an event is seen to do the same if it claims to come from one of
 -- those that may not read the object, whatever it asks.
 abbrev pub WritesAreHidden : Type 0
 WritesAreHidden =
     (c : Configuration) (k : Counts) (sources : List Source) (o : Object) (marks : List Bool) (l : List Event) →
-    AreBlind c.rules sources o → LeavesOut (IsWriteOf o) c k [] marks l →
+    AreBlind c.format c.rules sources o → LeavesOut (IsWriteOf o) c k [] marks l →
     (place : ℕ) (e : Event) → slice_get (kept marks l) place ≡ Some e →
     IfSome (claim (receive (state_before c k (kept marks l) place) e)) (Contains sources) →
     SeenAlike c k marks l place

@@ -94,7 +94,7 @@ WritesGoUnread = (w : State) (o : Object) (marks : List Bool) (l : List Event) �
 
 -- and so if it claims to come from one of those that may not read it.
 abbrev pub WritesGoHidden : Type 0
-WritesGoHidden = (w : State) (sources : List Source) (o : Object) (marks : List Bool) (l : List Event) → AreBlind w.rules sources o →
+WritesGoHidden = (w : State) (sources : List Source) (o : Object) (marks : List Bool) (l : List Event) → AreBlind w.relay.format w.rules sources o →
     LeavesOutFrom (IsWriteOf o) w marks l → (place : ℕ) (e : Event) → slice_get (kept marks l) place ≡ Some e →
     IfSome (claim (receive (state_at w marks l place) e)) (Contains sources) → SeenAlikeFrom w marks l place
 

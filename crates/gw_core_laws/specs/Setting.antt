@@ -98,7 +98,10 @@ setting = record {
   routes = record { network = 300; port = 2; next = node 2 20 } ∷ [];
   objects = objects;
   rules = hide ∷ no_description ∷ all_else ∷ [];
+  tables = 0 ∷ 1 ∷ 2 ∷ [];
   notes = [] ∷ [] ∷ [] ∷ [];
   audits = false ∷ false ∷ false ∷ [];
+  written = 3;
   sets = [];
+  assertions = [];
 }

@@ -1,7 +1,8 @@
 //! Laws of the definitions, and worked examples of them. The functions do nothing: their contracts are the laws.
 
 ghost use Rattle.std.specs.Prelude.{◌≡◌};
-ghost use Rattle.gw_core_laws.specs.Decisions.{SameDecisionsDoAlike, SameDecisionsRunAlike};
+ghost use Rattle.gw_core_laws.specs.Decisions.{SameDecisionsDoAlike, SameDecisionsRunAlike, SameDecisionsRunSendAlike};
+ghost use Rattle.gw_core_laws.specs.Decisions.{SameDecisionsSendAlike};
 ghost use Rattle.gw_core_laws.specs.Examples.{AllArePlaced, BroadcastIsDistributed, CountsEnd, DeniedSetIsRefused};
 ghost use Rattle.gw_core_laws.specs.Examples.{DeniedTableIsRefused, DeniedWriteIsUnseen, DenialsAreCountedOn};
 ghost use Rattle.gw_core_laws.specs.Examples.{EachCutIsDropped, GlobalWhoIsGoesOn, HiddenObjectIsUnnamed};
@@ -9,6 +10,9 @@ ghost use Rattle.gw_core_laws.specs.Examples.{HiddenReadIsDenied, HiddenWriteIsU
 ghost use Rattle.gw_core_laws.specs.Examples.{LocalReadIsUnheard, ReadIsAnswered, RegistrationEnds, RelinquishIsSeen};
 ghost use Rattle.gw_core_laws.specs.Examples.{RoutedReadIsAnswered, UnknownNetworkIsSought, UnknownObjectIsNamed};
 ghost use Rattle.gw_core_laws.specs.Examples.{WhoIsIsAnswered, WriteIsSeen, WrongLengthsAreDropped};
+ghost use Rattle.gw_core_laws.specs.Keys.{NoKeyStaysNone, ShortKeysAreThoseOfTwo, ShortRulesDecideAsBefore};
+ghost use Rattle.gw_core_laws.specs.Keys.{ShortRulesHideAsBefore, SixOctetsKeepTheirKey};
+ghost use Rattle.gw_core_laws.specs.Quiet.{NoQuietIsAsBefore, NoQuietRunsAsBefore, QuietRulesLogLess, QuietRulesRunLogLess};
 ghost use Rattle.gw_core_laws.specs.Reasons.{DropsHaveReasons};
 ghost use Rattle.gw_core_laws.specs.FormatThree.{AsksNameTheirSender, AsksNameTheirStation};
 ghost use Rattle.gw_core_laws.specs.FormatThree.{FormatThreeIsAsTwo, FormatThreeRunsAsTwo};
@@ -47,8 +51,8 @@ pub fn histories()
 {}
 
 /// What an event does, in plain words: a tick sends nothing and only counts; the log has exactly the asks that the
-/// policy denies, each under the first rule that matches and with the ticks of its moment; a denied
-/// read or write is answered by its access error, and changes nothing.
+/// policy denies, but those of its quiet rules, each under the first rule that matches and with the ticks of its moment; a
+/// denied read or write is answered by its access error, and changes nothing.
 pub fn events()
     ensures ticks { TicksOnlyCount }
     ensures silent { NothingAskedIsLogged }
@@ -86,9 +90,9 @@ pub fn refusals()
 /// what a definition without formats says, and leaves its state; under the first or the second, what a definition
 /// without the third says (in these no port has another broadcast manager beside it, and nothing is announced); and no
 /// event changes the format of the configuration. Under the third, if no port has stations
-/// and no rule names a sender or a station, every event whose asks to claim are allowed, and that is no broadcast of a
-/// request that reads or writes properties, does what it does under the second, but for the sender and the station of
-/// each ask: the sender is that of the datagram, the station the one for which the message is bound.
+/// and no rule names a sender or a station, every event whose asks to claim are allowed, that is no broadcast of a
+/// request that reads or writes properties, and whose source has the same key in both formats, does what it does under the
+/// second, but for the sender and the station of each ask: the sender is that of the datagram, the station the one for which the message is bound.
 pub fn formats()
     ensures first { FormatOneIsAsBefore }
     ensures runs { FormatOneRunsAsBefore }
@@ -131,11 +135,37 @@ pub fn stations()
     delivery();
 }
 
-/// Other rules that decide as those of a gateway whatever an event asks do the same: they ask, send and deny the same, if
-/// perhaps by a rule of another name, and leave the same state. So they do whatever comes, one event after the other.
+/// Other rules that decide and log as those of a gateway whatever an event asks do the same: they ask, send and deny the
+/// same, if perhaps by a rule of another name, and leave the same state. So they do whatever comes, one event after the
+/// other. And if they decide the same, whatever they log, they ask and send the same, and leave the same state but for the
+/// number of the last denial.
 pub fn decisions()
     ensures events { SameDecisionsDoAlike }
     ensures runs { SameDecisionsRunAlike }
+    ensures sent { SameDecisionsSendAlike }
+    ensures sent_runs { SameDecisionsRunSendAlike }
+{}
+
+/// What quiet rules change. Where no rule is quiet, every list of events does what it did before there was the word. And
+/// with quiet rules it asks, sends and leaves what it does under the same rules without the word, but for the number of the
+/// last denial; the log is that one without the denials by quiet rules, numbered on.
+pub fn quiet()
+    ensures before { NoQuietIsAsBefore }
+    ensures runs_before { NoQuietRunsAsBefore }
+    ensures events { QuietRulesLogLess }
+    ensures runs { QuietRulesRunLogLess }
+{}
+
+/// What the keys of stations of other lengths than six change. A station of six octets has the key under the third format
+/// that it has under the first two, and one that has none under the third has none under them. A policy whose ranges of
+/// source keys and stations all end below 2 to the power of 48 decides each ask by the rule by which it does with the keys of
+/// the first two formats, and hides what it hides with them.
+pub fn keys()
+    ensures six { SixOctetsKeepTheirKey }
+    ensures none { NoKeyStaysNone }
+    ensures short { ShortKeysAreThoseOfTwo }
+    ensures decided { ShortRulesDecideAsBefore }
+    ensures hidden { ShortRulesHideAsBefore }
 {}
 
 /// What a gateway counts, whatever it is configured with and whatever comes.

@@ -19,6 +19,6 @@ pub use note::write_note;
 pub use notices::{report_metrics, report_notices, stop_line, untaken_line};
 pub use reload::{ReloadCounts, ReloadFault};
 pub use startup::{startup_line, warning_of};
-pub use stats::{report_lost_metrics, report_reloads, report_unkept};
+pub use stats::{report_lost_metrics, report_put_off, report_reloads, report_unkept};
 pub use troubles::Troubles;
 pub use watch_report::{LogCount, WatchCounts, report_watched};

@@ -1,8 +1,8 @@
-//! Reports of how often the state couldn't be kept, and how often the configuration was read again.
+//! Reports of how often the state couldn't be kept, how often the configuration was read again, and what else wasn't done.
 
 ghost use Rattle.std.specs.Prelude.{◌≡◌, ◌++◌, IsOk, OnOk, decimal, true};
 ghost use Rattle.std.specs.Io.KnownBytes.{Appends};
-ghost use Rattle.gw_notices.specs.Stats.{lost_line, lost_metrics_text, reloads_text, unkept_text};
+ghost use Rattle.gw_notices.specs.Stats.{lost_line, lost_metrics_text, put_off_line, put_off_text, reloads_text, unkept_text};
 
 use crate::reload::ReloadCounts;
 use gw_script::{OctetSink, WriteFailed, write_whole};
@@ -82,5 +82,26 @@ pub fn report_lost_metrics<E: OctetSink>(lost: Option<u64>, errors: &mut E)
 {
     if let Some(lost) = lost {
         let _ = write_lost_metrics(lost, errors);
+    }
+}
+
+/// Writes how often an announcement that was due wasn't tried.
+fn write_put_off<E: OctetSink>(put_off: u128, errors: &mut E) -> Result<(), WriteFailed>
+    ensures ok { OnOk result (Appends (E.held errors.old) (E.held errors.new) (put_off_line put_off)) }
+    ensures sure { E.NeverFails errors.old → IsOk result }
+    ensures lasts { E.NeverFails errors.old → E.NeverFails errors.new }
+{
+    write_whole(errors, b"stats announcements_put_off=")?;
+    write_whole(errors, Buffer::new().format(put_off).as_bytes())?;
+    write_whole(errors, b"\n")
+}
+
+/// Reports how often an announcement that was due wasn't tried, if one wasn't.
+pub fn report_put_off<E: OctetSink>(put_off: u128, errors: &mut E)
+    ensures said { E.NeverFails errors.old → Appends (E.held errors.old) (E.held errors.new) (put_off_text put_off) }
+    ensures lasts { E.NeverFails errors.old → E.NeverFails errors.new }
+{
+    if put_off != 0 {
+        let _ = write_put_off(put_off, errors);
     }
 }

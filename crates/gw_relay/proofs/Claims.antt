@@ -4,7 +4,7 @@ use Rattle.std.specs.Prelude.{◌&&◌, ◌||◌, ◌==◌, is_some, if◌then�
 use Rattle.std.specs.Int.{w16, from_be_bytes}
 use Rattle.std.specs.Option.{option_map, option_map_or}
 use Rattle.gw_addr.specs.declared.station.Source.{Source}
-use Rattle.gw_addr.specs.Station.{key_of, network_of}
+use Rattle.gw_addr.specs.Station.{network_of}
 use Rattle.gw_addr.specs.declared.bip.BipAddr.{BipAddr}
 use Rattle.gw_frames.specs.bvll.Bvll.{Message as Frame}
 use Rattle.gw_frames.specs.bvll.Bvll as bvll
@@ -32,7 +32,7 @@ use Rattle.std.specs.List.{AllByRecursion}
 use Rattle.gw_rules.specs.Operation.{changes}
 use Rattle.gw_rules.specs.Allowed.{NoChangeAllowed, NoneAllowed}
 use Rattle.gw_rules.specs.Ask.{Ask, IsFor, IsFrom}
-use Rattle.gw_rules.specs.Format.{names_stations}
+use Rattle.gw_rules.specs.Format.{key_in, names_stations}
 use Rattle.gw_rules.specs.RuleList.{allows}
 use Rattle.gw_rules.specs.declared.operation.Operation.{Operation}
 use Rattle.gw_rules.specs.declared.operation.Operation.TheVariants as operations
@@ -135,151 +135,151 @@ routes_are_kept rules relay m h = moved_by (is_i_am_router m.npdu) rules relay m
 -- ---- whose asks
 
 -- an ask that says so
-said : (source : Source) (ask : Ask) → ask.source_network ≡ Some source.net → ask.source_key ≡ key_of source.mac
-    → IsFrom source.net (key_of source.mac) ask
-said source ask net key = record { source_network = net; source_key = key }
+said : (format : Format) (source : Source) (ask : Ask) → ask.source_network ≡ Some source.net → ask.source_key ≡ key_in format source.mac
+    → IsFrom source.net (key_in format source.mac) ask
+said format source ask net key = record { source_network = net; source_key = key }
 
-asks_if : (source : Source) (b : Bool) (xs ys : List Ask) → AreFrom source xs → AreFrom source ys → AreFrom source (if b then xs else ys)
-asks_if source true xs ys f g = f
-asks_if source false xs ys f g = g
+asks_if : (format : Format) (source : Source) (b : Bool) (xs ys : List Ask) → AreFrom format source xs → AreFrom format source ys → AreFrom format source (if b then xs else ys)
+asks_if format source true xs ys f g = f
+asks_if format source false xs ys f g = g
 
-steps_if : (source : Source) (b : Bool) (xs ys : List Step) → AreFrom source (asks_of xs) → AreFrom source (asks_of ys)
-    → AreFrom source (asks_of (if b then xs else ys))
-steps_if source true xs ys f g = f
-steps_if source false xs ys f g = g
+steps_if : (format : Format) (source : Source) (b : Bool) (xs ys : List Step) → AreFrom format source (asks_of xs) → AreFrom format source (asks_of ys)
+    → AreFrom format source (asks_of (if b then xs else ys))
+steps_if format source true xs ys f g = f
+steps_if format source false xs ys f g = g
 
 -- what is asked after a `route` ask is of its source
-from_unnamed : (source : Source) (route : Ask) (operation : Operation) → IsFrom source.net (key_of source.mac) route
-    → AreFrom source (unnamed_ask route operation ∷ [])
-from_unnamed source route operation is = (said source _ is.source_network is.source_key, tt)
+from_unnamed : (format : Format) (source : Source) (route : Ask) (operation : Operation) → IsFrom source.net (key_in format source.mac) route
+    → AreFrom format source (unnamed_ask route operation ∷ [])
+from_unnamed format source route operation is = (said format source _ is.source_network is.source_key, tt)
 
-from_named : (source : Source) (route : Ask) (operation : Operation) (object : Object) (property : ℕ) (priority : Option ℕ)
-    → IsFrom source.net (key_of source.mac) route → AreFrom source (named_ask route operation object property priority ∷ [])
-from_named source route operation object property priority is = (said source _ is.source_network is.source_key, tt)
+from_named : (format : Format) (source : Source) (route : Ask) (operation : Operation) (object : Object) (property : ℕ) (priority : Option ℕ)
+    → IsFrom source.net (key_in format source.mac) route → AreFrom format source (named_ask route operation object property priority ∷ [])
+from_named format source route operation object property priority is = (said format source _ is.source_network is.source_key, tt)
 
-from_references : (source : Source) (route : Ask) (rs : List Reference) → IsFrom source.net (key_of source.mac) route
-    → AreFrom source (map (reference_ask route) rs)
-from_references source route [] is = tt
-from_references source route (r ∷ rs) is = (said source _ is.source_network is.source_key, from_references source route rs is)
+from_references : (format : Format) (source : Source) (route : Ask) (rs : List Reference) → IsFrom source.net (key_in format source.mac) route
+    → AreFrom format source (map (reference_ask route) rs)
+from_references format source route [] is = tt
+from_references format source route (r ∷ rs) is = (said format source _ is.source_network is.source_key, from_references format source route rs is)
 
-from_read : (source : Source) (route : Ask) (read : Result Read BodyFault) → IsFrom source.net (key_of source.mac) route
-    → AreFrom source (read_asks route read)
-from_read source route (Ok r) is = from_named source route operations.Read r.object r.property None is
-from_read source route (Err fault) is = from_unnamed source route operations.Read is
+from_read : (format : Format) (source : Source) (route : Ask) (read : Result Read BodyFault) → IsFrom source.net (key_in format source.mac) route
+    → AreFrom format source (read_asks route read)
+from_read format source route (Ok r) is = from_named format source route operations.Read r.object r.property None is
+from_read format source route (Err fault) is = from_unnamed format source route operations.Read is
 
-from_multi : (source : Source) (route : Ask) (read : Result (List Reference) BodyFault) → IsFrom source.net (key_of source.mac) route
-    → AreFrom source (multi_asks route read)
-from_multi source route (Ok rs) is = from_references source route rs is
-from_multi source route (Err fault) is = from_unnamed source route operations.Read is
+from_multi : (format : Format) (source : Source) (route : Ask) (read : Result (List Reference) BodyFault) → IsFrom source.net (key_in format source.mac) route
+    → AreFrom format source (multi_asks route read)
+from_multi format source route (Ok rs) is = from_references format source route rs is
+from_multi format source route (Err fault) is = from_unnamed format source route operations.Read is
 
-from_write : (source : Source) (route : Ask) (read : Result Write BodyFault) → IsFrom source.net (key_of source.mac) route
-    → AreFrom source (write_asks route read)
-from_write source route (Ok w) is = from_named source route operations.Write w.object w.property (Some (priority_of w.priority)) is
-from_write source route (Err fault) is = from_unnamed source route operations.Write is
+from_write : (format : Format) (source : Source) (route : Ask) (read : Result Write BodyFault) → IsFrom source.net (key_in format source.mac) route
+    → AreFrom format source (write_asks route read)
+from_write format source route (Ok w) is = from_named format source route operations.Write w.object w.property (Some (priority_of w.priority)) is
+from_write format source route (Err fault) is = from_unnamed format source route operations.Write is
 
-from_request : (source : Source) (route : Ask) (request : Request) (body : List ℕ) → IsFrom source.net (key_of source.mac) route
-    → AreFrom source (request_asks route request body)
-from_request source route request body is =
-    let reads = from_unnamed source route operations.Read is in
-    let writes = from_unnamed source route operations.Write is in
-    asks_if source (is_some request.segment) _ _
-    (asks_if source (request.service == read_property || request.service == read_property_multiple) _ _ reads
-    (asks_if source (request.service == write_property) _ [] writes tt))
-    (asks_if source (request.service == read_property) _ _ (from_read source route (read_at body) is)
-    (asks_if source (request.service == read_property_multiple) _ _ (from_multi source route (multi_at body) is)
-    (asks_if source (request.service == write_property) _ [] (from_write source route (write_at body) is) tt)))
+from_request : (format : Format) (source : Source) (route : Ask) (request : Request) (body : List ℕ) → IsFrom source.net (key_in format source.mac) route
+    → AreFrom format source (request_asks route request body)
+from_request format source route request body is =
+    let reads = from_unnamed format source route operations.Read is in
+    let writes = from_unnamed format source route operations.Write is in
+    asks_if format source (is_some request.segment) _ _
+    (asks_if format source (request.service == read_property || request.service == read_property_multiple) _ _ reads
+    (asks_if format source (request.service == write_property) _ [] writes tt))
+    (asks_if format source (request.service == read_property) _ _ (from_read format source route (read_at body) is)
+    (asks_if format source (request.service == read_property_multiple) _ _ (from_multi format source route (multi_at body) is)
+    (asks_if format source (request.service == write_property) _ [] (from_write format source route (write_at body) is) tt)))
 
-from_header : (source : Source) (route : Ask) (h : Header) (body : List ℕ) → IsFrom source.net (key_of source.mac) route
-    → AreFrom source (header_asks route h body)
-from_header source route (header.ConfirmedRequest request) body is = from_request source route request body is
-from_header source route (header.UnconfirmedRequest service) body is = tt
-from_header source route (header.SimpleAck invoke service) body is = tt
-from_header source route (header.ComplexAck segment invoke service) body is = tt
-from_header source route (header.SegmentAck invoke sequence window) body is = tt
-from_header source route (header.Error invoke service) body is = tt
-from_header source route (header.Reject invoke reason) body is = tt
-from_header source route (header.Abort invoke reason) body is = tt
+from_header : (format : Format) (source : Source) (route : Ask) (h : Header) (body : List ℕ) → IsFrom source.net (key_in format source.mac) route
+    → AreFrom format source (header_asks route h body)
+from_header format source route (header.ConfirmedRequest request) body is = from_request format source route request body is
+from_header format source route (header.UnconfirmedRequest service) body is = tt
+from_header format source route (header.SimpleAck invoke service) body is = tt
+from_header format source route (header.ComplexAck segment invoke service) body is = tt
+from_header format source route (header.SegmentAck invoke sequence window) body is = tt
+from_header format source route (header.Error invoke service) body is = tt
+from_header format source route (header.Reject invoke reason) body is = tt
+from_header format source route (header.Abort invoke reason) body is = tt
 
-from_apdu : (source : Source) (route : Ask) (read : Result Apdu ApduFault) → IsFrom source.net (key_of source.mac) route
-    → AreFrom source (apdu_asks route read)
-from_apdu source route (Ok a) is = from_header source route a.header a.rest is
-from_apdu source route (Err fault) is = tt
+from_apdu : (format : Format) (source : Source) (route : Ask) (read : Result Apdu ApduFault) → IsFrom source.net (key_in format source.mac) route
+    → AreFrom format source (apdu_asks route read)
+from_apdu format source route (Ok a) is = from_header format source route a.header a.rest is
+from_apdu format source route (Err fault) is = tt
 
-from_payload : (source : Source) (route : Ask) (payload : Payload) → IsFrom source.net (key_of source.mac) route
-    → AreFrom source (payload_asks route payload)
-from_payload source route (message m) is = tt
-from_payload source route (apdu octets) is = from_apdu source route (apdu_at octets) is
+from_payload : (format : Format) (source : Source) (route : Ask) (payload : Payload) → IsFrom source.net (key_in format source.mac) route
+    → AreFrom format source (payload_asks route payload)
+from_payload format source route (message m) is = tt
+from_payload format source route (apdu octets) is = from_apdu format source route (apdu_at octets) is
 
-from_behind : (source : Source) (format : Format) (route : Ask) (payload : Payload) → IsFrom source.net (key_of source.mac) route
-    → AreFrom source (named_asks format route payload)
-from_behind source One route payload is = tt
-from_behind source Two route payload is = from_payload source route payload is
-from_behind source Three route payload is = from_payload source route payload is
+from_behind : (format : Format) (source : Source) (route : Ask) (payload : Payload) → IsFrom source.net (key_in format source.mac) route
+    → AreFrom format source (named_asks format route payload)
+from_behind One source route payload is = tt
+from_behind Two source route payload is = from_payload Two source route payload is
+from_behind Three source route payload is = from_payload Three source route payload is
 
 pub broadcasts_carry_their_claim : BroadcastsCarryTheirClaim
 unfolding cast_asks
 broadcasts_carry_their_claim format m =
-    let is = said m.claim (cast_ask format m) refl refl in
-    asks_if m.claim (goes_on m.here m.from m.frame && is_carried m.here m.frame) (cast_ask format m ∷ carried_asks format m) []
-    (is, asks_if m.claim (names_stations format) _ [] (from_behind m.claim format (cast_ask format m) m.npdu.payload is) tt) tt
+    let is = said format m.claim (cast_ask format m) refl refl in
+    asks_if format m.claim (goes_on m.here m.from m.frame && is_carried m.here m.frame) (cast_ask format m ∷ carried_asks format m) []
+    (is, asks_if format m.claim (names_stations format) _ [] (from_behind format m.claim (cast_ask format m) m.npdu.payload is) tt) tt
 
 -- a message's asks for one way
 from_forward : (m : Message) (format : Format) (network : Option ℕ)
-    → AreFrom m.claim (forward_asks format (route_ask format m network) m.npdu.payload)
+    → AreFrom format m.claim (forward_asks format (route_ask format m network) m.npdu.payload)
 from_forward m format network =
-    let is = said m.claim (route_ask format m network) refl refl in
-    (is, from_behind m.claim format (route_ask format m network) m.npdu.payload is)
+    let is = said format m.claim (route_ask format m network) refl refl in
+    (is, from_behind format m.claim (route_ask format m network) m.npdu.payload is)
 
-from_both : (source : Source) (xs ys : List Ask) → AreFrom source xs → AreFrom source ys → AreFrom source (xs ++ ys)
-from_both source [] ys f g = g
-from_both source (x ∷ xs) ys f g = (f.0, from_both source xs ys f.1 g)
+from_both : (format : Format) (source : Source) (xs ys : List Ask) → AreFrom format source xs → AreFrom format source ys → AreFrom format source (xs ++ ys)
+from_both format source [] ys f g = g
+from_both format source (x ∷ xs) ys f g = (f.0, from_both format source xs ys f.1 g)
 
 from_one : (m : Message) (format : Format) (network : Option ℕ)
-    → AreFrom m.claim (forward_asks format (route_ask format m network) m.npdu.payload ++ [])
-from_one m format network = from_both m.claim (forward_asks format (route_ask format m network) m.npdu.payload) [] (from_forward m format network) tt
+    → AreFrom format m.claim (forward_asks format (route_ask format m network) m.npdu.payload ++ [])
+from_one m format network = from_both format m.claim (forward_asks format (route_ask format m network) m.npdu.payload) [] (from_forward m format network) tt
 
 from_copies : (format : Format) (m : Message) (d : Destination) (ports : List PortState)
-    → AreFrom m.claim (asks_of (map (copy format m d) ports))
+    → AreFrom format m.claim (asks_of (map (copy format m d) ports))
 from_copies format m d [] = tt
 from_copies format m d (state ∷ ports) =
-    from_both m.claim (forward_asks format (route_ask format m (Some state.port.network)) m.npdu.payload) _
+    from_both format m.claim (forward_asks format (route_ask format m (Some state.port.network)) m.npdu.payload) _
     (from_forward m format (Some state.port.network)) (from_copies format m d ports)
 
-from_way : (relay : Relay) (m : Message) (d : Destination) (by : Way) → AreFrom m.claim (asks_of (steps_by relay m d by))
+from_way : (relay : Relay) (m : Message) (d : Destination) (by : Way) → AreFrom relay.format m.claim (asks_of (steps_by relay m d by))
 from_way relay m d ways.Everywhere = from_copies relay.format m d (others m.here.port.number relay.ports)
 from_way relay m d (ways.Port other) =
-    steps_if m.claim (leaves m.here.port.number (ways.Port other)) _ [] (from_one m relay.format (bound_for m.npdu)) tt
+    steps_if relay.format m.claim (leaves m.here.port.number (ways.Port other)) _ [] (from_one m relay.format (bound_for m.npdu)) tt
 from_way relay m d (ways.Router route) =
-    steps_if m.claim (leaves m.here.port.number (ways.Router route)) _ [] (from_one m relay.format (bound_for m.npdu)) tt
+    steps_if relay.format m.claim (leaves m.here.port.number (ways.Router route)) _ [] (from_one m relay.format (bound_for m.npdu)) tt
 from_way relay m d ways.Device = tt
 from_way relay m d ways.Unknown = from_one m relay.format (bound_for m.npdu)
 
 pub routing_carries_the_claim : RoutingCarriesTheClaim
-routing_carries_the_claim relay m = steps_if m.claim (is_local m.npdu.payload) [] _ tt (by m.npdu.destination)
+routing_carries_the_claim relay m = steps_if relay.format m.claim (is_local m.npdu.payload) [] _ tt (by m.npdu.destination)
   where
-    by : (d : Option Destination) → AreFrom m.claim
+    by : (d : Option Destination) → AreFrom relay.format m.claim
         (asks_of (option_map_or (λ d. steps_by relay m d (way relay.routes d.address.network)) d []))
     by None = tt
     by (Some d) = from_way relay m d (way relay.routes d.address.network)
 
 from_learning : (format : Format) (m : Message) (networks : List ℕ)
-    → AreFrom m.claim (asks_of (map (λ n. record { asks = learn_ask format m n ∷ []; sends = [] }) networks))
+    → AreFrom format m.claim (asks_of (map (λ n. record { asks = learn_ask format m n ∷ []; sends = [] }) networks))
 from_learning format m [] = tt
-from_learning format m (n ∷ networks) = (said m.claim _ refl refl, from_learning format m networks)
+from_learning format m (n ∷ networks) = (said format m.claim _ refl refl, from_learning format m networks)
 
-from_question : (relay : Relay) (m : Message) (octets : List ℕ) → AreFrom m.claim (asks_of (question_steps relay m octets))
-from_question relay m [] = (said m.claim _ refl refl, tt)
+from_question : (relay : Relay) (m : Message) (octets : List ℕ) → AreFrom relay.format m.claim (asks_of (question_steps relay m octets))
+from_question relay m [] = (said relay.format m.claim _ refl refl, tt)
 from_question relay m (a ∷ []) = tt
 from_question relay m (a ∷ b ∷ []) = by (network_of (from_be_bytes w16 (a ∷ b ∷ [])))
   where
-    by : (network : Option ℕ) → AreFrom m.claim (asks_of (option_map_or (λ n. question_of relay m n ∷ []) network []))
+    by : (network : Option ℕ) → AreFrom relay.format m.claim (asks_of (option_map_or (λ n. question_of relay m n ∷ []) network []))
     by None = tt
-    by (Some n) = (said m.claim _ refl refl, tt)
+    by (Some n) = (said relay.format m.claim _ refl refl, tt)
 from_question relay m (a ∷ b ∷ c ∷ octets) = tt
 
 pub network_messages_carry_their_claim : NetworkMessagesCarryTheirClaim
 network_messages_carry_their_claim relay m =
-    steps_if m.claim (is_i_am_router m.npdu) (learn_steps relay.format m) _ (from_learning relay.format m (named_networks m))
-    (steps_if m.claim (is_who_is_router m.npdu) (question_steps relay m (payload_octets m.npdu.payload)) _
+    steps_if relay.format m.claim (is_i_am_router m.npdu) (learn_steps relay.format m) _ (from_learning relay.format m (named_networks m))
+    (steps_if relay.format m.claim (is_who_is_router m.npdu) (question_steps relay m (payload_octets m.npdu.payload)) _
     (from_question relay m (payload_octets m.npdu.payload))
-    (steps_if m.claim (is_what_is_network_number m.npdu) _ [] (said m.claim _ refl refl, tt) tt))
+    (steps_if relay.format m.claim (is_what_is_network_number m.npdu) _ [] (said relay.format m.claim _ refl refl, tt) tt))

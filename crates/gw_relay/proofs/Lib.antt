@@ -11,6 +11,7 @@ pub mod TargetLemmas
 pub mod Peers
 pub mod Learning
 pub mod WayLemmas
+pub mod SourceKeys
 pub mod Claims
 pub mod NamedLemmas
 pub mod Entering

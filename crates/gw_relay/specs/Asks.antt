@@ -4,13 +4,12 @@ use Rattle.std.specs.Prelude.{ℕ, List, [], ◌∷◌, Option, Some, None, if�
 use Rattle.std.specs.Option.{option_map, option_map_or}
 use Rattle.gw_addr.specs.declared.bip.BipAddr.{BipAddr}
 use Rattle.gw_addr.specs.Address.{big_endian, octets_of}
-use Rattle.gw_addr.specs.Station.{key_of}
 use Rattle.gw_codecs.specs.apdu.Reading.{service_at}
 use Rattle.gw_frames.specs.bvll.Bvll.{write_bdt, read_bdt, register, read_fdt, delete, function_of, octet_of}
 use Rattle.gw_frames.specs.bvll.Bvll.{Message as Frame}
 use Rattle.gw_frames.specs.npdu.Npdu.{Fields, Payload, apdu, message}
 use Rattle.gw_rules.specs.Ask.{Ask, ask_of}
-use Rattle.gw_rules.specs.Format.{names_stations}
+use Rattle.gw_rules.specs.Format.{key_in, names_stations}
 use Rattle.gw_rules.specs.Service.{service_number}
 use Rattle.gw_rules.specs.declared.format.Format.{Format}
 use Rattle.gw_rules.specs.declared.operation.Operation.{Operation}
@@ -31,10 +30,10 @@ station_key format address =
 abbrev pub sender_of : Format → BipAddr → Option ℕ
 sender_of format from = station_key format from
 
--- the one station that a message is bound for: a DADR of six octets
+-- the one station that a message is bound for: a DADR that has a key
 abbrev pub station_of : Format → Fields → Option ℕ
 station_of format npdu =
-    if names_stations format then option_map_or (λ d. key_of d.address.mac) npdu.destination None
+    if names_stations format then option_map_or (λ d. key_in format d.address.mac) npdu.destination None
     else None
 
 -- the station whose registration a frame is to delete
@@ -83,7 +82,7 @@ abbrev pub message_ask : Format → Operation → Message → Option ℕ → Ask
 message_ask format operation m destination = record (ask_of operation) {
   port = Some m.here.port.number;
   source_network = Some m.claim.net;
-  source_key = key_of m.claim.mac;
+  source_key = key_in format m.claim.mac;
   destination_network = destination;
   service = service_of m.npdu.payload;
   sender = sender_of format m.from;

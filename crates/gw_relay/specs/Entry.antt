@@ -5,7 +5,6 @@ use Rattle.std.specs.List.{list_all}
 use Rattle.std.specs.Option.{option_map_or}
 use Rattle.gw_addr.specs.declared.bip.BipAddr.{BipAddr}
 use Rattle.gw_addr.specs.Address.{octets_of}
-use Rattle.gw_addr.specs.Station.{key_of}
 use Rattle.gw_tables.specs.bdt_fdt.Registrations.{same}
 use Rattle.gw_frames.specs.bvll.Bvll.{forwarded, original_broadcast, original_unicast}
 use Rattle.gw_frames.specs.bvll.Bvll.{Message as Frame}
@@ -14,7 +13,7 @@ use Rattle.gw_tables.specs.routes.Table.{way}
 use Rattle.gw_tables.specs.declared.routes.route.Way.{Way}
 use Rattle.gw_tables.specs.declared.routes.route.Way.TheVariants.{Router}
 use Rattle.gw_rules.specs.Ask.{Ask, ask_of}
-use Rattle.gw_rules.specs.Format.{names_stations}
+use Rattle.gw_rules.specs.Format.{key_in, names_stations}
 use Rattle.gw_rules.specs.RuleList.{allows}
 use Rattle.gw_rules.specs.declared.format.Format.{Format}
 use Rattle.gw_rules.specs.declared.operation.Operation.TheVariants.{Enter, Claim}
@@ -42,7 +41,7 @@ abbrev pub enter_ask : Format → Message → Ask
 enter_ask format m = record (ask_of Enter) {
   port = Some m.here.port.number;
   source_network = Some m.here.port.network;
-  source_key = key_of (octets_of m.link);
+  source_key = key_in format (octets_of m.link);
   sender = sender_of format m.from;
 }
 
@@ -70,7 +69,7 @@ abbrev pub claim_ask : Format → Message → Ask
 claim_ask format m = record (ask_of Claim) {
   port = Some m.here.port.number;
   source_network = Some m.claim.net;
-  source_key = key_of m.claim.mac;
+  source_key = key_in format m.claim.mac;
   sender = sender_of format m.from;
 }
 

@@ -7,7 +7,7 @@ use Rattle.std.specs.List.{list_all}
 use Rattle.std.specs.Option.{option_map_or}
 use Rattle.gw_addr.specs.declared.bip.BipAddr.{BipAddr}
 use Rattle.gw_addr.specs.Address.{address_in, big_endian, octets_of}
-use Rattle.gw_addr.specs.Station.{key_of, network_of}
+use Rattle.gw_addr.specs.Station.{key48, network_of}
 use Rattle.gw_frames.specs.bvll.Bvll.{function_of, octet_of}
 use Rattle.gw_frames.specs.bvll.Bvll.{Message as Frame}
 use Rattle.gw_frames.specs.npdu.Npdu.{Destination, Fields, payload_octets}
@@ -73,7 +73,7 @@ abbrev pub message_ask_before : Operation → Message → Option ℕ → Ask
 message_ask_before operation m destination = record (ask_of operation) {
   port = Some m.here.port.number;
   source_network = Some m.claim.net;
-  source_key = key_of m.claim.mac;
+  source_key = key48 m.claim.mac;
   destination_network = destination;
   service = service_of m.npdu.payload;
 }

@@ -7,7 +7,6 @@ use Rattle.gw_addr.specs.declared.bip.BipAddr.{BipAddr}
 use Rattle.gw_addr.specs.declared.entry.BdtEntry.{BdtEntry}
 use Rattle.gw_addr.specs.declared.station.Source.{Source}
 use Rattle.gw_addr.specs.Entry.{IsBdtEntry}
-use Rattle.gw_addr.specs.Station.{key_of}
 use Rattle.gw_tables.specs.bdt_fdt.Peers.{all_ones, is_of, peers}
 use Rattle.gw_tables.specs.bdt_fdt.Registrations.{same}
 use Rattle.gw_frames.specs.bvll.Bvll.{Message as Frame}
@@ -15,7 +14,7 @@ use Rattle.gw_frames.specs.bvll.Bvll.{octet_of}
 use Rattle.gw_frames.specs.declared.bvll.function.Function.TheVariants.{OriginalUnicast}
 use Rattle.gw_configuration.specs.declared.port.Port.{Port as ConfiguredPort}
 use Rattle.gw_frames.specs.npdu.Npdu.{Address}
-use Rattle.gw_rules.specs.Format.{names_stations}
+use Rattle.gw_rules.specs.Format.{key_in, names_stations}
 use Rattle.gw_rules.specs.declared.format.Format.{Format}
 use Rattle.gw_rules.specs.declared.operation.Operation.TheVariants.{Claim, Enter, Learn, Read}
 use Rattle.gw_rules.specs.declared.rule.Rule.{Rule}
@@ -92,27 +91,27 @@ RoutesAreKept =
 
 -- ---- whose asks
 
--- each ask is of this source
-abbrev pub AreFrom : Source → List Ask → Type 0
-AreFrom source asks = AllByRecursion (IsFrom source.net (key_of source.mac)) asks
+-- each ask is of this source, whose key is that of the format
+abbrev pub AreFrom : Format → Source → List Ask → Type 0
+AreFrom format source asks = AllByRecursion (IsFrom source.net (key_in format source.mac)) asks
 
 -- Every ask of a broadcast, of routing and of a network layer message is of the source that the message claims.
 abbrev pub BroadcastsCarryTheirClaim : Type 0
-BroadcastsCarryTheirClaim = (format : Format) (m : Message) → AreFrom m.claim (cast_asks format m)
+BroadcastsCarryTheirClaim = (format : Format) (m : Message) → AreFrom format m.claim (cast_asks format m)
 
 abbrev pub RoutingCarriesTheClaim : Type 0
-RoutingCarriesTheClaim = (relay : Relay) (m : Message) → AreFrom m.claim (route_asks relay m)
+RoutingCarriesTheClaim = (relay : Relay) (m : Message) → AreFrom relay.format m.claim (route_asks relay m)
 
 abbrev pub NetworkMessagesCarryTheirClaim : Type 0
-NetworkMessagesCarryTheirClaim = (relay : Relay) (m : Message) → AreFrom m.claim (manage_asks relay m)
+NetworkMessagesCarryTheirClaim = (relay : Relay) (m : Message) → AreFrom relay.format m.claim (manage_asks relay m)
 
 -- An ask to enter is of the link source, as a node of the port's network; and an ask to claim is of the claim.
 abbrev pub EnteringCarriesTheLinkSource : Type 0
 EnteringCarriesTheLinkSource =
-    (format : Format) (m : Message) → AreFrom (local_source m.here.port.network m.link) (enter_asks format m)
+    (format : Format) (m : Message) → AreFrom format (local_source m.here.port.network m.link) (enter_asks format m)
 
 abbrev pub ClaimingCarriesTheClaim : Type 0
-ClaimingCarriesTheClaim = (relay : Relay) (m : Message) → AreFrom m.claim (claim_asks relay m)
+ClaimingCarriesTheClaim = (relay : Relay) (m : Message) → AreFrom relay.format m.claim (claim_asks relay m)
 
 -- ---- who is admitted
 

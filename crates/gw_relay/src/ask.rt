@@ -8,7 +8,7 @@ ghost use Rattle.gw_relay.specs.Asks.{bound_for, deleted_station, link_ask, mana
 ghost use Rattle.gw_relay.specs.Asks.{sender_of, service_of, station_key, station_of};
 ghost use Rattle.gw_relay.specs.Message.{message_view};
 
-use crate::message::{Message, key_of};
+use crate::message::Message;
 use crate::port::Port;
 use gw_addr::BipAddr;
 use gw_frames::bvll::Bvll;
@@ -47,7 +47,8 @@ pub fn sender_of(format: Format, from: BipAddr) -> Option<u64>
     station_key(format, from)
 }
 
-/// The one station that a message is bound for, in a format that names stations: a DADR of six octets.
+/// The one station that a message is bound for, in a format that names stations: a DADR of one to seven
+/// octets, by its key.
 fn station_of(format: Format, npdu: &Npdu<'_>) -> Option<u64>
     ensures { result ≡ station_of format (npdu_view npdu.now) }
 {
@@ -55,7 +56,7 @@ fn station_of(format: Format, npdu: &Npdu<'_>) -> Option<u64>
         return None;
     }
     match &npdu.destination {
-        Some(destination) => key_of(destination.mac),
+        Some(destination) => format.key_in(destination.mac),
         None => None,
     }
 }
@@ -121,7 +122,7 @@ impl Message<'_> {
         Ask {
             port: Some(u64::from(self.here.port.number)),
             source_network: Some(u64::from(self.source_network())),
-            source_key: self.source_key(),
+            source_key: self.source_key(format),
             destination_network: destination.map(u64::from),
             service: service_of(&self.npdu.payload),
             sender: sender_of(format, self.from),

@@ -48,6 +48,7 @@ fn leads_by(number: u8, router: BipAddr, way: &Way) -> bool
 
 impl Message<'_> {
     /// The ask of the link source, as a node of the port's network.
+    #[tactic(auto, using(crate::proofs::SourceKeys::node_key))]
     fn enter_ask(&self, format: Format) -> Ask
         ensures { result ≡ enter_ask format (message_view self.now) }
     {
@@ -67,7 +68,7 @@ impl Message<'_> {
         Ask {
             port: Some(u64::from(self.here.port.number)),
             source_network: Some(u64::from(self.source_network())),
-            source_key: self.source_key(),
+            source_key: self.source_key(format),
             sender: sender_of(format, self.from),
             ..Ask::new(Operation::Claim)
         }

@@ -2,16 +2,17 @@
 
 ghost use Rattle.std.specs.Prelude.{◌≡◌, ◌≤◌, length};
 ghost use Rattle.std.specs.Option.{option_map};
-ghost use Rattle.gw_addr.specs.Station.{key_of};
 ghost use Rattle.gw_frames.specs.bvll.Bvll.{view as frame_view};
 ghost use Rattle.gw_frames.specs.npdu.Npdu.{address_view};
+ghost use Rattle.gw_rules.specs.Format.{key_in};
 ghost use Rattle.gw_relay.specs.Claim.{link_source, local_source, remote_source};
 ghost use Rattle.gw_relay.specs.Message.{message_view};
 
 use crate::port::PortState;
-use gw_addr::{BipAddr, Mac, NetNum, Source, bip_from_slice};
+use gw_addr::{BipAddr, Mac, NetNum, Source};
 use gw_frames::bvll::Bvll;
 use gw_frames::npdu::{AddressRef, Npdu};
+use gw_rules::Format;
 
 /// A frame that reads or changes a table of its port, with where it came.
 #[derive(Clone, Copy)]
@@ -69,13 +70,16 @@ impl Message<'_> {
         }
     }
 
-    /// The key of the address that it claims to come from, if that has six octets.
-    pub fn source_key(&self) -> Option<u64>
-        ensures { result ≡ key_of (message_view self.now).claim.mac }
+    /// The key of the address that it claims to come from, in this format: in format 3 if that has one to
+    /// seven octets, else if it has six.
+    #[inline(always)]
+    #[tactic(auto, using(crate::proofs::SourceKeys::node_key))]
+    pub fn source_key(&self, format: Format) -> Option<u64>
+        ensures { result ≡ key_in format (message_view self.now).claim.mac }
     {
         match &self.npdu.source {
             None => Some(self.link().key48()),
-            Some(address) => key_of(address.mac),
+            Some(address) => format.key_in(address.mac),
         }
     }
 }
@@ -107,12 +111,4 @@ fn remote_source(address: &AddressRef<'_>) -> Source
         net: address.net(),
         mac: mac_of(address.mac),
     }
-}
-
-/// The number of an address of six octets.
-pub(crate) fn key_of(address: &[u8]) -> Option<u64>
-    ensures { result ≡ key_of address.now }
-{
-    let address = bip_from_slice(address).ok()?;
-    Some(address.key48())
 }

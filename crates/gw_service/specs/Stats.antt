@@ -6,7 +6,7 @@ use Rattle.gw_turns.specs.Reports.{announcing_text, has_gone_on, report_line, re
 use Rattle.gw_turns.specs.declared.announcing.Announcing.{Announcing}
 use Rattle.gw_turns.specs.declared.serving.Served.{Served}
 use Rattle.gw_turns.specs.declared.tally.Tally.{Tally}
-use Rattle.gw_notices.specs.Stats.{lost_metrics_text, reloads_text, unkept_text}
+use Rattle.gw_notices.specs.Stats.{lost_metrics_text, put_off_text, reloads_text, unkept_text}
 use Rattle.gw_notices.specs.declared.reload.ReloadCounts.{ReloadCounts}
 
 -- When what is reported: each so many seconds, if reports are asked for; since a gateway began with these counts; and whether
@@ -22,12 +22,13 @@ reporting seconds start keeps reloads =
     record { seconds = seconds; start = start; keeps = keeps; reloads = reloads }
 
 -- how often the state couldn't be kept and the configuration was read again, how many texts of metrics were lost, what was
--- announced, and what else the keeper reports
+-- announced, how often that was put off, and what else the keeper reports
 abbrev pub tries_text : {K : Type 0} → (K → ℕ) → (K → State → List ℕ) → Reporting → K → ReloadCounts → Announcing → Option ℕ → State
     → List ℕ
 tries_text unkept more how k counts announcing lost w =
     unkept_text how.keeps (unkept k)
-    ++ (reloads_text how.reloads counts ++ (lost_metrics_text lost ++ (announcing_text announcing ++ more k w)))
+    ++ (reloads_text how.reloads counts ++ (lost_metrics_text lost ++ (announcing_text announcing
+    ++ (put_off_text announcing.put_off ++ more k w))))
 
 -- a report of what was done since then, and these tries
 abbrev pub stats_text : Reporting → State → Served → Tally → (tries : List ℕ) → List ℕ

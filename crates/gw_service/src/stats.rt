@@ -9,7 +9,9 @@ ghost use Rattle.gw_service.specs.Stats.{due_stats, end_stats, is_due, reporting
 use crate::keeping::StateKeeper;
 use crate::metrics::Measures;
 use gw_core::{Counts, Gateway};
-use gw_notices::{ReloadCounts, report_lost_metrics, report_reloads, report_unkept};
+use gw_notices::{
+    ReloadCounts, report_lost_metrics, report_put_off, report_reloads, report_unkept,
+};
 use gw_script::OctetSink;
 use gw_turns::{Announcing, ServeState, has_gone_on, report_announcing, report_of, try_report};
 
@@ -49,7 +51,8 @@ fn is_due(start: Counts, gateway: &Gateway, seconds: u64) -> bool
 
 impl Schedule {
     /// Reports how often the state couldn't be kept, if it is, how often the configuration was read again, if it is, how many
-    /// texts of metrics were lost, if they are put, what was announced, if anything was, and what else the keeper reports.
+    /// texts of metrics were lost, if they are put, what was announced, if anything was, how often an announcement was put off,
+    /// if one was, and what else the keeper reports.
     fn report_tries<K: StateKeeper, E: OctetSink>(
         &self,
         gateway: &Gateway,
@@ -66,6 +69,7 @@ impl Schedule {
         report_reloads(self.reloads, counts.reloads, errors);
         report_lost_metrics(counts.lost_metrics, errors);
         report_announcing(counts.announcing, errors);
+        report_put_off(counts.announcing.put_off, errors);
         keeper.report_more(gateway, errors);
     }
 

@@ -1,5 +1,5 @@
--- How many datagrams aren't passed on: they are dropped before any policy is asked, or the policy denies that their sender
--- enters or speaks for another network.
+-- How many datagrams aren't passed on: they are dropped before any policy is asked, or a rule that isn't quiet, or none,
+-- denies that their sender enters or speaks for another network.
 use Rattle.std.specs.Prelude.{ℕ, ◌+◌, ◌≤◌, ◌==◌, Bool, true, false, if◌then◌else◌, List, [], ◌∷◌, Option, Some, None}
 use Rattle.std.specs.List.{list_any}
 use Rattle.std.specs.Option.{option_map_or}

@@ -8,7 +8,7 @@ use gw_audit::{Denial, Denials};
 use gw_core::DropReason;
 use gw_rules::Operation;
 
-/// How many datagrams weren't passed on, by the reason.
+/// How many datagrams weren't passed on, by the reason; what a quiet rule denied isn't counted.
 #[derive(Clone, Copy, Default)]
 pub struct Tally {
     /// How many the policy didn't let enter.

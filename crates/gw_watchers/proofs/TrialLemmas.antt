@@ -1,6 +1,6 @@
 -- What a trial records of an event, and that each ask is recorded once.
 use Rattle.std.proofs.Common.{◌≡◌, ◌∙◌, refl, sym, ap, ℕ, ◌+◌, ◌^◌, ◌<◌, suc, Bool, true, false, List, [], ◌∷◌, ◌++◌, length, map, Option, Some, None, arith}
-use Rattle.std.specs.Prelude.{if◌then◌else◌}
+use Rattle.std.specs.Prelude.{cond, filter, if◌then◌else◌}
 use Rattle.gw_audit.specs.declared.denial.Denial.{Denial}
 use Rattle.gw_core.specs.Asked.{asked_at, asked_from, asked_of}
 use Rattle.gw_core.specs.Asks.{asks, asks_for}
@@ -10,7 +10,7 @@ use Rattle.gw_core.specs.State.{State}
 use Rattle.gw_rules.specs.Ask.{Ask}
 use Rattle.gw_rules.specs.Asker.{verdict, verdicts_of}
 use Rattle.gw_rules.specs.Authorizer.{denied_of, refusal}
-use Rattle.gw_rules.specs.RuleList.{allows, first}
+use Rattle.gw_rules.specs.RuleList.{first, is_logged}
 use Rattle.gw_rules.specs.declared.rule.Rule.{Rule}
 use Rattle.gw_decisions.specs.tally.Tally.{one_more}
 use Rattle.gw_watchers.specs.Laws.{AllAreAsked, TrialIsDenials}
@@ -21,33 +21,43 @@ use Rattle.gw_watchers.specs.Records.{denied_by, record_of, recorded, records}
 pub next_number : (last : ℕ) → last + 1 < 2 ^ 64 → one_more last ≡ last + 1
 next_number last few = omega (arith, few)
 
+-- an ask that isn't logged adds no refusal, and one that is adds one
+logged_out : (rules : List Rule) (ask : Ask) (asked : List Ask) → is_logged rules ask ≡ false → denied_of rules (ask ∷ asked) ≡ denied_of rules asked
+logged_out rules ask asked is =
+    ap (λ (b : Bool). map (refusal rules) (cond b (ask ∷ filter (is_logged rules) asked) (filter (is_logged rules) asked))) is
+
+logged_in : (rules : List Rule) (ask : Ask) (asked : List Ask) → is_logged rules ask ≡ true
+    → denied_of rules (ask ∷ asked) ≡ refusal rules ask ∷ denied_of rules asked
+logged_in rules ask asked is =
+    ap (λ (b : Bool). map (refusal rules) (cond b (ask ∷ filter (is_logged rules) asked) (filter (is_logged rules) asked))) is
+
 trial_from : (rules policy : List Rule) (tick : ℕ) (from : Origin) (last : ℕ) (asked : List Ask) → last + length asked < 2 ^ 64
     → records (denied_by rules) rules last tick (map (asked_from from) (verdicts_of policy asked))
     ≡ denials_from rules (last + 1) tick from (denied_of rules asked)
 trial_from rules policy tick from last [] few = refl
 trial_from rules policy tick from last (ask ∷ asked) few =
-    by (allows rules ask) refl (trial_from rules policy tick from last asked (omega (arith, few)))
+    by (is_logged rules ask) refl (trial_from rules policy tick from last asked (omega (arith, few)))
     (trial_from rules policy tick from (last + 1) asked (omega (arith, few)))
   where
-    by : (b : Bool) → allows rules ask ≡ b
+    by : (b : Bool) → is_logged rules ask ≡ b
         → records (denied_by rules) rules last tick (map (asked_from from) (verdicts_of policy asked))
         ≡ denials_from rules (last + 1) tick from (denied_of rules asked)
         → records (denied_by rules) rules (last + 1) tick (map (asked_from from) (verdicts_of policy asked))
         ≡ denials_from rules (last + 1 + 1) tick from (denied_of rules asked)
         → records (denied_by rules) rules last tick (map (asked_from from) (verdicts_of policy (ask ∷ asked)))
         ≡ denials_from rules (last + 1) tick from (denied_of rules (ask ∷ asked))
-    by true is allowed denied =
-        let a = asked_from from (verdict policy ask) in
-        let rest = map (asked_from from) (verdicts_of policy asked) in
-        let skips : denied_of rules (ask ∷ asked) ≡ denied_of rules asked = rw is refl in
-        ap (λ (b : Bool). recorded (if b then None else Some (first rules ask)) rules last tick a
-        (λ number. records (denied_by rules) rules number tick rest)) is
-        ∙ allowed ∙ sym (ap (denials_from rules (last + 1) tick from) skips)
     by false is allowed denied =
         let a = asked_from from (verdict policy ask) in
         let rest = map (asked_from from) (verdicts_of policy asked) in
-        let adds : denied_of rules (ask ∷ asked) ≡ refusal rules ask ∷ denied_of rules asked = rw is refl in
-        ap (λ (b : Bool). recorded (if b then None else Some (first rules ask)) rules last tick a
+        let skips : denied_of rules (ask ∷ asked) ≡ denied_of rules asked = logged_out rules ask asked is in
+        ap (λ (b : Bool). recorded (if b then Some (first rules ask) else None) rules last tick a
+        (λ number. records (denied_by rules) rules number tick rest)) is
+        ∙ allowed ∙ sym (ap (denials_from rules (last + 1) tick from) skips)
+    by true is allowed denied =
+        let a = asked_from from (verdict policy ask) in
+        let rest = map (asked_from from) (verdicts_of policy asked) in
+        let adds : denied_of rules (ask ∷ asked) ≡ refusal rules ask ∷ denied_of rules asked = logged_in rules ask asked is in
+        ap (λ (b : Bool). recorded (if b then Some (first rules ask) else None) rules last tick a
         (λ number. records (denied_by rules) rules number tick rest)) is
         ∙ ap (λ (n : ℕ). record_of rules n tick a (first rules ask) ∷ records (denied_by rules) rules n tick rest)
         (next_number last (omega (arith, few)))

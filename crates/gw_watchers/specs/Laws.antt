@@ -15,8 +15,8 @@ use Rattle.gw_watchers.specs.Records.{denied_by, last_number, records}
 
 -- ---- one event
 
--- What a trial records of an event is what a log of denials by the trial's rules has of it: of each ask that they deny, in
--- order.
+-- What a trial records of an event is what a log of denials by the trial's rules has of it: of each ask that they deny, but
+-- by quiet rules, in order.
 abbrev pub TrialIsDenials : Type 0
 TrialIsDenials = (rules : List Rule) (w : State) (e : Event) (last tick : ℕ) → last + length (asks w e) < 2 ^ 64
     → records (denied_by rules) rules last tick (asked_at w e)

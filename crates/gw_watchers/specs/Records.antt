@@ -6,15 +6,15 @@ use Rattle.gw_audit.specs.Line.{line_text}
 use Rattle.gw_audit.specs.declared.denial.Denial.{Denial}
 use Rattle.gw_core.specs.Denials.{rule_name}
 use Rattle.gw_core.specs.declared.asked.Asked.{Asked}
-use Rattle.gw_rules.specs.RuleList.{allows, first}
+use Rattle.gw_rules.specs.RuleList.{first, is_logged}
 use Rattle.gw_rules.specs.declared.rule.Rule.{Rule}
 use Rattle.gw_decisions.specs.tally.Tally.{one_more}
 
 -- ---- which
 
--- a policy on trial chooses the asks that it denies, each with its first rule, or none
+-- a policy on trial chooses the asks that it denies, but by quiet rules, each with its first rule, or none
 abbrev pub denied_by : List Rule → Asked → Option (Option ℕ)
-denied_by rules a = if allows rules a.verdict.ask then None else Some (first rules a.verdict.ask)
+denied_by rules a = if is_logged rules a.verdict.ask then Some (first rules a.verdict.ask) else None
 
 -- the rule of this number is marked
 abbrev pub is_marked_at : List Bool → ℕ → Bool

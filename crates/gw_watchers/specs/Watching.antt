@@ -31,7 +31,7 @@ is_watching w = is_some w.trial || (is_some w.audit || is_some w.counts)
 
 -- ---- each part
 
--- the asks that the trial's rules deny are recorded, under its names
+-- the asks that the trial's rules deny, but by quiet ones, are recorded, under its names
 abbrev pub IsTried : {T : Type 0} → (T → Option (List ℕ)) → State → List Asked
     → (before after : Option (Beside (List Rule) T)) → Type 0
 IsTried held w asked None None = ⊤

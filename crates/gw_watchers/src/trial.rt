@@ -1,4 +1,4 @@
-//! A policy on trial: the asks that it would deny.
+//! A policy on trial: the asks that it would deny, but by quiet rules.
 
 ghost use Rattle.std.specs.Prelude.{[]};
 ghost use Rattle.gw_watchers.specs.Records.{denied_by};
@@ -19,6 +19,7 @@ impl Choice for Policy {
     fn chosen(&self, asked: &Asked) -> Option<Option<u16>> {
         match self.decide(&asked.verdict.ask) {
             Decision::Allow => None,
+            Decision::Deny { by } if self.is_quiet(by) => None,
             Decision::Deny { by } => Some(by),
         }
     }

@@ -17,14 +17,15 @@ same_range a b = nat_eq a.low b.low && nat_eq a.high b.high
 abbrev pub same_field : Rule → Rule → FieldName → Bool
 same_field a b field = pointwise same_range (ranges_of field a) (ranges_of field b)
 
--- they have the same action
-abbrev pub same_action : Bool → Bool → Bool
-same_action true b = b
-same_action false b = not b
+-- both are true, or neither is
+abbrev pub same_truth : Bool → Bool → Bool
+same_truth true b = b
+same_truth false b = not b
 
--- two rules are one: they have the same name, the same action, and the same ranges for each field
+-- two rules are one: they have the same name, the same action, are both quiet or neither, and have the same ranges for each field
 abbrev pub same_rule : Rule → Rule → Bool
-same_rule a b = pointwise nat_eq a.name b.name && (same_action a.allow b.allow && each_field (same_field a b))
+same_rule a b =
+    pointwise nat_eq a.name b.name && (same_truth a.allow b.allow && (same_truth a.quiet b.quiet && each_field (same_field a b)))
 
 -- a rule is one of these
 abbrev pub is_among : List Rule → Rule → Bool

@@ -3,7 +3,7 @@
 ghost use Rattle.std.specs.Prelude.{◌≡◌};
 ghost use Rattle.std.specs.Cmp.Lexicographic.{pointwise};
 ghost use Rattle.std.specs.List.{list_any};
-ghost use Rattle.gw_notices.specs.rule_changes.Changes.{is_among, same_action, same_field, same_range, same_rule};
+ghost use Rattle.gw_notices.specs.rule_changes.Changes.{is_among, same_field, same_range, same_rule, same_truth};
 ghost use Rattle.gw_rules.specs.Rule.{each_field};
 
 use gw_rules::{FieldName, Range, Rule};
@@ -30,9 +30,9 @@ fn same_ranges(a: &[Range], b: &[Range]) -> bool
     true
 }
 
-/// Whether two actions are one.
-fn same_action(a: bool, b: bool) -> bool
-    ensures { result ≡ same_action a b }
+/// Whether both are true, or neither is.
+fn same_truth(a: bool, b: bool) -> bool
+    ensures { result ≡ same_truth a b }
 {
     if a { b } else { !b }
 }
@@ -47,11 +47,15 @@ fn same_fields(a: &Rule, b: &Rule) -> bool
     ))
 }
 
-/// Whether two rules are one: they have the same name, the same action and the same ranges for each field.
+/// Whether two rules are one: they have the same name, the same action, are both quiet or neither, and have the same ranges
+/// for each field.
 pub(crate) fn same_rule(a: &Rule, b: &Rule) -> bool
     ensures { result ≡ same_rule a.now b.now }
 {
-    a.name.as_str() == b.name.as_str() && same_action(a.allow, b.allow) && same_fields(a, b)
+    a.name.as_str() == b.name.as_str()
+        && same_truth(a.allow, b.allow)
+        && same_truth(a.quiet, b.quiet)
+        && same_fields(a, b)
 }
 
 /// Whether a rule is one of these.
