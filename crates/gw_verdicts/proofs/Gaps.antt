@@ -9,6 +9,7 @@ use Rattle.gw_ask_sets.specs.shapes.Pieces.{above, below}
 use Rattle.gw_ask_sets.specs.shapes.Shape.{IsWithin}
 use Rattle.gw_ask_sets.specs.shapes.Shapes.{gaps, gaps_between, network, only, split}
 use Rattle.gw_ask_sets.specs.declared.shapes.side.Side.{Side}
+use Rattle.gw_ask_sets.proofs.shapes_lemmas.Lying.{in_range}
 
 abbrev pub WithinOne : List Side → ℕ → Type 0
 WithinOne [] n = ⊥
@@ -29,14 +30,14 @@ split_side : (hole : ℕ) (side : Side) (n : ℕ) (b lower : Bool) → holds hol
 split_side hole side n false lower e f other is = rw e (inl is)
 split_side hole side n true true e f other is =
     let under = ltb-true n hole f in
-    let from = is.0 in
+    let from = (in_range side n is).0 in
     let t : nat_lt side.range.low hole ≡ true = lt-ltb side.range.low hole (omega arith) in
     rw e (one_front (option_to_list (below side (only hole))) (option_to_list (above side (only hole))) n
     (rw t (inl (from, omega arith))))
 split_side hole side n true false e f other is =
     let from : hole ≤ n = ltb-false n hole f in
     let over : hole < n = above_it from in
-    let to = is.1 in
+    let to = (in_range side n is).1 in
     let t : nat_lt hole side.range.high ≡ true = lt-ltb hole side.range.high (omega arith) in
     rw e (one_rest (option_to_list (below side (only hole))) (option_to_list (above side (only hole))) n
     (rw t (inl (omega arith, to))))

@@ -10,6 +10,7 @@ pub mod PeerLaw
 pub mod Raised
 pub mod RelayAsks
 pub mod ShapeLaw
+pub mod UnraisedLaw
 pub mod StateLaw
 pub mod StrangerLaw
 pub mod RunsLaw

@@ -3,12 +3,12 @@ use Rattle.std.proofs.Common.{◌≡◌, ◌≤◌, ◌∙◌, ◌⊎◌, sym, a
 use Rattle.std.specs.Prelude.{◌==◌, ◌||◌, if◌then◌else◌, IfSome}
 use Rattle.std.specs.List.{AllByRecursion}
 use Rattle.std.specs.Option.{option_map, option_map_or}
-use Rattle.std.proofs.lemmas.Bool.{and_parts, eq-eqb, eqb-true, leb-true}
+use Rattle.std.proofs.lemmas.Bool.{and_parts, leb-true}
 use Rattle.gw_addr.specs.declared.bip.BipAddr.{BipAddr}
 use Rattle.gw_addr.specs.Address.{IsAddress, big_endian, octets_of}
 use Rattle.gw_addr.specs.Reading.{AreOctets}
-use Rattle.gw_addr.specs.Station.{is_network, key_of}
-use Rattle.gw_addr.proofs.Addresses.{key_below, keys_below, length-address}
+use Rattle.gw_addr.specs.Station.{is_network}
+use Rattle.gw_addr.proofs.Addresses.{keys_below}
 use Rattle.gw_frames.specs.bvll.Bvll.{HasFields}
 use Rattle.gw_frames.specs.bvll.Bvll.{Message as Frame}
 use Rattle.gw_frames.specs.bvll.Bvll as bvll
@@ -16,7 +16,7 @@ use Rattle.gw_frames.specs.npdu.Npdu.{Destination, Fields, Payload, apdu, payloa
 use Rattle.gw_frames.specs.npdu.Npdu.{message as network_message}
 use Rattle.gw_rules.specs.declared.format.Format.{Format}
 use Rattle.gw_rules.specs.declared.format.Format.TheVariants.{One, Two, Three}
-use Rattle.gw_rules.specs.Format.{names_stations}
+use Rattle.gw_rules.specs.Format.{key_in, names_stations}
 use Rattle.gw_rules.specs.Ask.{Ask}
 use Rattle.gw_rules.specs.Operation.{operation_number}
 use Rattle.gw_rules.specs.declared.field.FieldName.TheVariants as fields
@@ -35,6 +35,7 @@ use Rattle.gw_relay.specs.Manage.{learn_ask, network_ask}
 use Rattle.gw_relay.specs.Message.{Message}
 use Rattle.gw_relay.specs.Named.{named_ask, unnamed_ask}
 use Rattle.gw_relay.specs.Route.{route_ask}
+use Rattle.gw_relay.proofs.SourceKeys.{node_key}
 use Rattle.gw_relay.specs.State.{Relay, is_manager}
 use Rattle.gw_relay.specs.declared.port.Port.{Port}
 use Rattle.gw_core.specs.Asks.{apdu_asks, asks_for}
@@ -42,9 +43,10 @@ use Rattle.gw_core.specs.Receive.{message}
 use Rattle.gw_core.specs.Reply.{apdu_for, apdu_of, apdu_towards, context_of, is_broadcast, is_device}
 use Rattle.gw_core.specs.State.{device_network}
 use Rattle.gw_ask_sets.specs.shapes.Shape.{IsWithin, LiesIn, LiesInOne, Shape}
-use Rattle.gw_ask_sets.specs.shapes.Shapes.{aimed, answer, bound, broadcast_shapes, cast_shapes, claim_shapes, enter_shapes, frame_shapes, message_shapes, named, near_shapes, network as any_network, nothing, only, own, passed_shapes, passed_to, perhaps, perhaps_in, plain, request_or_message, request_shapes, shapes_from, some, some_in, table_shapes}
+use Rattle.gw_ask_sets.specs.shapes.Shapes.{address, address_in, aimed, answer, any_key, bound, broadcast_shapes, cast_shapes, claim_shapes, enter_shapes, frame_shapes, message_shapes, named, near_shapes, network as any_network, nothing, only, own, passed_shapes, passed_to, perhaps, plain, request_or_message, request_shapes, shapes_from, some, source_in, station_in, table_shapes}
 use Rattle.gw_ask_sets.specs.declared.shapes.shapes.Origin.{Origin}
 use Rattle.gw_ask_sets.specs.declared.shapes.side.Side.{Side}
+use Rattle.gw_ask_sets.proofs.shapes_lemmas.KeyLaw.{key_within}
 use Rattle.gw_ask_sets.proofs.shapes_lemmas.Lying.{in_front, in_rest, lies_by}
 use Rattle.gw_verdicts.proofs.Brought.{IsBrought}
 use Rattle.gw_verdicts.proofs.DeviceAsks.{DeviceCases, DeviceKnown, each_device}
@@ -61,8 +63,8 @@ Lies format device from ask = LiesInOne (shapes_from format device from) ask
 pub record Comes (format : Format) (from : Origin) (m : Message) : Type 0 where
   pub port : IsWithin from.port (Some m.here.port.number)
   pub network : IsWithin from.network (Some m.claim.net)
-  pub key : IsWithin from.key (key_of m.claim.mac)
-  pub sender : from.sender ≡ some_in format fields.Sender
+  pub key : IsWithin from.key (key_in format m.claim.mac)
+  pub sender : from.sender ≡ address_in format
   pub manages : from.manages ≡ is_manager m.here.port
   pub brought : IsBrought m
 
@@ -74,44 +76,36 @@ exactly n = (omega arith, omega arith)
 is_exactly : (n : ℕ) (value : Option ℕ) → value ≡ Some n → IsWithin (only n) value
 is_exactly n value is = subst (IsWithin (only n)) (sym is) (exactly n)
 
--- the key of an address, and of a station whose address may have any length
-address_key : (a : BipAddr) → IsAddress a → IsWithin (some fields.SourceKey) (Some (big_endian (octets_of a)))
+-- the key of an address
+address_key : (a : BipAddr) → IsAddress a → IsWithin address (Some (big_endian (octets_of a)))
 address_key a is =
     let small = keys_below a is in
     (omega arith, omega (arith, small))
 
-pub six_octets : (a : BipAddr) → IsAddress a → IsWithin (some fields.SourceKey) (key_of (octets_of a))
-six_octets a is = rw (eq-eqb (length (octets_of a)) 6 (length-address a is)) (address_key a is)
-
-pub any_octets : (mac : List ℕ) → AreOctets mac → IsWithin (perhaps fields.SourceKey) (key_of mac)
-any_octets mac fits = by (length mac == 6) refl
-  where
-    by : (b : Bool) → (length mac == 6) ≡ b → IsWithin (perhaps fields.SourceKey) (if b then Some (big_endian mac) else None)
-    by true e =
-        let small = key_below mac (eqb-true (length mac) 6 e) fits in
-        (omega arith, omega (arith, small))
-    by false e = refl
+pub six_octets : (format : Format) (a : BipAddr) → IsAddress a → IsWithin address (key_in format (octets_of a))
+six_octets format a is = subst (IsWithin address) (sym (node_key format a is.four)) (address_key a is)
 
 -- an address as a station, where the format names stations
-key_within : (b : Bool) (a : BipAddr) → IsAddress a
-    → IsWithin (if b then some fields.Sender else nothing) (if b then Some (big_endian (octets_of a)) else None)
-key_within true a is = address_key a is
-key_within false a is = refl
+address_within : (b : Bool) (a : BipAddr) → IsAddress a
+    → IsWithin (if b then address else nothing) (if b then Some (big_endian (octets_of a)) else None)
+address_within true a is = address_key a is
+address_within false a is = refl
 
-sent : (format : Format) (side : Side) (sender : BipAddr) → side ≡ some_in format fields.Sender → IsAddress sender
+sent : (format : Format) (side : Side) (sender : BipAddr) → side ≡ address_in format → IsAddress sender
     → IsWithin side (table.sender_of format sender)
-sent format side sender is address =
-    subst (λ (s : Side). IsWithin s (table.sender_of format sender)) (sym is) (key_within (names_stations format) sender address)
+sent format side sender is fits =
+    subst (λ (s : Side). IsWithin s (table.sender_of format sender)) (sym is) (address_within (names_stations format) sender fits)
 
 -- the one station that a message is bound for
-at_station : (format : Format) (npdu : Fields) → IsRead npdu → IsWithin (perhaps_in format fields.Station) (table.station_of format npdu)
-at_station format npdu read = by (names_stations format) npdu.destination read.destination
+at_station : (format : Format) (npdu : Fields) → IsRead npdu → IsWithin (station_in format) (table.station_of format npdu)
+at_station One npdu read = refl
+at_station Two npdu read = refl
+at_station Three npdu read = by npdu.destination read.destination
   where
-    by : (b : Bool) (d : Option Destination) → IfSome d (λ d. IsPlace d.address)
-        → IsWithin (if b then perhaps fields.Station else nothing) (if b then option_map_or (λ d. key_of d.address.mac) d None else None)
-    by true None place = refl
-    by true (Some d) place = any_octets d.address.mac place.1.1
-    by false d place = refl
+    by : (d : Option Destination) → IfSome d (λ d. IsPlace d.address)
+        → IsWithin any_key (option_map_or (λ d. key_in Three d.address.mac) d None)
+    by None place = refl
+    by (Some d) place = key_within d.address.mac place.1.1
 
 -- the network that it is bound for
 bound_within : (npdu : Fields) → IsRead npdu → IsWithin (perhaps fields.DestinationNetwork) (table.bound_for npdu)
@@ -412,7 +406,7 @@ enter_lies format number network m names at net manages brought =
     let from = own format number network manages in
     in_if (names_stations format) (plain from operations.Enter nothing) (enter_ask format m) names
     (lies_by (plain from operations.Enter nothing) (enter_ask format m) (exactly 12) (omega (arith, at), omega (arith, at))
-    (omega (arith, net), omega (arith, net)) (six_octets m.link brought.link)
+    (omega (arith, net), omega (arith, net)) (six_octets format m.link brought.link)
     refl refl refl refl refl refl (sent format from.sender m.from refl brought.from) refl)
 
 pub claim_lies : (format : Format) (from : Origin) (m : Message) → names_stations format ≡ true → Comes format from m
@@ -444,27 +438,27 @@ table_lies format number network port sender frame at net is fits = each frame f
         managed (is_manager port) _ (inl
         (lies_by (plain (own format number network (is_manager port)) operations.WriteTable (only 769)) _
         (exactly 6) (omega (arith, at), omega (arith, at)) (omega (arith, net), omega (arith, net)) (address_key sender is) refl (exactly 769) refl refl refl refl
-        (sent format (some_in format fields.Sender) sender refl is) refl))
+        (sent format (address_in format) sender refl is) refl))
     each bvll.read_bdt fits =
         managed (is_manager port) _ (inr (inl
         (lies_by (plain (own format number network (is_manager port)) operations.ReadTable (only 770)) _
         (exactly 5) (omega (arith, at), omega (arith, at)) (omega (arith, net), omega (arith, net)) (address_key sender is) refl (exactly 770) refl refl refl refl
-        (sent format (some_in format fields.Sender) sender refl is) refl)))
+        (sent format (address_in format) sender refl is) refl)))
     each (bvll.register time_to_live) fits =
         managed (is_manager port) _ (inr (inr (inl
         (lies_by (plain (own format number network (is_manager port)) operations.Register (only 773)) _
         (exactly 3) (omega (arith, at), omega (arith, at)) (omega (arith, net), omega (arith, net)) (address_key sender is) refl (exactly 773) refl refl refl refl
-        (sent format (some_in format fields.Sender) sender refl is) refl))))
+        (sent format (address_in format) sender refl is) refl))))
     each bvll.read_fdt fits =
         managed (is_manager port) _ (inr (inr (inr (inl
         (lies_by (plain (own format number network (is_manager port)) operations.ReadTable (only 774)) _
         (exactly 5) (omega (arith, at), omega (arith, at)) (omega (arith, net), omega (arith, net)) (address_key sender is) refl (exactly 774) refl refl refl refl
-        (sent format (some_in format fields.Sender) sender refl is) refl)))))
+        (sent format (address_in format) sender refl is) refl)))))
     each (bvll.delete address) fits =
         managed (is_manager port) _ (inr (inr (inr (inr (inl
-        (lies_by (record (plain (own format number network (is_manager port)) operations.Delete (only 776)) { station = some_in format fields.Station }) _
+        (lies_by (record (plain (own format number network (is_manager port)) operations.Delete (only 776)) { station = address_in format }) _
         (exactly 4) (omega (arith, at), omega (arith, at)) (omega (arith, net), omega (arith, net)) (address_key sender is) refl (exactly 776) refl refl refl refl
-        (sent format (some_in format fields.Sender) sender refl is) (key_within (names_stations format) address fits)))))))
+        (sent format (address_in format) sender refl is) (address_within (names_stations format) address fits)))))))
     each (bvll.result_code code) fits = tt
     each (bvll.read_bdt_ack entries) fits = tt
     each (bvll.forwarded originator npdu) fits = tt

@@ -189,7 +189,8 @@ pub record RouteCases (P : Ask → Type 0) (K : Known) (format : Format) (m : Me
 -- what is known of the networks that a message can go to
 pub record Reached (K : Known) (relay : Relay) (m : Message) : Type 0 where
   pub ports : AllByRecursion (λ state. K.IsNet state.port.network) relay.ports
-  pub bound : (d : Destination) → m.npdu.destination ≡ Some d → d.address.network ≢ EVERYWHERE → K.IsNet d.address.network
+  pub bound : (d : Destination) → m.npdu.destination ≡ Some d → way relay.routes d.address.network ≢ ways.Everywhere
+      → way relay.routes d.address.network ≢ ways.Device → K.IsNet d.address.network
   pub text : K.IsText (payload_octets m.npdu.payload)
 
 each_forward : (P : Ask → Type 0) (K : Known) (format : Format) (m : Message) (network : ℕ) → RouteCases P K format m → K.IsNet network
@@ -223,7 +224,7 @@ each_other Is number (state ∷ states) each = by (not (nat_eq state.port.number
     by false rest = rest
 
 -- 65535 is everywhere
-everywhere : (t : Table) (n : ℕ) → n ≡ EVERYWHERE → way t n ≡ ways.Everywhere
+pub everywhere : (t : Table) (n : ℕ) → n ≡ EVERYWHERE → way t n ≡ ways.Everywhere
 everywhere t n e = rw (eq-eqb n EVERYWHERE e) refl
 
 steps_if : (P : Ask → Type 0) (b : Bool) (xs ys : List Step) → (b ≡ true → AllByRecursion P (asks_of xs)) → AllByRecursion P (asks_of ys)
@@ -238,12 +239,9 @@ each_way P K relay m d by is at cases reached = each by at
     to : bound_for m.npdu ≡ Some d.address.network
     to = ap (λ (x : Option Destination). option_map (λ d. d.address.network) x) is
 
-    net : way relay.routes d.address.network ≢ ways.Everywhere → K.IsNet d.address.network
-    net other = reached.bound d is (λ e. other (everywhere relay.routes d.address.network e))
-
-    one : way relay.routes d.address.network ≢ ways.Everywhere
+    one : way relay.routes d.address.network ≢ ways.Everywhere → way relay.routes d.address.network ≢ ways.Device
         → AllByRecursion P (forward_asks relay.format (route_ask relay.format m (bound_for m.npdu)) m.npdu.payload ++ [])
-    one other = each_one P K relay.format m d.address.network to cases (net other) reached.text
+    one other home = each_one P K relay.format m d.address.network to cases (reached.bound d is other home) reached.text
 
     each : (by : Way) → way relay.routes d.address.network ≡ by → AllByRecursion P (asks_of (steps_by relay m d by))
     each ways.Everywhere at =
@@ -251,12 +249,12 @@ each_way P K relay m d by is at cases reached = each by at
         (each_other (λ state. K.IsNet state.port.network) m.here.port.number relay.ports reached.ports) reached.text
     each (ways.Port other) at =
         steps_if P (leaves m.here.port.number (ways.Port other)) _ []
-        (λ t. one (λ e. let both = sym at ∙ e in cc)) tt
+        (λ t. one (λ e. let both = sym at ∙ e in cc) (λ e. let both = sym at ∙ e in cc)) tt
     each (ways.Router route) at =
         steps_if P (leaves m.here.port.number (ways.Router route)) _ []
-        (λ t. one (λ e. let both = sym at ∙ e in cc)) tt
+        (λ t. one (λ e. let both = sym at ∙ e in cc) (λ e. let both = sym at ∙ e in cc)) tt
     each ways.Device at = tt
-    each ways.Unknown at = one (λ e. let both = sym at ∙ e in cc)
+    each ways.Unknown at = one (λ e. let both = sym at ∙ e in cc) (λ e. let both = sym at ∙ e in cc)
 
 pub each_route : (P : Ask → Type 0) (K : Known) (relay : Relay) (m : Message) → RouteCases P K relay.format m → Reached K relay m
     → AllByRecursion P (route_asks relay m)

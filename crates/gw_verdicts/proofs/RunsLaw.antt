@@ -1,5 +1,5 @@
 -- A gateway does the same under rules that decide alike whatever lies in a shape of its configuration.
-use Rattle.std.proofs.Common.{◌≡◌, ◌∙◌, List, [], ◌∷◌, ap, inl}
+use Rattle.std.proofs.Common.{◌≡◌, ◌∙◌, true, not, List, [], ◌∷◌, ap, sym, inl}
 use Rattle.std.specs.List.{AllByRecursion}
 use Rattle.gw_ask_sets.specs.shapes.Shape.{LiesInOne}
 use Rattle.gw_ask_sets.specs.shapes.Shapes.{shapes}
@@ -7,11 +7,12 @@ use Rattle.gw_configuration.specs.Configuration.{Configuration}
 use Rattle.gw_core.specs.Asks.{asks}
 use Rattle.gw_core.specs.History.{next}
 use Rattle.gw_core.specs.State.{State}
-use Rattle.gw_core_laws.specs.Decisions.{DecideAlikeAlong}
-use Rattle.gw_core_laws.proofs.DecisionLemmas.{same_decisions_run_alike}
+use Rattle.gw_core_laws.specs.Decisions.{DecideAlikeAlong, LogAlikeAlong}
+use Rattle.gw_core_laws.proofs.DecisionLemmas.{same_decisions_run_alike, same_decisions_run_send_alike}
+use Rattle.gw_core_laws.proofs.QuietRuleLemmas.{logged_all}
 use Rattle.gw_policy_review.proofs.comparison_lemmas.TextLaw.{alike_is_alike}
 use Rattle.gw_rules.specs.Ask.{Ask}
-use Rattle.gw_rules.specs.RuleList.{allows}
+use Rattle.gw_rules.specs.RuleList.{allows, has_no_quiet, is_logged}
 use Rattle.gw_rules.specs.declared.rule.Rule.{Rule}
 use Rattle.gw_rules.proofs.EachAsk.{each_weaker}
 use Rattle.gw_script.specs.Event.{Event}
@@ -33,7 +34,21 @@ alike_along c others numbered so w under (e ∷ l) carried = (
   alike_along c others numbered so (next w e) (next_under c w e under) l carried.1,
 )
 
+-- where no rule is quiet, rules that decide alike log alike
+logged_along : (c : Configuration) (others : List Rule) → has_no_quiet c.rules ≡ true → has_no_quiet others ≡ true
+    → (w : State) → IsStateUnder c w → (l : List Event) → DecideAlikeAlong others w l → LogAlikeAlong others w l
+unfolding DecideAlikeAlong LogAlikeAlong
+logged_along c others none none_there w under [] alike = tt
+logged_along c others none none_there w under (e ∷ l) alike =
+    let none_here : has_no_quiet w.rules ≡ true = ap has_no_quiet under.rules ∙ none in (
+      each_weaker (λ ask. allows w.rules ask ≡ allows others ask) (λ ask. is_logged w.rules ask ≡ is_logged others ask)
+          (λ ask same. logged_all w.rules none_here ask ∙ (ap not same ∙ sym (logged_all others none_there ask))) (asks w e) alike.0,
+      logged_along c others none none_there (next w e) (next_under c w e under) l alike.1,
+    )
+
 pub alike_runs_alike : AlikeRunsAlike
 alike_runs_alike old new most made text written says numbered w under l carried =
-    same_decisions_run_alike w new.rules l
-    (alike_along old new.rules numbered (λ ask lies. alike_is_alike old new most made text written says ask (inl lies)) w under l carried)
+    let alike = alike_along old new.rules numbered (λ ask lies. alike_is_alike old new most made text written says ask (inl lies)) w under l carried in (
+      same_decisions_run_send_alike w new.rules l alike,
+      λ none none_there. same_decisions_run_alike w new.rules l alike (logged_along old new.rules none none_there w under l alike),
+    )

@@ -7,7 +7,6 @@ use Rattle.std.proofs.lemmas.Bool.{and_parts, eqb-false, leb-true, or_parts}
 use Rattle.gw_addr.specs.declared.bip.BipAddr.{BipAddr}
 use Rattle.gw_addr.specs.declared.station.Source.{Source}
 use Rattle.gw_addr.specs.Address.{IsAddress}
-use Rattle.gw_addr.specs.Station.{key_of}
 use Rattle.gw_frames.specs.bvll.Bvll.{HasFields}
 use Rattle.gw_frames.specs.bvll.Bvll.{Message as Frame}
 use Rattle.gw_frames.specs.npdu.Npdu.{Address, Destination}
@@ -37,7 +36,7 @@ use Rattle.gw_relay.specs.State.{Relay, is_manager}
 use Rattle.gw_relay.specs.Stations.{is_station}
 use Rattle.gw_tables.specs.declared.routes.route.TheConstants.{EVERYWHERE}
 use Rattle.gw_rules.specs.Ask.{Ask}
-use Rattle.gw_rules.specs.Format.{names_stations}
+use Rattle.gw_rules.specs.Format.{key_in, names_stations}
 use Rattle.gw_rules.specs.declared.field.FieldName.TheVariants as fields
 use Rattle.gw_rules.specs.RuleList.{first}
 use Rattle.gw_rules.proofs.EachAsk.{each_weaker}
@@ -54,7 +53,7 @@ use Rattle.gw_core_laws.proofs.Whence.{Heard, InPorts, IsHeard, heard_at, port_b
 use Rattle.gw_verdicts.specs.Laws.{AsksLieInShapes, FreshAsksLieInShapes, IsCarried, IsInstance, IsNumbered, IsOnNetwork, NeverFirstNeverDecides}
 use Rattle.gw_verdicts.specs.States.{ArePortsOf, IsStateUnder}
 use Rattle.gw_ask_sets.specs.shapes.Shape.{IsWithin, LiesInOne, Shape}
-use Rattle.gw_ask_sets.specs.shapes.Shapes.{any_entrance, claim_shapes, enter_shapes, entrances, entrances_from, foreign, foreign_shapes, gaps, is_manager as is_configured_manager, near_shapes, network, only, own, own_shapes, perhaps, shapes, shapes_by, shapes_from, shapes_of, shapes_within, some, table_shapes}
+use Rattle.gw_ask_sets.specs.shapes.Shapes.{address, any_entrance, claim_shapes, enter_shapes, entrances, entrances_from, foreign, foreign_shapes, gaps, is_manager as is_configured_manager, near_shapes, network, only, own, own_shapes, shapes, shapes_by, shapes_from, shapes_of, shapes_within, source_in, table_shapes}
 use Rattle.gw_ask_sets.specs.declared.shapes.shapes.Entrance.{Entrance}
 use Rattle.gw_ask_sets.specs.declared.shapes.side.Side.{Side}
 use Rattle.gw_ask_sets.proofs.shapes_lemmas.Lying.{in_front, in_rest}
@@ -64,9 +63,10 @@ use Rattle.gw_verdicts.proofs.Gaps.{WithinOne, in_gap}
 use Rattle.gw_verdicts.proofs.Knowing.{bounds_known}
 use Rattle.gw_verdicts.proofs.Octets.{AreNamed, IsPlace, IsStation}
 use Rattle.gw_verdicts.proofs.Parts.{each_entry}
-use Rattle.gw_verdicts.proofs.RelayAsks.{Reached}
+use Rattle.gw_verdicts.proofs.RelayAsks.{Reached, everywhere}
 use Rattle.gw_verdicts.proofs.StateLaw.{histories_are_under}
-use Rattle.gw_verdicts.proofs.Raised.{Comes, any_octets, claim_lies, enter_lies, link_lies, message_lies, near_cases, six_octets}
+use Rattle.gw_ask_sets.proofs.shapes_lemmas.KeyLaw.{source_within}
+use Rattle.gw_verdicts.proofs.Raised.{Comes, claim_lies, enter_lies, link_lies, message_lies, near_cases, six_octets}
 
 -- ---- in the list of all shapes
 
@@ -158,7 +158,7 @@ own_comes format m brought none =
     record {
       port = (omega arith, omega arith);
       network = (omega (arith, net), omega (arith, net));
-      key = subst (λ (c : Source). IsWithin (some fields.SourceKey) (key_of c.mac)) (sym is) (six_octets m.link brought.link);
+      key = subst (λ (c : Source). IsWithin address (key_in format c.mac)) (sym is) (six_octets format m.link brought.link);
       sender = refl;
       manages = refl;
       brought = brought;
@@ -189,21 +189,21 @@ own_lies w ports m there none brought reached device_known entered =
 -- ---- of another network
 
 -- what a message says of a source that it names
-record NamesSource (m : Message) : Type 0 where
+record NamesSource (format : Format) (m : Message) : Type 0 where
   net : IsWithin network (Some m.claim.net)
-  key : IsWithin (perhaps fields.SourceKey) (key_of m.claim.mac)
+  key : IsWithin (source_in format) (key_in format m.claim.mac)
 
-names_source : (m : Message) → IsBrought m → m.npdu.source ≢ None → NamesSource m
-names_source m brought named = by m.npdu.source refl
+names_source : (format : Format) (m : Message) → IsBrought m → m.npdu.source ≢ None → NamesSource format m
+names_source format m brought named = by m.npdu.source refl
   where
-    by : (source : Option Address) → m.npdu.source ≡ source → NamesSource m
+    by : (source : Option Address) → m.npdu.source ≡ source → NamesSource format m
     by None is = absurd (named is)
     by (Some s) is =
         let claim : m.claim ≡ remote_source s = brought.claim ∙ ap (claimed_by (local_source m.here.port.network m.link)) is in
         let station = subst (λ (x : Option Address). IfSome x IsStation) is brought.npdu.source in
         record {
           net = subst (λ (c : Source). IsWithin network (Some c.net)) (sym claim) (station.0, station.1.0);
-          key = subst (λ (c : Source). IsWithin (perhaps fields.SourceKey) (key_of c.mac)) (sym claim) (any_octets s.mac station.1.1);
+          key = subst (λ (c : Source). IsWithin (source_in format) (key_in format c.mac)) (sym claim) (source_within format s.mac station.1.1);
         }
 
 -- a message from a network that none of the ports has names its source
@@ -275,7 +275,7 @@ entered_by ports port there = by (list_all is_configured_manager ports) refl
     by false all = entered_alone 1 ports port there
 
 comes_foreign : (format : Format) (way : Entrance) (m : Message) (side : Side) → IsWithin way.port (Some m.here.port.number)
-    → way.manages ≡ is_manager m.here.port → IsBrought m → NamesSource m → IsWithin side (Some m.claim.net)
+    → way.manages ≡ is_manager m.here.port → IsBrought m → NamesSource format m → IsWithin side (Some m.claim.net)
     → Comes format (foreign format way side) m
 comes_foreign format way m side port manages brought named within =
     record { port = port; network = within; key = named.key; sender = refl; manages = manages; brought = brought }
@@ -289,7 +289,7 @@ foreign_lies w ports m there brought other none reached device_known entered =
     let format = w.relay.format in
     let device = device_network w.device in
     let silent = far m ports brought there none in
-    let named = names_source m brought silent in
+    let named = names_source format m brought silent in
     let gap = gap_of (foreign_shapes format device (entrances ports)) (gaps device ports) m.claim.net (in_gap device ports m.claim.net named.net other none) in
     let way = entered_by ports m.here.port there in
     let at = foreign format way.by gap.side in
@@ -303,7 +303,7 @@ claiming_lies : (format : Format) (device : ℕ) (ports : List ConfiguredPort) (
     → names_stations format ≡ true → m.claim.net ≢ device → AllByRecursion (λ p. m.claim.net ≢ p.network) ports
     → LiesThere format device ports (claim_ask format m)
 claiming_lies format device ports m there brought names other none =
-    let named = names_source m brought (far m ports brought there none) in
+    let named = names_source format m brought (far m ports brought there none) in
     let gap = gap_of (foreign_shapes format device (entrances ports)) (gaps device ports) m.claim.net (in_gap device ports m.claim.net named.net other none) in
     let way = entered_by ports m.here.port there in
     let at = foreign format way.by gap.side in
@@ -334,7 +334,7 @@ speaker_names relay m e = by (names_stations relay.format) _ e
     by false rest e = absurd cc
 
 entry_lies : (w : State) (ports : List ConfiguredPort) (m : Message)
-    → IsHeard w.relay.ports (device_network w.device) (InPorts 1 ports) m → IsBrought m → Apart w ports
+    → IsHeard w.relay.ports (device_network w.device) (λ state. InPorts 1 ports state.port) m → IsBrought m → Apart w ports
     → AllByRecursion (LiesThere w.relay.format (device_network w.device) ports) (entry_asks w.rules w.relay m)
 entry_lies w ports m heard brought apart =
     let format = w.relay.format in
@@ -353,7 +353,8 @@ reached_by : (w : State) (m : Message) → IsBrought m → AllByRecursion (λ st
     → Reached bounds_known w.relay m
 reached_by w m brought nets = record {
   ports = nets;
-  bound = λ d is other. below d (subst (λ (x : Option Destination). IfSome x (λ d. IsPlace d.address)) is brought.npdu.destination) other;
+  bound = λ d is other home. below d (subst (λ (x : Option Destination). IfSome x (λ d. IsPlace d.address)) is brought.npdu.destination)
+      (λ e. other (everywhere w.relay.routes d.address.network e));
   text = brought.npdu.octets;
 }
   where
@@ -363,7 +364,7 @@ reached_by w m brought nets = record {
         (place.0, omega (arith, most, other))
 
 received_lies : (w : State) (ports : List ConfiguredPort) (received : Received)
-    → Heard w.relay.ports (device_network w.device) (InPorts 1 ports) received → Brought received → Apart w ports
+    → Heard w.relay.ports (device_network w.device) (λ state. InPorts 1 ports state.port) received → Brought received → Apart w ports
     → AllByRecursion (λ state. bounds_known.IsNet state.port.network) w.relay.ports → DeviceKnown bounds_known w.device.configured
     → AllByRecursion (LiesThere w.relay.format (device_network w.device) ports) (asks_for w.rules w.relay w.device received)
 received_lies w ports dropped heard brought apart nets known = tt
@@ -495,7 +496,7 @@ there_at c w e is numbered carried =
     (λ state there. port_net 1 c.ports state.port numbered.networks there) w.relay.ports each in
     let known = subst (λ (x : Configured). DeviceKnown bounds_known x) (sym is.device)
     (device_known (database_of c).configured numbered.device (configured_small c.objects numbered.objects)) in
-    received_lies w c.ports (receive w e) (heard_at w (InPorts 1 c.ports) e each) (brought_at w e carried)
+    received_lies w c.ports (receive w e) (heard_at w (λ state. InPorts 1 c.ports state.port) e each) (brought_at w e carried)
     (λ n none. none_there 1 c.ports w.relay.ports n is.ports none) nets known
 
 pub asks_lie_in_shapes : AsksLieInShapes

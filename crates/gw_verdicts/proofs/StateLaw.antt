@@ -10,13 +10,15 @@ use Rattle.gw_core.specs.declared.event.Counts.{Counts}
 use Rattle.gw_core.proofs.HistoryLemmas.{state_next}
 use Rattle.gw_objects.specs.Objects.{Database}
 use Rattle.gw_objects.specs.Write.{Write}
-use Rattle.gw_relay.specs.Initial.{port_states_from, port_states_with}
+use Rattle.gw_relay.specs.Initial.{direct_of, port_states_from, port_states_with, routed_of}
 use Rattle.gw_relay.specs.State.{Move, Relay, changed_at, changed_of, deleted, moved, moved_by, port_later, registered}
 use Rattle.gw_relay.specs.State as move
+use Rattle.gw_tables.specs.routes.Table.{Routed, Table, grants, learned_by, route_by, table_of, with_each, with_granted, with_learned}
+use Rattle.gw_tables.specs.declared.routes.route.Route.{Route}
 use Rattle.gw_relay.specs.declared.change.Change.TheVariants.{Entries, Registration, Deletion, Learnings}
 use Rattle.gw_relay.specs.declared.port.PortState.{PortState}
 use Rattle.gw_script.specs.Event.{Event}
-use Rattle.gw_state.specs.Carried.{tables_carried}
+use Rattle.gw_state.specs.Carried.{routes_carried, tables_carried}
 use Rattle.gw_state.specs.declared.port.SavedPort.{SavedPort}
 use Rattle.gw_verdicts.specs.States.{ArePortsOf, CarriedAreUnder, HistoriesAreUnder, IsStateUnder, StatesStayUnder}
 
@@ -77,6 +79,31 @@ announce_moved None relay = refl
 announce_moved (Some (move.Commit change)) relay = refl
 announce_moved (Some move.Tick) relay = refl
 
+-- what is learned leaves the networks that the gateway reaches itself
+direct_granted : (t : Table) (net : ℕ) (route : Route) → (with_granted t net route).direct ≡ t.direct
+direct_granted t net route = by (grants t net)
+  where
+    by : (b : Bool) → (if b then with_learned t net route else t).direct ≡ t.direct
+    by true = refl
+    by false = refl
+
+direct_each : (nets : List ℕ) (t : Table) (route : Route) → (with_each t nets route).direct ≡ t.direct
+direct_each [] t route = refl
+direct_each (net ∷ nets) t route = direct_each nets (with_granted t net route) route ∙ direct_granted t net route
+
+direct_by : (learned : Routed) (t : Table) → (learned_by t learned).direct ≡ t.direct
+direct_by [] t = refl
+direct_by (learning ∷ learned) t =
+    direct_by learned (with_granted t learning.0 learning.1) ∙ direct_granted t learning.0 learning.1
+
+direct_moved : (m : Option Move) (relay : Relay) → (moved m relay).routes.direct ≡ relay.routes.direct
+direct_moved None relay = refl
+direct_moved (Some (move.Commit (Entries port bdt))) relay = refl
+direct_moved (Some (move.Commit (Registration port address time_to_live))) relay = refl
+direct_moved (Some (move.Commit (Deletion port address))) relay = refl
+direct_moved (Some (move.Commit (Learnings port next networks))) relay = direct_each networks relay.routes (route_by port next)
+direct_moved (Some move.Tick) relay = refl
+
 device_stays : (granted : Option Write) (d : Database) → (changed granted d).configured ≡ d.configured
 device_stays None d = refl
 device_stays (Some write) d = refl
@@ -88,6 +115,7 @@ unfolding next
 next_is c w e is = record {
   format = format_moved (move_at w e) w.relay ∙ is.format;
   announce = announce_moved (move_at w e) w.relay ∙ is.announce;
+  direct = direct_moved (move_at w e) w.relay ∙ is.direct;
   ports = ports_stay (move_at w e) w.relay c.ports is.ports;
   device = device_stays (change_at w e) w.device ∙ is.device;
   rules = is.rules;
@@ -101,7 +129,7 @@ ports_begin number (p ∷ ports) = (refl, refl, ports_begin (number + 1) ports)
 
 begins : (c : Configuration) (k : Counts) → IsStateUnder c (state_after c k [])
 unfolding acts_of moved_by written
-begins c k = record { format = refl; announce = refl; ports = ports_begin 1 c.ports; device = refl; rules = refl }
+begins c k = record { format = refl; announce = refl; direct = refl; ports = ports_begin 1 c.ports; device = refl; rules = refl }
 
 ports_carried : (since number : ℕ) (ports : List ConfiguredPort) (saved : List SavedPort)
     → ArePortsOf number ports (port_states_with number ports (tables_carried since ports saved))
@@ -117,7 +145,14 @@ histories_are_under c k (e ∷ h) =
 
 pub carried_are_under : CarriedAreUnder
 carried_are_under c s =
-    record { format = refl; announce = refl; ports = ports_carried s.counts.since 1 c.ports s.ports; device = refl; rules = refl }
+    record {
+      format = refl;
+      announce = refl;
+      direct = direct_by (routes_carried c.ports s) (table_of (direct_of c) (map routed_of c.routes) []);
+      ports = ports_carried s.counts.since 1 c.ports s.ports;
+      device = refl;
+      rules = refl;
+    }
 
 pub states_stay_under : StatesStayUnder
 unfolding state_from

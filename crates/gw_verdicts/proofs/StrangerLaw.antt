@@ -23,7 +23,7 @@ use Rattle.gw_ask_sets.specs.shapes.Shapes.{any_entrance, broadcast_shapes, cast
 use Rattle.gw_ask_sets.specs.declared.shapes.shapes.Entrance.{Entrance}
 use Rattle.gw_ask_sets.specs.declared.shapes.shapes.Origin.{Origin}
 use Rattle.gw_ask_sets.specs.declared.shapes.side.Side.{Side}
-use Rattle.gw_ask_sets.proofs.shapes_lemmas.Lying.{lies_by}
+use Rattle.gw_ask_sets.proofs.shapes_lemmas.Lying.{in_range, lies_by}
 use Rattle.gw_verdicts.specs.Strangers.{ClaimsAreAsked, EntersBy, EveryStrangerEnters, HasPort, NobodyClaims, NoStrangerEnters, StrangersAreAsked}
 use Rattle.gw_verdicts.proofs.ShapeLaw.{asks_lie_in_shapes}
 
@@ -65,7 +65,7 @@ others_alone [] ask e all late is lies = lies
 others_alone (x ∷ xs) ask e all late is (inl here) =
     let both = and_parts (is_other x) (list_all is_other xs) all in
     let within : IsWithin x.operation (Some e) = subst (IsWithin x.operation) is (here fields.Operation) in
-    let high = within.1 in
+    let high = (in_range x.operation e within).1 in
     let low = leb-true x.operation.range.high 11 both.0 in
     absurd (omega (arith, late, high, low))
 others_alone (x ∷ xs) ask e all late is (inr later) =
@@ -283,8 +283,8 @@ net_within side None is within = let bad : false ≡ true = subst IsTrue is.abse
 net_within side (Some n) is within =
     let low = is.low in
     let high = is.high in
-    let from = within.0 in
-    let to = within.1 in
+    let from = (in_range side n within).0 in
+    let to = (in_range side n within).1 in
     (omega (arith, low, from), omega (arith, high, to))
 
 -- ---- the ways by which they come are ports
@@ -314,8 +314,8 @@ way_within ports way None is within = let bad : false ≡ true = subst IsTrue is
 way_within ports way (Some n) is within =
     let low = is.low in
     let high = is.high in
-    let from = within.0 in
-    let to = within.1 in
+    let from = (in_range way.port n within).0 in
+    let to = (in_range way.port n within).1 in
     (omega (arith, low, from), omega (arith, high, to))
 
 -- ---- the laws

@@ -1,14 +1,13 @@
 -- A line of the log says which rule denied it.
 use Rattle.std.proofs.Common.{◌≡◌, ◌∙◌, ◌⊎◌, inl, inr, sym, ap, refl, subst, ℕ, ◌+◌, ◌-◌, ◌≤◌, Bool, true, false, List, [], ◌∷◌, ◌++◌, length, Option, Some, None, Result, Ok, Err, arith, length-append}
-use Rattle.std.specs.Prelude.{◌==◌, not, if◌then◌else◌, slice_get, codes, filter, map, ⊤}
+use Rattle.std.specs.Prelude.{◌==◌, ◌&&◌, not, if◌then◌else◌, slice_get, codes, filter, map, ⊤}
 use Rattle.std.specs.Int.{w16, to_be_bytes}
 use Rattle.std.specs.List.{AllByRecursion}
 use Rattle.std.specs.Option.{option_and_then, option_map}
 use Rattle.std.proofs.lemmas.Bool.{eq-eqb, eqb-true}
 use Rattle.gw_addr.specs.declared.bip.BipAddr.{BipAddr}
 use Rattle.gw_addr.specs.Address.{IsAddress, big_endian, octets_of}
-use Rattle.gw_addr.specs.Station.{key_of}
-use Rattle.gw_audit.specs.Entry.{IsLineOf, IsShowable, ShowsAsk, ask_shown, shown_ask}
+use Rattle.gw_audit.specs.Entry.{IsLineOf, IsShowable, ShowsAsk, ask_shown, format_shown, shown_ask}
 use Rattle.gw_audit.specs.declared.denial.Denial.{Denial}
 use Rattle.gw_audit.specs.declared.entry.ShownAsk.{ShownAsk}
 use Rattle.gw_audit.specs.declared.entry.Stations.{Stations}
@@ -26,15 +25,17 @@ use Rattle.gw_rules.specs.declared.format.Format.{Format}
 use Rattle.gw_relay.specs.Cast.{accepts, is_unregistered}
 use Rattle.gw_relay.specs.Entry.{admits, entry_asks}
 use Rattle.gw_relay.specs.Asks as table
+use Rattle.gw_relay.proofs.SourceKeys.{node_key}
 use Rattle.gw_relay.specs.Message.{Message, message_of}
 use Rattle.gw_relay.specs.State.{Relay, is_manager, port_at}
 use Rattle.gw_relay.specs.declared.port.PortState.{PortState}
 use Rattle.gw_rules.specs.Ask.{Ask}
-use Rattle.gw_rules.specs.Format.{names_stations}
+use Rattle.gw_rules.specs.Format.{key_in, names_stations}
+use Rattle.gw_rules.specs.declared.format.Format.TheVariants.{One, Two, Three}
 use Rattle.gw_rules.specs.declared.operation.Operation.{Operation}
 use Rattle.gw_rules.specs.declared.operation.Operation.TheVariants as operations
 use Rattle.gw_rules.specs.Authorizer.{denied_of, refusal}
-use Rattle.gw_rules.specs.RuleList.{allows, first}
+use Rattle.gw_rules.specs.RuleList.{allows, first, is_logged, is_quiet_by}
 use Rattle.gw_rules.specs.declared.refusal.Refusal.{Refusal}
 use Rattle.gw_rules.specs.declared.rule.Rule.{Rule}
 use Rattle.gw_rules.proofs.EachAsk.{each_weaker}
@@ -57,18 +58,28 @@ use Rattle.gw_core.proofs.RespondLemmas.{four_none}
 
 -- ---- the origin of an ask
 
--- an ask has the port and the source of what it comes from, and a station only with a sender
+-- the stations that a line shows of an ask
+abbrev both : Option ℕ → Option ℕ → Option Stations
+both sender station = option_map (λ n. record { sender = n; station = station }) sender
+
+-- an ask has the port and the source of what it comes from, by a key of the format that a line shows, and a station only with
+-- a sender
 record Carries (from : Origin) (ask : Ask) : Type 0 where
   port : ask.port ≡ Some from.port
   network : ask.source_network ≡ Some (source_of from ask).net
-  key : ask.source_key ≡ key_of (source_of from ask).mac
+  key : ask.source_key ≡ key_in (format_shown (both ask.sender ask.station)) (source_of from ask).mac
   station : ask.sender ≡ None → ask.station ≡ None
 
-six : (a : BipAddr) → IsAddress a → length (octets_of a) ≡ 6
-six a is = omega (arith, length-append a.ip (to_be_bytes w16 a.udp), is.four)
+-- the format that a line shows has the keys of the format of the policy
+key_shown : (format : Format) (from : BipAddr) (station : Option ℕ) (mac : List ℕ)
+    → key_in format mac ≡ key_in (format_shown (both (table.sender_of format from) station)) mac
+key_shown One from station mac = refl
+key_shown Two from station mac = refl
+key_shown Three from station mac = refl
 
-key_is : (a : BipAddr) → IsAddress a → Some (big_endian (octets_of a)) ≡ key_of (octets_of a)
-key_is a is = rw (eq-eqb (length (octets_of a)) 6 (six a is)) refl
+key_is : (format : Format) (a from : BipAddr) (station : Option ℕ) → IsAddress a
+    → Some (big_endian (octets_of a)) ≡ key_in (format_shown (both (table.sender_of format from) station)) (octets_of a)
+key_is format a from station is = sym (node_key format a is.four) ∙ key_shown format from station (octets_of a)
 
 -- without a sender there is no station
 absent_too : (b : Bool) (key : ℕ) (value : Option ℕ) → (if b then Some key else None) ≡ None → (if b then value else None) ≡ None
@@ -87,18 +98,18 @@ one_if P false ask is = tt
 by_link : (format : Format) (on : PortState) (sender : BipAddr) (frame : Frame) → IsAddress sender
     → AllByRecursion (Carries (node_origin on sender)) (table.link_asks format on.port sender frame)
 by_link format on sender (bvll.write_bdt entries) is =
-    one_if (Carries (node_origin on sender)) (is_manager on.port) _ (record { port = refl; network = refl; key = key_is sender is; station = λ e. refl })
+    one_if (Carries (node_origin on sender)) (is_manager on.port) _ (record { port = refl; network = refl; key = key_is format sender sender _ is; station = λ e. refl })
 by_link format on sender bvll.read_bdt is =
-    one_if (Carries (node_origin on sender)) (is_manager on.port) _ (record { port = refl; network = refl; key = key_is sender is; station = λ e. refl })
+    one_if (Carries (node_origin on sender)) (is_manager on.port) _ (record { port = refl; network = refl; key = key_is format sender sender _ is; station = λ e. refl })
 by_link format on sender (bvll.register time_to_live) is =
-    one_if (Carries (node_origin on sender)) (is_manager on.port) _ (record { port = refl; network = refl; key = key_is sender is; station = λ e. refl })
+    one_if (Carries (node_origin on sender)) (is_manager on.port) _ (record { port = refl; network = refl; key = key_is format sender sender _ is; station = λ e. refl })
 by_link format on sender bvll.read_fdt is =
-    one_if (Carries (node_origin on sender)) (is_manager on.port) _ (record { port = refl; network = refl; key = key_is sender is; station = λ e. refl })
+    one_if (Carries (node_origin on sender)) (is_manager on.port) _ (record { port = refl; network = refl; key = key_is format sender sender _ is; station = λ e. refl })
 by_link format on sender (bvll.delete address) is =
     one_if (Carries (node_origin on sender)) (is_manager on.port) _ (record {
       port = refl;
       network = refl;
-      key = key_is sender is;
+      key = key_is format sender sender _ is;
       station = λ e. no_station format sender (Some (big_endian (octets_of address))) e;
     })
 by_link format on sender (bvll.result_code code) is = tt
@@ -114,39 +125,39 @@ so m = Carries (message_origin m)
 
 network_so : (format : Format) (m : Message) → NetworkCases (so m) format m
 network_so format m = record {
-  learn = λ is silent network net. record { port = refl; network = refl; key = refl; station = λ e. refl };
-  question = λ is network net. record { port = refl; network = refl; key = refl; station = λ e. refl };
-  number = λ is silent. record { port = refl; network = refl; key = refl; station = λ e. refl };
+  learn = λ is silent network net. record { port = refl; network = refl; key = key_shown format m.from _ m.claim.mac; station = λ e. refl };
+  question = λ is network net. record { port = refl; network = refl; key = key_shown format m.from _ m.claim.mac; station = λ e. refl };
+  number = λ is silent. record { port = refl; network = refl; key = key_shown format m.from _ m.claim.mac; station = λ e. refl };
 }
 
 named_so : (format : Format) (m : Message) (operation : Operation) (network : Option ℕ)
     → NamedCases (so m) nothing_known (table.passing_ask format operation m network)
 named_so format m operation network = record {
-  unnamed_read = λ service is reading. record { port = refl; network = refl; key = refl; station = no_station format m.from _ };
-  named_read = λ service is reading object p known. record { port = refl; network = refl; key = refl; station = no_station format m.from _ };
-  unnamed_write = λ is. record { port = refl; network = refl; key = refl; station = no_station format m.from _ };
-  named_write = λ is object p priority known rank. record { port = refl; network = refl; key = refl; station = no_station format m.from _ };
+  unnamed_read = λ service is reading. record { port = refl; network = refl; key = key_shown format m.from _ m.claim.mac; station = no_station format m.from _ };
+  named_read = λ service is reading object p known. record { port = refl; network = refl; key = key_shown format m.from _ m.claim.mac; station = no_station format m.from _ };
+  unnamed_write = λ is. record { port = refl; network = refl; key = key_shown format m.from _ m.claim.mac; station = no_station format m.from _ };
+  named_write = λ is object p priority known rank. record { port = refl; network = refl; key = key_shown format m.from _ m.claim.mac; station = no_station format m.from _ };
 }
 
 cast_so : (format : Format) (m : Message) → CastCases (so m) nothing_known format m
 cast_so format m = record {
-  cast = record { port = refl; network = refl; key = refl; station = no_station format m.from _ };
+  cast = record { port = refl; network = refl; key = key_shown format m.from _ m.claim.mac; station = no_station format m.from _ };
   follows = λ e. named_so format m operations.Cast (table.bound_for m.npdu);
 }
 
 route_so : (format : Format) (m : Message) → RouteCases (so m) nothing_known format m
 route_so format m = record {
-  route = λ network net. record { port = refl; network = refl; key = refl; station = no_station format m.from _ };
+  route = λ network net. record { port = refl; network = refl; key = key_shown format m.from _ m.claim.mac; station = no_station format m.from _ };
   follows = λ network net judges. named_so format m operations.Route (Some network);
 }
 
 device_so : (format : Format) (d : Database) (m : Message) → DeviceCases (so m) nothing_known d (context_of format (device_network d) m)
 device_so format d m = record {
-  read = λ object p known. record { port = refl; network = refl; key = refl; station = λ e. refl };
-  multi = λ object p known. record { port = refl; network = refl; key = refl; station = λ e. refl };
-  write = λ object p priority known rank. record { port = refl; network = refl; key = refl; station = λ e. refl };
-  who_is = record { port = refl; network = refl; key = refl; station = λ e. refl };
-  who_has = λ object known. record { port = refl; network = refl; key = refl; station = λ e. refl };
+  read = λ object p known. record { port = refl; network = refl; key = key_shown format m.from _ m.claim.mac; station = λ e. refl };
+  multi = λ object p known. record { port = refl; network = refl; key = key_shown format m.from _ m.claim.mac; station = λ e. refl };
+  write = λ object p priority known rank. record { port = refl; network = refl; key = key_shown format m.from _ m.claim.mac; station = λ e. refl };
+  who_is = record { port = refl; network = refl; key = key_shown format m.from _ m.claim.mac; station = λ e. refl };
+  who_has = λ object known. record { port = refl; network = refl; key = key_shown format m.from _ m.claim.mac; station = λ e. refl };
 }
 
 each_unknown : {A : Type 0} (xs : List A) → AllByRecursion (λ x. ⊤) xs
@@ -162,7 +173,7 @@ own_unknown c = record {
 }
 
 reached_unknown : (relay : Relay) (m : Message) → Reached nothing_known relay m
-reached_unknown relay m = record { ports = each_unknown relay.ports; bound = λ d is other. tt; text = tt }
+reached_unknown relay m = record { ports = each_unknown relay.ports; bound = λ d is other home. tt; text = tt }
 
 apdu_so : (rules : List Rule) (format : Format) (d : Database) (m : Message) (apdu : Option (List ℕ))
     → AllByRecursion (so m) (apdu_asks rules d (context_of format (device_network d) m) apdu)
@@ -173,8 +184,8 @@ apdu_so rules format d m (Some octets) =
 -- an ask to enter is of the link source
 entry_so : (rules : List Rule) (relay : Relay) (m : Message) → AllByRecursion (so m) (entry_asks rules relay m)
 entry_so rules relay m =
-    each_entry (so m) rules relay m (λ e. record { port = refl; network = refl; key = refl; station = λ e. refl })
-    (λ e. record { port = refl; network = refl; key = refl; station = λ e. refl })
+    each_entry (so m) rules relay m (λ e. record { port = refl; network = refl; key = key_shown relay.format m.from _ (octets_of m.link); station = λ e. refl })
+    (λ e. record { port = refl; network = refl; key = key_shown relay.format m.from _ m.claim.mac; station = λ e. refl })
 
 message_so : (rules : List Rule) (relay : Relay) (d : Database) (m : Message) → AllByRecursion (so m) (asks_for rules relay d (message m))
 message_so rules relay d m =
@@ -278,22 +289,21 @@ record IsRefusedSo (rules : List Rule) (from : Origin) (r : Refusal) : Type 0 wh
   by : r.by ≡ first rules r.ask
   denied : allows rules r.ask ≡ false
 
-refused_if : (rules : List Rule) (from : Origin) (ask : Ask) (rest : List Ask) (b : Bool) → allows rules ask ≡ b → Carries from ask
+refused_if : (rules : List Rule) (from : Origin) (ask : Ask) (rest : List Ask) (b quiet : Bool) → allows rules ask ≡ b → Carries from ask
     → AllByRecursion (IsRefusedSo rules from) (map (refusal rules) rest)
-    → AllByRecursion (IsRefusedSo rules from) (map (refusal rules) (if not b then ask ∷ rest else rest))
-refused_if rules from ask rest true e carries later = later
-refused_if rules from ask rest false e carries later = (record { carries = carries; by = refl; denied = e }, later)
+    → AllByRecursion (IsRefusedSo rules from) (map (refusal rules) (if not b && not quiet then ask ∷ rest else rest))
+refused_if rules from ask rest true quiet e carries later = later
+refused_if rules from ask rest false true e carries later = later
+refused_if rules from ask rest false false e carries later = (record { carries = carries; by = refl; denied = e }, later)
 
 refused_so : (rules : List Rule) (from : Origin) (asks : List Ask) → AllByRecursion (Carries from) asks
     → AllByRecursion (IsRefusedSo rules from) (denied_of rules asks)
 refused_so rules from [] each = tt
 refused_so rules from (ask ∷ asks) each =
-    refused_if rules from ask (filter (λ a. not (allows rules a)) asks) (allows rules ask) refl each.0 (refused_so rules from asks each.1)
+    refused_if rules from ask (filter (is_logged rules) asks) (allows rules ask) (is_quiet_by rules (first rules ask)) refl each.0
+    (refused_so rules from asks each.1)
 
 -- the stations that are shown are those of the ask
-abbrev both : Option ℕ → Option ℕ → Option Stations
-both sender station = option_map (λ n. record { sender = n; station = station }) sender
-
 sender_again : (sender station : Option ℕ) → option_map (λ (s : Stations). s.sender) (both sender station) ≡ sender
 sender_again None station = refl
 sender_again (Some n) station = refl
@@ -314,16 +324,17 @@ shown_so : (number tick : ℕ) (from : Origin) (ask : Ask) (rule : List ℕ) →
 })) ≡ ask
 shown_so number tick from ask rule carries =
     let source = source_of from ask in
+    let key = key_in (format_shown (both ask.sender ask.station)) source.mac in
     let sender = option_map (λ (s : Stations). s.sender) (both ask.sender ask.station) in
     let station = option_and_then (λ (s : Stations). s.station) (both ask.sender ask.station) in
     ap (λ (p : Option ℕ). record (ask) {
       port = p;
       source_network = Some source.net;
-      source_key = key_of source.mac;
+      source_key = key;
       sender = sender;
       station = station;
     }) (sym carries.port)
-    ∙ ap (λ (n : Option ℕ). record (ask) { source_network = n; source_key = key_of source.mac; sender = sender; station = station })
+    ∙ ap (λ (n : Option ℕ). record (ask) { source_network = n; source_key = key; sender = sender; station = station })
     (sym carries.network)
     ∙ ap (λ (k : Option ℕ). record (ask) { source_key = k; sender = sender; station = station }) (sym carries.key)
     ∙ ap (λ (s : Option ℕ). record (ask) { sender = s; station = station }) (sender_again ask.sender ask.station)

@@ -1,7 +1,7 @@
 -- Every ask that a gateway raises lies in a shape of its configuration, so a rule that no ask of
 -- the shapes reaches never decides, nor does one of which a lint finds so. And what the log shows of
 -- a denied ask is enough to know which rule denied it.
-use Rattle.std.specs.Prelude.{◌≡◌, ◌⊎◌, ℕ, ◌+◌, ◌≤◌, Bool, true, false, List, [], ◌∷◌, ◌++◌, length, None, Some, codes, ⊤}
+use Rattle.std.specs.Prelude.{IsFalse, ◌≡◌, ◌⊎◌, ℕ, ◌+◌, ◌≤◌, Bool, true, false, List, [], ◌∷◌, ◌++◌, length, None, Some, codes, ⊤}
 use Rattle.std.specs.Fmt.{decimal}
 use Rattle.std.specs.List.{AllByRecursion}
 use Rattle.gw_addr.specs.Address.{IsAddress}
@@ -14,6 +14,8 @@ use Rattle.gw_rules.specs.Ask.{Ask}
 use Rattle.gw_rules.specs.RuleList.{HasNumber, first}
 use Rattle.gw_frames.specs.bvll.Bvll.{register}
 use Rattle.gw_configuration.specs.Configuration.{Configuration, is_managed}
+use Rattle.gw_configuration.specs.Duplicates.{has_duplicates}
+use Rattle.gw_configuration.specs.Subnet.{IsSubnet}
 use Rattle.gw_configuration.specs.declared.object.Object.{Object}
 use Rattle.gw_configuration.specs.declared.port.Port.{Port}
 use Rattle.gw_relay.specs.Asks.{link_asks}
@@ -49,9 +51,17 @@ IsOnNetwork port = (1 ≤ port.network) × (port.network ≤ 65534)
 abbrev pub IsInstance : Object → Type 0
 IsInstance object = object.instance ≤ 4194302
 
--- the ports are on networks, and the device and the objects have instances, as those of each configuration of the code are
+-- the subnets of a port are such
+abbrev pub HasSubnets : Port → Type 0
+HasSubnets port = AllByRecursion IsSubnet port.stations
+
+-- the ports and the device are on networks, each on its own, the stations of a port are subnets, and the device and the
+-- objects have instances, as those of each configuration of the code are
 pub record IsNumbered (c : Configuration) : Type 0 where
   pub networks : AllByRecursion IsOnNetwork c.ports
+  pub own : (1 ≤ c.device.network) × (c.device.network ≤ 65534)
+  pub once : IsFalse (has_duplicates c)
+  pub stations : AllByRecursion HasSubnets c.ports
   pub device : c.device.instance ≤ 4194302
   pub objects : AllByRecursion IsInstance c.objects
 

@@ -1,6 +1,7 @@
 pub mod Compared
 pub mod Laws
 pub mod Runs
+pub mod Asserted
 pub mod States
 pub mod Strangers
 pub mod Why

@@ -8,7 +8,7 @@ use Rattle.gw_core.specs.Resumed.{carried}
 use Rattle.gw_core.specs.State.{State}
 use Rattle.gw_core.specs.declared.event.Counts.{Counts}
 use Rattle.gw_objects.specs.Objects.{database_of}
-use Rattle.gw_relay.specs.Initial.{port_of}
+use Rattle.gw_relay.specs.Initial.{direct_of, port_of}
 use Rattle.gw_relay.specs.declared.port.PortState.{PortState}
 use Rattle.gw_script.specs.Event.{Event}
 use Rattle.gw_state.specs.Saved.{Saved}
@@ -24,6 +24,7 @@ ArePortsOf number _ _ = ⊥
 pub record IsStateUnder (c : Configuration) (w : State) : Type 0 where
   pub format : w.relay.format ≡ c.format
   pub announce : w.relay.announce ≡ c.announce
+  pub direct : w.relay.routes.direct ≡ direct_of c
   pub ports : ArePortsOf 1 c.ports w.relay.ports
   pub device : w.device.configured ≡ (database_of c).configured
   pub rules : w.rules ≡ c.rules

@@ -2,14 +2,17 @@
 //! functions do nothing: their contracts are the laws.
 ghost use Rattle.std.specs.List.{AllByRecursion};
 ghost use Rattle.gw_addr.specs.Reading.{AreOctets};
+ghost use Rattle.gw_configuration.specs.Subnet.{IsSubnet};
 ghost use Rattle.gw_script.specs.Event.{event_view};
+ghost use Rattle.gw_verdicts.specs.Asserted.{AsksAreJudged, EmptyMeansNone, HoldingIsTrue};
 ghost use Rattle.gw_verdicts.specs.Compared.{EventsAreAlike, EventsAreCompared, LinesAreTrueOfEvents};
-ghost use Rattle.gw_verdicts.specs.Laws.{AsksLieInShapes, FoundNeverDecides, FreshAsksLieInShapes, IsCarried, IsInstance, IsNumbered, IsOnNetwork, NeverFirstNeverDecides, PeersRaiseTheAsk, WhyNamesTheRule};
+ghost use Rattle.gw_verdicts.specs.Laws.{AsksLieInShapes, FoundNeverDecides, FreshAsksLieInShapes, HasSubnets, IsCarried, IsInstance, IsNumbered, IsOnNetwork, NeverFirstNeverDecides, PeersRaiseTheAsk, WhyNamesTheRule};
 ghost use Rattle.gw_verdicts.specs.Runs.{AlikeRunsAlike};
 ghost use Rattle.gw_verdicts.specs.States.{CarriedAreUnder, HistoriesAreUnder, StatesStayUnder};
 ghost use Rattle.gw_verdicts.specs.Strangers.{ClaimsAreAsked, EveryStrangerEnters, NoStrangerEnters, NobodyClaims, StrangersAreAsked};
 
-use gw_configuration::{Config, Object, Port};
+use gw_configuration::laws::fits;
+use gw_configuration::{Config, Object, Port, Subnet};
 use gw_script::Event;
 
 /// A gateway is always in a state of the configuration that it goes by: after every history, also at once after a restart
@@ -65,9 +68,19 @@ pub fn comparisons()
 {}
 
 /// If `bacgwctl compare` says that no ask is decided otherwise, or that other parts alone differ, then a gateway of the old
-/// configuration does under the new rules what it does under its own, whatever comes, one event after the other.
+/// configuration sends under the new rules what it sends under its own, whatever comes, one event after the other; and if
+/// neither has a quiet rule, it does the same in all.
 pub fn runs()
     ensures { AlikeRunsAlike }
+{}
+
+/// What is found of an assertion is true of the gateway, whatever came before: each ask that it raises is one that assertions
+/// are judged by; so if an assertion holds, each ask that it means is decided as its verdict says, and if it is empty, none is
+/// meant.
+pub fn assertions()
+    ensures judged { AsksAreJudged }
+    ensures holding { HoldingIsTrue }
+    ensures empty { EmptyMeansNone }
 {}
 
 /// What these laws ask of an event holds of each: a datagram has octets, and comes from an address.
@@ -86,12 +99,14 @@ fn are_octets(octets: &[u8])
     let _len = octets.len();
 }
 
-/// What they ask of a configuration holds of each: its ports are on networks, and the device and the objects
-/// have instances.
+/// What they ask of a configuration holds of each: its ports and its device are on networks, each on its own, the
+/// stations of a port are subnets, and the device and the objects have instances.
 pub fn configurations(config: &Config)
     ensures { IsNumbered config.now }
 {
     let _instance = config.device().instance.get();
+    let _network = config.device().network.get();
+    have_subnets(config.ports());
     are_on_networks(config.ports());
     have_instances(config.objects());
 }
@@ -108,6 +123,22 @@ fn is_on_network(port: &Port)
     ensures { IsOnNetwork port.now }
 {
     let _network = port.network.get();
+}
+
+fn have_subnets(ports: &[Port])
+    ensures { AllByRecursion HasSubnets ports.now }
+{
+    for port in ports {
+        are_subnets(port.stations.as_slice());
+    }
+}
+
+fn are_subnets(subnets: &[Subnet])
+    ensures { AllByRecursion IsSubnet subnets.now }
+{
+    for subnet in subnets {
+        fits(*subnet);
+    }
 }
 
 fn have_instances(objects: &[Object])

@@ -24,11 +24,13 @@ Same rules from t n l = map (said rules) (denied (map (asked_from from) l)) ≡ 
 one_origin : (rules : List Rule) (from : Origin) (n t : ℕ) (l : List Verdict)
     → Same rules from t n l
 one_origin rules from n t [] = refl
-one_origin rules from n t (v ∷ l) = by v.is_allowed refl (one_origin rules from n t l) (one_origin rules from (n + 1) t l)
+one_origin rules from n t (v ∷ l) = by v.is_allowed v.is_quiet refl refl (one_origin rules from n t l) (one_origin rules from (n + 1) t l)
   where
-    by : (b : Bool) → v.is_allowed ≡ b → Same rules from t n l → Same rules from t (n + 1) l → Same rules from t n (v ∷ l)
-    by true is here later = rw is here
-    by false is here later = rw is (ap (λ (s : List (List ℕ)). said rules (asked_from from v) ∷ s) later)
+    by : (b quiet : Bool) → v.is_allowed ≡ b → v.is_quiet ≡ quiet → Same rules from t n l → Same rules from t (n + 1) l
+        → Same rules from t n (v ∷ l)
+    by true quiet is so here later = rw is here
+    by false true is so here later = rw (is, so) here
+    by false false is so here later = rw (is, so) (ap (λ (s : List (List ℕ)). said rules (asked_from from v) ∷ s) later)
 
 of_origin : (rules : List Rule) (from : Option Origin) (n t : ℕ) (l : List Verdict)
     → map (said rules) (denied (asked_of from l)) ≡ map (words false) (denials_of rules n t from (refused_of l))

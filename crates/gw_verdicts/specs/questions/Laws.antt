@@ -1,5 +1,5 @@
 -- What the answer to a question has to do with the gateway's log, and what its datagrams say.
-use Rattle.std.specs.Prelude.{◌≡◌, ℕ, false, not, List, filter, map, None, Ok}
+use Rattle.std.specs.Prelude.{◌≡◌, ◌&&◌, ℕ, false, not, List, filter, map, None, Ok}
 use Rattle.gw_codecs.specs.apdu.Reading.{apdu_at}
 use Rattle.gw_codecs.specs.declared.apdu.header.Header.{Header}
 use Rattle.gw_codecs.specs.declared.apdu.header.Header.TheVariants as header
@@ -17,11 +17,12 @@ use Rattle.gw_verdicts.specs.declared.questions.deed.Deed.TheVariants as deed
 use Rattle.gw_verdicts.specs.questions.Answers.{logged}
 use Rattle.gw_verdicts.specs.questions.Datagrams.{request_apdu}
 
--- the asks of an event that are denied
+-- the asks of an event that are denied, but by quiet rules
 abbrev pub denied : List Asked → List Asked
-denied asked = filter (λ one. not one.verdict.is_allowed) asked
+denied asked = filter (λ one. not one.verdict.is_allowed && not one.verdict.is_quiet) asked
 
--- What the text of an answer shows as denied of an event is, in order, what the gateway's log has of it in words.
+-- What the text of an answer shows as denied of an event, but by quiet rules, is, in order, what the gateway's log has of it
+-- in words.
 abbrev pub DeniedIsLogged : Type 0
 DeniedIsLogged =
     (w : State) (e : Event)

@@ -6,7 +6,7 @@ ghost use Rattle.gw_verdicts.specs.questions.Laws.{DeniedIsLogged, IsAsked};
 use crate::questions::deed::Deed;
 use gw_codecs::services::laws::{read_encoded, write_encoded};
 
-/// What an answer shows as denied is what the gateway's log would have of that datagram.
+/// What an answer shows as denied, but by quiet rules, is what the gateway's log would have of that datagram.
 pub fn denials()
     ensures { DeniedIsLogged }
 {}
