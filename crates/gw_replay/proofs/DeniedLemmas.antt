@@ -1,9 +1,9 @@
 -- The lines of the asks that are denied.
-use Rattle.std.proofs.Common.{◌≡◌, ◌∙◌, sym, ap, refl, ℕ, ◌+◌, List, [], ◌∷◌, ◌++◌, filter, map, not, Option, Some, None}
+use Rattle.std.proofs.Common.{◌≡◌, ◌∙◌, sym, ap, refl, ℕ, ◌+◌, List, [], ◌∷◌, ◌++◌, filter, map, Option, Some, None}
 use Rattle.std.specs.List.{flat_map}
 use Rattle.gw_rules.specs.Ask.{Ask}
 use Rattle.gw_rules.specs.Authorizer.{denied_of}
-use Rattle.gw_rules.specs.RuleList.{allows}
+use Rattle.gw_rules.specs.RuleList.{is_logged}
 use Rattle.gw_rules.specs.declared.refusal.Refusal.{Refusal}
 use Rattle.gw_rules.specs.declared.rule.Rule.{Rule}
 use Rattle.gw_rules.proofs.Denials.{refused_asks}
@@ -22,7 +22,7 @@ lines_from rules number tick from (r ∷ refusals) =
     ap (λ (t : List ℕ). ask_line rules (source_of from r.ask) r.ask ++ t) (lines_from rules (number + 1) tick from refusals)
 
 lines_of : (rules : List Rule) (number tick : ℕ) (from : Option Origin) (asked : List Ask)
-    → ask_lines rules from (filter (λ ask. not (allows rules ask)) asked)
+    → ask_lines rules from (filter (is_logged rules) asked)
     ≡ flat_map (λ d. ask_line rules d.source d.ask) (denials_of rules number tick from (denied_of rules asked))
 lines_of rules number tick None asked = refl
 lines_of rules number tick (Some from) asked =

@@ -1,8 +1,8 @@
 -- Laws of what a replay writes.
-use Rattle.std.specs.Prelude.{◌≡◌, ℕ, false, List, filter, not}
+use Rattle.std.specs.Prelude.{◌≡◌, ℕ, false, List, filter}
 use Rattle.std.specs.List.{flat_map}
 use Rattle.gw_configuration.specs.Configuration.{Configuration}
-use Rattle.gw_rules.specs.RuleList.{allows}
+use Rattle.gw_rules.specs.RuleList.{is_logged}
 use Rattle.gw_script.specs.Event.{Event}
 use Rattle.gw_core.specs.Asks.{asks}
 use Rattle.gw_core.specs.Effects.{effects_at}
@@ -31,8 +31,8 @@ abbrev pub AnnouncementsChangeNothing : Type 0
 AnnouncementsChangeNothing =
     (c : Configuration) (entries : List Entry) → played c entries ≡ played c (entries_of (events_among entries))
 
--- The lines of those asks of an event that the policy denies are those of its denials, in order.
+-- The lines of those asks of an event that the policy denies, but by quiet rules, are those of its denials, in order.
 abbrev pub DeniedLinesAreLogged : Type 0
 DeniedLinesAreLogged = (w : State) (e : Event) →
-    ask_lines w.rules (origin (receive w e)) (filter (λ ask. not (allows w.rules ask)) (asks w e))
+    ask_lines w.rules (origin (receive w e)) (filter (is_logged w.rules) (asks w e))
     ≡ flat_map (λ d. ask_line w.rules d.source d.ask) (effects_at w e).denials

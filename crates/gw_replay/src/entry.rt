@@ -5,7 +5,7 @@ ghost use Rattle.std.specs.Bool.{OnFalse, OnTrue};
 ghost use Rattle.gw_addr.specs.declared.TheConstants.{MAX_PORTS};
 ghost use Rattle.gw_replay.specs.Entry.{Entry as PlainEntry, IsEntry, entry_view};
 
-use gw_core::Event;
+use gw_core::{Event, Gateway};
 use gw_script::{MAX_DATAGRAM, SpelledAddr, parse_spelled};
 
 /// What a line writes.
@@ -35,6 +35,30 @@ pub(crate) fn parse_entry<'a, 'b>(
         return Some((Entry::Comes(event), sender));
     }
     if announces && is_announce(line) {
+        return Some((Entry::Announces, None));
+    }
+    None
+}
+
+/// The same of a line for this gateway, which is asked whether it announces only where the line writes no event.
+#[inline(always)]
+pub(crate) fn parse_entry_for<'a, 'b>(
+    gateway: &Gateway,
+    ports: u8,
+    line: &'b [u8],
+    buffer: &'a mut [u8; MAX_DATAGRAM],
+) -> Option<(Entry<'a>, Option<SpelledAddr<'b>>)>
+    requires ports { ports ≤ MAX_PORTS }
+    requires most { length line.now ≤ 4096 }
+    ensures found { let announces = gateway.now.relay.announce in
+        IfSome result (λ x. IsEntry announces ports line.now (entry_view x.0)) }
+    ensures only { IsNone result → (e : PlainEntry) →
+        ¬ (IsEntry gateway.now.relay.announce ports line.now e) }
+{
+    if let Some((event, sender)) = parse_spelled(ports, line, buffer) {
+        return Some((Entry::Comes(event), sender));
+    }
+    if is_announce(line) && gateway.announces() {
         return Some((Entry::Announces, None));
     }
     None

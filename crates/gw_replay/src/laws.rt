@@ -3,7 +3,7 @@
 ghost use Rattle.gw_replay.specs.Laws.{AnnouncementsChangeNothing, DeniedLinesAreLogged, RunsAreWritten, UnannouncedAreEvents};
 
 /// What a replay writes: of each run the text of its effects. And where it explains, the lines of the asks that the
-/// policy denies are those of the denials.
+/// policy denies, but by quiet rules, are those of the denials.
 pub fn replays()
     ensures wording { RunsAreWritten }
     ensures denied { DeniedLinesAreLogged }

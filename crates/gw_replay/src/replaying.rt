@@ -13,7 +13,7 @@ ghost use Rattle.gw_script.specs.Known.{IsShorter, OnKnown};
 ghost use Rattle.gw_replay.specs.internal.LineOutcome.{OnKnownLine};
 ghost use Rattle.gw_replay.specs.Flawed.{HasFlaw, IsFirstFlaw};
 
-use crate::entry::parse_entry;
+use crate::entry::parse_entry_for;
 use crate::event_writer::{EventText, Explaining, Plain, make_entry_text};
 use gw_configuration::Config;
 use gw_core::{Counts, Gateway, Taken};
@@ -263,8 +263,8 @@ impl ScriptRun {
         };
         let line = self.lines.front(len);
         let ports = self.gateway.ports();
-        let announces = self.gateway.announces();
-        let Some((entry, sender)) = parse_entry(announces, ports, line, &mut self.datagram) else {
+        let datagram = &mut self.datagram;
+        let Some((entry, sender)) = parse_entry_for(&self.gateway, ports, line, datagram) else {
             self.flaw = flaw_of(ports, line);
             return Err(RunFault::Line(number));
         };

@@ -29,7 +29,7 @@ returns-in_default-clause-outcome g c = λ text before known written.
         lines = ap lines_of left.text_is
             ∙ lines;
         no_entry = λ e is. c.in_default.ensures.only refl e
-            (same_line _ _ _ _ _ _ e c.announces-announces.ensures c.ports-ports.ensures.count c.front-line.ensures is);
+            (same_line _ _ _ _ _ _ e refl c.ports-ports.ensures.count c.front-line.ensures is);
       },
       written,
     )
@@ -72,7 +72,7 @@ returns-in_err-make_entry_text-clause-outcome g c = λ text before known written
       line = take len front;
       entry = entry;
       others = lines_of (drop span front ++ left.rest);
-      writes = same_line _ _ _ _ _ _ entry (sym c.announces-announces.ensures) (sym c.ports-ports.ensures.count) (sym c.front-line.ensures)
+      writes = same_line _ _ _ _ _ _ entry refl (sym c.ports-ports.ensures.count) (sym c.front-line.ensures)
           c.in-Some.ensures.found;
       lines = ap lines_of left.text_is ∙ lines;
       wants = wants;
@@ -81,7 +81,7 @@ returns-in_err-make_entry_text-clause-outcome g c = λ text before known written
       line = take len front;
       entry = entry;
       others = lines_of (drop span front ++ left.rest);
-      writes = same_line _ _ _ _ _ _ entry (sym c.announces-announces.ensures) (sym c.ports-ports.ensures.count) (sym c.front-line.ensures)
+      writes = same_line _ _ _ _ _ _ entry refl (sym c.ports-ports.ensures.count) (sym c.front-line.ensures)
           c.in-Some.ensures.found;
       lines = ap lines_of left.text_is ∙ lines;
       passes = passes;
@@ -103,7 +103,7 @@ returns-in_default-write_whole-clause-outcome g c = λ text before known written
       line = take len front;
       entry = entry;
       others = lines_of (drop span front ++ left.rest);
-      writes = same_line _ _ _ _ _ _ entry (sym c.announces-announces.ensures) (sym c.ports-ports.ensures.count) (sym c.front-line.ensures)
+      writes = same_line _ _ _ _ _ _ entry refl (sym c.ports-ports.ensures.count) (sym c.front-line.ensures)
           c.in-Some.ensures.found;
       lines = ap lines_of left.text_is ∙ lines;
       front = cut.0;
