@@ -1,6 +1,6 @@
 -- The objects of a check have numbers below 2^64, and aren't deep.
-use Rattle.std.proofs.Common.{ℕ, ◌^◌, ◌<◌, true, false, List, [], ◌∷◌, length, map, Option, decimal, arith}
-use Rattle.std.specs.Prelude.{codes}
+use Rattle.std.proofs.Common.{ℕ, ◌^◌, ◌<◌, Bool, true, false, List, [], ◌∷◌, length, map, Option, decimal, arith}
+use Rattle.std.specs.Prelude.{codes, ◌==◌, if◌then◌else◌}
 use Rattle.std.specs.List.{AllByRecursion}
 use Rattle.json.specs.Json.{null, boolean, number, string, no_members}
 use Rattle.gw_addr.specs.Address.{text_of}
@@ -9,9 +9,10 @@ use Rattle.gw_configuration.specs.Configuration.{Configuration}
 use Rattle.gw_configuration.specs.declared.fault.ConfigFault.{ConfigFault}
 use Rattle.gw_configuration.specs.declared.fault.ConfigFault.TheVariants as faults
 use Rattle.gw_configuration.specs.declared.port.Port.{Port}
-use Rattle.gw_json.specs.Check.{checked_value, device_value, fault_row, fault_value, format_number, manager_value, managers_value, networks_value}
+use Rattle.gw_json.specs.Check.{asserts_members, checked_value, device_value, fault_row, fault_value, format_number, manager_value, managers_value, networks_value}
+use Rattle.gw_json.specs.Document.{members_of}
 use Rattle.gw_json.specs.Laws.{ChecksRead, FaultsRead, NumbersFit}
-use Rattle.gw_json.proofs.Documents.{IsShallow, boolean_shallow, items_array, line_read, mapped_shallow, member_shallow, none_shallow, null_shallow, number_shallow, object_shallow, or_shallow, string_shallow, wider}
+use Rattle.gw_json.proofs.Documents.{AreShallow, IsShallow, boolean_shallow, items_array, line_read, mapped_shallow, member_shallow, none_shallow, null_shallow, number_shallow, object_shallow, or_shallow, string_shallow, wider}
 use Rattle.gw_json.proofs.Plain.{Each}
 use Rattle.gw_rules.specs.declared.format.Format.{Format}
 use Rattle.gw_rules.specs.declared.format.Format.TheVariants as formats
@@ -32,6 +33,13 @@ format_shallow formats.One = number_shallow 2 1 (omega arith)
 format_shallow formats.Two = number_shallow 2 2 (omega arith)
 format_shallow formats.Three = number_shallow 2 3 (omega arith)
 
+asserts_shallow : (count : ℕ) → count < 2 ^ 64 → AreShallow 2 (members_of (asserts_members count))
+asserts_shallow count few = by (count == 0)
+  where
+    by : (b : Bool) → AreShallow 2 (members_of (if b then [] else (codes "asserts", number (decimal count)) ∷ []))
+    by true = none_shallow 2
+    by false = member_shallow 2 (codes "asserts") (number (decimal count)) no_members (number_shallow 2 count few) (none_shallow 2)
+
 checked_shallow : (c : Configuration) → NumbersFit c → IsShallow 3 (checked_value c)
 checked_shallow c fit =
     let device = object_shallow 0 _ (member_shallow 0 (codes "network") (number (decimal c.device.network)) _ (number_shallow 0 c.device.network fit.network)
@@ -44,10 +52,10 @@ checked_shallow c fit =
     (member_shallow 2 (codes "networks") (networks_value c.ports) _
     (wider 1 2 (networks_value c.ports) (omega arith) (items_array 0 (map (λ port. number (decimal port.network)) c.ports) (each_network c.ports fit.networks)))
     (member_shallow 2 (codes "objects") (number (decimal (length c.objects))) _ (number_shallow 2 (length c.objects) fit.objects)
-    (member_shallow 2 (codes "rules") (number (decimal (length c.rules))) _ (number_shallow 2 (length c.rules) fit.rules)
+    (member_shallow 2 (codes "rules") (number (decimal c.written)) _ (number_shallow 2 c.written fit.rules)
     (member_shallow 2 (codes "routes") (number (decimal (length c.routes))) _ (number_shallow 2 (length c.routes) fit.routes)
     (member_shallow 2 (codes "bbmd") (managers_value c.ports) _ (managers_shallow c.ports)
-    (member_shallow 2 (codes "announce") (boolean c.announce) no_members (boolean_shallow 2 c.announce) (none_shallow 2)))))))))))
+    (member_shallow 2 (codes "announce") (boolean c.announce) _ (boolean_shallow 2 c.announce) (asserts_shallow (length c.assertions) fit.assertions)))))))))))
 
 pub checks_read : ChecksRead
 checks_read c fit = line_read 3 (checked_value c) (omega arith) (checked_shallow c fit)

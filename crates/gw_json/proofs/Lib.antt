@@ -5,3 +5,4 @@ pub mod Plain
 pub mod Reading
 pub mod Shallow
 pub mod Views
+pub mod Numbered

@@ -1,5 +1,5 @@
 -- The objects of a log and of answers have numbers below 2^64, and aren't deep.
-use Rattle.std.proofs.Common.{◌≡◌, ℕ, ◌^◌, ◌<◌, inl, inr, length, Bool, true, false, List, [], ◌∷◌, ◌++◌, Option, Some, None, decimal, sym, subst, arith}
+use Rattle.std.proofs.Common.{◌≡◌, ℕ, ◌^◌, ◌<◌, inl, inr, length, Bool, true, false, List, [], ◌∷◌, ◌++◌, Option, Some, None, decimal, refl, sym, subst, arith}
 use Rattle.std.specs.Prelude.{IfSome, codes, is_some, ◌==◌}
 use Rattle.hex.specs.Hex.{encode_upper}
 use Rattle.json.specs.Json.{Json, null, number, string, no_members}
@@ -11,14 +11,14 @@ use Rattle.gw_audit.specs.declared.entry.ShownAsk.{ShownAsk}
 use Rattle.gw_rules.proofs.First.{first_within}
 use Rattle.gw_rules.specs.Ask.{Ask}
 use Rattle.gw_rules.specs.Operation.{operation_name}
-use Rattle.gw_rules.specs.RuleList.{IsNumberOf, allows, first}
+use Rattle.gw_rules.specs.RuleList.{IsNumberOf, allows, first, is_quiet_by}
 use Rattle.gw_rules.specs.declared.rule.Rule.{Rule}
 use Rattle.gw_rules.specs.declared.field.FieldName.TheVariants as fields
 use Rattle.gw_json.specs.Ask.{ask_members, key_or_null, key_value, number_value, operation_value, sender_of, station_of, station_word}
 use Rattle.gw_json.specs.Document.{members_of}
-use Rattle.gw_json.specs.Laws.{AnswersRead, DenialsRead, IsRead, OthersRead, ReadsAs}
+use Rattle.gw_json.specs.Laws.{AnswersRead, AnswersStay, DenialsRead, IsRead, OthersRead, ReadsAs}
 use Rattle.gw_json.specs.Log.{denial_value, front_members, front_octets_members, octets_value, rule_members, text_value}
-use Rattle.gw_json.specs.Why.{answer_value, name_value, note_at, note_value, noted_value, rule_at}
+use Rattle.gw_json.specs.Why.{answer_value, name_value, note_at, note_value, noted_value, quiet_members, rule_at}
 use Rattle.gw_json.proofs.Documents.{AreShallow, IsShallow, boolean_shallow, chosen_shallow, line_read, member_shallow, none_shallow, null_shallow, number_shallow, object_shallow, or_shallow, string_shallow}
 
 -- ---- values that may be missing
@@ -149,6 +149,10 @@ note_shallow : (note : Option (List ℕ)) → IsShallow 0 (note_value note)
 note_shallow note =
     or_shallow 0 noted_value note null (λ text. chosen_shallow 0 (length text == 0) null (string text) (null_shallow 0) (string_shallow 0 text)) (null_shallow 0)
 
+quiet_shallow : (is_quiet : Bool) (rest : List (List ℕ × Json)) → AreShallow 0 (members_of rest) → AreShallow 0 (members_of (quiet_members is_quiet ++ rest))
+quiet_shallow true rest are = member_shallow 0 (codes "quiet") _ _ (boolean_shallow 0 true) are
+quiet_shallow false rest are = are
+
 answer_shallow : (rules : List Rule) (notes : List (List ℕ)) (ask : ShownAsk) → length rules < 2 ^ 64 → AreSmall ask → IsShallow 1 (answer_value rules notes ask)
 answer_shallow rules notes ask few small =
     let by = first rules (ask_shown ask) in
@@ -156,7 +160,10 @@ answer_shallow rules notes ask few small =
     (member_shallow 0 (codes "rule") _ _ (name_shallow (rule_at rules by))
     (member_shallow 0 (codes "rule_number") _ _ (number_if by (by_small rules (ask_shown ask) few))
     (member_shallow 0 (codes "note") _ _ (note_shallow (note_at notes by))
-    (ask_shallow ask [] small (none_shallow 0))))))
+    (quiet_shallow (is_quiet_by rules by) (ask_members ask) (ask_shallow ask [] small (none_shallow 0)))))))
+
+pub answers_stay : AnswersStay
+answers_stay rules notes ask loud = rw loud refl
 
 pub answers_read : AnswersRead
 answers_read rules notes few line text answer =

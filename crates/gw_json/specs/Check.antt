@@ -1,5 +1,5 @@
 -- What `check` says of a configuration, as a JSON object.
-use Rattle.std.specs.Prelude.{ℕ, true, false, List, [], ◌∷◌, length, map, codes, decimal, Option}
+use Rattle.std.specs.Prelude.{ℕ, ◌==◌, true, false, if◌then◌else◌, List, [], ◌∷◌, ◌++◌, length, map, codes, decimal, Option}
 use Rattle.std.specs.Option.{option_map_or}
 use Rattle.json.specs.Json.{Json, null, boolean, number, string, array}
 use Rattle.gw_addr.specs.Address.{text_of}
@@ -35,21 +35,32 @@ manager_value port = option_map_or (λ manager. string (text_of manager)) port.b
 abbrev pub managers_value : List Port → Json
 managers_value ports = array (items_of (map manager_value ports))
 
--- its format, its device, its networks, how many ports, objects, rules and routes there are, the managers beside its ports,
--- and whether it announces networks
-abbrev pub checked_value : Configuration → Json
-checked_value c =
-    object_of ((codes "valid", boolean true)
+-- its format, its device, its networks, how many ports, objects, rules as they are written and routes there are, the managers
+-- beside its ports, and whether it announces networks
+abbrev pub way_members : Configuration → List (List ℕ × Json)
+way_members c =
+    (codes "valid", boolean true)
     ∷ (codes "format", number (decimal (format_number c.format)))
     ∷ (codes "device", device_value c.device)
     ∷ (codes "ports", number (decimal (length c.ports)))
     ∷ (codes "networks", networks_value c.ports)
-    ∷ (codes "objects", number (decimal (length c.objects)))
-    ∷ (codes "rules", number (decimal (length c.rules)))
+    ∷ []
+
+abbrev pub policy_members : Configuration → List (List ℕ × Json)
+policy_members c =
+    (codes "objects", number (decimal (length c.objects)))
+    ∷ (codes "rules", number (decimal c.written))
     ∷ (codes "routes", number (decimal (length c.routes)))
     ∷ (codes "bbmd", managers_value c.ports)
     ∷ (codes "announce", boolean c.announce)
-    ∷ [])
+    ∷ []
+
+-- and how many assertions, if there are any
+abbrev pub asserts_members : ℕ → List (List ℕ × Json)
+asserts_members count = if count == 0 then [] else (codes "asserts", number (decimal count)) ∷ []
+
+abbrev pub checked_value : Configuration → Json
+checked_value c = object_of (way_members c ++ policy_members c ++ asserts_members (length c.assertions))
 
 -- ---- a fault
 

@@ -2,16 +2,18 @@
 use Rattle.std.specs.Prelude.{◌≡◌, ℕ, ◌≤◌, ◌<◌, ◌^◌, Bool, true, false, List, [], ◌∷◌, ◌++◌, length, All, Option, Some, codes}
 use Rattle.std.specs.List.{AllByRecursion}
 use Rattle.json.specs.Json.{Json, document}
-use Rattle.gw_audit.specs.Entry.{IsLineOf, IsShowable}
+use Rattle.gw_audit.specs.Entry.{IsLineOf, IsShowable, ask_shown}
 use Rattle.gw_audit.specs.declared.denial.Denial.{Denial}
+use Rattle.gw_audit.specs.declared.entry.ShownAsk.{ShownAsk}
 use Rattle.gw_configuration.specs.Configuration.{Configuration}
 use Rattle.gw_configuration.specs.declared.fault.ConfigFault.{ConfigFault}
 use Rattle.gw_json.specs.Check.{checked_value, fault_value}
 use Rattle.gw_json.specs.Comparison.{differences_value, found_value, summary_value}
 use Rattle.gw_json.specs.Document.{line_of}
 use Rattle.gw_json.specs.Log.{AreFrontMembers, IsEntryIn, denial_value, front_members, front_octets_members, octets_value, text_value}
-use Rattle.gw_json.specs.Why.{IsAnswerIn, answer_value}
+use Rattle.gw_json.specs.Why.{IsAnswerIn, answer_value, plain_value}
 use Rattle.gw_ask_sets.specs.declared.regions.comparison.Found.{Found}
+use Rattle.gw_rules.specs.RuleList.{first, is_quiet_by}
 use Rattle.gw_rules.specs.declared.rule.Rule.{Rule}
 
 -- a line that is read as this value: it has no control octet, so no line feed, but the one at its end
@@ -53,6 +55,11 @@ AnswersRead =
     (rules : List Rule) (notes : List (List ℕ)) → length rules < 2 ^ 64
     → (line text : List ℕ) (answer : IsAnswerIn rules notes line text) → ReadsAs text (answer_value rules notes answer.ask)
 
+-- a rule that isn't quiet has the answer that it had before there were quiet rules
+abbrev pub AnswersStay : Type 0
+AnswersStay = (rules : List Rule) (notes : List (List ℕ)) (ask : ShownAsk) → is_quiet_by rules (first rules (ask_shown ask)) ≡ false
+    → answer_value rules notes ask ≡ plain_value rules notes ask
+
 -- and the lines of a comparison, with numbers that fit 64 bits
 abbrev pub ComparisonsRead : Type 0
 ComparisonsRead = (old new : List Rule) (f : Found) → IsRead (found_value old new f)
@@ -73,8 +80,9 @@ pub record NumbersFit (c : Configuration) : Type 0 where
   pub networks : AllByRecursion (λ port. port.network < 2 ^ 64) c.ports
   pub ports : length c.ports < 2 ^ 64
   pub objects : length c.objects < 2 ^ 64
-  pub rules : length c.rules < 2 ^ 64
+  pub rules : c.written < 2 ^ 64
   pub routes : length c.routes < 2 ^ 64
+  pub assertions : length c.assertions < 2 ^ 64
 
 -- and the lines of a check
 abbrev pub ChecksRead : Type 0

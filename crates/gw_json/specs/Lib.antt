@@ -2,6 +2,7 @@ pub mod Document
 pub mod Ask
 pub mod Log
 pub mod Why
+pub mod Unheld
 pub mod Comparison
 pub mod Check
 pub mod Laws

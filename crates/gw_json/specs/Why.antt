@@ -1,12 +1,12 @@
 -- Which rule would decide the asks that a text says: a JSON object for each line.
-use Rattle.std.specs.Prelude.{◌≡◌, ◌-◌, ◌==◌, ℕ, Bool, List, [], ◌∷◌, ◌++◌, length, if◌then◌else◌, codes, Option, Result, slice_get}
+use Rattle.std.specs.Prelude.{◌≡◌, ◌-◌, ◌==◌, ℕ, Bool, true, List, [], ◌∷◌, ◌++◌, length, if◌then◌else◌, codes, Option, Result, slice_get}
 use Rattle.std.specs.Option.{option_and_then, option_map_or}
 use Rattle.json.specs.Json.{Json, null, boolean, string}
 use Rattle.gw_audit.specs.Entry.{ShowsAsk, ask_shown}
 use Rattle.gw_audit.specs.declared.entry.ShownAsk.{ShownAsk}
 use Rattle.gw_json.specs.Ask.{ask_members, number_value}
 use Rattle.gw_json.specs.Document.{line_of, object_of}
-use Rattle.gw_rules.specs.RuleList.{allows, first}
+use Rattle.gw_rules.specs.RuleList.{allows, first, is_quiet_by}
 use Rattle.gw_rules.specs.declared.rule.Rule.{Rule}
 use Rattle.gw_script.specs.Lines.{LeavesLines}
 use Rattle.gw_script.specs.declared.lines.LinesFault.{LinesFault}
@@ -34,9 +34,19 @@ verdict_members rules notes is_allowed by =
     (codes "allow", boolean is_allowed) ∷ (codes "rule", name_value (rule_at rules by))
     ∷ (codes "rule_number", number_value by) ∷ (codes "note", note_value (note_at notes by)) ∷ []
 
+-- that the rule which denies is quiet, so that the log leaves the denial out
+abbrev pub quiet_members : Bool → List (List ℕ × Json)
+quiet_members is_quiet = if is_quiet then (codes "quiet", boolean true) ∷ [] else []
+
 -- what the policy says of an ask, and the ask
 abbrev pub answer_value : List Rule → List (List ℕ) → ShownAsk → Json
 answer_value rules notes ask =
+    object_of (verdict_members rules notes (allows rules (ask_shown ask)) (first rules (ask_shown ask))
+    ++ quiet_members (is_quiet_by rules (first rules (ask_shown ask))) ++ ask_members ask)
+
+-- the answer of a rule that isn't quiet, or of none
+abbrev pub plain_value : List Rule → List (List ℕ) → ShownAsk → Json
+plain_value rules notes ask =
     object_of (verdict_members rules notes (allows rules (ask_shown ask)) (first rules (ask_shown ask)) ++ ask_members ask)
 
 -- a line that says an ask, and the answer to it

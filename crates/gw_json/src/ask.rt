@@ -10,9 +10,6 @@ use gw_addr::{Mac, bip_from_slice};
 use gw_audit::{ShownAsk, operation_named};
 use std::alloc::{AllocError, Global};
 
-/// How many keys of 48 bits there are.
-const KEYS: u64 = 1 << 48;
-
 /// The fields under the keys that a rule has for them.
 pub(crate) fn ask_members(alloc: Global, ask: &ShownAsk) -> Result<Vec<Member>, AllocError>
     ensures { IfOk result (λ members. members_view members.items ≡ ask_members ask.now) }
@@ -49,7 +46,7 @@ fn station_of(ask: &ShownAsk) -> Option<u64>
 }
 
 /// An operation by its name, or by its number if a line of the log has no name for it.
-fn operation_value(operation: Option<u64>, has_sender: bool) -> Value
+pub(crate) fn operation_value(operation: Option<u64>, has_sender: bool) -> Value
     ensures { value_view result ≡ operation_value has_sender operation }
 {
     match operation {
@@ -68,7 +65,7 @@ fn named_value(number: u64, has_sender: bool) -> Value
 }
 
 /// A station by its key, or null if there is none.
-fn key_or_null(alloc: Global, key: Option<u64>) -> Result<Value, AllocError>
+pub(crate) fn key_or_null(alloc: Global, key: Option<u64>) -> Result<Value, AllocError>
     ensures { IfOk result (λ value. value_view value ≡ key_or_null key) }
 {
     match key {
@@ -100,17 +97,16 @@ fn station_word(alloc: Global, mac: &Mac) -> Result<String, AllocError>
     }
 }
 
-/// The station of a number: the six octets of 48 bits, or the eight of a greater number.
+/// The station of a key, or the eight octets of a number that no station has.
 fn station_of_key(key: u64) -> Mac
     ensures { result ≡ key_octets key }
 {
-    let [first, second, a, b, c, d, high, low] = key.to_be_bytes();
-    let six = Mac::of_six([a, b, c, d, high, low]);
-    if key < KEYS {
-        return six;
+    if let Some(mac) = Mac::of_key(key) {
+        return mac;
     }
-    match Mac::new(&[first, second, a, b, c, d, high, low]) {
+    let octets = key.to_be_bytes();
+    match Mac::new(&octets) {
         Some(mac) => mac,
-        None => six,
+        None => Mac::of_six([0; 6]),
     }
 }

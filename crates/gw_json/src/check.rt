@@ -3,18 +3,19 @@
 ghost use Rattle.std.specs.Prelude.{◌≡◌, decimal, option_map, IfOk};
 ghost use Rattle.std.specs.Option.{option_map_or};
 ghost use Rattle.json.specs.Json.{null, number, string};
-ghost use Rattle.gw_json.specs.Check.{checked_value, device_value, fault_row, fault_value, format_number, manager_value, managers_value, networks_value};
+ghost use Rattle.gw_json.specs.Check.{asserts_members, checked_value, device_value, fault_row, fault_value, format_number, manager_value, managers_value, networks_value, policy_members, way_members};
 ghost use Rattle.gw_addr.specs.Address.{text_of};
 ghost use Rattle.gw_json.specs.Document.{IsLinePut, object_of};
 ghost use Rattle.gw_json.specs.internal.View.{members_view, value_view};
 
-use crate::value::{Member, Value, count_value, push_value, put_object, text_value};
+use crate::value::{Member, Value, count_value, joined, push_value, put_object, text_value};
 use gw_addr::BipAddr;
 use gw_configuration::{Config, ConfigFault, Device, Format, Port};
 use std::alloc::{AllocError, Global};
 
 /// Appends the line of a configuration: its format, its device, the networks of its ports, how many ports, objects,
-/// rules and routes it has, the broadcast managers beside its ports, and whether it announces networks. An `Err` only if memory was refused; the buffer then holds what it held.
+/// tables of rules and routes it has, the broadcast managers beside its ports, whether it announces networks, and how many
+/// assertions it has, if any. An `Err` only if memory was refused; the buffer then holds what it held.
 ///
 /// ```text
 /// {"valid":true,"format":3,"device":{"network":100,"instance":1000,"name":"gateway"},"ports":2,"networks":[1,2],"objects":4,"rules":7,"routes":0,"bbmd":[null,null],"announce":false}
@@ -22,8 +23,20 @@ use std::alloc::{AllocError, Global};
 pub fn put_check(alloc: Global, out: &mut Vec<u8>, config: &Config) -> Result<(), AllocError>
     ensures { IsLinePut (checked_value config.now) out.old.items out.new.items result }
 {
-    let members = checked_members(alloc, config)?;
-    put_object(alloc, out, members)
+    let members = joined(way_members(alloc, config)?, policy_members(alloc, config)?)?;
+    let asserts = asserts_members(alloc, config.assertions().len())?;
+    put_object(alloc, out, joined(members, asserts)?)
+}
+
+/// How many assertions there are, if there are any.
+fn asserts_members(alloc: Global, count: usize) -> Result<Vec<Member>, AllocError>
+    ensures { IfOk result (λ members. members_view members.items ≡ asserts_members count) }
+{
+    if count == 0 {
+        Ok(Vec::new(alloc))
+    } else {
+        Ok(vec![in alloc; ("asserts", count_value(count))]?)
+    }
 }
 
 /// Appends the line of a fault: its number, its name, and the line that says where it is, or null. An `Err` only if memory
@@ -63,20 +76,27 @@ fn fault_members(
     ]?)
 }
 
-fn checked_members(alloc: Global, config: &Config) -> Result<Vec<Member>, AllocError>
-    ensures { IfOk result (λ members. object_of (members_view members.items) ≡ checked_value config.now) }
+fn way_members(alloc: Global, config: &Config) -> Result<Vec<Member>, AllocError>
+    ensures { IfOk result (λ members. members_view members.items ≡ way_members config.now) }
 {
     let device = device_value(alloc, config.device())?;
     let networks = networks_value(alloc, config.ports())?;
-    let managers = managers_value(alloc, config.ports())?;
     Ok(vec![in alloc;
         ("valid", Value::Boolean(true)),
         ("format", Value::Number(format_number(config.format()))),
         ("device", device),
         ("ports", count_value(config.ports().len())),
         ("networks", networks),
+    ]?)
+}
+
+fn policy_members(alloc: Global, config: &Config) -> Result<Vec<Member>, AllocError>
+    ensures { IfOk result (λ members. members_view members.items ≡ policy_members config.now) }
+{
+    let managers = managers_value(alloc, config.ports())?;
+    Ok(vec![in alloc;
         ("objects", count_value(config.objects().len())),
-        ("rules", count_value(config.rules().rules().len())),
+        ("rules", Value::Number(u64::from(config.written_rules()))),
         ("routes", count_value(config.routes().len())),
         ("bbmd", managers),
         ("announce", Value::Boolean(config.announces())),

@@ -4,7 +4,7 @@ ghost use Rattle.std.specs.Prelude.{◌≡◌, ◌+◌, ◌-◌, ◌*◌, ◌<�
 ghost use Rattle.std.specs.Option.{option_and_then};
 ghost use Rattle.gw_script.specs.Known.{OnKnown};
 ghost use Rattle.gw_json.specs.Document.{line_of};
-ghost use Rattle.gw_json.specs.Why.{IsAnswerIn, LeavesVerdicts, SaysNoAsk, answer_value, name_value, note_value, noted_value, verdict_members};
+ghost use Rattle.gw_json.specs.Why.{IsAnswerIn, LeavesVerdicts, SaysNoAsk, answer_value, name_value, note_value, noted_value, quiet_members, verdict_members};
 ghost use Rattle.gw_json.specs.internal.View.{members_view, value_view};
 
 use crate::ask::ask_members;
@@ -24,6 +24,7 @@ use std::alloc::{AllocError, Global};
 /// ```text
 /// {"allow":false,"rule":"hide","rule_number":1,"note":"the caretaker's","port":1,"source_network":1,"source":"192.168.1.5:47808","operation":"read","destination":100,"service":12,"object_type":5,"instance":2,"property":85,"priority":null,"sender":null,"station":null}
 /// {"allow":false,"rule":"default","rule_number":null,"note":null,"port":1,..}
+/// {"allow":false,"rule":"hush","rule_number":2,"note":null,"quiet":true,"port":1,..}
 /// ```
 pub fn why_in_json<R: OctetSource, W: OctetSink>(
     alloc: Global,
@@ -82,7 +83,22 @@ impl Answers<'_> {
         let judged = ask.ask();
         let (is_allowed, by) = (self.rules.allows(&judged), self.rules.first(&judged));
         let verdict = verdict_members(alloc, self.rules.rules(), self.notes, is_allowed, by)?;
-        object_line(alloc, joined(verdict, ask_members(alloc, ask)?)?)
+        let quiet = quiet_members(alloc, self.rules.is_quiet(by))?;
+        object_line(
+            alloc,
+            joined(joined(verdict, quiet)?, ask_members(alloc, ask)?)?,
+        )
+    }
+}
+
+/// That the rule which denies is quiet, if it is.
+fn quiet_members(alloc: Global, is_quiet: bool) -> Result<Vec<Member>, AllocError>
+    ensures { IfOk result (λ members. members_view members.items ≡ quiet_members is_quiet) }
+{
+    if is_quiet {
+        Ok(vec![in alloc; ("quiet", Value::Boolean(true))]?)
+    } else {
+        Ok(Vec::new(alloc))
     }
 }
 
@@ -108,7 +124,7 @@ fn verdict_members(
 }
 
 /// The item of a number, which counts from 1.
-fn item_at<T>(items: &[T], by: Option<u16>) -> Option<&T>
+pub(crate) fn item_at<T>(items: &[T], by: Option<u16>) -> Option<&T>
     ensures { option_map (λ item. item.now) result ≡ option_and_then (λ n. slice_get items.now (n - 1)) by }
 {
     match by {
@@ -127,7 +143,7 @@ fn number_of(by: Option<u16>) -> Option<u64>
 }
 
 /// The name of a rule, or `default` if there is none.
-fn name_value(alloc: Global, rule: Option<&Rule>) -> Result<Value, AllocError>
+pub(crate) fn name_value(alloc: Global, rule: Option<&Rule>) -> Result<Value, AllocError>
     ensures { IfOk result (λ value. value_view value
         ≡ name_value (option_map (λ rule. rule.now) rule.entry)) }
 {

@@ -1,2 +1,3 @@
 pub mod suggestion
 pub mod migration
+pub mod Listing

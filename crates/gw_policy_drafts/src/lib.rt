@@ -1,5 +1,7 @@
-//! Policies that the program drafts: rules that allow what a log denied, and a configuration of an older format in format 3.
+//! Policies that the program writes: rules that allow what a log denied, a configuration of an older format in format 3, and
+//! the rules of a configuration as they are judged.
 #![tactic(auto)]
 
+pub mod listing;
 pub mod migration;
 pub mod suggestion;

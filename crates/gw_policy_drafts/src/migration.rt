@@ -9,5 +9,8 @@ mod rules;
 mod subnets;
 
 pub use fault::MigrationFault;
+pub(crate) use lines::put_quoted;
 pub use migration::migrate;
+pub(crate) use objects::put_device;
+pub(crate) use ports::put_ports;
 pub use rules::{put_field, put_field_items, put_operation, put_station};

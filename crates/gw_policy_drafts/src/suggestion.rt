@@ -7,6 +7,7 @@ mod given;
 mod group;
 mod joining;
 pub mod laws;
+mod leaving;
 mod places;
 mod reading;
 mod rules;

@@ -1,10 +1,11 @@
 -- The page that shows a configuration.
-use Rattle.std.specs.Prelude.{◌≡◌, ℕ, ◌+◌, ◌-◌, ◌==◌, ◌&&◌, Bool, true, false, if◌then◌else◌, List, [], ◌∷◌, ◌++◌, length, codes, decimal}
+use Rattle.std.specs.Prelude.{◌≡◌, ℕ, ◌+◌, ◌-◌, ◌==◌, ◌&&◌, Bool, true, false, if◌then◌else◌, nat_lt, List, [], ◌∷◌, ◌++◌, length, codes, decimal}
 use Rattle.std.specs.Prelude.{Option, Some, None, slice_get, unwrap_or}
 use Rattle.std.specs.List.{flat_map, list_all}
-use Rattle.std.specs.Option.{option_map_or}
+use Rattle.std.specs.Option.{option_and_then, option_map_or}
 use Rattle.gw_codecs.specs.names.Names.{object_type_name}
 use Rattle.gw_configuration.specs.Configuration.{Configuration}
+use Rattle.gw_configuration.specs.declared.assertion.Assertion.{Assertion}
 use Rattle.gw_configuration.specs.Kinds.{type_number}
 use Rattle.gw_configuration.specs.declared.object.Object.{Object}
 use Rattle.gw_configuration.specs.declared.port.Port.{Port as ConfiguredPort}
@@ -16,6 +17,9 @@ use Rattle.gw_rules.specs.declared.operation.Operation.{Operation}
 use Rattle.gw_rules.specs.declared.operation.TheConstants.Operation.{ALL as all_operations}
 use Rattle.gw_rules.specs.declared.rule.Rule.{Rule}
 use Rattle.gw_script.specs.Order.{in_order}
+use Rattle.gw_ask_sets.specs.assertions.Judging.{AreJudged}
+use Rattle.gw_ask_sets.specs.declared.assertions.judging.Judged.{Judged}
+use Rattle.gw_ask_sets.specs.declared.assertions.judging.Judged.TheVariants.{Holds, Broken, Empty, Unknown}
 use Rattle.gw_ask_sets.specs.shapes.Shape.{Shape}
 use Rattle.gw_ask_sets.specs.shapes.Shapes.{shapes}
 use Rattle.gw_policy_drafts.specs.migration.Items.{field_text}
@@ -113,14 +117,22 @@ access_text c = element_text element.Heading (codes "Who may do what") ++ (legen
 
 -- ---- the rules
 
--- a cell with how often a log shows that a rule denied, by the rule's place, if the counts of a log are shown
-unfoldable pub times_cell : (shows : Bool) → List ℕ → ℕ → List ℕ
-times_cell shows times place =
-    if shows then number_cell (option_map_or (λ count. count) (slice_get times place) 0) else []
+-- a cell with how often a log shows that a rule denied, by the rule's place; a log doesn't show it of a quiet rule
+unfoldable pub count_cell : (quiet : Bool) → List ℕ → ℕ → List ℕ
+count_cell quiet times place =
+    if quiet then element_text element.Cell (codes "not logged")
+    else number_cell (option_map_or (λ count. count) (slice_get times place) 0)
 
-unfoldable pub decision_cell : Bool → List ℕ
-decision_cell allow =
-    if allow then element_text element.All (codes "allow") else element_text element.Nothing (codes "deny")
+-- the same, if the counts of a log are shown
+unfoldable pub times_cell : (shows : Bool) → (quiet : Bool) → List ℕ → ℕ → List ℕ
+times_cell shows quiet times place = if shows then count_cell quiet times place else []
+
+unfoldable pub denied_cell : (quiet : Bool) → List ℕ
+denied_cell quiet =
+    if quiet then element_text element.Nothing (codes "deny (quiet)") else element_text element.Nothing (codes "deny")
+
+unfoldable pub decision_cell : (allow quiet : Bool) → List ℕ
+decision_cell allow quiet = if allow then element_text element.All (codes "allow") else denied_cell quiet
 
 -- what the rule says of a field, if it names it
 unfoldable pub field_code : Rule → FieldName → List ℕ
@@ -142,15 +154,33 @@ fields_cell rule =
 abbrev pub note_at : List (List ℕ) → ℕ → List ℕ
 note_at notes place = option_map_or (λ note. note) (slice_get notes place) []
 
-unfoldable pub rule_cells : Rule → List ℕ → List ℕ
-rule_cells rule note =
-    element_text element.Cell rule.name ++ (decision_cell rule.allow ++ (fields_cell rule ++ element_text element.Cell note))
+-- the position of the table of the text that the rule at a place comes from, 0 if there is none
+abbrev pub table_at : List ℕ → ℕ → ℕ
+table_at tables place = option_map_or (λ table. table) (slice_get tables place) 0
+
+-- The rule at a place comes from the same table as the one before it: it is for the way or for the answers.
+abbrev pub is_of_both_ways : List ℕ → ℕ → Bool
+is_of_both_ways tables place = nat_lt 0 place && (table_at tables (place - 1) == table_at tables place)
+
+-- a cell that says of such a rule which table it comes from, counted from 1
+unfoldable pub origin_cell : ℕ → List ℕ
+origin_cell table =
+    open_text element.Cell ++ (escaped (codes "by both_ways of rule table ") ++ (decimal (table + 1) ++ close_text element.Cell))
+
+-- a cell with the note of the rule at a place, or with where it comes from
+abbrev pub note_cell : List (List ℕ) → List ℕ → ℕ → List ℕ
+note_cell notes tables place =
+    if is_of_both_ways tables place then origin_cell (table_at tables place) else element_text element.Cell (note_at notes place)
+
+unfoldable pub rule_cells : Rule → List ℕ
+rule_cells rule =
+    element_text element.Cell rule.name ++ (decision_cell rule.allow rule.quiet ++ fields_cell rule)
 
 -- the row of the rule of this number
-unfoldable pub rule_row : List (List ℕ) → (shows : Bool) → (times : List ℕ) → ℕ → Rule → List ℕ
-rule_row notes shows times number rule =
-    open_text element.Row ++ (number_cell number ++ (rule_cells rule (note_at notes (number - 1))
-    ++ (times_cell shows times (number - 1) ++ close_text element.Row)))
+unfoldable pub rule_row : List (List ℕ) → List ℕ → (shows : Bool) → (times : List ℕ) → ℕ → Rule → List ℕ
+rule_row notes tables shows times number rule =
+    open_text element.Row ++ (number_cell number ++ (rule_cells rule ++ (note_cell notes tables (number - 1)
+    ++ (times_cell shows rule.quiet times (number - 1) ++ close_text element.Row))))
 
 unfoldable pub counted_head : Bool → List ℕ
 counted_head shows = if shows then element_text element.Head (codes "denials") else []
@@ -165,16 +195,16 @@ rules_head shows = open_text element.Row ++ (rules_columns ++ (counted_head show
 
 unfoldable pub default_cells : List ℕ
 default_cells =
-    element_text element.Cell [] ++ (element_text element.Cell (codes "default") ++ (decision_cell false
+    element_text element.Cell [] ++ (element_text element.Cell (codes "default") ++ (decision_cell false false
     ++ (element_text element.Cell (codes "those that no rule matches") ++ element_text element.Cell [])))
 
 -- the row of the asks that no rule matches, whose count is after those of so many rules
 unfoldable pub default_row : (shows : Bool) → (times : List ℕ) → ℕ → List ℕ
-default_row shows times count = open_text element.Row ++ (default_cells ++ (times_cell shows times count ++ close_text element.Row))
+default_row shows times count = open_text element.Row ++ (default_cells ++ (times_cell shows false times count ++ close_text element.Row))
 
 unfoldable pub rules_table : Configuration → (shows : Bool) → (times : List ℕ) → List ℕ
 rules_table c shows times =
-    open_text element.Table ++ (rules_head shows ++ (in_order (rule_row c.notes shows times) 1 c.rules
+    open_text element.Table ++ (rules_head shows ++ (in_order (rule_row c.notes c.tables shows times) 1 c.rules
     ++ (default_row shows times (length c.rules) ++ close_text element.Table)))
 
 -- the rules in their order, each with what it says and its note
@@ -183,6 +213,63 @@ rules_text c shows times =
     element_text element.Heading (codes "Rules")
     ++ (element_text element.Aside (codes "The first rule that matches an ask decides it. If none matches, it is denied.")
     ++ rules_table c shows times)
+
+-- ---- the assertions
+
+-- the name of the rule of a number, or of none
+abbrev pub rule_name : List Rule → Option ℕ → List ℕ
+rule_name rules by =
+    option_map_or (λ rule. rule.name) (option_and_then (λ number. slice_get rules (number - 1)) by) (codes "default")
+
+unfoldable pub broken_words : Bool → List ℕ
+broken_words is_allowed =
+    if is_allowed then escaped (codes "broken: an ask is allowed by ") else escaped (codes "broken: an ask is denied by ")
+
+unfoldable pub broken_cell : List Rule → Option ℕ → Bool → List ℕ
+broken_cell rules by is_allowed =
+    open_text element.Nothing ++ (broken_words is_allowed ++ (escaped (rule_name rules by) ++ close_text element.Nothing))
+
+-- what is found of an assertion
+unfoldable pub judged_cell : List Rule → Judged → List ℕ
+judged_cell rules Holds = element_text element.All (codes "holds")
+judged_cell rules (Broken ask by is_allowed) = broken_cell rules by is_allowed
+judged_cell rules Empty = element_text element.Nothing (codes "empty: no ask is meant")
+judged_cell rules Unknown = element_text element.Some (codes "unknown")
+
+-- what is found of the assertion at a place; it is unknown if nothing is
+abbrev pub judged_at : List Judged → ℕ → Judged
+judged_at judged place = option_map_or (λ one. one) (slice_get judged place) Unknown
+
+-- what it says of the asks that it means
+unfoldable pub asserted_cell : Bool → List ℕ
+asserted_cell is_allowed =
+    if is_allowed then element_text element.Cell (codes "allowed") else element_text element.Cell (codes "denied")
+
+unfoldable pub assertion_cells : Assertion → List ℕ
+assertion_cells assertion = element_text element.Cell assertion.name ++ asserted_cell assertion.is_allowed
+
+-- the row of the assertion of this number
+unfoldable pub assertion_row : List Rule → List Judged → ℕ → Assertion → List ℕ
+assertion_row rules judged number assertion =
+    open_text element.Row ++ (number_cell number ++ (assertion_cells assertion
+    ++ (judged_cell rules (judged_at judged (number - 1)) ++ (element_text element.Cell assertion.note ++ close_text element.Row))))
+
+unfoldable pub assertions_columns : List ℕ
+assertions_columns =
+    element_text element.Head [] ++ (element_text element.Head (codes "name") ++ (element_text element.Head (codes "is to be")
+    ++ (element_text element.Head (codes "is found") ++ element_text element.Head (codes "note"))))
+
+unfoldable pub assertions_head : List ℕ
+assertions_head = open_text element.Row ++ (assertions_columns ++ close_text element.Row)
+
+unfoldable pub assertions_table : List Rule → List Judged → List Assertion → List ℕ
+assertions_table rules judged assertions =
+    element_text element.Heading (codes "Assertions") ++ (open_text element.Table
+    ++ (assertions_head ++ (in_order (assertion_row rules judged) 1 assertions ++ close_text element.Table)))
+
+-- the assertions in their order, each with what is found of it, if there are such
+abbrev pub assertions_text : Configuration → List Judged → List ℕ
+assertions_text c judged = if length c.assertions == 0 then [] else assertions_table c.rules judged c.assertions
 
 -- ---- the objects
 
@@ -210,10 +297,12 @@ objects_text objects = if length objects == 0 then [] else objects_table objects
 unfoldable pub first_text : Configuration → (picture lines : List ℕ) → List ℕ
 first_text c picture lines = head_text c ++ (picture ++ (access_text c ++ lines))
 
-unfoldable pub last_text : Configuration → (shows : Bool) → (times plots : List ℕ) → List ℕ
-last_text c shows times plots = rules_text c shows times ++ (objects_text c.objects ++ (plots ++ mark_text mark.End))
+unfoldable pub last_text : Configuration → (shows : Bool) → (times : List ℕ) → List Judged → (plots : List ℕ) → List ℕ
+last_text c shows times judged plots =
+    rules_text c shows times ++ (assertions_text c judged ++ (objects_text c.objects ++ (plots ++ mark_text mark.End)))
 
--- The page is about this configuration: it has its title and description, who may do what under it, its rules and its objects.
+-- The page is about this configuration: it has its title and description, who may do what under it, its rules, its assertions
+-- with what is found of each, and its objects.
 -- The picture of the site, the lines of `explain`, and what a log denied are pages, of which no more is said; nor is it of how
 -- often each rule denied.
 pub record IsReport (c : Configuration) (shows : Bool) (times octets : List ℕ) : Type 0 where
@@ -223,4 +312,6 @@ pub record IsReport (c : Configuration) (shows : Bool) (times octets : List ℕ)
   pub are_lines : IsPage lines
   pub plots : List ℕ
   pub are_plots : IsPage plots
-  pub whole : octets ≡ first_text c picture lines ++ last_text c shows times plots
+  pub judged : List Judged
+  pub are_judged : AreJudged c 4096 judged
+  pub whole : octets ≡ first_text c picture lines ++ last_text c shows times judged plots

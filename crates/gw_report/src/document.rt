@@ -1,6 +1,7 @@
 //! The whole page.
 ghost use Rattle.std.specs.Prelude.{◌≡◌, ◌++◌, [], ℕ, List, false, true, unwrap_or, codes, string_bytes, IfOk, OnOk};
 ghost use Rattle.std.specs.List.{flat_map};
+ghost use Rattle.gw_ask_sets.specs.assertions.Judging.{AreJudged};
 ghost use Rattle.gw_codecs.specs.names.Names.{object_type_name};
 ghost use Rattle.gw_configuration.specs.Kinds.{type_number};
 ghost use Rattle.gw_report.specs.Report.{IsReport, announced_text, first_text, head_text, last_text, object_row, objects_head};
@@ -8,20 +9,22 @@ ghost use Rattle.gw_report.specs.Report.{objects_table, objects_text, paragraph,
 ghost use Rattle.gw_report.specs.page.Page.{IsPage};
 
 use crate::access::{lines_of, put_access};
+use crate::assertions::put_assertions;
 use crate::fault::ReportFault;
 use crate::log::{Denials, read_log};
 use crate::page::{Element, Page};
 use crate::plots::put_denials;
 use crate::rules::{Times, put_rules};
 use crate::site::put_site;
+use gw_ask_sets::assertions::{JUDGING_STEPS, Judged, judge};
 use gw_codecs::names::object_type_name;
 use gw_configuration::{Config, Object, Text};
 use gw_rules::NO_RULE;
 use gw_script::OctetSource;
 use std::alloc::{AllocError, Global};
 
-/// A page of HTML that shows a configuration: the site as a picture, who may do what, the rules with their notes, and
-/// the objects. It has no script and takes nothing from elsewhere, and every text of the configuration is escaped.
+/// A page of HTML that shows a configuration: the site as a picture, who may do what, the rules with their notes, the
+/// assertions with what is found of each, and the objects. It has no script and takes nothing from elsewhere, and every text of the configuration is escaped.
 ///
 /// An `Err` only if a growth of memory was refused.
 pub fn report(alloc: Global, config: &Config) -> Result<Vec<u8>, AllocError>
@@ -66,23 +69,26 @@ fn times_of(alloc: Global, config: &Config, denials: &Denials) -> Result<Times, 
     })
 }
 
-/// The parts of a page of which no more is said than that they are pages: the picture of the site, the lines that say who
-/// may do what, and the plots of what a log denied.
+/// What is made before the page. Of the picture of the site, the lines that say who may do what, and the plots of what a log
+/// denied no more is said than that they are pages; what is found of each assertion is right.
 #[derive(Drop)]
 struct Parts {
     picture: Page,
     lines: Page,
     plots: Page,
+    judged: Vec<Judged>,
 }
 
 fn parts_of(alloc: Global, config: &Config, denials: Option<&Denials>) -> Result<Parts, AllocError>
     ensures picture { IfOk result (λ parts. IsPage parts.picture) }
     ensures lines { IfOk result (λ parts. IsPage parts.lines) }
     ensures plots { IfOk result (λ parts. IsPage parts.plots) }
+    ensures judged { IfOk result (λ parts. AreJudged config.now 4096 parts.judged.items) }
 {
     let picture = picture_of(alloc, config)?;
     let lines = lines_of(alloc, config)?;
     let plots = plots_of(alloc, denials)?;
+    let judged = judge(alloc, config, JUDGING_STEPS)?;
     picture.is_page();
     lines.is_page();
     plots.is_page();
@@ -90,6 +96,7 @@ fn parts_of(alloc: Global, config: &Config, denials: Option<&Denials>) -> Result
         picture,
         lines,
         plots,
+        judged,
     })
 }
 
@@ -132,9 +139,10 @@ fn put_last(
     parts: &Parts,
 ) -> Result<(), AllocError>
     ensures { OnOk result (page.new ≡ page.old
-        ++ last_text config.now times.now.are_shown times.now.counts.items parts.now.plots) }
+        ++ last_text config.now times.now.are_shown times.now.counts.items parts.now.judged.items parts.now.plots) }
 {
     put_rules(alloc, page, config, times)?;
+    put_assertions(page, config, &parts.judged)?;
     put_objects(page, config.objects())?;
     page.append(&parts.plots)?;
     page.end()

@@ -2,6 +2,7 @@
 #![tactic(auto)]
 
 mod access;
+mod assertions;
 mod counts;
 mod document;
 mod fault;

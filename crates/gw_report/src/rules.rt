@@ -3,7 +3,7 @@ ghost use Rattle.std.specs.Prelude.{◌≡◌, ◌+◌, ◌-◌, ◌<◌, ◌^�
 ghost use Rattle.std.specs.List.{flat_map};
 ghost use Rattle.gw_script.specs.Order.{in_order};
 ghost use Rattle.gw_rules.specs.declared.field.TheConstants.FieldName.{ALL as all_fields};
-ghost use Rattle.gw_report.specs.Report.{counted_head, decision_cell, default_cells, default_row, each_text, field_code, fields_cell, is_bare, note_at};
+ghost use Rattle.gw_report.specs.Report.{count_cell, counted_head, decision_cell, default_cells, default_row, each_text, field_code, fields_cell, is_bare, is_of_both_ways, note_at, note_cell, origin_cell, table_at};
 ghost use Rattle.gw_report.specs.Report.{rule_cells, rule_row, rules_columns, rules_head, rules_table, rules_text, times_cell};
 
 use crate::page::{Element, Page};
@@ -33,13 +33,24 @@ impl Times {
         }
     }
 
-    /// Appends a cell with the count at a place, if they are shown.
+    /// Appends a cell with the count at a place, or that there is none for a quiet rule, if they are shown.
     #[tactic(auto, unfolding(crate::specs::Report::times_cell))]
-    fn put(&self, page: &mut Page, place: usize) -> Result<(), AllocError>
-        ensures { OnOk result (page.new ≡ page.old ++ times_cell self.now.are_shown self.now.counts.items place) }
+    fn put(&self, page: &mut Page, place: usize, quiet: bool) -> Result<(), AllocError>
+        ensures { OnOk result (page.new ≡ page.old ++ times_cell self.now.are_shown quiet self.now.counts.items place) }
     {
-        if !self.are_shown {
-            return Ok(());
+        if self.are_shown {
+            self.put_count(page, place, quiet)
+        } else {
+            Ok(())
+        }
+    }
+
+    #[tactic(auto, unfolding(crate::specs::Report::count_cell))]
+    fn put_count(&self, page: &mut Page, place: usize, quiet: bool) -> Result<(), AllocError>
+        ensures { OnOk result (page.new ≡ page.old ++ count_cell quiet self.now.counts.items place) }
+    {
+        if quiet {
+            return page.element(Element::Cell, "not logged");
         }
         match self.counts.get(place) {
             Some(count) => page.number_cell(*count),
@@ -76,25 +87,79 @@ fn put_table(
     ensures { OnOk result (page.new ≡ page.old ++ rules_table config.now times.now.are_shown times.now.counts.items) }
 {
     let rules = config.rules().rules();
+    let origins = Origins {
+        notes: config.notes(),
+        tables: config.tables(),
+    };
     page.open(Element::Table)?;
     put_head(page, times.are_shown)?;
-    put_rows(alloc, page, rules, config.notes(), times)?;
+    put_rows(alloc, page, rules, &origins, times)?;
     put_default(page, times, rules.len())?;
     page.close(Element::Table)
+}
+
+/// Whence the rules of a list come, in their order.
+#[derive(Clone, Copy)]
+struct Origins<'a> {
+    /// The note of each.
+    notes: &'a [Text],
+    /// The position of the table of each, from 0.
+    tables: &'a [u16],
+}
+
+impl Origins<'_> {
+    /// The position of the table of the rule at a place, 0 if there is no rule.
+    fn table_at(&self, place: usize) -> u16
+        ensures { result ≡ table_at self.now.tables.now place }
+    {
+        match self.tables.get(place) {
+            Some(table) => *table,
+            None => 0,
+        }
+    }
+
+    /// Whether the rule at a place comes from the same table as the one before it.
+    fn is_of_both_ways(&self, place: usize) -> bool
+        ensures { result ≡ is_of_both_ways self.now.tables.now place }
+    {
+        place > 0 && self.table_at(place - 1) == self.table_at(place)
+    }
+
+    /// Appends a cell with the note of the rule at a place, or with the table of a rule that is for the way or for the answers.
+    fn put(&self, page: &mut Page, place: usize) -> Result<(), AllocError>
+        ensures { OnOk result (page.new ≡ page.old ++ note_cell self.now.notes.now self.now.tables.now place) }
+    {
+        if self.is_of_both_ways(place) {
+            put_origin(page, self.table_at(place))
+        } else {
+            page.element(Element::Cell, note_at(self.notes, place))
+        }
+    }
+}
+
+/// Appends a cell that says from which table a rule comes.
+#[tactic(auto, unfolding(crate::specs::Report::origin_cell))]
+fn put_origin(page: &mut Page, table: u16) -> Result<(), AllocError>
+    ensures { OnOk result (page.new ≡ page.old ++ origin_cell table) }
+{
+    page.open(Element::Cell)?;
+    page.text("by both_ways of rule table ")?;
+    page.number(u64::from(table) + 1)?;
+    page.close(Element::Cell)
 }
 
 fn put_rows(
     alloc: Global,
     page: &mut Page,
     rules: &[Rule],
-    notes: &[Text],
+    origins: &Origins<'_>,
     times: &Times,
 ) -> Result<(), AllocError>
     ensures { OnOk result (page.new ≡ page.old
-        ++ in_order (rule_row notes.now times.now.are_shown times.now.counts.items) 1 rules.now) }
+        ++ in_order (rule_row origins.now.notes.now origins.now.tables.now times.now.are_shown times.now.counts.items) 1 rules.now) }
 {
     for (place, rule) in rules.iter().enumerate() {
-        put_row(alloc, page, &Row { place, rule }, notes, times)?;
+        put_row(alloc, page, &Row { place, rule }, origins, times)?;
     }
     Ok(())
 }
@@ -111,17 +176,18 @@ fn put_row(
     alloc: Global,
     page: &mut Page,
     row: &Row<'_>,
-    notes: &[Text],
+    origins: &Origins<'_>,
     times: &Times,
 ) -> Result<(), AllocError>
     requires { row.now.place < 2 ^ 64 - 1 }
     ensures { OnOk result (page.new ≡ page.old
-        ++ rule_row notes.now times.now.are_shown times.now.counts.items (row.now.place + 1) row.now.rule.now) }
+        ++ rule_row origins.now.notes.now origins.now.tables.now times.now.are_shown times.now.counts.items (row.now.place + 1) row.now.rule.now) }
 {
     page.open(Element::Row)?;
     page.number_cell(row.place as u64 + 1)?;
-    put_cells(alloc, page, row.rule, note_at(notes, row.place))?;
-    times.put(page, row.place)?;
+    put_cells(alloc, page, row.rule)?;
+    origins.put(page, row.place)?;
+    times.put(page, row.place, row.rule.quiet)?;
     page.close(Element::Row)
 }
 
@@ -168,21 +234,22 @@ fn put_counted(page: &mut Page, are_shown: bool) -> Result<(), AllocError>
 }
 
 #[tactic(auto, unfolding(crate::specs::Report::rule_cells))]
-fn put_cells(alloc: Global, page: &mut Page, rule: &Rule, note: &str) -> Result<(), AllocError>
-    ensures { OnOk result (page.new ≡ page.old ++ rule_cells rule.now note.now) }
+fn put_cells(alloc: Global, page: &mut Page, rule: &Rule) -> Result<(), AllocError>
+    ensures { OnOk result (page.new ≡ page.old ++ rule_cells rule.now) }
 {
     page.element(Element::Cell, rule.name.as_str())?;
-    put_decision(page, rule.allow)?;
-    put_fields(alloc, page, rule)?;
-    page.element(Element::Cell, note)
+    put_decision(page, rule.allow, rule.quiet)?;
+    put_fields(alloc, page, rule)
 }
 
-#[tactic(auto, unfolding(crate::specs::Report::decision_cell))]
-fn put_decision(page: &mut Page, allow: bool) -> Result<(), AllocError>
-    ensures { OnOk result (page.new ≡ page.old ++ decision_cell allow) }
+#[tactic(auto, unfolding(crate::specs::Report::decision_cell, crate::specs::Report::denied_cell))]
+fn put_decision(page: &mut Page, allow: bool, quiet: bool) -> Result<(), AllocError>
+    ensures { OnOk result (page.new ≡ page.old ++ decision_cell allow quiet) }
 {
     if allow {
         page.element(Element::All, "allow")
+    } else if quiet {
+        page.element(Element::Nothing, "deny (quiet)")
     } else {
         page.element(Element::Nothing, "deny")
     }
@@ -254,7 +321,7 @@ fn put_default(page: &mut Page, times: &Times, place: usize) -> Result<(), Alloc
 {
     page.open(Element::Row)?;
     put_default_cells(page)?;
-    times.put(page, place)?;
+    times.put(page, place, false)?;
     page.close(Element::Row)
 }
 
@@ -264,7 +331,7 @@ fn put_default_cells(page: &mut Page) -> Result<(), AllocError>
 {
     page.element(Element::Cell, "")?;
     page.element(Element::Cell, NO_RULE)?;
-    put_decision(page, false)?;
+    put_decision(page, false, false)?;
     page.element(Element::Cell, "those that no rule matches")?;
     page.element(Element::Cell, "")
 }

@@ -4,7 +4,7 @@ use Rattle.std.specs.Prelude.{Any, not, if◌then◌else◌, nat_eq, ◌==◌}
 use Rattle.std.specs.List.{Contains, flat_map, list_all, list_any}
 use Rattle.std.specs.Option.{option_eq, option_map_or}
 use Rattle.std.proofs.lemmas.Bool.{and_parts, and_from, both_ways, eq-eqb, leb-true, le-leb}
-use Rattle.std.proofs.lemmas.List.Folds.{Any-from_list_any, list_any-append, list_any_at, list_any_more}
+use Rattle.std.proofs.lemmas.List.Folds.{Any-from_list_any, list_all-append, list_any-append, list_any_at, list_any_more}
 use Rattle.gw_rules.specs.Ask.{Ask}
 use Rattle.gw_rules.specs.Fields.{value_of}
 use Rattle.gw_rules.specs.Range.{admits}
@@ -41,10 +41,15 @@ in_front (rule ∷ rules) old ask e =
     by allowed rest true = allowed
     by allowed rest false = rest
 
+kept_allow : (kept left : List Rule) → list_all (λ rule. rule.allow) (kept ++ left) ≡ true → list_all (λ rule. rule.allow) kept ≡ true
+kept_allow kept left e =
+    (and_parts (list_all (λ (r : Rule). r.allow) kept) (list_all (λ (r : Rule). r.allow) left)
+    (sym (list_all-append (λ (r : Rule). r.allow) kept left) ∙ e)).0
+
 pub allows_what_matches : AllowsWhatMatches
-allows_what_matches keeps asks suggested old ask is =
-    sym (decided_allows (suggested ++ old) ask) ∙ in_front suggested old ask is.allow
-    ∙ ap (λ b. matched suggested ask || b) (decided_allows old ask)
+allows_what_matches keeps asks kept left old ask is =
+    sym (decided_allows (kept ++ old) ask) ∙ in_front kept old ask (kept_allow kept left is.allow)
+    ∙ ap (λ b. matched kept ask || b) (decided_allows old ask)
 
 -- ---- an own rule
 
@@ -139,17 +144,18 @@ left_false : (a b : Bool) → (a || b) ≡ true → b ≡ false → a ≡ true
 left_false true b e f = refl
 left_false false b e f = absurd (both_ways b f e)
 
-newly : (keeps : Bool) (asks : List Ask) (suggested old : List Rule) (ask : Ask) → IsSuggestion keeps asks suggested
-    → allows (suggested ++ old) ask ≡ true → allows old ask ≡ false → matched_own keeps asks ask ≡ true
-newly keeps asks suggested old ask is t f =
-    sym (is.exact ask)
-    ∙ left_false (matched suggested ask) (allows old ask) (sym (allows_what_matches keeps asks suggested old ask is) ∙ t) f
+newly : (keeps : Bool) (asks : List Ask) (kept left old : List Rule) (ask : Ask) → IsSuggestion keeps asks (kept ++ left)
+    → allows (kept ++ old) ask ≡ true → allows old ask ≡ false → matched_own keeps asks ask ≡ true
+newly keeps asks kept left old ask is t f =
+    sym (is.exact ask) ∙ list_any-append (λ rule. matches rule ask) kept left
+    ∙ ap (λ b. b || matched left ask)
+    (left_false (matched kept ask) (allows old ask) (sym (allows_what_matches keeps asks kept left old ask is) ∙ t) f)
 
 pub allows_no_other : AllowsNoOther
-allows_no_other keeps asks suggested old ask is t f =
+allows_no_other keeps asks kept left old ask is t f =
     any_weaker (λ given. matches (own_rule keeps given) ask ≡ true) (λ given. HasValuesOf keeps given ask) asks
     (λ given. has_values keeps given ask)
-    (Any-from_list_any (λ given. matches (own_rule keeps given) ask) asks (newly keeps asks suggested old ask is t f))
+    (Any-from_list_any (λ given. matches (own_rule keeps given) ask) asks (newly keeps asks kept left old ask is t f))
 
 -- ---- what is filled
 
@@ -259,15 +265,15 @@ not_open true e = absurd (both_ways false refl e)
 not_open false e = refl
 
 pub opens_nothing : OpensNothing
-opens_nothing manner asks suggested old ask is t f =
+opens_nothing manner asks kept left old ask is t f =
     let own : Ask → Bool = λ given. matches (own_rule manner.keeps_services given) ask in
-    let there = newly manner.keeps_services (wanted manner asks) suggested old ask is t f in
+    let there = newly manner.keeps_services (wanted manner asks) kept left old ask is t f in
     let any = taken_passes own (if manner.fills then filled asks else asks) there in
     let given = any.1 in
     stays_closed given ask (has_values manner.keeps_services given ask any.4.1).others (not_open (is_open given) any.4.0)
 
 pub fills_no_other : FillsNoOther
-fills_no_other keeps asks suggested old ask is t f =
+fills_no_other keeps asks kept left old ask is t f =
     let own : Ask → Bool = λ given. matches (own_rule keeps given) ask in
     any_weaker (λ a. list_any (λ b. akin a b && own (of_both a b)) asks ≡ true)
     (λ a. Any (λ b. (akin a b ≡ true) × HasValuesOf keeps (of_both a b) ask) asks) asks
@@ -276,7 +282,7 @@ fills_no_other keeps asks suggested old ask is t f =
     (λ b both. let parts = and_parts (akin a b) (own (of_both a b)) both in (parts.0, has_values keeps (of_both a b) ask parts.1))
     (Any-from_list_any (λ b. akin a b && own (of_both a b)) asks any))
     (Any-from_list_any (λ a. list_any (λ b. akin a b && own (of_both a b)) asks) asks
-    (sym (fills_exactly own asks) ∙ passes_all own (filled asks) (newly keeps (taken (filled asks)) suggested old ask is t f)))
+    (sym (fills_exactly own asks) ∙ passes_all own (filled asks) (newly keeps (taken (filled asks)) kept left old ask is t f)))
 
 same_self : (value : Option ℕ) → option_eq nat_eq value value ≡ true
 same_self None = refl
@@ -299,13 +305,18 @@ wanted_passes manner true test asks ask e there t =
     (passes_at (λ b. akin ask b && test (of_both ask b)) asks ask there (and_from _ _ (akin_self ask) t))
 wanted_passes manner false test asks ask e there t = passes_at test asks ask there t
 
+or_between : (a b c : Bool) → (a || c) ≡ true → ((a || b) || c) ≡ true
+or_between true b c e = refl
+or_between false true c e = refl
+or_between false false c e = e
+
 pub allows_each : AllowsEach
-allows_each manner asks suggested old ask is there has =
+allows_each manner asks kept left old ask is there has =
     let keeps = manner.keeps_services in
     let own : Ask → Bool = λ given. matches (own_rule keeps given) ask in
-    allows_what_matches keeps (wanted manner asks) suggested old ask is
-    ∙ ap (λ b. b || allows old ask)
-    (is.exact ask ∙ any_taken own (if manner.fills then filled asks else asks)
+    ap (λ b. b || matched left ask) (allows_what_matches keeps (wanted manner asks) kept left old ask is)
+    ∙ or_between (matched kept ask) (allows old ask) (matched left ask)
+    (sym (list_any-append (λ rule. matches rule ask) kept left) ∙ is.exact ask ∙ any_taken own (if manner.fills then filled asks else asks)
     ∙ wanted_passes manner manner.fills (λ given. not (is_open given) && own given) asks ask refl there
     (and_from (not (is_open ask)) (own ask) (ap not has) (own_matches keeps ask)))
 

@@ -6,6 +6,7 @@ use Rattle.std.specs.List.{flat_map}
 use Rattle.std.specs.Option.{option_map_or}
 use Rattle.gw_addr.specs.Address.{address_in, text_of}
 use Rattle.gw_addr.specs.Text.{four_text}
+use Rattle.gw_audit.specs.Line.{key_text}
 use Rattle.gw_codecs.specs.names.Names.{object_type_name, property_name, service_name}
 use Rattle.gw_rules.specs.Field.{field_key}
 use Rattle.gw_rules.specs.Operation.{operation_name, operation_number}
@@ -77,9 +78,13 @@ value_text field number = option_map_or quoted (name_of field number) (decimal n
 abbrev pub numbers_text : ℕ → ℕ → List ℕ
 numbers_text low high = 91 ∷ (decimal low ++ (44 ∷ 32 ∷ (decimal high ++ 93 ∷ [])))
 
--- the station of a key, with its UDP port
+-- the station of a key: one of six octets with its UDP port, another by its octets, `mac:07`
+unfoldable pub station_words : ℕ → List ℕ
+station_words key =
+    if nat_lt key 281474976710656 then text_of (address_in (drop 2 (to_be_bytes w64 key))) else codes "mac:" ++ key_text key
+
 abbrev pub station_text : ℕ → List ℕ
-station_text key = 34 ∷ (text_of (address_in (drop 2 (to_be_bytes w64 key))) ++ 34 ∷ [])
+station_text key = 34 ∷ (station_words key ++ 34 ∷ [])
 
 abbrev pub quoted_host : ℕ → List ℕ
 quoted_host host = 34 ∷ (host_text host ++ 34 ∷ [])
@@ -99,11 +104,15 @@ hosts_text first last =
 abbrev pub two_stations : ℕ → ℕ → List ℕ
 two_stations low high = 91 ∷ (station_text low ++ (44 ∷ 32 ∷ (station_text high ++ 93 ∷ [])))
 
--- stations by their keys, of every UDP port as IPv4 addresses
+-- stations of six octets, of every UDP port
+abbrev pub are_hosts : ℕ → ℕ → Bool
+are_hosts low high = nat_lt high 281474976710656 && ((low % 65536 == 0) && (high % 65536 == 65535))
+
+-- stations by their keys, those of six octets and every UDP port as IPv4 addresses
 abbrev pub addresses_text : ℕ → ℕ → List ℕ
 addresses_text low high =
     if low == high then station_text low
-    else if (low % 65536 == 0) && (high % 65536 == 65535) then hosts_text (low / 65536) (high / 65536)
+    else if are_hosts low high then hosts_text (low / 65536) (high / 65536)
     else two_stations low high
 
 abbrev pub plain_text : FieldName → ℕ → ℕ → List ℕ

@@ -51,7 +51,7 @@ own_ranges keeps ask = record {
 
 -- the rule that allows an ask and names each field that it has, but the service of a read and of a list unless it keeps it
 abbrev pub own_rule : Bool → Ask → Rule
-own_rule keeps ask = record { name = []; allow = true; ranges = own_ranges keeps ask }
+own_rule keeps ask = record { name = []; allow = true; quiet = false; ranges = own_ranges keeps ask }
 
 -- ---- what ranges cover
 

@@ -1,7 +1,13 @@
 -- What rules that are suggested let through: exactly what the own rules of the asks do from which they are made.
-use Rattle.std.specs.Prelude.{◌≡◌, ◌⊎◌, ℕ, zero, suc, Bool, true, false, if◌then◌else◌, List, [], ◌∷◌, ◌++◌, length, Result, Ok, Err}
-use Rattle.std.specs.List.{list_all, list_any}
+use Rattle.std.specs.Prelude.{◌≡◌, ◌⊎◌, ℕ, zero, suc, ◌+◌, ◌-◌, ◌<◌, Bool, true, false, ◌&&◌, nat_le, is_some, if◌then◌else◌, List, [], ◌∷◌, ◌++◌, length}
+use Rattle.std.specs.Prelude.{slice_get, Option, Some, None, Result, Ok, Err}
+use Rattle.std.specs.List.{AllByRecursion, list_all, list_any}
+use Rattle.std.specs.Option.{option_and_then}
+use Rattle.gw_ask_sets.specs.assertions.Judging.{AreJudged, IsBroken}
+use Rattle.gw_ask_sets.specs.declared.assertions.judging.Judged.{Judged}
+use Rattle.gw_ask_sets.specs.declared.assertions.judging.Judged.TheVariants.{Broken}
 use Rattle.gw_configuration.specs.Configuration.{Configuration}
+use Rattle.gw_configuration.specs.declared.assertion.Assertion.{Assertion}
 use Rattle.gw_policy_text.specs.Document.{configuration}
 use Rattle.gw_rules.specs.Ask.{Ask}
 use Rattle.gw_rules.specs.Rule.{matches}
@@ -10,7 +16,9 @@ use Rattle.gw_script.specs.Script.{lines_of}
 use Rattle.gw_policy_drafts.specs.suggestion.Given.{filled, taken}
 use Rattle.gw_policy_drafts.specs.suggestion.Lines.{AreSeen}
 use Rattle.gw_policy_drafts.specs.suggestion.Own.{own_rule}
-use Rattle.gw_policy_drafts.specs.suggestion.Text.{IsTextOf, place_of}
+use Rattle.gw_policy_drafts.specs.suggestion.Text.{IsTextOf, place_of, rules_of}
+use Rattle.gw_policy_drafts.specs.declared.suggestion.leaving.Breaking.{Breaking}
+use Rattle.gw_policy_drafts.specs.declared.suggestion.leaving.Left.{Left}
 use Rattle.gw_policy_drafts.specs.declared.suggestion.fault.SuggestFault.{SuggestFault}
 use Rattle.gw_policy_drafts.specs.declared.suggestion.fault.SuggestFault.TheVariants.{Write}
 use Rattle.gw_policy_drafts.specs.declared.suggestion.suggestion.Manner.{Manner}
@@ -51,23 +59,92 @@ pub record HasInFront (old : Configuration) (suggested : List Rule) (c : Configu
   pub ports : c.ports ≡ old.ports
   pub routes : c.routes ≡ old.routes
   pub objects : c.objects ≡ old.objects
+  pub assertions : c.assertions ≡ old.assertions
 
 -- The text, put into a configuration's text, is read as the same with these rules in front.
-pub record IsInFront (old : Configuration) (text : List ℕ) (suggested : List Rule) (added : List ℕ) : Type 0 where
+pub record IsInFront (old : Configuration) (text : List ℕ) (suggested : List Rule) (added : List ℕ) (configured : Configuration) : Type 0 where
   pub front : List ℕ
   pub rest : List ℕ
   pub parts : text ≡ front ++ rest
-  pub configured : Configuration
   pub reads : configuration (front ++ added ++ rest) ≡ Ok configured
   pub all : HasInFront old suggested configured
 
--- The text is of rules that are suggested for these asks, and its comments say for how many of them each rule is, and which
--- fields they lack.
+-- ---- assertions
+
+-- the place of the rule that breaks an assertion, if it is one of the first so many
+abbrev pub place_in : ℕ → ℕ → Option ℕ
+place_in count number = if nat_le 1 number && nat_le number count then Some (number - 1) else None
+
+abbrev pub broken_by : ℕ → Judged → Option ℕ
+broken_by count (Broken ask by is_allowed) = option_and_then (place_in count) by
+broken_by count judged = None
+
+-- no assertion of a configuration is found to be broken by one of its first rules
+pub record BreaksNone (c : Configuration) (count : ℕ) : Type 0 where
+  pub judged : List Judged
+  pub are_judged : AreJudged c 4096 judged
+  pub none : list_any (λ one. is_some (broken_by count one)) judged ≡ false
+
+-- the rule at a place of a configuration breaks the assertion at a place: it decides an ask that is meant, and otherwise
+pub record IsBreaking (c : Configuration) (count : ℕ) (found : Breaking) : Type 0 where
+  pub within : found.rule < count
+  pub assertion : Assertion
+  pub named : slice_get c.assertions found.assertion ≡ Some assertion
+  pub ask : Ask
+  pub is_allowed : Bool
+  pub broken : IsBroken c assertion ask (Some (found.rule + 1)) is_allowed
+
+-- what is found of the first rules of a configuration
+abbrev pub IsOutcome : Configuration → ℕ → Option Breaking → Type 0
+IsOutcome c count None = BreaksNone c count
+IsOutcome c count (Some found) = IsBreaking c count found
+
+-- by what is judged, the rule at a place breaks the assertion at a place
+pub record IsFound (judged : List Judged) (count : ℕ) (found : Breaking) : Type 0 where
+  pub one : Judged
+  pub is : slice_get judged found.assertion ≡ Some one
+  pub by : broken_by count one ≡ Some found.rule
+
+-- a rule that is left out for the assertion that it was found to break
+abbrev pub left_of : Rule → Breaking → Left
+left_of rule found = record { rule = rule; assertion = found.assertion }
+
+-- the rule that was found is left out after others
+pub record IsLeftOut (kept : List Rule) (before : List Left) (found : Breaking) (after : List Left) : Type 0 where
+  pub rule : Rule
+  pub is : slice_get kept found.rule ≡ Some rule
+  pub grown : after ≡ before ++ left_of rule found ∷ []
+
+-- what is suggested stays so, those that are left out with the others
+abbrev pub StaysSuggested : (kept : List Rule) → (left : List Left) → (kept_then : List Rule) → (left_then : List Left) → Type 0
+StaysSuggested kept left kept_then left_then =
+    (keeps : Bool) (asks : List Ask) → IsSuggestion keeps asks (kept ++ rules_of left) → IsSuggestion keeps asks (kept_then ++ rules_of left_then)
+
+-- where a rule stands, and the assertion for which it is left out
+abbrev pub found_at : ℕ → Left → Breaking
+found_at place left = record { rule = place; assertion = left.assertion }
+
+-- a rule that is left out: with some rules in front of the configuration, of which it is one, it breaks the assertion
+pub record Breaks (old : Configuration) (left : Left) : Type 0 where
+  pub tried : List Rule
+  pub configured : Configuration
+  pub in_front : HasInFront old tried configured
+  pub place : ℕ
+  pub rule : slice_get tried place ≡ Some left.rule
+  pub breaking : IsBreaking configured (length tried) (found_at place left)
+
+-- The text is of rules that are suggested for these asks, but for some that are left out: each of these would break an
+-- assertion, and none of the others does, as far as is judged. Its comments say for how many of the asks each rule is, which
+-- fields they lack, and which assertion a rule would break.
 pub record IsAdded (old : Configuration) (text : List ℕ) (manner : Manner) (asks : List Ask) (added : List ℕ) : Type 0 where
-  pub suggested : List Rule
-  pub suggestion : IsSuggestion manner.keeps_services (wanted manner asks) suggested
-  pub in_front : IsInFront old text suggested added
-  pub comments : IsTextOf (place_of old) suggested asks added
+  pub kept : List Rule
+  pub left : List Left
+  pub suggestion : IsSuggestion manner.keeps_services (wanted manner asks) (kept ++ rules_of left)
+  pub configured : Configuration
+  pub in_front : IsInFront old text kept added configured
+  pub breaks_none : BreaksNone configured (length kept)
+  pub breaking : AllByRecursion (Breaks old) left
+  pub comments : IsTextOf (place_of old) old.assertions kept left asks added
 
 -- The text is of rules that are suggested for the asks that the lines of a log show and the configuration denies.
 pub record IsSuggested (text : List ℕ) (manner : Manner) (log added : List ℕ) : Type 0 where

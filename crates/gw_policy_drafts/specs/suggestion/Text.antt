@@ -1,8 +1,10 @@
 -- The text of the rules that are suggested: a table for each, with what its comments say, and what is said after them.
 use Rattle.std.specs.Prelude.{◌≡◌, ℕ, ◌+◌, ◌-◌, ◌==◌, Bool, true, false, ◌&&◌, ◌||◌, not, min, if◌then◌else◌, List, [], ◌∷◌, ◌++◌, length, map}
-use Rattle.std.specs.Prelude.{codes, decimal}
+use Rattle.std.specs.Prelude.{codes, decimal, slice_get}
 use Rattle.std.specs.List.{flat_map, fold, list_all, list_any}
+use Rattle.std.specs.Option.{option_map_or}
 use Rattle.gw_configuration.specs.Configuration.{Configuration}
+use Rattle.gw_configuration.specs.declared.assertion.Assertion.{Assertion}
 use Rattle.gw_rules.specs.Ask.{Ask}
 use Rattle.gw_rules.specs.Field.{field_key}
 use Rattle.gw_rules.specs.Format.{names_stations}
@@ -17,9 +19,10 @@ use Rattle.gw_rules.specs.declared.operation.Operation.{Operation}
 use Rattle.gw_rules.specs.declared.operation.Operation.TheVariants.{Cast, Route, Delete, Read, Write}
 use Rattle.gw_rules.specs.declared.range.Range.{Range}
 use Rattle.gw_rules.specs.declared.rule.Rule.{Rule}
-use Rattle.gw_policy_drafts.specs.migration.Items.{field_line, operation_text, station_text}
+use Rattle.gw_policy_drafts.specs.migration.Items.{field_line, field_text, operation_text, station_text}
 use Rattle.gw_policy_drafts.specs.suggestion.Given.{is_open}
 use Rattle.gw_policy_drafts.specs.declared.suggestion.given.Weighted.{Weighted}
+use Rattle.gw_policy_drafts.specs.declared.suggestion.leaving.Left.{Left}
 use Rattle.gw_policy_drafts.specs.declared.suggestion.text.Place.{Place}
 
 -- ---- counts
@@ -77,14 +80,18 @@ unfoldable pub note_line : Place → Rule → FieldName → List ℕ
 note_line place rule field =
     if (length (ranges_of field rule) == 0) && matters place rule field then any_line field else []
 
--- of a rule without a source
-unfoldable pub source_line : Rule → List ℕ
-source_line rule =
-    if length (ranges_of fields.SourceKey rule) == 0
-    then codes "# no address of six octets: the station can't be named, so its whole network is allowed\n" else []
+-- of a rule without a source: the third format names stations of one to seven octets
+unfoldable pub unnamed_line : Format → List ℕ
+unnamed_line format =
+    if names_stations format
+    then codes "# no address of one to seven octets: the station can't be named, so its whole network is allowed\n"
+    else codes "# no address of six octets: the station can't be named, so its whole network is allowed\n"
+
+unfoldable pub source_line : Format → Rule → List ℕ
+source_line format rule = if length (ranges_of fields.SourceKey rule) == 0 then unnamed_line format else []
 
 abbrev pub notes_text : Place → Rule → List ℕ
-notes_text place rule = source_line rule ++ flat_map (note_line place rule) ALL
+notes_text place rule = source_line place.format rule ++ flat_map (note_line place rule) ALL
 
 -- how many asks the rule is for
 unfoldable pub asks_line : Rule → List Weighted → List ℕ
@@ -128,6 +135,35 @@ table_text format rule =
 unfoldable pub rule_text : Place → List Weighted → Rule → List ℕ
 rule_text place asks rule = asks_line rule asks ++ (notes_text place rule ++ table_text place.format rule)
 
+-- ---- the rules that are left out
+
+-- the rules that are left out, each for an assertion
+abbrev pub rules_of : List Left → List Rule
+rules_of left = map (λ l. l.rule) left
+
+-- the name of the assertion at a place, or nothing
+abbrev pub asserted_name : List Assertion → ℕ → List ℕ
+asserted_name assertions place = option_map_or (λ a. a.name) (slice_get assertions place) []
+
+-- the line of a field that it names
+unfoldable pub commented_line : FieldName → List Range → List ℕ
+commented_line field ranges = if length ranges == 0 then [] else codes "# " ++ (field_text field ranges ++ 10 ∷ [])
+
+abbrev pub left_ranges : Rule → FieldName → List ℕ
+left_ranges rule field = commented_line field (ranges_of field rule)
+
+-- its table, as comments
+unfoldable pub left_table : Rule → List ℕ
+left_table rule =
+    codes "# [[rule]]\n# name = \"" ++ (rule.name ++ (codes "\"\n# allow = true\n" ++ (flat_map (left_ranges rule) ALL ++ 10 ∷ [])))
+
+unfoldable pub left_line : List ℕ → List ℕ
+left_line name = codes "# left out, since it would break the assertion \"" ++ (name ++ codes "\"\n")
+
+unfoldable pub left_text : List Assertion → List Weighted → Left → List ℕ
+left_text assertions asks left =
+    asks_line left.rule asks ++ (left_line (asserted_name assertions left.assertion) ++ left_table left.rule)
+
 -- ---- what is said after the rules
 
 unfoldable pub apart_line : ℕ → List ℕ
@@ -148,27 +184,31 @@ unread_line unread =
     if unread == 0 then []
     else codes "# " ++ (counted_text unread (codes "line shows") (codes "lines show") ++ codes " no ask\n")
 
-unfoldable pub none_line : List Rule → ℕ → List ℕ
-none_line rules open_asks =
-    if (length rules == 0) && (open_asks == 0) then codes "# no ask is denied: there is nothing to suggest\n" else []
+unfoldable pub none_line : (kept : List Rule) → List Left → ℕ → List ℕ
+none_line kept left open_asks =
+    if (length kept == 0) && ((length left == 0) && (open_asks == 0)) then codes "# no ask is denied: there is nothing to suggest\n" else []
+
+unfoldable pub last_text : (open_asks apart unread : ℕ) → List ℕ
+last_text open_asks apart unread = apart_line apart ++ (open_line open_asks ++ unread_line unread)
 
 -- ---- the whole
 
--- of these rules for asks that were given so often, of which so many groups were left apart, and so many lines without an ask
-abbrev pub suggestion_text : Place → List Rule → List Weighted → (apart unread : ℕ) → List ℕ
-suggestion_text place rules asks apart unread =
-    none_line rules (total is_open asks)
-    ++ (flat_map (rule_text place asks) rules
-    ++ (apart_line apart ++ (open_line (total is_open asks) ++ unread_line unread)))
+-- of these rules for asks that were given so often, of those that are left out, and of so many groups that were left apart
+-- and lines without an ask
+abbrev pub suggestion_text : Place → List Assertion → (kept : List Rule) → List Left → List Weighted → (apart unread : ℕ) → List ℕ
+suggestion_text place assertions kept left asks apart unread =
+    none_line kept left (total is_open asks)
+    ++ (flat_map (rule_text place asks) kept
+    ++ (flat_map (left_text assertions asks) left ++ last_text (total is_open asks) apart unread))
 
 -- whose rules they are
 abbrev pub place_of : Configuration → Place
 place_of c = record { format = c.format; network = c.device.network }
 
--- The text is of these rules, and its comments are about these asks, each given so often.
-pub record IsTextOf (place : Place) (rules : List Rule) (asks : List Ask) (text : List ℕ) : Type 0 where
+-- The text is of these rules and of those that are left out, and its comments are about these asks, each given so often.
+pub record IsTextOf (place : Place) (assertions : List Assertion) (kept : List Rule) (left : List Left) (asks : List Ask) (text : List ℕ) : Type 0 where
   pub weighted : List Weighted
   pub are_asks : map (λ each. each.ask) weighted ≡ asks
   pub apart : ℕ
   pub unread : ℕ
-  pub is : text ≡ suggestion_text place rules weighted apart unread
+  pub is : text ≡ suggestion_text place assertions kept left weighted apart unread

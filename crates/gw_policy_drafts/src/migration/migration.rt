@@ -97,8 +97,12 @@ fn is_migrated(config: &Config, back: &Config) -> bool
         && are_same(config.routes(), back.routes())
         && are_same(config.objects(), back.objects())
         && are_same(config.rules().rules(), back.rules().rules())
+        && are_same(config.tables(), back.tables())
+        && config.written_rules() == back.written_rules()
         && config.sets().is_empty()
         && back.sets().is_empty()
+        && config.assertions().is_empty()
+        && back.assertions().is_empty()
         && are_same(config.notes(), back.notes())
         && are_same(config.audits(), back.audits())
 }

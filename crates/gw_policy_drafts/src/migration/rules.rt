@@ -1,16 +1,19 @@
 //! The rules of a configuration, as they are written in format 3.
-ghost use Rattle.std.specs.Prelude.{◌≡◌, ◌==◌, ◌++◌, find, option_map, OnOk};
+ghost use Rattle.std.specs.Prelude.{◌≡◌, ◌==◌, ◌++◌, drop, find, option_map, OnOk};
+ghost use Rattle.std.specs.Int.{w64, to_be_bytes};
 ghost use Rattle.std.specs.List.{flat_map};
+ghost use Rattle.gw_addr.specs.Address.{address_in, text_of};
 ghost use Rattle.gw_rules.specs.Operation.{operation_number};
 ghost use Rattle.gw_rules.specs.declared.operation.TheConstants.Operation.{ALL};
-ghost use Rattle.gw_policy_drafts.specs.migration.Items.{addresses_text, field_line, field_text, hosts_text, item_text, items_text};
+ghost use Rattle.gw_policy_drafts.specs.migration.Items.{addresses_text, are_hosts, field_line, field_text, hosts_text, item_text, items_text};
 ghost use Rattle.gw_policy_drafts.specs.migration.Items.{name_of, next_item, numbers_text, operation_text, plain_text, quoted_host};
-ghost use Rattle.gw_policy_drafts.specs.migration.Items.{quoted_subnet, station_text, two_hosts, two_stations, value_text};
+ghost use Rattle.gw_policy_drafts.specs.migration.Items.{quoted_subnet, station_text, station_words, two_hosts, two_stations, value_text};
 
 use crate::migration::advice::put_rule_note;
 use crate::migration::lines::{put_quoted, put_text};
 use crate::migration::subnets::{Size, put_host, put_subnet, whole_size};
 use gw_addr::{BipAddr, put_decimal};
+use gw_audit::{KEYS, put_key};
 use gw_codecs::names::{object_type_name, property_name, service_name};
 use gw_configuration::Config;
 use gw_rules::{FieldName, Operation, Range, Rule};
@@ -180,11 +183,18 @@ fn put_addresses(out: &mut Vec<u8>, low: u64, high: u64) -> Result<(), AllocErro
 {
     if low == high {
         put_station(out, low)
-    } else if low % PORTS == 0 && high % PORTS == PORTS - 1 {
+    } else if are_hosts(low, high) {
         put_hosts(out, low / PORTS, high / PORTS)
     } else {
         put_two_stations(out, low, high)
     }
+}
+
+/// Whether these are stations of six octets, of every UDP port.
+fn are_hosts(low: u64, high: u64) -> bool
+    ensures { result ≡ are_hosts low high }
+{
+    high < KEYS && low % PORTS == 0 && high % PORTS == PORTS - 1
 }
 
 fn put_two_stations(out: &mut Vec<u8>, low: u64, high: u64) -> Result<(), AllocError>
@@ -198,15 +208,34 @@ fn put_two_stations(out: &mut Vec<u8>, low: u64, high: u64) -> Result<(), AllocE
     Ok(())
 }
 
-/// Appends the address of the station with this key, and its UDP port, in quotes. An `Err` if there is no memory.
+/// Appends the station with this key, in quotes: its address and its UDP port, or its octets if it hasn't six of them. An
+/// `Err` if there is no memory.
 pub fn put_station(out: &mut Vec<u8>, key: u64) -> Result<(), AllocError>
     ensures { OnOk result (out.new.items ≡ out.old.items ++ station_text key) }
 {
-    let [_, _, a, b, c, d, e, f] = key.to_be_bytes();
     out.push(b'"')?;
-    BipAddr::from_octets(&[a, b, c, d, e, f]).put_text(out)?;
+    put_station_words(out, key)?;
     out.push(b'"')?;
     Ok(())
+}
+
+#[tactic(auto, unfolding(crate::specs::migration::Items::station_words))]
+fn put_station_words(out: &mut Vec<u8>, key: u64) -> Result<(), AllocError>
+    ensures { OnOk result (out.new.items ≡ out.old.items ++ station_words key) }
+{
+    if key < KEYS {
+        return put_address(out, key);
+    }
+    out.extend_from_slice(b"mac:")?;
+    put_key(out, key)
+}
+
+/// Appends the address of the station of six octets with this key.
+fn put_address(out: &mut Vec<u8>, key: u64) -> Result<(), AllocError>
+    ensures { OnOk result (out.new.items ≡ out.old.items ++ text_of (address_in (drop 2 (to_be_bytes w64 key)))) }
+{
+    let [_, _, a, b, c, d, e, f] = key.to_be_bytes();
+    BipAddr::from_octets(&[a, b, c, d, e, f]).put_text(out)
 }
 
 /// Appends the IPv4 addresses from one to another.

@@ -1,5 +1,5 @@
 //! Rules put in front of those of a configuration, in its text.
-ghost use Rattle.std.specs.Prelude.{◌≡◌, ◌≤◌, ◌++◌, [], false, length, IfOk, IsTrue, OnOk};
+ghost use Rattle.std.specs.Prelude.{◌≡◌, ◌≤◌, ◌++◌, [], false, length, IfOk, IsTrue};
 ghost use Rattle.gw_policy_drafts.specs.suggestion.Suggestion.{HasInFront, IsInFront, each};
 
 use crate::suggestion::fault::SuggestFault;
@@ -112,6 +112,7 @@ fn are_same_beside(old: &Config, config: &Config) -> bool
     ensures ports { IsTrue result → config.now.ports ≡ old.now.ports }
     ensures routes { IsTrue result → config.now.routes ≡ old.now.routes }
     ensures objects { IsTrue result → config.now.objects ≡ old.now.objects }
+    ensures assertions { IsTrue result → config.now.assertions ≡ old.now.assertions }
 {
     config.format().is_same(&old.format())
         && config.announces().is_same(&old.announces())
@@ -119,6 +120,7 @@ fn are_same_beside(old: &Config, config: &Config) -> bool
         && are_same(config.ports(), old.ports())
         && are_same(config.routes(), old.routes())
         && are_same(config.objects(), old.objects())
+        && are_same(config.assertions(), old.assertions())
 }
 
 /// Whether a configuration is another one with these rules in front of its own, without notes, and not audited.
@@ -139,13 +141,13 @@ pub(crate) fn read_in_front(
     text: &[u8],
     rules: &[Rule],
     added: &[u8],
-) -> Result<(), SuggestFault>
-    ensures { OnOk result (IsInFront old.now text.now rules.now added.now) }
+) -> Result<Config, SuggestFault>
+    ensures { IfOk result (IsInFront old.now text.now rules.now added.now) }
 {
     let (front, rest) = text.split_at(place_of_rules(text));
     let all = whole(alloc, front, added, rest)?;
     match read_config(alloc, &all) {
-        Ok(config) if has_in_front(&config, rules, old) => Ok(()),
+        Ok(config) if has_in_front(&config, rules, old) => Ok(config),
         Ok(_) => Err(SuggestFault::Unlike),
         Err(ConfigFault::Memory) => Err(SuggestFault::Memory),
         Err(ConfigFault::TooMany) => Err(SuggestFault::TooManyRules),

@@ -1,16 +1,18 @@
 //! What is allowed with rules that are suggested in front of a policy's. The functions do nothing: their
 //! contracts are the laws.
 ghost use Rattle.std.specs.Prelude.{◌≡◌};
-ghost use Rattle.gw_policy_drafts.specs.suggestion.Laws.{AllowsEach, AllowsNoOther, AllowsWhatMatches, FillsNoOther, OpensNothing};
+ghost use Rattle.gw_policy_drafts.specs.suggestion.Laws.{AllowsEach, AllowsNoOther, AllowsWhatMatches, FillsNoOther, LeavesNoneOut, OpensNothing};
 
 use crate::suggestion::given::MAX_ASKS;
 
-/// With the rules in front of others, an ask is allowed exactly if it matches one of them or was allowed before.
+/// With the rules in front of others, but for those that are left out, an ask is allowed exactly if it matches one of them
+/// or was allowed before.
 pub fn in_front()
     ensures { AllowsWhatMatches }
 {}
 
-/// Each given ask is allowed with the rules in front that are suggested for it, unless it is open.
+/// Each given ask is allowed with the rules in front that are suggested for it, unless it is open or a rule that is left
+/// out matches it.
 pub fn given()
     ensures { AllowsEach }
 {}
@@ -23,6 +25,11 @@ pub fn bounds()
     ensures seen { AllowsNoOther }
     ensures closed { OpensNothing }
     ensures filled { FillsNoOther }
+{}
+
+/// Of rules that are suggested for a configuration without assertions none is left out.
+pub fn unasserted()
+    ensures { LeavesNoneOut }
 {}
 
 /// The limit is 16,384 different asks.

@@ -55,6 +55,7 @@ fn rule_of(alloc: Global, number: usize, group: &Group) -> Result<Rule, SuggestF
     Ok(Rule {
         name,
         allow: true,
+        quiet: false,
         ranges,
     })
 }

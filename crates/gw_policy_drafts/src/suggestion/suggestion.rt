@@ -15,6 +15,7 @@ use crate::suggestion::front::read_in_front;
 use crate::suggestion::given::{filled, is_open};
 use crate::suggestion::group::{Group, own_ranges};
 use crate::suggestion::joining::{Joined, join_all};
+use crate::suggestion::leaving::{Parted, find_breaking};
 use crate::suggestion::reading::{Seen, read_asks};
 use crate::suggestion::rules::rules_of;
 use crate::suggestion::text::{Place, Said, put_text};
@@ -120,17 +121,26 @@ fn rules_in(
 }
 
 /// The text of these rules, and of what their comments say.
-fn text_of(alloc: Global, config: &Config, made: &Rules, seen: &Seen) -> Result<Vec<u8>, AllocError>
-    ensures { IfOk result (λ added. IsTextOf (place_of config.now) made.now.rules.items seen.now.given added.items) }
+fn text_of(
+    alloc: Global,
+    config: &Config,
+    parted: &Parted,
+    apart: usize,
+    seen: &Seen,
+) -> Result<Vec<u8>, AllocError>
+    ensures { IfOk result (λ added. IsTextOf (place_of config.now) config.now.assertions parted.now.kept.items parted.now.left.items
+        seen.now.given added.items) }
 {
     let weighted = seen.given.weighted(alloc)?;
     let said = Said {
+        left: &parted.left,
+        assertions: config.assertions(),
         asks: &weighted,
-        apart: made.apart as u64,
+        apart: apart as u64,
         unread: seen.unread,
     };
     let mut added = Vec::new(alloc);
-    put_text(&mut added, place_of(config), made.rules.as_slice(), &said)?;
+    put_text(&mut added, place_of(config), parted.kept.as_slice(), &said)?;
     Ok(added)
 }
 
@@ -144,7 +154,8 @@ fn place_of(config: &Config) -> Place
     }
 }
 
-/// The text of the rules for the asks that were seen.
+/// The text of the rules for the asks that were seen, but for those that would break an assertion.
+#[tactic(auto, using(crate::proofs::suggestion_lemmas::LeavingLaw::breaks_more))]
 fn added_for(
     alloc: Global,
     config: &Config,
@@ -154,10 +165,25 @@ fn added_for(
 ) -> Result<Vec<u8>, SuggestFault>
     ensures { IfOk result (λ added. IsAdded config.now text.now manner seen.now.given added.items) }
 {
-    let made = rules_in(alloc, manner, seen.given.as_slice(), config.rules().rules())?;
-    let added = text_of(alloc, config, &made, seen)?;
-    read_in_front(alloc, config, text, made.rules.as_slice(), added.as_slice())?;
-    Ok(added)
+    let Rules { rules, apart } = rules_in(
+        alloc,
+        manner,
+        seen.given.as_slice(),
+        config.rules().rules(),
+    )?;
+    let mut parted = Parted {
+        kept: rules,
+        left: Vec::new(alloc),
+    };
+    for _ in 0..=MAX_RULES {
+        let added = text_of(alloc, config, &parted, apart, seen)?;
+        let tried = read_in_front(alloc, config, text, &parted.kept, &added)?;
+        match find_breaking(alloc, &tried, parted.kept.len())? {
+            None => return Ok(added),
+            Some(found) => parted.leave_out(found)?,
+        }
+    }
+    Err(SuggestFault::Unlike)
 }
 
 /// The configuration of a text. `Configuration` with the text's first fault, or `Memory`.
@@ -197,6 +223,8 @@ fn made<R: OctetSource>(
 /// Each rule has a comment that says how many asks it is for, and one for each field that these lack: any value will do
 /// there. A read that names no object or property, and a write that names none or no priority, has no rule, but a comment at
 /// the end counts them; so does another one the groups of asks that were left apart, if many ranges differ.
+///
+/// A rule that would break an assertion of the configuration is a comment that names the assertion.
 ///
 /// What is written was read back: put into the text in front of the first rule, it is read as these rules and the
 /// configuration's after them, with nothing else in it.

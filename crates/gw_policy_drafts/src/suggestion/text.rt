@@ -4,15 +4,17 @@ ghost use Rattle.std.specs.List.{flat_map, list_all};
 ghost use Rattle.gw_rules.specs.Rule.{matches};
 ghost use Rattle.gw_rules.specs.declared.field.TheConstants.FieldName.{ALL};
 ghost use Rattle.gw_policy_drafts.specs.suggestion.Given.{is_open};
+ghost use Rattle.gw_policy_drafts.specs.suggestion.Text.{asserted_name, commented_line, last_text, left_line, left_ranges, left_table, left_text, unnamed_line};
 ghost use Rattle.gw_policy_drafts.specs.suggestion.Text.{any_line, apart_line, asks_line, counted_on, counted_text, is_for, is_own, is_request, is_traffic};
 ghost use Rattle.gw_policy_drafts.specs.suggestion.Text.{matters, may_name_station, next_plain_item, none_line, note_line, notes_text, open_asks_line, open_line};
 ghost use Rattle.gw_policy_drafts.specs.suggestion.Text.{plain_item, plain_items, plain_line, plain_value, ranges_line, rule_text, source_line};
 ghost use Rattle.gw_policy_drafts.specs.suggestion.Text.{suggestion_text, table_text, total, unread_line};
 
-use crate::migration::{put_field, put_operation, put_station};
+use crate::migration::{put_field, put_field_items, put_operation, put_station};
 use crate::suggestion::given::{Weighted, is_open};
+use crate::suggestion::leaving::Left;
 use gw_addr::put_decimal;
-use gw_configuration::Format;
+use gw_configuration::{Assertion, Format};
 use gw_rules::{FieldName, Operation, Range, Rule};
 use std::alloc::AllocError;
 
@@ -23,10 +25,12 @@ pub(crate) struct Place {
     pub network: u64,
 }
 
-/// What the comments are about: the asks that were given, how many groups of them were left apart, and how many lines show
-/// no ask.
+/// What the comments are about: the rules that are left out, and the assertions that they would break; the asks that were
+/// given, how many groups of them were left apart, and how many lines show no ask.
 #[derive(Clone, Copy)]
 pub(crate) struct Said<'a> {
+    pub left: &'a [Left],
+    pub assertions: &'a [Assertion],
     pub asks: &'a [Weighted],
     pub apart: u64,
     pub unread: u64,
@@ -39,22 +43,125 @@ pub(crate) fn put_text(
     rules: &[Rule],
     said: &Said<'_>,
 ) -> Result<(), AllocError>
-    ensures { OnOk result (out.new.items ≡ out.old.items ++ suggestion_text place rules.now said.now.asks.now said.now.apart said.now.unread) }
+    ensures { OnOk result (out.new.items ≡ out.old.items
+        ++ suggestion_text place said.now.assertions.now rules.now said.now.left.now said.now.asks.now said.now.apart said.now.unread) }
 {
     let open_asks = count_open(said.asks);
-    put_none(out, rules, open_asks)?;
+    put_none(out, rules, said.left, open_asks)?;
     put_rules(out, place, rules, said.asks)?;
-    put_apart(out, said.apart)?;
+    put_each_left(out, said.assertions, said.left, said.asks)?;
+    put_last(out, open_asks, said.apart, said.unread)
+}
+
+/// Appends what is said after the rules.
+#[tactic(auto, unfolding(crate::specs::suggestion::Text::last_text))]
+fn put_last(out: &mut Vec<u8>, open_asks: u64, apart: u64, unread: u64) -> Result<(), AllocError>
+    ensures { OnOk result (out.new.items ≡ out.old.items ++ last_text open_asks apart unread) }
+{
+    put_apart(out, apart)?;
     put_open(out, open_asks)?;
-    put_unread(out, said.unread)
+    put_unread(out, unread)
+}
+
+fn put_each_left(
+    out: &mut Vec<u8>,
+    assertions: &[Assertion],
+    left: &[Left],
+    asks: &[Weighted],
+) -> Result<(), AllocError>
+    ensures { OnOk result (out.new.items ≡ out.old.items ++ flat_map (left_text assertions.now asks.now) left.now) }
+{
+    for one in left {
+        put_left(out, assertions, one, asks)?;
+    }
+    Ok(())
+}
+
+/// Appends a rule that is left out, as comments.
+#[tactic(auto, unfolding(crate::specs::suggestion::Text::left_text))]
+fn put_left(
+    out: &mut Vec<u8>,
+    assertions: &[Assertion],
+    left: &Left,
+    asks: &[Weighted],
+) -> Result<(), AllocError>
+    ensures { OnOk result (out.new.items ≡ out.old.items ++ left_text assertions.now asks.now left.now) }
+{
+    put_asks(out, &left.rule, asks)?;
+    put_left_line(out, asserted_name(assertions, left.assertion))?;
+    put_left_table(out, &left.rule)
+}
+
+/// The name of the assertion at a place, or nothing.
+fn asserted_name(assertions: &[Assertion], place: usize) -> &str
+    ensures { result.now ≡ asserted_name assertions.now place }
+{
+    match assertions.get(place) {
+        Some(assertion) => assertion.name.as_str(),
+        None => "",
+    }
+}
+
+#[tactic(auto, unfolding(crate::specs::suggestion::Text::left_line))]
+fn put_left_line(out: &mut Vec<u8>, name: &str) -> Result<(), AllocError>
+    ensures { OnOk result (out.new.items ≡ out.old.items ++ left_line name.now) }
+{
+    out.extend_from_slice(b"# left out, since it would break the assertion \"")?;
+    out.extend_from_slice(name.as_bytes())?;
+    out.extend_from_slice(b"\"\n")
+}
+
+#[tactic(auto, unfolding(crate::specs::suggestion::Text::left_table))]
+fn put_left_table(out: &mut Vec<u8>, rule: &Rule) -> Result<(), AllocError>
+    ensures { OnOk result (out.new.items ≡ out.old.items ++ left_table rule.now) }
+{
+    out.extend_from_slice(b"# [[rule]]\n# name = \"")?;
+    out.extend_from_slice(rule.name.as_str().as_bytes())?;
+    out.extend_from_slice(b"\"\n# allow = true\n")?;
+    put_left_fields(out, rule)?;
+    out.push(b'\n')?;
+    Ok(())
+}
+
+fn put_left_fields(out: &mut Vec<u8>, rule: &Rule) -> Result<(), AllocError>
+    ensures { OnOk result (out.new.items ≡ out.old.items ++ flat_map (left_ranges rule.now) ALL) }
+{
+    for field in FieldName::ALL.iter() {
+        put_left_ranges(out, rule, *field)?;
+    }
+    Ok(())
+}
+
+fn put_left_ranges(out: &mut Vec<u8>, rule: &Rule, field: FieldName) -> Result<(), AllocError>
+    ensures { OnOk result (out.new.items ≡ out.old.items ++ left_ranges rule.now field) }
+{
+    put_commented(out, field, rule.ranges(field).as_slice())
+}
+
+#[tactic(auto, unfolding(crate::specs::suggestion::Text::commented_line))]
+fn put_commented(out: &mut Vec<u8>, field: FieldName, ranges: &[Range]) -> Result<(), AllocError>
+    ensures { OnOk result (out.new.items ≡ out.old.items ++ commented_line field ranges.now) }
+{
+    if ranges.is_empty() {
+        return Ok(());
+    }
+    out.extend_from_slice(b"# ")?;
+    put_field_items(out, field, ranges)?;
+    out.push(b'\n')?;
+    Ok(())
 }
 
 /// Appends that there is nothing to suggest, if so.
 #[tactic(auto, unfolding(crate::specs::suggestion::Text::none_line))]
-fn put_none(out: &mut Vec<u8>, rules: &[Rule], open_asks: u64) -> Result<(), AllocError>
-    ensures { OnOk result (out.new.items ≡ out.old.items ++ none_line rules.now open_asks) }
+fn put_none(
+    out: &mut Vec<u8>,
+    rules: &[Rule],
+    left: &[Left],
+    open_asks: u64,
+) -> Result<(), AllocError>
+    ensures { OnOk result (out.new.items ≡ out.old.items ++ none_line rules.now left.now open_asks) }
 {
-    if rules.is_empty() && open_asks == 0 {
+    if rules.is_empty() && left.is_empty() && open_asks == 0 {
         out.extend_from_slice(b"# no ask is denied: there is nothing to suggest\n")
     } else {
         Ok(())
@@ -203,20 +310,33 @@ fn asks_of(rule: &Rule, asks: &[Weighted]) -> u64
 fn put_notes(out: &mut Vec<u8>, place: Place, rule: &Rule) -> Result<(), AllocError>
     ensures { OnOk result (out.new.items ≡ out.old.items ++ notes_text place rule.now) }
 {
-    put_source(out, rule)?;
+    put_source(out, place.format, rule)?;
     put_each_note(out, place, rule)
 }
 
 #[tactic(auto, unfolding(crate::specs::suggestion::Text::source_line))]
-fn put_source(out: &mut Vec<u8>, rule: &Rule) -> Result<(), AllocError>
-    ensures { OnOk result (out.new.items ≡ out.old.items ++ source_line rule.now) }
+fn put_source(out: &mut Vec<u8>, format: Format, rule: &Rule) -> Result<(), AllocError>
+    ensures { OnOk result (out.new.items ≡ out.old.items ++ source_line format rule.now) }
 {
     if rule.ranges(FieldName::SourceKey).as_slice().is_empty() {
+        put_unnamed(out, format)
+    } else {
+        Ok(())
+    }
+}
+
+#[tactic(auto, unfolding(crate::specs::suggestion::Text::unnamed_line))]
+fn put_unnamed(out: &mut Vec<u8>, format: Format) -> Result<(), AllocError>
+    ensures { OnOk result (out.new.items ≡ out.old.items ++ unnamed_line format) }
+{
+    if format.names_stations() {
+        out.extend_from_slice(
+            b"# no address of one to seven octets: the station can't be named, so its whole network is allowed\n",
+        )
+    } else {
         out.extend_from_slice(
             b"# no address of six octets: the station can't be named, so its whole network is allowed\n",
         )
-    } else {
-        Ok(())
     }
 }
 
