@@ -1,6 +1,7 @@
 pub mod FileRequests
 pub mod Folder
 pub mod Host
+pub mod Making
 pub mod Obstacle
 pub mod Opening
 pub mod Waiting

@@ -1,9 +1,10 @@
 //! What `run` takes of the machine: a log, and a wire over the sockets of the ports.
 
-ghost use Rattle.std.specs.Prelude.{◌≡◌, ◌≤◌, ℕ, Bool, List, length, ⊤, Result, Option, IfOk, IfErr, IfSome, string_bytes};
+ghost use Rattle.std.specs.Prelude.{◌≡◌, ◌≤◌, ℕ, Bool, List, length, ⊤, Result, Option, IfOk, IfErr, IfSome};
 ghost use Rattle.gw_addr.specs.declared.TheConstants.{MAX_PORTS};
 ghost use Rattle.gw_configuration.specs.declared.port.Port.{Port};
 ghost use Rattle.gw_system.specs.FileRequests.{AreFilesOf};
+ghost use Rattle.gw_system.specs.Making.{IsMade};
 ghost use Rattle.gw_system.specs.Host.{IsSocketFailure, OpensAtLine};
 ghost use Rattle.gw_system.specs.declared.folder.SystemFolder.{SystemFolder};
 ghost use Rattle.gw_system.specs.declared.opening.LogFailure.{LogFailure};
@@ -16,10 +17,11 @@ ghost use Rattle.gw_wire.specs.declared.store.StoreFault.{StoreFault};
 
 use crate::file_log::{self, FileLog};
 use crate::folder::{Folder, SystemFolder};
+use crate::making::{MadeRequest, make_request};
 use crate::opening::{LogFailure, SocketFailure, Step};
 use crate::poll_waiter::PollWaiter;
 use crate::reading::{ReadFailure, read_file, read_last_line};
-use crate::requests::{AskedFile, FileRequests, Requests, make_request, wait_for_answer};
+use crate::requests::{FileRequests, Requests, wait_for_answer};
 use crate::store::{FileStore, StoreKind};
 use crate::system_clock::SystemClock;
 use crate::udp::{UdpSock, open_pairs};
@@ -48,14 +50,14 @@ pub trait Host {
     /// What asks to read the configuration again.
     type Reloads: Requests + Drop;
 
-    /// A request to read the configuration again, which was made.
+    /// A request that was made.
     type Asked: Drop;
 
     /// What gives the time of day.
     type Calendar: Calendar + Drop;
 
-    /// What asking by the file of a name may give.
-    ghost Asks: { Self → List ℕ → Self.Asked → Type 0 };
+    /// What asking by the file of a name, with a text, may give.
+    ghost Asks: { Self → List ℕ → List ℕ → Self.Asked → Type 0 };
 
     /// What may be answered to a request.
     ghost Answers: { Self.Asked → List ℕ → Type 0 };
@@ -147,9 +149,14 @@ pub trait Host {
     ) -> Result<Self::Reloads, AllocError>
         ensures { IfOk result (ReloadsOpen self.now request.now config.now) };
 
-    /// Asks by the file of this name to read the configuration again, after an older answer was taken away.
-    fn request_reload(&self, alloc: Global, request: &str) -> Result<Self::Asked, StoreFault>
-        ensures { IfOk result (Asks self.now request.now) };
+    /// Makes the request of this text by the file of this name, after an older answer was taken away.
+    fn make_request(
+        &self,
+        alloc: Global,
+        name: &str,
+        text: &[u8],
+    ) -> Result<Self::Asked, StoreFault>
+        ensures { IfOk result (Asks self.now name.now text.now) };
 
     /// Waits at most so many seconds for the answer to this request, gives its octets and takes its file away. `None`
     /// if none came; then the request is taken away. Faults: `Unreadable`, also if the system can't wait, and `Memory`.
@@ -254,11 +261,11 @@ impl<'a, R: Files + Net + Clock> Host for SystemHost<'a, R> {
 
     type Reloads = FileRequests<SystemFolder<'a, R>>;
 
-    type Asked = AskedFile;
+    type Asked = MadeRequest;
 
     type Calendar = SystemCalendar<'a, R>;
 
-    ghost Asks = { λ _ name asked. string_bytes asked.request ≡ name };
+    ghost Asks = { λ _ name text asked. IsMade name text asked };
 
     ghost Answers = { λ _ _. ⊤ };
 
@@ -342,21 +349,27 @@ impl<'a, R: Files + Net + Clock> Host for SystemHost<'a, R> {
         FileRequests::new(SystemFolder { rt: self.rt }, alloc, request, config)
     }
 
-    fn request_reload(&self, alloc: Global, request: &str) -> Result<AskedFile, StoreFault> {
-        make_request(&mut SystemFolder { rt: self.rt }, alloc, request, b"")
+    fn make_request(
+        &self,
+        alloc: Global,
+        name: &str,
+        text: &[u8],
+    ) -> Result<MadeRequest, StoreFault> {
+        make_request(&mut SystemFolder { rt: self.rt }, alloc, name, text)
     }
 
     fn await_answer(
         &self,
         alloc: Global,
-        asked: &AskedFile,
+        asked: &MadeRequest,
         seconds: u8,
     ) -> Result<Option<Vec<u8>>, ReadFailure> {
         let mut folder = SystemFolder { rt: self.rt };
-        let found = wait_for_answer(self.rt, &folder, alloc, asked, seconds);
+        let files = &asked.files;
+        let found = wait_for_answer(self.rt, &folder, alloc, files, seconds);
         let done = match found {
-            Ok(Some(_)) => &asked.answer,
-            Ok(None) | Err(_) => &asked.request,
+            Ok(Some(_)) => &files.answer,
+            Ok(None) | Err(_) => &files.request,
         };
         let _ = folder.take_away(done);
         found

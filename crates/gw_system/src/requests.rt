@@ -11,7 +11,6 @@ use crate::obstacle::Obstacle;
 use crate::reading::ReadFailure;
 use crate::request::{MAX_REQUEST, Request, given_by, is_request, is_stop};
 use crate::store::{Access, name_with};
-use gw_wire::StoreFault;
 use mio::{Events, Poll};
 use std::alloc::{AllocError, Global};
 use std::io;
@@ -68,7 +67,7 @@ pub struct AskedFile {
 
 impl AskedFile {
     /// The request of this name, with its answer. The only fault is want of memory.
-    fn of(alloc: Global, request: &str) -> Result<Self, AllocError>
+    pub(crate) fn of(alloc: Global, request: &str) -> Result<Self, AllocError>
         ensures request { IfOk result (λ asked. string_bytes asked.request ≡ request.now) }
         ensures answer { IfOk result (λ asked. string_bytes asked.answer ≡ request.now ++ codes ".answer") }
         ensures beside { IfOk result (λ asked. string_bytes asked.beside ≡ request.now ++ codes ".new") }
@@ -250,29 +249,6 @@ impl<F: Folder> Requests for FileRequests<F> {
         let _ = self
             .folder
             .replace(&self.asked.answer, &self.beside, Access::Owner, text);
-    }
-}
-
-/// Makes the file of a request of this text, after the answer to an older one was taken away.
-pub(crate) fn make_request<F: Folder>(
-    folder: &mut F,
-    alloc: Global,
-    request: &str,
-    text: &[u8],
-) -> Result<AskedFile, StoreFault>
-    ensures name { IfOk result (λ asked. string_bytes asked.request ≡ request.now) }
-    ensures made { IfOk result (λ asked. Holds (F.known folder.new (string_bytes asked.request)) (Some text.now)) }
-    ensures unanswered { IfOk result (λ asked. Holds (F.known folder.new (string_bytes asked.answer)) None) }
-{
-    let Ok(asked) = AskedFile::of(alloc, request) else {
-        return Err(StoreFault::Memory);
-    };
-    if let Err(fault) = folder.take_away(&asked.answer) {
-        return Err(fault);
-    }
-    match folder.replace(&asked.request, &asked.beside, Access::Everyone, text) {
-        Ok(()) => Ok(asked),
-        Err(fault) => Err(fault),
     }
 }
 

@@ -132,8 +132,8 @@ impl<H: Host> Host for StampedHost<'_, H> {
         self.host.open_reloads(alloc, request, config)
     }
 
-    fn request_reload(&self, alloc: Global, request: &str) -> Result<H::Asked, StoreFault> {
-        self.host.request_reload(alloc, request)
+    fn make_request(&self, alloc: Global, name: &str, text: &[u8]) -> Result<H::Asked, StoreFault> {
+        self.host.make_request(alloc, name, text)
     }
 
     fn await_answer(

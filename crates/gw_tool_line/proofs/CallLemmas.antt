@@ -28,6 +28,9 @@ calls_are_taken = record {
   reload_few = λ program. record { taken = refl; asked = refl; sound = λ void. void };
   report = λ program. record { taken = refl; asked = refl; sound = λ void. void };
   points = λ program. record { taken = refl; asked = refl; sound = λ void. void };
+  rules = λ program. record { taken = refl; asked = refl; sound = λ void. void };
+  stop = λ program. record { taken = refl; asked = refl; sound = λ void. void };
+  stop_waiting = λ program. record { taken = refl; asked = refl; sound = λ void. void };
   ask_to_read = λ program. record { taken = refl; asked = refl; sound = λ void. void };
   ask_to_write = λ program. record { taken = refl; asked = refl; sound = λ void. void };
   ask_to_write_at = λ program. record { taken = refl; asked = refl; sound = λ void. void };
@@ -54,6 +57,7 @@ calls_are_refused = record {
   compare_most = λ program. refl;
   reload_none = λ program. refl;
   logs = λ program. refl;
+  stop_nobody = λ program. refl;
   points = λ program. refl;
   ask_both = λ program. (refl, refl);
   ask_neither = λ program. (refl, refl);

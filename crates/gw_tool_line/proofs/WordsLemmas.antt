@@ -41,6 +41,8 @@ refusal_answers words k (Ok (choice.Objects file)) among is = absurd is
 refusal_answers words k (Ok (choice.Judge file strict)) among is = absurd is
 refusal_answers words k (Ok (choice.Report file log)) among is = absurd is
 refusal_answers words k (Ok (choice.Points file)) among is = absurd is
+refusal_answers words k (Ok (choice.Rules file)) among is = absurd is
+refusal_answers words k (Ok (choice.Stop file waits)) among is = absurd is
 refusal_answers words k (Ok (choice.Ask file from to deed)) among is = absurd is
 refusal_answers words k (Ok (choice.State config state)) among is = absurd is
 refusal_answers words k (Ok (choice.Reload config file was)) among is = absurd is
@@ -70,6 +72,8 @@ taken_answers words (Ok (choice.Objects file)) none is = (none, is)
 taken_answers words (Ok (choice.Judge file strict)) none is = (none, is)
 taken_answers words (Ok (choice.Report file log)) none is = (none, is)
 taken_answers words (Ok (choice.Points file)) none is = (none, is)
+taken_answers words (Ok (choice.Rules file)) none is = (none, is)
+taken_answers words (Ok (choice.Stop file waits)) none is = (none, is)
 taken_answers words (Ok (choice.Ask file from to deed)) none is = (none, is)
 taken_answers words (Ok (choice.State config state)) none is = (none, is)
 taken_answers words (Ok (choice.Reload config file was)) none is = (none, is)
@@ -111,6 +115,10 @@ chooses words request (Ok (choice.Report file log)) asks is =
     chosen words request (Ok (choice.Report file log)) asks.asked is.1
 chooses words request (Ok (choice.Points file)) asks is =
     chosen words request (Ok (choice.Points file)) asks.asked is.1
+chooses words request (Ok (choice.Rules file)) asks is =
+    chosen words request (Ok (choice.Rules file)) asks.asked is.1
+chooses words request (Ok (choice.Stop file waits)) asks is =
+    chosen words request (Ok (choice.Stop file waits)) asks.asked is.1
 chooses words request (Ok (choice.Ask file from to deed)) asks is =
     chosen words request (Ok (choice.Ask file from to deed)) asks.asked is.1
 chooses words request (Ok (choice.State config state)) asks is =

@@ -5,8 +5,8 @@ use Rattle.clap.specs.declared.error.kind.ErrorKind.TheVariants as parse
 use Rattle.gw_tool_line.specs.CommandLine.{AskFor}
 use Rattle.gw_tool_line.specs.Commands.{commands}
 use Rattle.gw_tool_line.specs.Requests.{Asks, Reads, Writes}
-use Rattle.gw_tool_line.specs.Requests.{Checks, ChecksJson, Compares, ComparesJson, Explains, Judges, ListsLog, ListsPoints, Migrates}
-use Rattle.gw_tool_line.specs.Requests.{Reloads, Reports, Request, Shows, Suggests, TranslatesLog, asked_in}
+use Rattle.gw_tool_line.specs.Requests.{Checks, ChecksJson, Compares, ComparesJson, Explains, Judges, ListsLog, ListsPoints, ListsRules, Migrates}
+use Rattle.gw_tool_line.specs.Requests.{Reloads, Reports, Request, Shows, Stops, Suggests, TranslatesLog, asked_in}
 use Rattle.gw_command_line.specs.options.Options.{most_count}
 
 -- these words, after the program's name, ask for this
@@ -59,6 +59,9 @@ pub record CallsAreTaken : Type 0 where
       (Reloads site (codes "again") (Some (codes "old.toml", 20)))
   pub report : Calls (codes "report" ∷ on_site (codes "--log" ∷ codes "denials.log" ∷ [])) (Reports site (Some (codes "denials.log")))
   pub points : Calls (codes "objects" ∷ on_site (codes "--csv" ∷ [])) (ListsPoints site)
+  pub rules : Calls (codes "rules" ∷ on_site []) (ListsRules site)
+  pub stop : Calls (codes "stop" ∷ codes "--reload" ∷ codes "again" ∷ []) (Stops (codes "again") false)
+  pub stop_waiting : Calls (codes "stop" ∷ codes "--reload" ∷ codes "again" ∷ codes "--wait" ∷ []) (Stops (codes "again") true)
   pub ask_to_read : Calls
       (codes "ask" ∷ on_site (codes "--from" ∷ codes "10.1.0.10" ∷ codes "--to" ∷ codes "device" ∷ codes "--read" ∷ codes "5,1" ∷ []))
       (Asks site (codes "10.1.0.10") (codes "device") (Reads (codes "5,1")))
@@ -108,5 +111,6 @@ pub record CallsAreRefused : Type 0 where
       (codes "--priority needs --write\n")
   pub ask_nobody : (program : Text)
       → fault_of commands (program ∷ codes "ask" ∷ on_site (codes "--to" ∷ codes "b" ∷ codes "--read" ∷ codes "5,1" ∷ [])) ≡ parse.MissingRequiredArgument ∷ []
+  pub stop_nobody : (program : Text) → fault_of commands (program ∷ codes "stop" ∷ []) ≡ parse.MissingRequiredArgument ∷ []
   pub points : (program : Text)
       → fault_of commands (program ∷ codes "objects" ∷ on_site []) ≡ parse.MissingRequiredArgument ∷ []

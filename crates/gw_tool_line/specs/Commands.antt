@@ -65,6 +65,14 @@ reload = with_rule (with_rule reload_of_request (option (codes "was"))) (number 
 abbrev pub objects : App
 objects = with_rule (of_file (codes "objects")) (needed_flag (codes "csv"))
 
+-- `rules --config FILE`
+abbrev pub rules : App
+rules = of_file (codes "rules")
+
+-- `stop --reload FILE [--wait]`
+abbrev pub stop : App
+stop = with_rule (with_rule (new_app (codes "stop")) (needed (codes "reload"))) (flag (codes "wait"))
+
 -- the program, whose call has to name a command
 abbrev pub program : App
 program = on_top (λ top. record top { subcommand_required = true; has_version = true }) (new_app (codes "bacgwctl"))
@@ -102,4 +110,9 @@ later_commands =
     objects.top
 
 unfoldable pub commands : App
-commands = with_subcommand later_commands ask.top
+commands =
+    with_subcommand
+    (with_subcommand
+    (with_subcommand later_commands ask.top)
+    rules.top)
+    stop.top

@@ -29,6 +29,8 @@ pub data Request : Type 0 where
   Judges : (file : Text) (strict : Bool) → Request
   Reports : (file : Text) (log : Option Text) → Request
   ListsPoints : (file : Text) → Request
+  ListsRules : (file : Text) → Request
+  Stops : (request : Text) (waits : Bool) → Request
   Asks : (file from to : Text) (deed : Deed) → Request
 
 -- Below, what a command asks for, or why it asks for nothing, as a line. It is empty where the parser takes no such words.
@@ -104,6 +106,14 @@ log_asked value =
     then list_asked (value (codes "file")) (value (codes "start"))
     else Ok (TranslatesLog (value (codes "file")) (value (codes "start")))
 
+-- `stop`, whose request has to be named; it may wait longer
+abbrev pub stop_by : Option Text → (waits : Bool) → Result Request Text
+stop_by (Some request) waits = Ok (Stops request waits)
+stop_by None waits = Err []
+
+abbrev pub stop_asked : Values → Result Request Text
+stop_asked value = stop_by (value (codes "reload")) (is_true (value (codes "wait")))
+
 -- `ask`: what is read, or what is written and perhaps at which priority
 abbrev pub deed_asked : (file from to : Text) → (read write priority : Option Text) → Result Request Text
 deed_asked file from to (Some read) None None = Ok (Asks file from to (Reads read))
@@ -140,6 +150,7 @@ asked_of_file name value file =
     else if is_named name (codes "state") then state_asked file (value (codes "state"))
     else if is_named name (codes "report") then Ok (Reports file (value (codes "log")))
     else if is_named name (codes "objects") then Ok (ListsPoints file)
+    else if is_named name (codes "rules") then Ok (ListsRules file)
     else if is_named name (codes "ask") then ask_asked file value
     else Err []
 
@@ -151,6 +162,7 @@ asked_of_config name value None = Err []
 abbrev pub asked : Text → Values → Result Request Text
 asked name value =
     if is_named name (codes "log") then log_asked value
+    else if is_named name (codes "stop") then stop_asked value
     else asked_of_config name value (value (codes "config"))
 
 -- what a call asks for: its command, and the rows of its options

@@ -5,7 +5,7 @@ ghost use Rattle.clap.specs.Words.{first_value, found_of, kind_of, subcommand_ro
 ghost use Rattle.gw_tool_line.specs.CommandLine.{AskFor, Chooses, IsAnswer, IsChosen, IsRefusal, was_of};
 ghost use Rattle.gw_tool_line.specs.Requests.{Reports, Request, TranslatesLog, asked, asked_by, asked_of_file};
 ghost use Rattle.gw_tool_line.specs.Requests.{check_asked, compare_asked, comparison_in, files_of, list_asked, log_asked, reload_asked};
-ghost use Rattle.gw_tool_line.specs.Requests.{request_asked, state_asked, why_asked};
+ghost use Rattle.gw_tool_line.specs.Requests.{request_asked, state_asked, stop_asked, why_asked};
 
 use crate::ask_choice::{DeedWords, ask_choice};
 use crate::commands::make_commands;
@@ -99,6 +99,14 @@ pub enum Choice {
     },
     /// List the objects of the configuration in this file as comma-separated values.
     Points(String),
+    /// Print the rules of the configuration in this file as they are in force.
+    Rules(String),
+    /// Ask the gateway that looks for this request to stop; and wait for its answer longer than a reload does, if that is
+    /// asked for.
+    Stop {
+        request: String,
+        waits: bool,
+    },
     /// Say whether a station may do this with another one under the configuration in this file.
     Ask {
         file: String,
@@ -343,6 +351,17 @@ fn words_choice(
     }
 }
 
+/// What `stop` asks for.
+fn stop_choice(alloc: Global, matches: &ArgMatches<'_>) -> Result<Choice, WordsFault>
+    ensures { IsChosen (stop_asked (first_value (found_of matches.now))) result }
+{
+    let waits = is_given(matches, "wait");
+    match file_of(alloc, matches, "reload")? {
+        Some(request) => Ok(Choice::Stop { request, waits }),
+        None => Err(WordsFault::CommandLine),
+    }
+}
+
 /// What `why` asks for under the configuration in this file. `CommandLine` if it is to count, and to answer
 /// by JSON objects.
 fn why_choice(alloc: Global, matches: &ArgMatches<'_>, file: String) -> Result<Choice, WordsFault>
@@ -417,6 +436,9 @@ fn choice_of_file(
     if name == "objects" {
         return Ok(Choice::Points(file));
     }
+    if name == "rules" {
+        return Ok(Choice::Rules(file));
+    }
     if name == "ask" {
         return ask_choice(alloc, matches, file);
     }
@@ -429,6 +451,9 @@ fn choice_for(alloc: Global, name: &str, matches: &ArgMatches<'_>) -> Result<Cho
 {
     if name == "log" {
         return log_choice(alloc, matches);
+    }
+    if name == "stop" {
+        return stop_choice(alloc, matches);
     }
     let config = file_of(alloc, matches, "config")?;
     match config {

@@ -5,7 +5,7 @@ ghost use Rattle.clap.specs.Words.{app_of, rule_of};
 ghost use Rattle.clap.specs.declared.builder.command.Command.TheViews.{out-Command};
 ghost use Rattle.gw_tool_line.specs.Commands.{check, commands, later_commands, compare, compare_of_most, explain, first_commands, lint, log, log_of_file};
 ghost use Rattle.gw_tool_line.specs.Commands.{middle_commands, migrate, objects, program, reload, reload_of_request, report, state};
-ghost use Rattle.gw_tool_line.specs.Commands.{suggest, why, why_of_form};
+ghost use Rattle.gw_tool_line.specs.Commands.{rules, stop, suggest, why, why_of_form};
 
 use crate::ask_command::make_ask;
 use clap::Command;
@@ -33,6 +33,9 @@ const REPORT_EXAMPLE: &str = "Example:
 
 const RELOAD_EXAMPLE: &str = "Example:
   bacgwctl reload --config site.toml --reload /run/bacgw/reload";
+
+const STOP_EXAMPLE: &str = "Example:
+  bacgwctl stop --reload /run/bacgw/reload";
 
 const LOG_EXAMPLE: &str = "Example:
   bacgwctl log denials.log | sort | uniq -c";
@@ -230,6 +233,31 @@ fn make_objects<'a>(alloc: Global) -> Result<Command<'a>, AllocError>
         .arg(csv)
 }
 
+fn make_rules<'a>(alloc: Global) -> Result<Command<'a>, AllocError>
+    ensures app { IfOk result (λ command. app_of command ≡ rules) }
+    ensures local { IfOk result (λ command. (out-Command command).has_globals ≡ false) }
+{
+    make_of_file(
+        alloc,
+        "rules",
+        "Prints the rules of a configuration as they are in force, in format 3",
+    )
+}
+
+fn make_stop<'a>(alloc: Global) -> Result<Command<'a>, AllocError>
+    ensures app { IfOk result (λ command. app_of command ≡ stop) }
+    ensures local { IfOk result (λ command. (out-Command command).has_globals ≡ false) }
+{
+    let request = make_needed(alloc, "reload", "The file that run --reload looks for");
+    let help = "Waits for the answer up to 4 minutes, in the place of 10 seconds";
+    let wait = make_flag(alloc, "wait", help);
+    Command::new(alloc, "stop")
+        .about("Asks a running gateway to keep its state and stop, and says whether it did")
+        .after_help(STOP_EXAMPLE)
+        .arg(request)?
+        .arg(wait)
+}
+
 /// The program, with no command yet.
 fn make_program<'a>(alloc: Global) -> Command<'a>
     ensures { app_of result ≡ program }
@@ -290,5 +318,10 @@ pub fn make_commands<'a>(alloc: Global) -> Result<Command<'a>, AllocError>
     ensures { IfOk result (λ command. app_of command ≡ commands) }
 {
     let ask = make_ask(alloc)?;
-    make_later_commands(alloc)?.subcommand(ask)
+    let rules = make_rules(alloc)?;
+    let stop = make_stop(alloc)?;
+    make_later_commands(alloc)?
+        .subcommand(ask)?
+        .subcommand(rules)?
+        .subcommand(stop)
 }
