@@ -101,7 +101,9 @@ text_of fault.NoAnswer = codes "no answer"
 text_of fault.TooManyAsks = codes "suggestion: too many asks"
 text_of fault.TooManyRules = codes "suggestion: too many rules"
 text_of fault.Unwritable = codes "suggestion: the rules can't be written"
+text_of fault.Unlisted = codes "the rules can't be written"
 text_of fault.Refused = []
+text_of fault.Broken = []
 text_of fault.Different = []
 text_of fault.OtherParts = []
 text_of fault.NotAllowed = []
@@ -128,13 +130,14 @@ rest_naming file (fault.StateUnreadable why) = unread_line (codes "cannot read s
 rest_naming file (fault.Trial f) = trial_rest file f
 rest_naming file f = rest_of f
 
--- a fault has a line: not if `compare` found two configurations that aren't alike, or if the answer to `reload` says why it
--- was refused
+-- a fault has a line: not if `compare` found two configurations that aren't alike, if the answer to a request says why it
+-- was refused, or if an assertion doesn't hold
 abbrev pub has_line : Fault → Bool
 has_line fault.Different = false
 has_line fault.OtherParts = false
 has_line fault.NotAllowed = false
 has_line fault.Refused = false
+has_line fault.Broken = false
 has_line f = true
 
 -- a line of the program of this name, if there is one
@@ -185,7 +188,9 @@ status_of fault.NoAnswer = 1
 status_of fault.TooManyAsks = 2
 status_of fault.TooManyRules = 2
 status_of fault.Unwritable = 2
+status_of fault.Unlisted = 2
 status_of fault.Refused = 2
+status_of fault.Broken = 2
 status_of fault.Different = 1
 status_of fault.OtherParts = 1
 status_of fault.NotAllowed = 1

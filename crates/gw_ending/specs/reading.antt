@@ -1,3 +1,4 @@
+pub mod Assertions
 pub mod Configured
 pub mod Files
 pub mod Printing

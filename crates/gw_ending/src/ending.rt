@@ -174,9 +174,9 @@ fn write_fault<E: OctetSink>(fault: Fault, errors: &mut E) -> Result<(), WriteFa
         Fault::TooManyAsks => write_whole(errors, b"suggestion: too many asks\n"),
         Fault::TooManyRules => write_whole(errors, b"suggestion: too many rules\n"),
         Fault::Unwritable => { write_whole(errors, b"suggestion: the rules can't be written\n") }
-        Fault::Refused | Fault::Different | Fault::OtherParts | Fault::NotAllowed => {
-            write_whole(errors, b"\n")
-        }
+        Fault::Unlisted => write_whole(errors, b"the rules can't be written\n"),
+        Fault::Refused | Fault::Broken | Fault::Different | Fault::OtherParts | Fault::NotAllowed =>
+            write_whole(errors, b"\n"),
     }
 }
 

@@ -74,14 +74,18 @@ pub enum Fault {
     Request(StoreFault),
     /// No answer to a request came.
     NoAnswer,
-    /// The answer says why the configuration wasn't read again.
+    /// The answer says why the configuration wasn't read again, or the state wasn't kept.
     Refused,
+    /// An assertion of the configuration doesn't hold, as its line says.
+    Broken,
     /// There are more asks than rules are suggested for.
     TooManyAsks,
     /// There would be more rules than a configuration may have.
     TooManyRules,
     /// The suggested rules aren't read again as they are.
     Unwritable,
+    /// Nor are the rules that are in force.
+    Unlisted,
     /// Two configurations that were compared decide some ask otherwise, or the comparison isn't finished.
     Different,
     /// Two configurations that were compared decide each ask alike, but differ in other parts.
@@ -155,6 +159,8 @@ impl Fault {
             | Fault::TooManyAsks
             | Fault::TooManyRules
             | Fault::Unwritable
+            | Fault::Unlisted
+            | Fault::Broken
             | Fault::Refused => 2,
             Fault::Unreadable(_)
             | Fault::OtherUnreadable(_)
@@ -177,12 +183,17 @@ impl Fault {
         }
     }
 
-    /// Whether it has a line: not if `compare` found something, if an answer says why it was refused, or if `ask` said no.
+    /// Whether it has a line: not if `compare` found something, if an answer says why it was refused, if an assertion doesn't
+    /// hold, or if `ask` said no.
     pub fn has_line(self) -> bool
         ensures { result ≡ has_line self }
     {
         match self {
-            Fault::Refused | Fault::Different | Fault::OtherParts | Fault::NotAllowed => false,
+            Fault::Refused
+            | Fault::Broken
+            | Fault::Different
+            | Fault::OtherParts
+            | Fault::NotAllowed => false,
             _ => true,
         }
     }

@@ -1,11 +1,13 @@
-//! What a program reads and prints: files, the configuration of one, and where its fault is.
+//! What a program reads and prints: files, the configuration of one, where its fault is, and which of its assertions don't hold.
 //!
 //! [`ConfigFiles`] are what texts are read from, [`configuration_in`] is the configuration of one, and [`print`] writes to
 //! standard output.
+mod assertions;
 mod configured;
 mod files;
 mod printing;
 
+pub use assertions::{do_hold, judged_text, print_judged, put_unheld};
 pub use configured::{configuration, configuration_in, configuration_of, summary};
 pub use files::{ConfigFiles, SystemFiles};
-pub use printing::{fault_note, print, print_made};
+pub use printing::{fault_note, print, print_ending, print_made};

@@ -229,7 +229,7 @@ impl<'a> Host for MemHost<'a> {
 
     type Calendar = MemCalendar;
 
-    ghost Asks = { λ _ _ _. ⊤ };
+    ghost Asks = { λ _ _ _ _. ⊤ };
 
     ghost Answers = { λ _ _. ⊤ };
 
@@ -354,7 +354,12 @@ impl<'a> Host for MemHost<'a> {
         }
     }
 
-    fn request_reload(&self, _alloc: Global, _request: &str) -> Result<MemAsked, StoreFault> {
+    fn make_request(
+        &self,
+        _alloc: Global,
+        _name: &str,
+        _text: &[u8],
+    ) -> Result<MemAsked, StoreFault> {
         Err(StoreFault::System)
     }
 

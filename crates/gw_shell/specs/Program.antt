@@ -1,6 +1,6 @@
 -- The program as a whole: what the words chose, what is on standard output then, the line on standard error and
 -- the exit status.
-use Rattle.std.specs.Prelude.{◌≡◌, ⊤, Bool, true, ℕ, List, [], ◌++◌, Option, Result, Ok, Err, OnOk, option_map, string_bytes}
+use Rattle.std.specs.Prelude.{◌≡◌, ◌⊎◌, ⊤, Bool, true, ℕ, List, [], ◌++◌, Option, Result, Ok, Err, OnOk, option_map, string_bytes}
 use Rattle.std.specs.Io.KnownBytes.{Appends}
 use Rattle.gw_script.specs.Known.{OnKnown}
 use Rattle.gw_configuration.specs.Configuration.{Configuration}
@@ -12,8 +12,12 @@ use Rattle.gw_shell.specs.declared.deciding.Playing.{Playing}
 use Rattle.gw_ending.specs.declared.fault.Fault.{Fault}
 use Rattle.gw_ending.specs.declared.fault.Fault.TheVariants as fault
 use Rattle.gw_ending.specs.Ending.{status_after}
-use Rattle.gw_ending.specs.reading.Configured.{IsConfigurationOf, IsConfigured, summary}
-use Rattle.gw_ending.specs.reading.Printing.{AppendsFront, LeavesFault}
+use Rattle.gw_ask_sets.specs.assertions.Judging.{AreJudged}
+use Rattle.gw_ask_sets.specs.declared.assertions.judging.Judged.{Judged}
+use Rattle.gw_ask_sets.specs.declared.assertions.judging.TheConstants.{JUDGING_STEPS}
+use Rattle.gw_ending.specs.reading.Assertions.{judged_text, outcome_of_judged}
+use Rattle.gw_ending.specs.reading.Configured.{IsConfigurationOf, IsConfigured}
+use Rattle.gw_ending.specs.reading.Printing.{AppendsFront, LeavesEnding, LeavesFault}
 use Rattle.gw_shell.specs.Deciding.{ReportsAsks}
 use Rattle.gw_shell.specs.Ending.{chosen, error_text_by, usage_of}
 use Rattle.gw_shell.specs.Replay.{Plays}
@@ -25,12 +29,15 @@ use Rattle.gw_shell.specs.Serving.{LeavesRun}
 abbrev pub IsChoiceOf : List (List ℕ) → Result Choice Fault → Type 0
 IsChoiceOf words choice = (read : Result Choice WordsFault) × IsAnswer words read × (choice ≡ chosen read)
 
--- What `check` leaves of a configuration: its summary, of which a failed write may leave a front.
+-- What `check` leaves of a configuration whose assertions were judged: its summary, or the lines of those that don't hold.
+abbrev pub LeavesJudged : Option (List ℕ) → Option (List ℕ) → Configuration → Result (Unit {0}) Fault → Type 0
+LeavesJudged held holds c outcome =
+    (judged : List Judged) × AreJudged c JUDGING_STEPS judged
+    × LeavesEnding (judged_text c judged) (outcome_of_judged judged) held holds outcome
+
+-- The same, or nothing if memory ran out.
 abbrev pub LeavesConfigured : Option (List ℕ) → Option (List ℕ) → Configuration → Result (Unit {0}) Fault → Type 0
-LeavesConfigured held holds c (Ok done) = Appends held holds (summary c)
-LeavesConfigured held holds c (Err fault.Write) = AppendsFront held holds (summary c)
-LeavesConfigured held holds c (Err fault.Memory) = holds ≡ held
-LeavesConfigured held holds c (Err _) = ⊥
+LeavesConfigured held holds c outcome = LeavesJudged held holds c outcome ⊎ ((outcome ≡ Err fault.Memory) × (holds ≡ held))
 
 -- What it leaves of what was read of a text. Where there is no configuration the outcome is why, whatever became of
 -- the explanation.

@@ -18,10 +18,13 @@ ghost use Rattle.gw_ending.specs.declared.fault.Fault.{Fault};
 use crate::deciding::{Playing, play_in};
 use crate::ending::{end_by, usage_of};
 use crate::serving::fault_of_service;
+use gw_ask_sets::assertions::{JUDGING_STEPS, judge};
 use gw_command_line::{Choice, choice_of};
 use gw_configuration::{Config, RunOptions};
 use gw_ending::Fault;
-use gw_ending::reading::{ConfigFiles, configuration_of, fault_note, print, summary};
+use gw_ending::reading::{
+    ConfigFiles, configuration_of, fault_note, judged_text, print, print_judged,
+};
 use gw_notices::write_note;
 use gw_script::{OctetSink, OctetSource};
 use gw_service::{ServiceFault, serve_run};
@@ -48,7 +51,7 @@ fn choice_by(alloc: Global, words: &[String]) -> Result<Choice, Fault>
     }
 }
 
-/// Prints what a configuration has.
+/// Prints what a configuration has, or which of its assertions don't hold.
 fn print_checked<W: Write + Drop>(
     alloc: Global,
     config: &Config,
@@ -59,8 +62,9 @@ fn print_checked<W: Write + Drop>(
         LeavesConfigured held holds config.now result }
     ensures flush { OnOk result (writer_buffer output.new ≡ []) }
 {
-    let text = summary(alloc, config)?;
-    print(text.as_bytes(), output)
+    let judged = judge(alloc, config, JUDGING_STEPS)?;
+    let text = judged_text(alloc, config, &judged)?;
+    print_judged(&text, &judged, output)
 }
 
 /// Prints what the configuration has that was read, or what is wrong with it.

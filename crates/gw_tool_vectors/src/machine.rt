@@ -25,11 +25,13 @@ impl Calendar for MemCalendar {
     }
 }
 
-/// A request that was made.
+/// A request that was made: its text.
 #[derive(Drop)]
-pub struct MemAsked;
+pub struct MemAsked {
+    text: Vec<u8>,
+}
 
-/// A machine in memory, on which a gateway may run that answers a request with this text.
+/// A machine in memory, on which a gateway may run that answers a request with this text, or with the request's own if it is empty.
 #[derive(Drop)]
 struct MemMachine {
     answer: Option<Vec<u8>>,
@@ -40,28 +42,40 @@ impl Machine for MemMachine {
 
     type Calendar = MemCalendar;
 
-    ghost Asks = { λ _ _ _. ⊤ };
+    ghost Asks = { λ _ _ _ _. ⊤ };
 
     ghost Answers = { λ _ _. ⊤ };
 
-    fn request_reload(&self, _alloc: Global, _request: &str) -> Result<MemAsked, StoreFault> {
-        if self.answer.is_some() {
-            Ok(MemAsked)
-        } else {
-            Err(StoreFault::System)
+    fn make_request(
+        &self,
+        alloc: Global,
+        _name: &str,
+        text: &[u8],
+    ) -> Result<MemAsked, StoreFault> {
+        if self.answer.is_none() {
+            return Err(StoreFault::System);
+        }
+        match Vec::from_slice(alloc, text) {
+            Ok(text) => Ok(MemAsked { text }),
+            Err(_) => Err(StoreFault::Memory),
         }
     }
 
     fn await_answer(
         &self,
         alloc: Global,
-        _asked: &MemAsked,
+        asked: &MemAsked,
         _seconds: u8,
     ) -> Result<Option<Vec<u8>>, ReadFailure> {
-        match &self.answer {
-            Some(text) => Ok(Some(Vec::from_slice(alloc, text)?)),
-            None => Ok(None),
+        let Some(answer) = &self.answer else {
+            return Ok(None);
+        };
+        let mut text = Vec::from_slice(alloc, answer)?;
+        if answer.is_empty() {
+            // The request itself, so that a case shows it.
+            text.extend_from_slice(&asked.text)?;
         }
+        Ok(Some(text))
     }
 
     fn calendar(&self) -> MemCalendar {
@@ -131,10 +145,16 @@ fn text_if(alloc: Global, is_there: bool, text: &str) -> Result<Option<Vec<u8>>,
     }
 }
 
-/// What another gateway answers to a section's request: that it was taken over, or refused, or nothing.
+/// What another gateway answers to a section's request: that it was taken over, refused, or stopped, the request itself, or nothing.
 fn answer_of(alloc: Global, section: &Section<'_>) -> Result<Option<Vec<u8>>, AllocError> {
     if section.has("answered") {
         return text_if(alloc, true, "reload: 3 rules\n");
+    }
+    if section.has("stopped") {
+        return text_if(alloc, true, "stopped\n");
+    }
+    if section.has("echoed") {
+        return text_if(alloc, true, "");
     }
     text_if(
         alloc,

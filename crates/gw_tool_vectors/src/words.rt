@@ -102,6 +102,11 @@ fn put_choice(
             put(out, &[" to=", to.as_str()])?;
             put_deed(deed, out)
         }
+        Ok(Choice::Rules(file)) => put(out, &["rules ", file.as_str()]),
+        Ok(Choice::Stop { request, waits }) => {
+            put(out, &["stop ", request.as_str()])?;
+            put_flag(out, " wait", *waits)
+        }
         Ok(Choice::Help(_)) => put(out, &["help"]),
         Ok(Choice::Usage(_)) | Err(WordsFault::CommandLine) => put(out, &["refused"]),
         Err(WordsFault::Memory) => put(out, &["out of memory"]),
@@ -177,6 +182,7 @@ pub fn faults(alloc: Global, out: &mut Vec<u8>) -> io::Result<()> {
         Fault::TooManyAsks,
         Fault::TooManyRules,
         Fault::Unwritable,
+        Fault::Unlisted,
     ];
     put_faults(alloc, "bacgwctl", &faults, out)
 }

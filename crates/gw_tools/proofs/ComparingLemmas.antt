@@ -46,6 +46,8 @@ module _ (Is : Compared → List ℕ → Type 0) (held holds : Option (List ℕ)
   printed lines fault.TooManyAsks is leaves = elim leaves [ ]
   printed lines fault.TooManyRules is leaves = elim leaves [ ]
   printed lines fault.Unwritable is leaves = elim leaves [ ]
+  printed lines fault.Unlisted is leaves = elim leaves [ ]
+  printed lines fault.Broken is leaves = elim leaves [ ]
   printed lines fault.NotAllowed is leaves = elim leaves [ ]
 
   pub lines_leave : (lines : Result Lines AllocError) (outcome : Result (Unit {0}) Fault)

@@ -1,3 +1,4 @@
+mod AssertingLemmas
 mod ChoiceLemmas
 mod ComparingLemmas
 mod CountLemmas

@@ -6,6 +6,7 @@ use Rattle.gw_policy_review.specs.comparison.Comparison.{IsComparisonText}
 use Rattle.gw_policy_review.specs.declared.comparison.comparison.Compared.{Compared}
 use Rattle.gw_policy_review.specs.declared.comparison.comparison.Compared.TheVariants as compared
 use Rattle.gw_configuration.specs.Configuration.{Configuration}
+use Rattle.gw_tools.specs.Asserting.{SaysAssertions}
 use Rattle.gw_ending.specs.declared.fault.Fault.{Fault}
 use Rattle.gw_ending.specs.declared.fault.Fault.TheVariants as fault
 use Rattle.gw_tools.specs.declared.comparing.Limits.{Limits}
@@ -24,10 +25,15 @@ abbrev pub IsWithSteps : (steps : Bool) → (lines text : List ℕ) → Type 0
 IsWithSteps false lines text = text ≡ lines
 IsWithSteps true lines text = (used : ℕ) × (text ≡ lines ++ steps_text used)
 
--- what is printed of two configurations within these limits
+-- what is printed of two configurations within these limits, behind this text
+abbrev pub IsComparedBehind : Limits → (front : List ℕ) → (old new : Configuration) → Compared → List ℕ → Type 0
+IsComparedBehind limits front old new made text =
+    (lines : List ℕ) × IsComparisonText old new limits.most made lines × IsWithSteps limits.steps (front ++ lines) text
+
+-- the same behind what is said of their assertions
 abbrev pub IsCompared : Limits → (old new : Configuration) → Compared → List ℕ → Type 0
 IsCompared limits old new made text =
-    (lines : List ℕ) × IsComparisonText old new limits.most made lines × IsWithSteps limits.steps lines text
+    (front : List ℕ) × SaysAssertions old new front × IsComparedBehind limits front old new made text
 
 -- how a comparison ends
 abbrev pub outcome_of_comparison : Compared → Result (Unit {0}) Fault

@@ -23,6 +23,7 @@ first_file (Ok (choice.Suggest file fills exact)) = string_bytes file
 first_file (Ok (choice.Judge file strict)) = string_bytes file
 first_file (Ok (choice.Report file log)) = string_bytes file
 first_file (Ok (choice.Points file)) = string_bytes file
+first_file (Ok (choice.Rules file)) = string_bytes file
 first_file (Ok (choice.Ask file from to deed)) = string_bytes file
 first_file _ = []
 

@@ -1,5 +1,5 @@
 -- What `check --json`, `compare --json` and `objects --csv` print, over the definitions of `gw_json` and `gw_report::points`.
-use Rattle.std.specs.Prelude.{◌≡◌, ◌⊎◌, ⊤, ℕ, ◌==◌, List, [], ◌++◌, length, take, Option, Some, None, Result, Ok, Err}
+use Rattle.std.specs.Prelude.{◌≡◌, ◌⊎◌, ⊤, ℕ, ◌==◌, if◌then◌else◌, List, [], ◌++◌, length, take, Option, Some, None, Result, Ok, Err}
 use Rattle.std.specs.List.{flat_map}
 use Rattle.std.specs.Str.{IsUtf8}
 use Rattle.gw_policy_review.specs.comparison.Asks.{asks_of}
@@ -11,12 +11,14 @@ use Rattle.gw_policy_review.specs.declared.comparison.parts.Part.{Part}
 use Rattle.gw_configuration.specs.Configuration.{Configuration}
 use Rattle.gw_configuration.specs.declared.fault.ConfigFault.{ConfigFault}
 use Rattle.gw_policy_text.specs.faults.Explanation.{ExplainsText}
-use Rattle.gw_json.specs.Check.{checked_value, fault_value}
+use Rattle.gw_json.specs.Check.{checked_value, fault_value, unheld_value}
 use Rattle.gw_json.specs.Comparison.{differences_value, found_value, summary_value}
 use Rattle.gw_json.specs.Document.{line_of}
+use Rattle.gw_ask_sets.specs.declared.assertions.judging.Judged.{Judged}
 use Rattle.gw_ask_sets.specs.regions.Comparing.{IsSummary}
 use Rattle.gw_ask_sets.specs.regions.Regions.{Region}
 use Rattle.gw_ask_sets.specs.declared.regions.comparison.Found.{Found}
+use Rattle.gw_ending.specs.reading.Assertions.{do_hold}
 use Rattle.gw_ending.specs.declared.fault.Fault.{Fault}
 use Rattle.gw_ending.specs.declared.fault.Fault.TheVariants as fault
 
@@ -27,9 +29,9 @@ IsMade text (Err f) = f ≡ fault.Memory
 
 -- ---- `check`
 
--- the line of a configuration
-abbrev pub checked_line : Configuration → List ℕ
-checked_line c = line_of (checked_value c)
+-- the line of a configuration whose assertions were judged so: what it has, or which of them don't hold
+abbrev pub judged_line : Configuration → List Judged → List ℕ
+judged_line c judged = if do_hold judged then line_of (checked_value c) else line_of (unheld_value c judged)
 
 -- what explains a fault of a text, if something is said
 abbrev pub IsSaid : List ℕ → ConfigFault → Option (List ℕ) → Type 0

@@ -1,4 +1,5 @@
 pub mod Asking
+pub mod Asserting
 pub mod Checked
 pub mod Comparing
 pub mod Ending

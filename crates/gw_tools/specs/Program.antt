@@ -1,7 +1,7 @@
 -- The program as a whole: what the words chose, what is on standard output then, the line on standard error and
 -- the exit status.
 use Rattle.std.specs.Prelude.{◌≡◌, ◌≢◌, ◌⊎◌, ⊤, Bool, true, false, ℕ, List, [], ◌++◌, Option, Some, None, Result, Ok, Err, OnOk, option_map}
-use Rattle.std.specs.Prelude.{string_bytes}
+use Rattle.std.specs.Prelude.{codes, string_bytes}
 use Rattle.std.specs.Io.KnownBytes.{Appends}
 use Rattle.gw_script.specs.Known.{OnKnown}
 use Rattle.std.specs.declared.alloc.AllocError.{AllocError}
@@ -12,6 +12,9 @@ use Rattle.gw_configuration.specs.Configuration.{Configuration}
 use Rattle.gw_policy_drafts.specs.migration.Migration.{Migrates}
 use Rattle.gw_policy_drafts.specs.declared.migration.fault.MigrationFault.{MigrationFault}
 use Rattle.gw_policy_drafts.specs.declared.migration.fault.MigrationFault.TheVariants as unmigrated
+use Rattle.gw_policy_drafts.specs.Listing.{IsReadAgain, listing_text}
+use Rattle.gw_policy_drafts.specs.declared.listing.ListingFault.{ListingFault}
+use Rattle.gw_policy_drafts.specs.declared.listing.ListingFault.TheVariants as unlisted
 use Rattle.gw_report.specs.points.Points.{points_text}
 use Rattle.gw_ending.specs.declared.fault.MigrationFlaw.TheVariants as migration
 use Rattle.gw_rules.specs.declared.format.Format.TheVariants as formats
@@ -27,14 +30,20 @@ use Rattle.gw_ending.specs.declared.fault.Fault.{Fault}
 use Rattle.gw_ending.specs.declared.fault.Fault.TheVariants as fault
 use Rattle.gw_tools.specs.Asking.{Answers, Counts, ReportsUnread, asks_in}
 use Rattle.gw_tools.specs.Comparing.{AreProgress, IsCompared}
+use Rattle.gw_ask_sets.specs.assertions.Judging.{AreJudged}
+use Rattle.gw_ask_sets.specs.declared.assertions.judging.Judged.{Judged}
+use Rattle.gw_ask_sets.specs.declared.assertions.judging.TheConstants.{JUDGING_STEPS}
+use Rattle.gw_ending.specs.reading.Assertions.{do_hold, outcome_of_judged, unheld_text}
 use Rattle.gw_ending.specs.reading.Configured.{IsConfigurationOf, IsConfigured}
-use Rattle.gw_ending.specs.reading.Printing.{AppendsFront, LeavesFault, LeavesPrinted}
+use Rattle.gw_ending.specs.reading.Printing.{AppendsFront, LeavesEnding, LeavesFault, LeavesPrinted}
 use Rattle.gw_tools.specs.Questioning.{LeavesQuestionIn, asked_text}
-use Rattle.gw_tools.specs.Reloading.{IsAnswerTo, outcome_of_answer}
+use Rattle.gw_tools.specs.Reloading.{IsAnswerTo, Replying, octets_or, outcome_of_answer}
+use Rattle.gw_notices.specs.Notices.{stop_line}
+use Rattle.gw_system.specs.Request.{reload_request, stop_request}
 use Rattle.gw_ending.specs.Ending.{is_different, of_other}
 use Rattle.gw_tools.specs.Ending.{chosen, error_text_by, status_by, usage_of}
 use Rattle.gw_tools.specs.Checked.{IsChecked}
-use Rattle.gw_tools.specs.Json.{AreComparisonLines, FaultLine, IsMade, checked_line}
+use Rattle.gw_tools.specs.Json.{AreComparisonLines, FaultLine, IsMade, judged_line}
 use Rattle.gw_tools.specs.Kept.{IsSaidOfText}
 use Rattle.gw_tools.specs.Objects.{LeavesJudgedIn, Lists}
 use Rattle.gw_tools.specs.Reporting.{IsReported}
@@ -47,15 +56,18 @@ use Rattle.gw_tools.specs.Translating.{Translates}
 abbrev pub IsChoiceOf : List (List ℕ) → Result Choice Fault → Type 0
 IsChoiceOf words choice = (read : Result Choice WordsFault) × IsAnswer words read × (choice ≡ chosen read)
 
--- What `check` leaves of a configuration: what it says of it, of which a failed write may leave a front.
+-- What `check` leaves of a configuration whose assertions were judged: what it says of it.
+abbrev pub LeavesJudged : (explains lints : Bool) → Option (List ℕ) → Option (List ℕ) → Configuration
+    → Result (Unit {0}) Fault → Type 0
+LeavesJudged explains lints held holds c outcome =
+    (judged : List Judged) × AreJudged c JUDGING_STEPS judged × (text : List ℕ) × IsChecked explains lints c judged text
+    × LeavesEnding text (outcome_of_judged judged) held holds outcome
+
+-- The same, or nothing if memory ran out.
 abbrev pub LeavesConfigured : (explains lints : Bool) → Option (List ℕ) → Option (List ℕ) → Configuration
     → Result (Unit {0}) Fault → Type 0
-LeavesConfigured explains lints held holds c (Ok done) =
-    (text : List ℕ) × IsChecked explains lints c text × Appends held holds text
-LeavesConfigured explains lints held holds c (Err fault.Write) =
-    (text : List ℕ) × IsChecked explains lints c text × AppendsFront held holds text
-LeavesConfigured explains lints held holds c (Err fault.Memory) = holds ≡ held
-LeavesConfigured explains lints held holds c (Err _) = ⊥
+LeavesConfigured explains lints held holds c outcome =
+    LeavesJudged explains lints held holds c outcome ⊎ ((outcome ≡ Err fault.Memory) × (holds ≡ held))
 
 -- What it leaves of what was read of a text. Where there is no configuration the outcome is why, whatever became of
 -- the explanation.
@@ -76,6 +88,29 @@ abbrev pub fault_of_migration : MigrationFault → Fault
 fault_of_migration unmigrated.Already = fault.Migration migration.Already
 fault_of_migration unmigrated.Unlike = fault.Migration migration.Unlike
 fault_of_migration unmigrated.Memory = fault.Memory
+
+-- why the rules of a configuration aren't listed, as the program reports it
+abbrev pub fault_of_listing : ListingFault → Fault
+fault_of_listing unlisted.Unlike = fault.Unlisted
+fault_of_listing unlisted.Memory = fault.Memory
+
+-- a text lists the rules of a configuration, and is read again as these
+abbrev pub IsListing : Configuration → List ℕ → Type 0
+IsListing c text = (text ≡ listing_text c) × IsReadAgain c text
+
+-- What `bacgwctl rules` leaves of a configuration: its rules as they are in force, of which a failed write may leave a front; and
+-- nothing at any other fault.
+abbrev pub LeavesListed : Option (List ℕ) → Option (List ℕ) → Configuration → Result (Unit {0}) Fault → Type 0
+LeavesListed held holds c (Ok done) = (text : List ℕ) × IsListing c text × Appends held holds text
+LeavesListed held holds c (Err fault.Write) = (text : List ℕ) × IsListing c text × AppendsFront held holds text
+LeavesListed held holds c (Err fault.Unlisted) = holds ≡ held
+LeavesListed held holds c (Err fault.Memory) = holds ≡ held
+LeavesListed held holds c (Err _) = ⊥
+
+-- What it leaves of the configuration that was read. If there is none, the outcome is why.
+abbrev pub LeavesRules : Option (List ℕ) → Option (List ℕ) → Result Configuration Fault → Result (Unit {0}) Fault → Type 0
+LeavesRules held holds (Ok c) outcome = LeavesListed held holds c outcome
+LeavesRules held holds (Err f) outcome = (outcome ≡ Err f) × (holds ≡ held)
 
 -- What `bacgwctl migrate` leaves of a configuration: a text that says it in format 3, of which a failed write may leave
 -- a front, and nothing at any other fault.
@@ -127,11 +162,17 @@ LeavesComparison limits held holds (Ok old) (Ok new) outcome = LeavesCompared li
 LeavesComparison limits held holds (Ok old) (Err f) outcome = (outcome ≡ Err (of_other f)) × (holds ≡ held)
 LeavesComparison limits held holds (Err f) new outcome = (outcome ≡ Err f) × (holds ≡ held)
 
--- What `check --json` leaves of what was read of a text: the line of the configuration, or of its fault.
+-- What `check --json` leaves of a configuration whose assertions were judged: its line; or nothing if memory ran out.
+abbrev pub LeavesCheckedLine : Option (List ℕ) → Option (List ℕ) → Configuration → Result (Unit {0}) Fault → Type 0
+LeavesCheckedLine held holds c outcome =
+    ((judged : List Judged) × AreJudged c JUDGING_STEPS judged
+    × LeavesEnding (judged_line c judged) (outcome_of_judged judged) held holds outcome)
+    ⊎ ((outcome ≡ Err fault.Memory) × (holds ≡ held))
+
+-- What it leaves of what was read of a text: the line of the configuration, or of its fault.
 abbrev pub LeavesJson : Result (List ℕ) Fault → Option (List ℕ) → Option (List ℕ) → Result Configuration Fault
     → Result (Unit {0}) Fault → Type 0
-LeavesJson text held holds (Ok c) outcome =
-    (made : Result (List ℕ) Fault) × IsMade (checked_line c) made × LeavesPrinted made held holds outcome
+LeavesJson text held holds (Ok c) outcome = LeavesCheckedLine held holds c outcome
 LeavesJson text held holds (Err f) outcome =
     (outcome ≡ Err f) × (line : List ℕ) × FaultLine text f line × AppendsFront held holds line
 
@@ -205,62 +246,98 @@ abbrev pub LeavesSuggestedIn : (Reads : List ℕ → Result (List ℕ) Fault →
 LeavesSuggestedIn Reads file manner input held holds outcome =
     (text : Result (List ℕ) Fault) × Reads file text × LeavesSuggested manner input held holds text outcome
 
--- What an answer leaves: its text, and it says how the request ends; or a front of it, if a write failed.
-abbrev pub LeavesText : List ℕ → Option (List ℕ) → Option (List ℕ) → Result (Unit {0}) Fault → Type 0
-LeavesText answer held holds outcome =
-    ((outcome ≡ outcome_of_answer answer) × Appends held holds answer)
-    ⊎ ((outcome ≡ Err fault.Write) × AppendsFront held holds answer)
-
--- If there is no answer, the outcome is why.
-abbrev pub LeavesAnswer : Result (List ℕ) Fault → Option (List ℕ) → Option (List ℕ) → Result (Unit {0}) Fault → Type 0
-LeavesAnswer (Ok answer) held holds outcome = LeavesText answer held holds outcome
-LeavesAnswer (Err f) held holds outcome = (outcome ≡ Err f) × (holds ≡ held)
-
--- What a request of a name leaves: an answer to it, or nothing if there is none. `Answers` is what may be answered to one.
-abbrev pub LeavesAsked : (Answers : List ℕ → List ℕ → Type 0) → List ℕ → Option (List ℕ) → Option (List ℕ)
+-- If there is no answer to a request, the outcome is why, and else the answer says how it ends.
+abbrev pub LeavesAnswer : (granted : List ℕ) → Result (List ℕ) Fault → Option (List ℕ) → Option (List ℕ)
     → Result (Unit {0}) Fault → Type 0
-LeavesAsked Answers request held holds outcome =
-    (answer : Result (List ℕ) Fault) × IsAnswerTo Answers request answer × LeavesAnswer answer held holds outcome
+LeavesAnswer granted (Ok answer) held holds outcome =
+    LeavesEnding answer (outcome_of_answer granted answer) held holds outcome
+LeavesAnswer granted (Err f) held holds outcome = (outcome ≡ Err f) × (holds ≡ held)
 
--- What `reload` leaves if the configuration is one.
-abbrev pub LeavesReload : (Answers : List ℕ → List ℕ → Type 0) → List ℕ → Option (List ℕ) → Option (List ℕ)
+-- What a request leaves: an answer to it, or nothing if there is none. `Answers` is what may be answered to it.
+abbrev pub LeavesAsked : (Answers : List ℕ → Type 0) → (granted : List ℕ) → Option (List ℕ) → Option (List ℕ)
+    → Result (Unit {0}) Fault → Type 0
+LeavesAsked Answers granted held holds outcome =
+    (answer : Result (List ℕ) Fault) × IsAnswerTo Answers answer × LeavesAnswer granted answer held holds outcome
+
+-- What `stop` leaves by a request of this name.
+abbrev pub LeavesStopped : Replying → (request : List ℕ) → Option (List ℕ) → Option (List ℕ) → Result (Unit {0}) Fault → Type 0
+LeavesStopped Answers request held holds outcome = LeavesAsked (Answers request stop_request) (stop_line None) held holds outcome
+
+-- What a request leaves to read the configuration of this text again, and no other.
+abbrev pub LeavesAskedAgain : Replying → (request text : List ℕ) → Option (List ℕ) → Option (List ℕ)
+    → Result (Unit {0}) Fault → Type 0
+LeavesAskedAgain Answers request text held holds outcome =
+    LeavesAsked (Answers request (reload_request text)) (codes "reload: ") held holds outcome
+
+-- What is left of a configuration that is held to its assertions: nothing if each of them holds, and else the lines of those that
+-- don't; nothing if memory ran out.
+abbrev pub LeavesHeldTo : Option (List ℕ) → Option (List ℕ) → Configuration → Result (Unit {0}) Fault → Type 0
+LeavesHeldTo held holds c (Ok done) =
+    (judged : List Judged) × AreJudged c JUDGING_STEPS judged × (do_hold judged ≡ true) × (holds ≡ held)
+LeavesHeldTo held holds c (Err fault.Broken) =
+    (judged : List Judged) × AreJudged c JUDGING_STEPS judged × (do_hold judged ≡ false) × Appends held holds (unheld_text c judged)
+LeavesHeldTo held holds c (Err fault.Write) =
+    (judged : List Judged) × AreJudged c JUDGING_STEPS judged × (do_hold judged ≡ false)
+    × AppendsFront held holds (unheld_text c judged)
+LeavesHeldTo held holds c (Err fault.Memory) = holds ≡ held
+LeavesHeldTo held holds c (Err _) = ⊥
+
+-- what is left of one that was read; if its assertions hold it is the one that is asked for
+abbrev pub LeavesSound : Option (List ℕ) → Option (List ℕ) → (read sound : Result Configuration Fault) → Type 0
+LeavesSound held holds (Ok c) (Ok d) = (d ≡ c) × LeavesHeldTo held holds c (Ok tt)
+LeavesSound held holds (Ok c) (Err f) = LeavesHeldTo held holds c (Err f)
+LeavesSound held holds (Err f) sound = (sound ≡ Err f) × (holds ≡ held)
+
+-- What `reload` leaves if the configuration of this text is one.
+abbrev pub LeavesReload : Replying → (request text : List ℕ) → Option (List ℕ) → Option (List ℕ)
     → Result Configuration Fault → Result (Unit {0}) Fault → Type 0
-LeavesReload Answers request held holds (Ok c) outcome = LeavesAsked Answers request held holds outcome
-LeavesReload Answers request held holds (Err f) outcome = (outcome ≡ Err f) × (holds ≡ held)
+LeavesReload Answers request text held holds (Ok c) outcome = LeavesAskedAgain Answers request text held holds outcome
+LeavesReload Answers request text held holds (Err f) outcome = (outcome ≡ Err f) × (holds ≡ held)
 
 -- What it leaves after a comparison that ended with this fault, by whether that says that it found something: then it is none.
-abbrev pub LeavesAfterFault : (found : Bool) → (Answers : List ℕ → List ℕ → Type 0) → List ℕ → Fault
+abbrev pub LeavesAfterFault : (found : Bool) → Replying → (request text : List ℕ) → Fault
     → Option (List ℕ) → Option (List ℕ) → Result (Unit {0}) Fault → Type 0
-LeavesAfterFault true Answers request f mid holds outcome = LeavesAsked Answers request mid holds outcome
-LeavesAfterFault false Answers request f mid holds outcome = (outcome ≡ Err f) × (holds ≡ mid)
+LeavesAfterFault true Answers request text f mid holds outcome = LeavesAskedAgain Answers request text mid holds outcome
+LeavesAfterFault false Answers request text f mid holds outcome = (outcome ≡ Err f) × (holds ≡ mid)
 
 -- What it leaves after a comparison with this outcome.
-abbrev pub LeavesAfter : (Answers : List ℕ → List ℕ → Type 0) → List ℕ → (compared : Result (Unit {0}) Fault)
+abbrev pub LeavesAfter : Replying → (request text : List ℕ) → (compared : Result (Unit {0}) Fault)
     → Option (List ℕ) → Option (List ℕ) → Result (Unit {0}) Fault → Type 0
-LeavesAfter Answers request (Ok done) mid holds outcome = LeavesAsked Answers request mid holds outcome
-LeavesAfter Answers request (Err f) mid holds outcome = LeavesAfterFault (is_different f) Answers request f mid holds outcome
+LeavesAfter Answers request text (Ok done) mid holds outcome = LeavesAskedAgain Answers request text mid holds outcome
+LeavesAfter Answers request text (Err f) mid holds outcome = LeavesAfterFault (is_different f) Answers request text f mid holds outcome
 
--- What `reload --was` leaves of the configurations that were read: what the new one changes of the old one, and then that.
-abbrev pub LeavesReloadShown : (Answers : List ℕ → List ℕ → Type 0) → List ℕ → ℕ → Option (List ℕ) → Option (List ℕ)
+-- What `reload --was` leaves of the configurations that were read: what the new one, which has this text, changes of the old one,
+-- and then that.
+abbrev pub LeavesReloadShown : Replying → (request text : List ℕ) → ℕ → Option (List ℕ) → Option (List ℕ)
     → (old new : Result Configuration Fault) → Result (Unit {0}) Fault → Type 0
-LeavesReloadShown Answers request most held holds (Ok old) (Ok new) outcome =
+LeavesReloadShown Answers request text most held holds (Ok old) (Ok new) outcome =
     (mid : Option (List ℕ)) × (shown : Result (Unit {0}) Fault)
     × LeavesCompared (record { most = most; steps = false }) held mid old new shown
-    × LeavesAfter Answers request shown mid holds outcome
-LeavesReloadShown Answers request most held holds (Err f) (Ok new) outcome = (outcome ≡ Err (of_other f)) × (holds ≡ held)
-LeavesReloadShown Answers request most held holds old (Err f) outcome = (outcome ≡ Err f) × (holds ≡ held)
+    × LeavesAfter Answers request text shown mid holds outcome
+LeavesReloadShown Answers request text most held holds (Err f) (Ok new) outcome = (outcome ≡ Err (of_other f)) × (holds ≡ held)
+LeavesReloadShown Answers request text most held holds old (Err f) outcome = (outcome ≡ Err f) × (holds ≡ held)
 
--- What it leaves if that is the file of this name, and the old configuration that of another, if one is named.
-abbrev pub LeavesReloadIn : (Reads : List ℕ → Result (List ℕ) Fault → Type 0) → (Answers : List ℕ → List ℕ → Type 0)
+-- What it leaves of a text that was read, if the assertions of its configuration hold, and of the old configuration in the file of
+-- a name, if one is named.
+abbrev pub LeavesReloadOf : (Reads : List ℕ → Result (List ℕ) Fault → Type 0) → Replying
+    → (request : List ℕ) → (text : Result (List ℕ) Fault) → Option Shown → Option (List ℕ) → Option (List ℕ) → (said : List ℕ)
+    → Result (Unit {0}) Fault → Type 0
+LeavesReloadOf Reads Answers request text None held holds said outcome =
+    (read : Result Configuration Fault) × IsConfigurationOf text read
+    × (mid : Option (List ℕ)) × (c : Result Configuration Fault) × LeavesSound held mid read c
+    × LeavesReload Answers request (octets_or text) mid holds c outcome × (said ≡ [])
+LeavesReloadOf Reads Answers request text (Some shown) held holds said outcome =
+    (read : Result Configuration Fault) × IsConfigurationOf text read
+    × (mid : Option (List ℕ)) × (c : Result Configuration Fault) × LeavesSound held mid read c
+    × (old : Result Configuration Fault) × IsConfigured Reads (Some (string_bytes shown.old)) old
+    × LeavesReloadShown Answers request (octets_or text) shown.most mid holds old c outcome × AreProgress said
+
+-- What it leaves if that is the text of the file of this name.
+abbrev pub LeavesReloadIn : (Reads : List ℕ → Result (List ℕ) Fault → Type 0) → Replying
     → (file request : List ℕ) → Option Shown → Option (List ℕ) → Option (List ℕ) → (said : List ℕ)
     → Result (Unit {0}) Fault → Type 0
-LeavesReloadIn Reads Answers file request None held holds said outcome =
-    (c : Result Configuration Fault) × IsConfigured Reads (Some file) c × LeavesReload Answers request held holds c outcome
-    × (said ≡ [])
-LeavesReloadIn Reads Answers file request (Some shown) held holds said outcome =
-    (c : Result Configuration Fault) × IsConfigured Reads (Some file) c
-    × (old : Result Configuration Fault) × IsConfigured Reads (Some (string_bytes shown.old)) old
-    × LeavesReloadShown Answers request shown.most held holds old c outcome × AreProgress said
+LeavesReloadIn Reads Answers file request was held holds said outcome =
+    (text : Result (List ℕ) Fault) × Reads file text × LeavesReloadOf Reads Answers request text was held holds said outcome
 
 -- What `why --count` leaves of a text: how many of its asks each of these rules decides, or the first line that says none.
 abbrev pub LeavesCounts : List Rule → List ℕ → Option (List ℕ) → Option (List ℕ) → Result (Unit {0}) Fault → Type 0
@@ -300,12 +377,12 @@ LeavesOfLog ReadsLog Leaves (Some file) input held holds outcome =
     (opened : Result (Option (List ℕ)) Fault) × ReadsLog file opened × LeavesOpened Leaves opened held holds outcome
 
 -- What is on standard output, which held `held` before, if files give what `Reads`, `ReadsState` and `ReadsLog` say,
--- and `reload` is answered what `Answers` says: what each command leaves of some configuration that is the one it
+-- and a request is answered what `Answers` says: what each command leaves of some configuration that is the one it
 -- names, at `compare` of the two, at `state` of the one and the state, at `log` what that leaves of the log, and at
 -- help its text, of which a failed write may leave a front. Words that choose nothing leave it as it was, and their
 -- fault is the outcome.
 abbrev pub LeavesOutput : (Reads ReadsState : List ℕ → Result (List ℕ) Fault → Type 0)
-    → (ReadsLog : List ℕ → Result (Option (List ℕ)) Fault → Type 0) → (Answers : List ℕ → List ℕ → Type 0)
+    → (ReadsLog : List ℕ → Result (Option (List ℕ)) Fault → Type 0) → Replying
     → Option (List ℕ) → Option (List ℕ) → Option (List ℕ) → List ℕ
     → Result Choice Fault → Result (Unit {0}) Fault → Type 0
 LeavesOutput Reads ReadsState ReadsLog Answers input held holds said (Ok (choice.Check file explains lints)) outcome =
@@ -320,6 +397,8 @@ LeavesOutput Reads ReadsState ReadsLog Answers input held holds said (Ok (choice
     LeavesAnsweredIn Reads (string_bytes file) (record { counts = counts; strict = strict }) input held holds said outcome
 LeavesOutput Reads ReadsState ReadsLog Answers input held holds said (Ok (choice.Reload config request was)) outcome =
     LeavesReloadIn Reads Answers (string_bytes config) (string_bytes request) was held holds said outcome
+LeavesOutput Reads ReadsState ReadsLog Answers input held holds said (Ok (choice.Stop request waits)) outcome =
+    LeavesStopped Answers (string_bytes request) held holds outcome
 LeavesOutput Reads ReadsState ReadsLog Answers input held holds said (Ok (choice.Compare old new most steps)) outcome =
     (a : Result Configuration Fault) × IsConfigured Reads (Some (string_bytes old)) a
     × (b : Result Configuration Fault) × IsConfigured Reads (Some (string_bytes new)) b
@@ -330,6 +409,8 @@ LeavesOutput Reads ReadsState ReadsLog Answers input held holds said (Ok (choice
     × LeavesComparisonJson most held holds a b outcome
 LeavesOutput Reads ReadsState ReadsLog Answers input held holds said (Ok (choice.Points file)) outcome =
     (c : Result Configuration Fault) × IsConfigured Reads (Some (string_bytes file)) c × LeavesPoints held holds c outcome
+LeavesOutput Reads ReadsState ReadsLog Answers input held holds said (Ok (choice.Rules file)) outcome =
+    (c : Result Configuration Fault) × IsConfigured Reads (Some (string_bytes file)) c × LeavesRules held holds c outcome
 LeavesOutput Reads ReadsState ReadsLog Answers input held holds said (Ok (choice.State config state)) outcome =
     LeavesStateIn Reads ReadsState (string_bytes config) (string_bytes state) held holds outcome
 LeavesOutput Reads ReadsState ReadsLog Answers input held holds said (Ok (choice.Suggest file fills exact)) outcome =

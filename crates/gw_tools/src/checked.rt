@@ -4,36 +4,43 @@
 ghost use Rattle.std.specs.Prelude.{◌≡◌, IfOk};
 ghost use Rattle.gw_tools.specs.Checked.{IsChecked, explained_text};
 
+use gw_ask_sets::assertions::Judged;
 use gw_configuration::Config;
-use gw_ending::reading::summary;
+use gw_ending::reading::judged_text;
 use gw_policy_review::lint::put_lint;
 use gw_policy_review::permissions::put_permissions;
 use gw_policy_review::warnings::put_warnings;
 use std::alloc::{AllocError, Global};
 
-/// What `check` prints of a configuration: its summary, and after it what else is asked for.
-/// An `Err` only where a growth of memory was refused.
+/// What `check` prints of a configuration whose assertions were judged so: its summary, or the lines of those that don't hold; and
+/// after it what else is asked for. An `Err` only where a growth of memory was refused.
 pub fn checked_text(
     alloc: Global,
     explains: bool,
     lints: bool,
     config: &Config,
+    judged: &[Judged],
 ) -> Result<Vec<u8>, AllocError>
-    ensures { IfOk result (λ text. IsChecked explains lints config.now text.items) }
+    ensures { IfOk result (λ text. IsChecked explains lints config.now judged.now text.items) }
 {
-    let mut text = explained_text(alloc, explains, config)?;
+    let mut text = explained_text(alloc, explains, config, judged)?;
     if lints {
         put_lint(alloc, config, explains, &mut text)?;
     }
     Ok(text)
 }
 
-/// The summary of a configuration, and if that is asked for, who may do what under it and what can't be
-/// meant.
-fn explained_text(alloc: Global, explains: bool, config: &Config) -> Result<Vec<u8>, AllocError>
-    ensures { IfOk result (λ text. text.items ≡ explained_text explains config.now) }
+/// The summary of a configuration, or the lines of the assertions that don't hold; and if that is asked for, who may do what under
+/// it and what can't be meant.
+fn explained_text(
+    alloc: Global,
+    explains: bool,
+    config: &Config,
+    judged: &[Judged],
+) -> Result<Vec<u8>, AllocError>
+    ensures { IfOk result (λ text. text.items ≡ explained_text explains config.now judged.now) }
 {
-    let mut text = summary(alloc, config)?.into_bytes();
+    let mut text = judged_text(alloc, config, judged)?;
     if explains {
         put_permissions(alloc, config, &mut text)?;
         put_warnings(config, &mut text)?;

@@ -4,9 +4,10 @@ ghost use Rattle.std.specs.Prelude.{◌≡◌, [], ℕ, List, IfOk, IsOk, OnOk};
 ghost use Rattle.std.specs.Io.Buffered.{writer_buffer, writer_contents};
 ghost use Rattle.std.specs.Io.KnownBytes.{Appends};
 ghost use Rattle.gw_policy_review.specs.comparison.Comparing.{IsUnderWay};
-ghost use Rattle.gw_tools.specs.Comparing.{AreProgress, IsCompared, outcome_of_comparison, progress_line};
+ghost use Rattle.gw_tools.specs.Comparing.{AreProgress, IsCompared, IsComparedBehind, outcome_of_comparison, progress_line};
 ghost use Rattle.gw_tools.specs.Program.{LeavesCompared, LeavesComparison, LeavesLines};
 
+use crate::asserting::put_assertions;
 use gw_configuration::Config;
 use gw_ending::reading::print;
 use gw_ending::{Fault, write_number};
@@ -150,13 +151,18 @@ fn finish<C: Calendar, E: OctetSink>(
     Ok(())
 }
 
-/// What is printed of a comparison that is at its end.
-fn lines_of(alloc: Global, limits: Limits, comparing: Comparing<'_>) -> Result<Lines, AllocError>
+/// What is printed of a comparison that is at its end, behind what is said of the assertions.
+fn lines_of(
+    alloc: Global,
+    limits: Limits,
+    front: Vec<u8>,
+    comparing: Comparing<'_>,
+) -> Result<Lines, AllocError>
     ensures { IfOk result (λ lines. IsUnderWay comparing.entry →
-        IsCompared limits comparing.entry.old_one comparing.entry.new_one lines.made lines.text.items) }
+        IsComparedBehind limits front.items comparing.entry.old_one comparing.entry.new_one lines.made lines.text.items) }
 {
     let used = comparing.steps();
-    let mut text = Vec::new(alloc);
+    let mut text = front;
     let made = comparing.put(alloc, limits.most as usize, &mut text)?;
     if limits.steps {
         put_steps(used, &mut text)?;
@@ -164,7 +170,7 @@ fn lines_of(alloc: Global, limits: Limits, comparing: Comparing<'_>) -> Result<L
     Ok(Lines { text, made })
 }
 
-/// What the rules of two configurations decide otherwise, and once a second how far that is.
+/// What became of the assertions of two configurations, what their rules decide otherwise, and once a second how far that is.
 fn compared<C: Calendar, E: OctetSink>(
     alloc: Global,
     limits: Limits,
@@ -180,7 +186,9 @@ fn compared<C: Calendar, E: OctetSink>(
 {
     let mut comparing = Comparing::new(alloc, old, new)?;
     finish(alloc, &mut comparing, seconds, errors)?;
-    lines_of(alloc, limits, comparing)
+    let mut front = Vec::new(alloc);
+    put_assertions(alloc, &mut front, old, new)?;
+    lines_of(alloc, limits, front, comparing)
 }
 
 /// How a comparison ends: `OtherParts` if only other parts differ, and `Different` if an ask may be decided otherwise.

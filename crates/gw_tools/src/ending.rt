@@ -29,6 +29,7 @@ fn first_file(choice: &Result<Choice, Fault>) -> &str
         Ok(Choice::Judge { file, .. }) => file.as_str(),
         Ok(Choice::Report { file, .. }) => file.as_str(),
         Ok(Choice::Points(file)) => file.as_str(),
+        Ok(Choice::Rules(file)) => file.as_str(),
         Ok(Choice::Ask { file, .. }) => file.as_str(),
         _ => "",
     }

@@ -3,20 +3,21 @@
 ghost use Rattle.std.specs.Prelude.{◌≡◌, ◌⊎◌, ◌++◌, ◌==◌, [], length, take, option_map, IfOk, MatchResult, OnOk};
 ghost use Rattle.std.specs.Io.Buffered.{writer_buffer, writer_contents};
 ghost use Rattle.std.specs.List.{flat_map};
-ghost use Rattle.gw_json.specs.Check.{checked_value, fault_value};
+ghost use Rattle.gw_json.specs.Check.{fault_value};
 ghost use Rattle.gw_json.specs.Comparison.{found_value};
 ghost use Rattle.gw_json.specs.Document.{line_of};
 ghost use Rattle.gw_report.specs.points.Points.{points_text};
 ghost use Rattle.gw_ending.specs.reading.Files.{result_map};
-ghost use Rattle.gw_tools.specs.Json.{AreComparisonLines, IsPartsLine, IsTextOf, FaultLine, IsFaultLine, IsMade, checked_line};
-ghost use Rattle.gw_tools.specs.Program.{LeavesCheckedJson, LeavesComparedJson, LeavesComparisonJson, LeavesPoints};
+ghost use Rattle.gw_tools.specs.Json.{AreComparisonLines, IsPartsLine, IsTextOf, FaultLine, IsFaultLine, IsMade, judged_line};
+ghost use Rattle.gw_tools.specs.Program.{LeavesCheckedJson, LeavesCheckedLine, LeavesComparedJson, LeavesComparisonJson, LeavesPoints};
 
 use crate::comparing::{Lines, print_lines};
+use gw_ask_sets::assertions::{JUDGING_STEPS, Judged, judge};
 use gw_ask_sets::regions::{Found, MAX_STEPS, summarize};
 use gw_configuration::{Config, ConfigFault};
 use gw_ending::Fault;
-use gw_ending::reading::{configuration_of, print, print_made};
-use gw_json::{put_check, put_differences, put_fault, put_found, put_summary};
+use gw_ending::reading::{configuration_of, do_hold, print, print_judged, print_made};
+use gw_json::{put_check, put_differences, put_fault, put_found, put_summary, unheld_line};
 use gw_policy_review::comparison::{
     Part, asks_of, compared_by, differing_parts, put_details, put_part_names,
 };
@@ -27,13 +28,31 @@ use std::alloc::{AllocError, Global};
 use std::io::{BufWriter, Write};
 use std::str;
 
-/// The line of a configuration. `Memory` is its only fault.
-fn checked_line(alloc: Global, config: &Config) -> Result<Vec<u8>, Fault>
-    ensures { IsMade (checked_line config.now) (result_map (λ octets. octets.items) result) }
+/// The line of a configuration whose assertions were judged so: what it has, or which of them don't hold.
+fn judged_line(alloc: Global, config: &Config, judged: &[Judged]) -> Result<Vec<u8>, AllocError>
+    ensures { IfOk result (λ line. line.items ≡ judged_line config.now judged.now) }
 {
+    if !do_hold(judged) {
+        return unheld_line(alloc, config, judged);
+    }
     let mut line = Vec::new(alloc);
     put_check(alloc, &mut line, config)?;
     Ok(line)
+}
+
+/// Prints what a configuration has, or which of its assertions don't hold.
+fn print_checked<W: Write + Drop>(
+    alloc: Global,
+    config: &Config,
+    output: &mut BufWriter<W>,
+) -> Result<(), Fault>
+    ensures output { LeavesCheckedLine (writer_contents W.contents output.old)
+        (writer_contents W.contents output.new) config.now result }
+    ensures flush { OnOk result (writer_buffer output.new ≡ []) }
+{
+    let judged = judge(alloc, config, JUDGING_STEPS)?;
+    let line = judged_line(alloc, config, &judged)?;
+    print_judged(&line, &judged, output)
 }
 
 /// The line of a fault, with what explains it. Nothing if memory was refused.
@@ -81,7 +100,7 @@ pub fn check_in_json<W: Write + Drop>(
     ensures flush { OnOk result (writer_buffer output.new ≡ []) }
 {
     match configuration_of(alloc, text) {
-        Ok(config) => print_made(checked_line(alloc, &config), output),
+        Ok(config) => print_checked(alloc, &config, output),
         Err(fault) => {
             // If this can't be printed the fault is reported all the same.
             let _ = print(&fault_object(alloc, text, fault), output);

@@ -6,6 +6,7 @@
 #![tactic(auto)]
 
 mod asking;
+mod asserting;
 mod checked;
 mod comparing;
 mod ending;

@@ -7,23 +7,28 @@ use gw_system::{Host, ReadFailure};
 use gw_wire::StoreFault;
 use std::alloc::Global;
 
-/// What the commands take of the machine: a request to a running gateway, its answer, and the time of day.
+/// What the commands take of the machine: requests to a running gateway, their answers, and the time of day.
 pub trait Machine {
-    /// A request to read the configuration again, which was made.
+    /// A request that was made.
     type Asked: Drop;
 
     /// What gives the time of day.
     type Calendar: Calendar + Drop;
 
-    /// What asking by the file of a name may give.
-    ghost Asks: { Self → List ℕ → Self.Asked → Type 0 };
+    /// What asking by the file of a name, with a text, may give.
+    ghost Asks: { Self → List ℕ → List ℕ → Self.Asked → Type 0 };
 
     /// What may be answered to a request.
     ghost Answers: { Self.Asked → List ℕ → Type 0 };
 
-    /// Asks by the file of this name to read the configuration again, after an older answer was taken away.
-    fn request_reload(&self, alloc: Global, request: &str) -> Result<Self::Asked, StoreFault>
-        ensures { IfOk result (Asks self.now request.now) };
+    /// Makes the request of this text by the file of this name, after an older answer was taken away.
+    fn make_request(
+        &self,
+        alloc: Global,
+        name: &str,
+        text: &[u8],
+    ) -> Result<Self::Asked, StoreFault>
+        ensures { IfOk result (Asks self.now name.now text.now) };
 
     /// Waits at most so many seconds for the answer to this request, gives its octets and takes its file away. `None`
     /// if none came; then the request is taken away. Faults: `Unreadable`, also if the system can't wait, and `Memory`.
@@ -55,8 +60,8 @@ impl<H: Host> Machine for HostMachine<'_, H> {
 
     ghost Answers = { H.Answers };
 
-    fn request_reload(&self, alloc: Global, request: &str) -> Result<H::Asked, StoreFault> {
-        self.host.request_reload(alloc, request)
+    fn make_request(&self, alloc: Global, name: &str, text: &[u8]) -> Result<H::Asked, StoreFault> {
+        self.host.make_request(alloc, name, text)
     }
 
     fn await_answer(

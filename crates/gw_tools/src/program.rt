@@ -9,7 +9,7 @@ ghost use Rattle.gw_ending.specs.declared.fault.MigrationFlaw.TheVariants as mig
 ghost use Rattle.gw_rules.specs.declared.format.Format.TheVariants as formats;
 ghost use Rattle.gw_ending.specs.reading.Files.{result_map};
 ghost use Rattle.gw_tools.specs.Program.{IsChoiceOf, IsFollowed, IsRun, LeavesConfigured, LeavesInFormatThree, LeavesMigrated};
-ghost use Rattle.gw_tools.specs.Program.{LeavesOfText, LeavesOutput, LeavesSaid, LeavesState, LeavesStateIn, fault_of_migration};
+ghost use Rattle.gw_tools.specs.Program.{LeavesListed, LeavesOfText, LeavesOutput, LeavesRules, LeavesSaid, LeavesState, LeavesStateIn, fault_of_listing, fault_of_migration};
 ghost use Rattle.gw_tools.specs.Reloading.{answers_by};
 
 use crate::asking::{Answering, answer_in};
@@ -21,16 +21,18 @@ use crate::kept::words_of_text;
 use crate::machine::Machine;
 use crate::objects;
 use crate::questioning::{Questioned, answer_question_in};
-use crate::reloading::{Asking, reload_in};
+use crate::reloading::{AskedReload, reload_in, stop};
 use crate::reporting::print_report_in;
 use crate::suggesting::suggest_shown;
 use crate::translating::{Translating, translate_in};
+use gw_ask_sets::assertions::{JUDGING_STEPS, judge};
 use gw_configuration::Config;
 use gw_ending::reading::{
-    ConfigFiles, configuration_in, configuration_of, fault_note, print, print_made,
+    ConfigFiles, configuration_in, configuration_of, fault_note, print, print_judged, print_made,
 };
 use gw_ending::{Fault, MigrationFlaw};
 use gw_notices::write_note;
+use gw_policy_drafts::listing::{ListingFault, list_rules};
 use gw_policy_drafts::migration::{MigrationFault, migrate};
 use gw_policy_drafts::suggestion::Manner;
 use gw_script::{OctetSink, OctetSource};
@@ -57,7 +59,7 @@ fn choice_by(alloc: Global, words: &[String]) -> Result<Choice, Fault>
     }
 }
 
-/// Prints what a configuration has, and what else is asked for of it.
+/// Prints what a configuration has, or which of its assertions don't hold, and what else is asked for of it.
 fn print_checked<W: Write + Drop>(
     alloc: Global,
     explains: bool,
@@ -70,8 +72,9 @@ fn print_checked<W: Write + Drop>(
         LeavesConfigured explains lints held holds config.now result }
     ensures flush { OnOk result (writer_buffer output.new ≡ []) }
 {
-    let text = checked_text(alloc, explains, lints, config)?;
-    print(&text, output)
+    let judged = judge(alloc, config, JUDGING_STEPS)?;
+    let text = checked_text(alloc, explains, lints, config, &judged)?;
+    print_judged(&text, &judged, output)
 }
 
 /// Prints what the configuration has that was read, or what is wrong with it.
@@ -138,6 +141,46 @@ fn print_in_format_three<W: Write + Drop>(
 {
     let config = config?;
     print_migrated(alloc, &config, output)
+}
+
+/// The fault of the program by that of listing the rules of a configuration.
+fn fault_of_listing(fault: ListingFault) -> Fault
+    ensures { result ≡ fault_of_listing fault }
+{
+    match fault {
+        ListingFault::Unlike => Fault::Unlisted,
+        ListingFault::Memory => Fault::Memory,
+    }
+}
+
+/// Prints the rules of a configuration as they are in force.
+fn print_listed<W: Write + Drop>(
+    alloc: Global,
+    config: &Config,
+    output: &mut BufWriter<W>,
+) -> Result<(), Fault>
+    ensures output { LeavesListed (writer_contents W.contents output.old)
+        (writer_contents W.contents output.new) config.now result }
+    ensures flush { OnOk result (writer_buffer output.new ≡ []) }
+{
+    match list_rules(alloc, config) {
+        Ok(tables) => print(&tables, output),
+        Err(fault) => Err(fault_of_listing(fault)),
+    }
+}
+
+/// Prints the rules of the configuration that was read.
+fn print_rules<W: Write + Drop>(
+    alloc: Global,
+    config: Result<Config, Fault>,
+    output: &mut BufWriter<W>,
+) -> Result<(), Fault>
+    ensures output { LeavesRules (writer_contents W.contents output.old)
+        (writer_contents W.contents output.new) config result }
+    ensures flush { OnOk result (writer_buffer output.new ≡ []) }
+{
+    let config = config?;
+    print_listed(alloc, &config, output)
 }
 
 /// Says what the text of a state holds under the configuration that was read.
@@ -244,13 +287,14 @@ fn follow<F: ConfigFiles, M: Machine, R: OctetSource, W: Write + Drop, E: OctetS
                 was,
             },
         ) => {
-            let asking = Asking {
+            let asking = AskedReload {
                 config,
                 request,
                 was,
             };
             reload_in(alloc, files, &asking, machine, output, errors)
         }
+        Ok(Choice::Stop { request, waits }) => stop(alloc, request, *waits, machine, output),
         Ok(
             Choice::Compare {
                 old,
@@ -278,6 +322,10 @@ fn follow<F: ConfigFiles, M: Machine, R: OctetSource, W: Write + Drop, E: OctetS
         Ok(Choice::Points(file)) => {
             let config = configuration_in(alloc, files, file);
             print_points(alloc, config, output)
+        }
+        Ok(Choice::Rules(file)) => {
+            let config = configuration_in(alloc, files, file);
+            print_rules(alloc, config, output)
         }
         Ok(Choice::State { config, state }) => print_state_in(alloc, files, config, state, output),
         Ok(Choice::Suggest { file, fills, exact }) => {
@@ -323,7 +371,7 @@ fn follow<F: ConfigFiles, M: Machine, R: OctetSource, W: Write + Drop, E: OctetS
 
 /// Runs the program on these words, or on the fault for which there are none: the configuration that they name is read from
 /// `files`, what is said of it is printed to `output`, or the asks of `input` are answered there, or its log or that of a
-/// file is put into words, or a running gateway is asked through `machine` to read its configuration again, or two
+/// file is put into words, or a running gateway is asked through `machine` to read its configuration again or to stop, or two
 /// configurations are compared, or help is printed; how far a comparison is and how many lines show no ask may be reported on
 /// `errors`, a fault is one line there, after words that are no command line it says how the program is called, and the exit
 /// status says of which kind the fault is. The words begin with the program's name.

@@ -1,21 +1,25 @@
-//! A running gateway is asked to read its configuration again.
+//! A running gateway is asked to read its configuration again, or to stop.
 
 ghost use Rattle.std.specs.Prelude.{◌≡◌, [], ℕ, List, MatchResult, OnOk};
 ghost use Rattle.std.specs.Io.Buffered.{writer_buffer, writer_contents};
 ghost use Rattle.std.specs.Io.KnownBytes.{Appends};
 ghost use Rattle.gw_tools.specs.Comparing.{AreProgress};
-ghost use Rattle.gw_tools.specs.Reloading.{IsAnswerTo, answers_by, outcome_of_answer};
+ghost use Rattle.gw_tools.specs.Reloading.{IsAnswerTo, answers_by, octets_or, outcome_of_answer};
 ghost use Rattle.gw_ending.specs.Ending.{IsUnanswered};
 ghost use Rattle.gw_ending.specs.reading.Files.{result_map};
-ghost use Rattle.gw_tools.specs.Program.{LeavesAfter, LeavesAnswer, LeavesAsked, LeavesReload, LeavesReloadIn, LeavesReloadShown, LeavesText};
+ghost use Rattle.gw_ending.specs.reading.Printing.{LeavesEnding};
+ghost use Rattle.gw_tools.specs.Program.{LeavesAfter, LeavesAnswer, LeavesAsked, LeavesAskedAgain, LeavesHeldTo, LeavesReload, LeavesReloadIn, LeavesReloadOf, LeavesReloadShown, LeavesSound, LeavesStopped};
 
 use crate::comparing::{Both, Limits, Seconds, print_compared};
 use crate::machine::Machine;
+use gw_ask_sets::assertions::{JUDGING_STEPS, judge};
 use gw_configuration::Config;
 use gw_ending::Fault;
-use gw_ending::reading::{ConfigFiles, configuration_in, print};
+use gw_ending::reading::{
+    ConfigFiles, configuration_in, configuration_of, do_hold, print, print_ending, put_unheld,
+};
 use gw_script::OctetSink;
-use gw_system::ReadFailure;
+use gw_system::{ReadFailure, STOP_REQUEST, reload_request};
 use gw_tool_line::Shown;
 use std::alloc::Global;
 use std::io::{BufWriter, Write};
@@ -23,33 +27,51 @@ use std::io::{BufWriter, Write};
 /// How many seconds an answer is waited for at most.
 const MAX_WAIT: u8 = 10;
 
-/// Makes the request under this name, and waits for its answer. Faults: `Request` if it can't be made, `NoAnswer`, and
-/// `Memory`.
-pub fn ask<M: Machine>(alloc: Global, request: &str, machine: &M) -> Result<Vec<u8>, Fault>
-    ensures { IsAnswerTo (answers_by (M.Asks machine.now) M.Answers) request.now (result_map (λ octets. octets.items) result) }
+/// And if that is to be longer.
+const LONG_WAIT: u8 = 240;
+
+/// What is asked of a running gateway: by the file of which name, with which text, what its answer begins with if it did that,
+/// and how many seconds that is waited for at most.
+#[derive(Drop)]
+pub struct Asking<'a> {
+    pub request: &'a str,
+    pub text: &'a [u8],
+    pub granted: &'a str,
+    pub seconds: u8,
+}
+
+/// Makes a request, and waits for its answer. Faults: `Request` if it can't be made, `NoAnswer`, and `Memory`.
+pub fn ask<M: Machine>(alloc: Global, asking: &Asking<'_>, machine: &M) -> Result<Vec<u8>, Fault>
+    ensures { IsAnswerTo (answers_by (M.Asks machine.now) M.Answers asking.now.request.now asking.now.text.now)
+        (result_map (λ octets. octets.items) result) }
 {
-    match machine.request_reload(alloc, request) {
-        Ok(asked) => answer(alloc, &asked, machine),
+    match machine.make_request(alloc, asking.request, asking.text) {
+        Ok(asked) => answer(alloc, &asked, asking.seconds, machine),
         Err(fault) => Err(Fault::of_request(fault)),
     }
 }
 
 /// Waits for the answer to a request. Faults: `NoAnswer`, and `Memory`.
-fn answer<M: Machine>(alloc: Global, asked: &M::Asked, machine: &M) -> Result<Vec<u8>, Fault>
+fn answer<M: Machine>(
+    alloc: Global,
+    asked: &M::Asked,
+    seconds: u8,
+    machine: &M,
+) -> Result<Vec<u8>, Fault>
     ensures { MatchResult result (λ answer. M.Answers asked.now answer.items) IsUnanswered }
 {
-    match machine.await_answer(alloc, asked, MAX_WAIT) {
+    match machine.await_answer(alloc, asked, seconds) {
         Ok(Some(answer)) => Ok(answer),
         Ok(None) | Err(ReadFailure::Unreadable(_)) => Err(Fault::NoAnswer),
         Err(ReadFailure::Memory) => Err(Fault::Memory),
     }
 }
 
-/// How the request ends by this answer: `Refused` unless the configuration was read again.
-pub fn outcome_of(answer: &[u8]) -> Result<(), Fault>
-    ensures { result ≡ outcome_of_answer answer.now }
+/// How a request ends by this answer: `Refused` unless it begins with what says that it was done.
+pub fn outcome_of(granted: &str, answer: &[u8]) -> Result<(), Fault>
+    ensures { result ≡ outcome_of_answer granted.now answer.now }
 {
-    if answer.starts_with(b"reload: ") {
+    if answer.starts_with(granted.as_bytes()) {
         Ok(())
     } else {
         Err(Fault::Refused)
@@ -58,69 +80,121 @@ pub fn outcome_of(answer: &[u8]) -> Result<(), Fault>
 
 /// Prints the answer to a request, which says how it ends.
 fn print_answer<W: Write + Drop>(
+    granted: &str,
     answer: Result<Vec<u8>, Fault>,
     output: &mut BufWriter<W>,
 ) -> Result<(), Fault>
-    ensures output { LeavesAnswer (result_map (λ octets. octets.items) answer)
+    ensures output { LeavesAnswer granted.now (result_map (λ octets. octets.items) answer)
         (writer_contents W.contents output.old) (writer_contents W.contents output.new) result }
     ensures flush { OnOk result (writer_buffer output.new ≡ []) }
 {
     match answer {
-        Ok(answer) => print_answer_text(&answer, output),
+        Ok(answer) => print_answer_text(granted, &answer, output),
         Err(fault) => Err(fault),
     }
 }
 
-fn print_answer_text<W: Write + Drop>(answer: &[u8], output: &mut BufWriter<W>) -> Result<(), Fault>
-    ensures output { LeavesText answer.now (writer_contents W.contents output.old)
-        (writer_contents W.contents output.new) result }
+fn print_answer_text<W: Write + Drop>(
+    granted: &str,
+    answer: &[u8],
+    output: &mut BufWriter<W>,
+) -> Result<(), Fault>
+    ensures output { LeavesEnding answer.now (outcome_of_answer granted.now answer.now)
+        (writer_contents W.contents output.old) (writer_contents W.contents output.new) result }
     ensures flush { OnOk result (writer_buffer output.new ≡ []) }
 {
-    match print(answer, output) {
-        Ok(()) => outcome_of(answer),
-        Err(fault) => Err(fault),
-    }
+    print_ending(answer, outcome_of(granted, answer), output)
+}
+
+/// Makes a request, and prints its answer.
+fn print_asked<M: Machine, W: Write + Drop>(
+    alloc: Global,
+    asking: &Asking<'_>,
+    machine: &M,
+    output: &mut BufWriter<W>,
+) -> Result<(), Fault>
+    ensures output { LeavesAsked (answers_by (M.Asks machine.now) M.Answers asking.now.request.now asking.now.text.now)
+        asking.now.granted.now (writer_contents W.contents output.old) (writer_contents W.contents output.new) result }
+    ensures flush { OnOk result (writer_buffer output.new ≡ []) }
+{
+    print_answer(asking.granted, ask(alloc, asking, machine), output)
+}
+
+/// Asks the gateway that looks for this request to stop, and prints what it answers.
+pub fn stop<M: Machine, W: Write + Drop>(
+    alloc: Global,
+    request: &str,
+    waits: bool,
+    machine: &M,
+    output: &mut BufWriter<W>,
+) -> Result<(), Fault>
+    ensures output { LeavesStopped (answers_by (M.Asks machine.now) M.Answers) request.now
+        (writer_contents W.contents output.old) (writer_contents W.contents output.new) result }
+    ensures flush { OnOk result (writer_buffer output.new ≡ []) }
+{
+    let asking = Asking {
+        request,
+        text: STOP_REQUEST,
+        granted: "stopped\n",
+        seconds: if waits { LONG_WAIT } else { MAX_WAIT },
+    };
+    print_asked(alloc, &asking, machine, output)
+}
+
+/// Asks by the file of this name to read the configuration of this text again, and prints the answer.
+fn ask_again<M: Machine, W: Write + Drop>(
+    alloc: Global,
+    request: &str,
+    text: &[u8],
+    machine: &M,
+    output: &mut BufWriter<W>,
+) -> Result<(), Fault>
+    ensures output { LeavesAskedAgain (answers_by (M.Asks machine.now) M.Answers) request.now text.now
+        (writer_contents W.contents output.old) (writer_contents W.contents output.new) result }
+    ensures flush { OnOk result (writer_buffer output.new ≡ []) }
+{
+    let line = reload_request(alloc, text)?;
+    let asking = Asking {
+        request,
+        text: &line,
+        granted: "reload: ",
+        seconds: MAX_WAIT,
+    };
+    print_asked(alloc, &asking, machine, output)
 }
 
 /// Asks the gateway that runs under the configuration that was read to read it again, and prints what it answers.
 fn reload<M: Machine, W: Write + Drop>(
     alloc: Global,
     config: Result<Config, Fault>,
-    request: &str,
+    asked: &Reloading<'_>,
     machine: &M,
     output: &mut BufWriter<W>,
 ) -> Result<(), Fault>
-    ensures output { LeavesReload (answers_by (M.Asks machine.now) M.Answers) request.now
+    ensures output { LeavesReload (answers_by (M.Asks machine.now) M.Answers) asked.now.request.now asked.now.text.now
         (writer_contents W.contents output.old) (writer_contents W.contents output.new) config result }
     ensures flush { OnOk result (writer_buffer output.new ≡ []) }
 {
     let _config = config?;
-    print_asked(alloc, request, machine, output)
+    ask_again(alloc, asked.request, asked.text, machine, output)
 }
 
-/// Asks by the file of this name to read the configuration again, and prints the answer.
-fn print_asked<M: Machine, W: Write + Drop>(
-    alloc: Global,
-    request: &str,
-    machine: &M,
-    output: &mut BufWriter<W>,
-) -> Result<(), Fault>
-    ensures output { LeavesAsked (answers_by (M.Asks machine.now) M.Answers) request.now
-        (writer_contents W.contents output.old) (writer_contents W.contents output.new) result }
-    ensures flush { OnOk result (writer_buffer output.new ≡ []) }
-{
-    print_answer(ask(alloc, request, machine), output)
+/// A configuration that is to be read again: the name of the request, and the configuration's text.
+#[derive(Drop)]
+struct Reloading<'a> {
+    request: &'a str,
+    text: &'a [u8],
 }
 
 /// Asks as [`reload`] does after a comparison that ended so. One that isn't finished, or finds something, is no fault.
 fn ask_after<M: Machine, W: Write + Drop>(
     alloc: Global,
     compared: Result<(), Fault>,
-    request: &str,
+    asked: &Reloading<'_>,
     machine: &M,
     output: &mut BufWriter<W>,
 ) -> Result<(), Fault>
-    ensures output { LeavesAfter (answers_by (M.Asks machine.now) M.Answers) request.now compared
+    ensures output { LeavesAfter (answers_by (M.Asks machine.now) M.Answers) asked.now.request.now asked.now.text.now compared
         (writer_contents W.contents output.old) (writer_contents W.contents output.new) result }
     ensures flush { OnOk result (writer_buffer output.new ≡ []) }
 {
@@ -129,20 +203,20 @@ fn ask_after<M: Machine, W: Write + Drop>(
             return Err(fault);
         }
     }
-    print_asked(alloc, request, machine, output)
+    ask_again(alloc, asked.request, asked.text, machine, output)
 }
 
 /// Prints what the new configuration changes of the old one, and then asks as [`reload`] does.
 fn reload_shown<M: Machine, W: Write + Drop, E: OctetSink>(
     alloc: Global,
     both: Both,
-    asking: &Asking<'_>,
+    asked: &Reloading<'_>,
     most: u64,
     machine: &M,
     output: &mut BufWriter<W>,
     errors: &mut E,
 ) -> Result<(), Fault>
-    ensures output { LeavesReloadShown (answers_by (M.Asks machine.now) M.Answers) asking.now.request.now most
+    ensures output { LeavesReloadShown (answers_by (M.Asks machine.now) M.Answers) asked.now.request.now asked.now.text.now most
         (writer_contents W.contents output.old) (writer_contents W.contents output.new) both.old both.new result }
     ensures said { (said : List ℕ) × AreProgress said
         × (E.NeverFails errors.old → Appends (E.held errors.old) (E.held errors.new) said) }
@@ -155,25 +229,104 @@ fn reload_shown<M: Machine, W: Write + Drop, E: OctetSink>(
             let limits = Limits { most, steps: false };
             let mut seconds = Seconds::new(machine.calendar());
             let compared = print_compared(alloc, limits, &old, &new, &mut seconds, output, errors);
-            ask_after(alloc, compared, asking.request, machine, output)
+            ask_after(alloc, compared, asked, machine, output)
         }
         Err(fault) => Err(fault.of_other()),
     }
 }
 
+/// Prints a line for each assertion of a configuration that doesn't hold. `Broken` if one doesn't.
+fn refuse_unsound<W: Write + Drop>(
+    alloc: Global,
+    config: &Config,
+    output: &mut BufWriter<W>,
+) -> Result<(), Fault>
+    ensures { LeavesHeldTo (writer_contents W.contents output.old) (writer_contents W.contents output.new) config.now result }
+{
+    let judged = judge(alloc, config, JUDGING_STEPS)?;
+    if do_hold(&judged) {
+        return Ok(());
+    }
+    let mut lines = Vec::new(alloc);
+    put_unheld(&mut lines, config, &judged)?;
+    let Ok(()) = print(&lines, output) else {
+        return Err(Fault::Write);
+    };
+    Err(Fault::Broken)
+}
+
+/// The configuration that was read if its assertions hold; a line is printed for each that doesn't.
+fn sound_of<W: Write + Drop>(
+    alloc: Global,
+    config: Result<Config, Fault>,
+    output: &mut BufWriter<W>,
+) -> Result<Config, Fault>
+    ensures { LeavesSound (writer_contents W.contents output.old) (writer_contents W.contents output.new) config result }
+{
+    let config = config?;
+    match refuse_unsound(alloc, &config, output) {
+        Ok(()) => Ok(config),
+        Err(fault) => Err(fault),
+    }
+}
+
+/// The text of what was read, or nothing.
+fn octets_or(text: &Result<Vec<u8>, Fault>) -> &[u8]
+    ensures { result.now ≡ octets_or (result_map (λ octets. octets.items) text.now) }
+{
+    match text {
+        Ok(octets) => octets.as_slice(),
+        Err(_) => b"",
+    }
+}
+
+/// Asks the gateway that runs under the configuration of a text that was read to read it again, if its assertions hold; after what
+/// that changes of the configuration in another file was shown, if one is named.
+fn reload_of<F: ConfigFiles, M: Machine, W: Write + Drop, E: OctetSink>(
+    alloc: Global,
+    files: &F,
+    text: &Result<Vec<u8>, Fault>,
+    asking: &AskedReload<'_>,
+    machine: &M,
+    output: &mut BufWriter<W>,
+    errors: &mut E,
+) -> Result<(), Fault>
+    ensures reloaded { (said : List ℕ) × LeavesReloadOf (F.Reads files.now) (answers_by (M.Asks machine.now) M.Answers)
+        asking.now.request.now (result_map (λ octets. octets.items) text.now) asking.now.was.now
+        (writer_contents W.contents output.old) (writer_contents W.contents output.new) said result
+        × (E.NeverFails errors.old → Appends (E.held errors.old) (E.held errors.new) said) }
+    ensures lasts { E.NeverFails errors.old → E.NeverFails errors.new }
+    ensures flush { OnOk result (writer_buffer output.new ≡ []) }
+{
+    let read = configuration_of(alloc, text);
+    let new = sound_of(alloc, read, output);
+    let asked = Reloading {
+        request: asking.request,
+        text: octets_or(text),
+    };
+    match asking.was {
+        Some(shown) => {
+            let old = configuration_in(alloc, files, &shown.old);
+            let both = Both { old, new };
+            reload_shown(alloc, both, &asked, shown.most, machine, output, errors)
+        }
+        None => reload(alloc, new, &asked, machine, output),
+    }
+}
+
 /// What `reload` is asked for: the files of the configuration and of the request, and what is compared first.
 #[derive(Drop)]
-pub struct Asking<'a> {
+pub struct AskedReload<'a> {
     pub config: &'a str,
     pub request: &'a str,
     pub was: &'a Option<Shown>,
 }
 
-/// Asks the gateway that runs under the configuration of a file to read it again.
+/// Asks the gateway that runs under the configuration of a file to read it again, if its assertions hold.
 pub fn reload_in<F: ConfigFiles, M: Machine, W: Write + Drop, E: OctetSink>(
     alloc: Global,
     files: &F,
-    asking: &Asking<'_>,
+    asking: &AskedReload<'_>,
     machine: &M,
     output: &mut BufWriter<W>,
     errors: &mut E,
@@ -185,13 +338,6 @@ pub fn reload_in<F: ConfigFiles, M: Machine, W: Write + Drop, E: OctetSink>(
     ensures lasts { E.NeverFails errors.old → E.NeverFails errors.new }
     ensures flush { OnOk result (writer_buffer output.new ≡ []) }
 {
-    let new = configuration_in(alloc, files, asking.config);
-    match asking.was {
-        Some(shown) => {
-            let old = configuration_in(alloc, files, &shown.old);
-            let both = Both { old, new };
-            reload_shown(alloc, both, asking, shown.most, machine, output, errors)
-        }
-        None => reload(alloc, new, asking.request, machine, output),
-    }
+    let text = files.read(alloc, asking.config);
+    reload_of(alloc, files, &text, asking, machine, output, errors)
 }

@@ -1,5 +1,5 @@
 -- The configuration that a command runs under, and what `check` says of one.
-use Rattle.std.specs.Prelude.{◌≡◌, ◌≢◌, ◌⊎◌, ⊤, ℕ, Bool, true, IsTrue, List, [], ◌∷◌, ◌++◌, length, Option, Some, None, Result, Ok, Err, codes, decimal}
+use Rattle.std.specs.Prelude.{◌≡◌, ◌≢◌, ◌⊎◌, ⊤, ℕ, ◌==◌, if◌then◌else◌, Bool, true, IsTrue, List, [], ◌∷◌, ◌++◌, length, Option, Some, None, Result, Ok, Err, codes, decimal}
 use Rattle.std.specs.List.{list_all}
 use Rattle.gw_policy_text.specs.faults.Explanation.{ExplainsText}
 use Rattle.gw_configuration.specs.Configuration.{Configuration}
@@ -25,11 +25,15 @@ abbrev pub IsConfigured : (Reads : List ℕ → Result (List ℕ) Fault → Type
 IsConfigured Reads None c = IsConfigurationOf (Ok SETTING.now) c
 IsConfigured Reads (Some name) c = (text : Result (List ℕ) Fault) × Reads name text × IsConfigurationOf text c
 
--- what `check` prints of a configuration
+-- how many assertions there are, if there are any
+abbrev pub asserts_text : ℕ → List ℕ
+asserts_text count = if count == 0 then [] else codes " " ++ decimal count ++ codes " asserts"
+
+-- what `check` prints of a configuration whose assertions hold: its rules are counted as they are written
 abbrev pub summary : Configuration → List ℕ
 summary c =
     codes "ok " ++ decimal (length c.ports) ++ codes " ports " ++ decimal (length c.objects) ++ codes " objects "
-    ++ decimal (length c.rules) ++ codes " rules\n"
+    ++ decimal c.written ++ codes " rules" ++ asserts_text (length c.assertions) ++ codes "\n"
 
 -- the line that explains this fault of a text, with no control character but its line feed
 pub record IsExplainedBy (text : List ℕ) (f : ConfigFault) (note : List ℕ) : Type 0 where

@@ -1,5 +1,5 @@
 -- What printing leaves of a text, and what is left of a fault.
-use Rattle.std.specs.Prelude.{◌≡◌, true, ℕ, List, ◌++◌, Option, Result, Ok, Err}
+use Rattle.std.specs.Prelude.{◌≡◌, ◌⊎◌, true, ℕ, List, ◌++◌, Option, Result, Ok, Err}
 use Rattle.std.specs.Io.KnownBytes.{Appends}
 use Rattle.gw_ending.specs.declared.fault.Fault.{Fault}
 use Rattle.gw_ending.specs.declared.fault.Fault.TheVariants as fault
@@ -21,3 +21,9 @@ abbrev pub LeavesPrinted : Result (List ℕ) Fault → Option (List ℕ) → Opt
 LeavesPrinted (Ok text) held holds (Ok done) = Appends held holds text
 LeavesPrinted (Ok text) held holds (Err f) = (f ≡ fault.Write) × AppendsFront held holds text
 LeavesPrinted (Err f) held holds outcome = (outcome ≡ Err f) × (holds ≡ held)
+
+-- What printing leaves of a text after which a command ends so; a failed write may leave a front of it.
+abbrev pub LeavesEnding : (text : List ℕ) → (ends : Result (Unit {0}) Fault) → Option (List ℕ) → Option (List ℕ)
+    → Result (Unit {0}) Fault → Type 0
+LeavesEnding text ends held holds outcome =
+    ((outcome ≡ ends) × Appends held holds text) ⊎ ((outcome ≡ Err fault.Write) × AppendsFront held holds text)

@@ -1,7 +1,7 @@
 //! The configuration that a command runs under, and what `check` says of one.
 
-ghost use Rattle.std.specs.Prelude.{◌≡◌, Some, option_map, string_bytes, IfOk};
-ghost use Rattle.gw_ending.specs.reading.Configured.{IsConfigurationOf, IsConfigured, summary};
+ghost use Rattle.std.specs.Prelude.{◌≡◌, ◌++◌, Some, option_map, string_bytes, IfOk, OnOk};
+ghost use Rattle.gw_ending.specs.reading.Configured.{IsConfigurationOf, IsConfigured, asserts_text, summary};
 ghost use Rattle.gw_ending.specs.reading.Files.{result_map};
 
 use crate::Fault;
@@ -49,8 +49,20 @@ pub fn configuration<F: ConfigFiles>(
     }
 }
 
-/// What `check` prints of a configuration: `ok <n> ports <n> objects <n> rules` and a line feed. An
-/// `Err` only where a growth of memory was refused.
+/// Appends how many assertions there are, if there are any.
+fn put_asserts(count: usize, text: &mut String) -> Result<(), AllocError>
+    ensures { OnOk result (string_bytes text.new ≡ string_bytes text.old ++ asserts_text count) }
+{
+    if count == 0 {
+        return Ok(());
+    }
+    text.push_str(" ")?;
+    text.push_str(Buffer::new().format(count))?;
+    text.push_str(" asserts")
+}
+
+/// What `check` prints of a configuration whose assertions hold: `ok <n> ports <n> objects <n> rules`, where there are any also
+/// ` <n> asserts`, and a line feed. Rules are counted as they are written. An `Err` only where a growth of memory was refused.
 pub fn summary(alloc: Global, config: &Config) -> Result<String, AllocError>
     ensures { IfOk result (λ text. string_bytes text ≡ summary config.now) }
 {
@@ -60,7 +72,9 @@ pub fn summary(alloc: Global, config: &Config) -> Result<String, AllocError>
     text.push_str(" ports ")?;
     text.push_str(Buffer::new().format(config.objects().len()))?;
     text.push_str(" objects ")?;
-    text.push_str(Buffer::new().format(config.rules().rules().len()))?;
-    text.push_str(" rules\n")?;
+    text.push_str(Buffer::new().format(config.written_rules()))?;
+    text.push_str(" rules")?;
+    put_asserts(config.assertions().len(), &mut text)?;
+    text.push_str("\n")?;
     Ok(text)
 }

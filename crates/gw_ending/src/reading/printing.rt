@@ -6,7 +6,7 @@ ghost use Rattle.std.specs.Io.KnownBytes.{Appends};
 ghost use Rattle.gw_ending.specs.declared.fault.Fault.TheVariants as fault;
 ghost use Rattle.gw_ending.specs.reading.Configured.{FaultNote, IsExplainedBy};
 ghost use Rattle.gw_ending.specs.reading.Files.{result_map};
-ghost use Rattle.gw_ending.specs.reading.Printing.{AppendsFront, LeavesPrinted};
+ghost use Rattle.gw_ending.specs.reading.Printing.{AppendsFront, LeavesEnding, LeavesPrinted};
 
 use crate::Fault;
 use gw_configuration::ConfigFault;
@@ -46,6 +46,22 @@ pub fn print<W: Write + Drop>(text: &[u8], output: &mut BufWriter<W>) -> Result<
     match output.flush() {
         Ok(()) => Ok(()),
         Err(_) => Err(Fault::Write),
+    }
+}
+
+/// Prints a text after which the command ends so. `Write` if a write or the flush fails; then a front of the text is written.
+pub fn print_ending<W: Write + Drop>(
+    text: &[u8],
+    ends: Result<(), Fault>,
+    output: &mut BufWriter<W>,
+) -> Result<(), Fault>
+    ensures output { LeavesEnding text.now ends
+        (writer_contents W.contents output.old) (writer_contents W.contents output.new) result }
+    ensures flush { OnOk result (writer_buffer output.new ≡ []) }
+{
+    match print(text, output) {
+        Ok(()) => ends,
+        Err(fault) => Err(fault),
     }
 }
 

@@ -8,7 +8,7 @@ use Rattle.gw_tools.specs.Reloading.{answers_by}
 use Rattle.gw_ending.specs.reading.Files.{result_map}
 use Rattle.gw_tool_line.specs.declared.command_line.Choice.TheVariants as choice
 use Rattle.gw_tools.specs.Objects.{LeavesJudgedIn}
-use Rattle.gw_tools.specs.Program.{LeavesAnsweredIn, LeavesReloadIn, LeavesReportIn, LeavesStateIn, LeavesSuggestedIn}
+use Rattle.gw_tools.specs.Program.{LeavesAnsweredIn, LeavesReloadIn, LeavesReportIn, LeavesStateIn, LeavesStopped, LeavesSuggestedIn}
 use Rattle.gw_tools.specs.declared.asking.Answering.{Answering}
 use Rattle.gw_policy_drafts.specs.declared.suggestion.suggestion.Manner.{Manner}
 use Rattle.gw_tools.specs.Questioning.{LeavesQuestionIn, asked_text}
@@ -140,6 +140,16 @@ returns-in-Ok-Points-clause-followed g c =
     followed _ _ c.args.choice.now (Ok chosen) c.print_points.result is refl (config, configured, c.print_points.ensures.output)
     (λ never. appends_nothing (g.E.OctetSink.held c.args.errors.now))
 
+pub returns-in-Ok-Rules-clause-followed : goal.returns-in-Ok-Rules-clause-followed
+returns-in-Ok-Rules-clause-followed g c =
+    let chosen = choice.Rules c.in-Ok-Rules.file in
+    let is : c.args.choice.now ≡ Ok chosen = search rules in
+    let config = c.configuration_in-config-in-Ok-Rules.result in
+    let configured = subst (λ (name : List ℕ). IsConfigured (g.F.ConfigFiles.Reads c.args.files.now) (Some name) config)
+    c.deref-in-Ok-Rules.ensures c.configuration_in-config-in-Ok-Rules.ensures in
+    followed _ _ c.args.choice.now (Ok chosen) c.print_rules.result is refl (config, configured, c.print_rules.ensures.output)
+    (λ never. appends_nothing (g.E.OctetSink.held c.args.errors.now))
+
 pub returns-in-Ok-Compare-clause-followed : goal.returns-in-Ok-Compare-clause-followed
 returns-in-Ok-Compare-clause-followed g c =
     let chosen = choice.Compare c.in-Ok-Compare.old c.in-Ok-Compare.new c.in-Ok-Compare.most c.in-Ok-Compare.steps in
@@ -167,6 +177,17 @@ returns-in-Ok-Reload-clause-followed g c =
     (answers_by (g.M.Machine.Asks c.args.machine.now) g.M.Machine.Answers) (string_bytes c.in-Ok-Reload.config) name c.in-Ok-Reload.was held holds done.0
     c.reload_in.result) c.deref-in-Ok-Reload-2.ensures named in
     reported _ _ c.args.choice.now (Ok chosen) c.reload_in.result done.0 is tt both done.2
+
+pub returns-in-Ok-Stop-clause-followed : goal.returns-in-Ok-Stop-clause-followed
+returns-in-Ok-Stop-clause-followed g c =
+    let chosen = choice.Stop c.in-Ok-Stop.request c.in-Ok-Stop.waits in
+    let is : c.args.choice.now ≡ Ok chosen = search rules in
+    let held = writer_contents g.W.Write.contents c.args.output.now in
+    let holds = writer_contents g.W.Write.contents c.stop.new.output in
+    let named = subst (λ (name : List ℕ). LeavesStopped (answers_by (g.M.Machine.Asks c.args.machine.now) g.M.Machine.Answers) name held holds
+    c.stop.result) c.deref-in-Ok-Stop.ensures c.stop.ensures.output in
+    followed _ _ c.args.choice.now (Ok chosen) c.stop.result is refl named
+    (λ never. appends_nothing (g.E.OctetSink.held c.args.errors.now))
 
 pub returns-in-Ok-Ask-clause-followed : goal.returns-in-Ok-Ask-clause-followed
 returns-in-Ok-Ask-clause-followed g c =

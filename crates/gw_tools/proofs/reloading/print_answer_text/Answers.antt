@@ -1,8 +1,11 @@
-use Rattle.std.proofs.Common.{Err, ap, inl, inr}
+use Rattle.std.proofs.Common.{Result, subst}
+use Rattle.std.specs.Io.Buffered.{writer_contents}
+use Rattle.gw_ending.specs.declared.fault.Fault.{Fault}
+use Rattle.gw_ending.specs.reading.Printing.{LeavesEnding}
 use Rattle.gw_tools.proofs.reloading.print_answer_text.Goals as goal
 
-pub returns-in-Ok-clause-output : goal.returns-in-Ok-clause-output
-returns-in-Ok-clause-output g c = inl (c.outcome_of.ensures, c.in-Ok.ensures.ok)
-
-pub returns-in-Err-clause-output : goal.returns-in-Err-clause-output
-returns-in-Err-clause-output g c = inr (ap Err c.in-Err.ensures.fault, c.in-Err.ensures.front)
+pub returns-clause-output : goal.returns-clause-output
+returns-clause-output g c =
+    let contents = writer_contents g.W.Write.contents in
+    subst (λ (ends : Result (Unit {0}) Fault). LeavesEnding c.args.answer.now ends (contents c.args.output.now)
+    (contents c.print_ending.new.output) c.print_ending.result) c.outcome_of.ensures c.print_ending.ensures.output
