@@ -289,6 +289,9 @@ refused_why "$moment" log --start now
 value=N most=9223372036854775807
 none compare --config a --with b --most 0
 none reload --config a --reload b --was c --most 0
+refused stop
+refused stop --config a --reload b
+refused rules
 refused report --log a
 refused help --help
 refused why --version
@@ -324,6 +327,8 @@ helped compare --help
 helped state --help
 helped suggest --help
 helped reload --help
+helped stop --help
+helped rules --help
 helped report --help
 helped objects --help
 
@@ -448,6 +453,16 @@ if "$program" run --help | grep -q -e --reload; then
     same 'a gateway stops' "$? $(cat "$work/request.answer")" '0 stopped'
     same 'a request to stop is taken away' "$(ls "$work/request" 2> /dev/null)" ''
     same 'the state of a gateway that stopped' "$(sed -n 's/^counts [0-9]* \([0-9]*\) .*/\1/p' "$work/stopped.state")" 1
+    rm -f "$work/stopped.state" "$work/request.answer"
+    timeout 20 "$program" run --config "$work/served.toml" --state "$work/stopped.state" --reload "$work/request" < /dev/null > "$work/out" 2> "$work/err" &
+    server=$!
+    sleep 1
+    "$tool" stop --reload "$work/request" < /dev/null > "$work/told" 2>&1
+    same 'bacgwctl stop' "$? $(cat "$work/told")" '0 stopped'
+    wait "$server"
+    same 'the gateway that it stopped' "$? $(ls "$work/request" "$work/request.answer" 2> /dev/null)" '0 '
+    "$tool" stop --reload "$work/request" < /dev/null > "$work/told" 2>&1
+    same 'bacgwctl stop where none runs' "$? $(cat "$work/told") $(ls "$work/request" 2> /dev/null)" '1 bacgwctl: no answer '
     printf 'halt\n' > "$work/request"
     timeout 5 "$program" run --config "$work/served.toml" --reload "$work/request" < /dev/null > "$work/out" 2> "$work/err"
     same 'what is no request stays, and is told of once' "$(cat "$work/request" "$work/err")" \

@@ -14,7 +14,7 @@ _bacgwctl() {
         return
     fi
     if [ "$COMP_CWORD" = 1 ]; then
-        options='check explain lint migrate why compare log state reload suggest report objects ask help --help --version'
+        options='check explain lint migrate rules why compare log state reload stop suggest report objects ask help --help --version'
     else
         case $before in
             --config | --with | --log | --state | --reload | --was) compopt -o default; return ;;
@@ -24,10 +24,11 @@ _bacgwctl() {
         case ${COMP_WORDS[1]} in
             check) options='--config --json --help' ;;
             explain) options='--config --lint --help' ;;
-            lint | migrate) options='--config --help' ;;
+            lint | migrate | rules) options='--config --help' ;;
             why) options='--config --count --json --strict --help' ;;
             state) options='--config --state --help' ;;
             reload) options='--config --reload --was --most --help' ;;
+            stop) options='--reload --wait --help' ;;
             suggest) options='--config --fill --exact --help' ;;
             compare) options='--config --with --most --steps --json --help' ;;
             report) options='--config --log --help' ;;
@@ -37,7 +38,7 @@ _bacgwctl() {
                 ;;
             objects) options='--config --csv --help' ;;
             ask) options='--config --from --to --read --write --priority --help' ;;
-            help) options='check explain lint migrate why compare log state reload suggest report objects ask' ;;
+            help) options='check explain lint migrate rules why compare log state reload stop suggest report objects ask' ;;
             *) return ;;
         esac
     fi

@@ -1,16 +1,18 @@
 # Completions of bacgwctl for fish.
-set -l commands check explain lint migrate why compare log state reload suggest report objects ask help
+set -l commands check explain lint migrate rules why compare log state reload stop suggest report objects ask help
 
 complete -c bacgwctl -f
 complete -c bacgwctl -n "not __fish_seen_subcommand_from $commands" -a check -d 'Says what a configuration has, or its first fault'
 complete -c bacgwctl -n "not __fish_seen_subcommand_from $commands" -a explain -d 'Says who may do what, what is hidden, and warnings'
 complete -c bacgwctl -n "not __fish_seen_subcommand_from $commands" -a lint -d 'Says which rules never decide'
 complete -c bacgwctl -n "not __fish_seen_subcommand_from $commands" -a migrate -d 'Prints a configuration in format 3'
+complete -c bacgwctl -n "not __fish_seen_subcommand_from $commands" -a rules -d 'Prints the rules as they are in force'
 complete -c bacgwctl -n "not __fish_seen_subcommand_from $commands" -a why -d 'Says which rule decides each ask of standard input'
 complete -c bacgwctl -n "not __fish_seen_subcommand_from $commands" -a compare -d 'Says which asks the rules of two configurations decide otherwise'
 complete -c bacgwctl -n "not __fish_seen_subcommand_from $commands" -a log -d 'Says each line of a log in words'
 complete -c bacgwctl -n "not __fish_seen_subcommand_from $commands" -a state -d 'Says what a kept state holds'
 complete -c bacgwctl -n "not __fish_seen_subcommand_from $commands" -a reload -d 'Asks a running gateway to read its configuration again'
+complete -c bacgwctl -n "not __fish_seen_subcommand_from $commands" -a stop -d 'Asks a running gateway to keep its state and stop'
 complete -c bacgwctl -n "not __fish_seen_subcommand_from $commands" -a suggest -d 'Writes rules that allow the asks of standard input'
 complete -c bacgwctl -n "not __fish_seen_subcommand_from $commands" -a report -d 'Writes a page of HTML on a configuration and a log'
 complete -c bacgwctl -n "not __fish_seen_subcommand_from $commands" -a objects -d 'Lists the objects of a configuration'
@@ -18,11 +20,12 @@ complete -c bacgwctl -n "not __fish_seen_subcommand_from $commands" -a ask -d 'S
 complete -c bacgwctl -n "not __fish_seen_subcommand_from $commands" -a help -d 'Prints help'
 complete -c bacgwctl -n "not __fish_seen_subcommand_from $commands" -l version -d 'Prints the version'
 complete -c bacgwctl -l help -d 'Prints help'
-complete -c bacgwctl -n '__fish_seen_subcommand_from check explain lint migrate why compare state reload suggest report objects ask' -l config -r -F -d 'The configuration, in TOML'
+complete -c bacgwctl -n '__fish_seen_subcommand_from check explain lint migrate rules why compare state reload suggest report objects ask' -l config -r -F -d 'The configuration, in TOML'
 complete -c bacgwctl -n '__fish_seen_subcommand_from explain' -l lint -d 'Also prints which rules never decide'
 complete -c bacgwctl -n '__fish_seen_subcommand_from report' -l log -r -F -d 'The log whose denials are shown'
 complete -c bacgwctl -n '__fish_seen_subcommand_from state' -l state -r -F -d 'The file in which run keeps the state'
-complete -c bacgwctl -n '__fish_seen_subcommand_from reload' -l reload -r -F -d 'The file that asks to read the configuration again'
+complete -c bacgwctl -n '__fish_seen_subcommand_from reload stop' -l reload -r -F -d 'The file that run --reload looks for'
+complete -c bacgwctl -n '__fish_seen_subcommand_from stop' -l wait -d 'Waits up to 4 minutes for the answer'
 complete -c bacgwctl -n '__fish_seen_subcommand_from why' -l count -d 'Counts the asks that each rule decides'
 complete -c bacgwctl -n '__fish_seen_subcommand_from why' -l strict -d 'Ends at a line that isn\'t an ask alone'
 complete -c bacgwctl -n '__fish_seen_subcommand_from log why' -l json -d 'Makes each line a JSON object'
@@ -41,4 +44,4 @@ complete -c bacgwctl -n '__fish_seen_subcommand_from ask' -l write -x -d 'What i
 complete -c bacgwctl -n '__fish_seen_subcommand_from ask' -l priority -x -d 'The priority of a write'
 complete -c bacgwctl -n '__fish_seen_subcommand_from log' -F
 complete -c bacgwctl -n '__fish_seen_subcommand_from log' -l start -x -d 'Also shows when each denial was, if the log began then'
-complete -c bacgwctl -n '__fish_seen_subcommand_from help' -a 'check explain lint migrate why compare log state reload suggest report objects ask'
+complete -c bacgwctl -n '__fish_seen_subcommand_from help' -a 'check explain lint migrate rules why compare log state reload stop suggest report objects ask'

@@ -158,4 +158,11 @@ so "and has its sockets" begun
 so "and the value that was written" panel read active
 so "systemd stops it" inside systemctl stop bacgw
 so "and it is off" fails active
+so "it was asked to, and kept its state" said 'stopped'
+so "it is started once more" inside systemctl start bacgw
+so "and has its sockets" begun
+so "and the value that was written" panel read active
+so "killed by hand, it has nobody to ask" inside systemctl kill --signal=KILL bacgw
+so "and is started again" sleep 7
+so "and has its sockets" begun
 exit "$wrong"

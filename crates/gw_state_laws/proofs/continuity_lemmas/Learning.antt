@@ -58,7 +58,7 @@ of_managed ports rules format on from frame = by (link_grants rules format on fr
     by false = λ port next networks e. absurd cc
 
 of_received : (ports : ℕ) (rules : List Rule) (relay : Relay) (device : ℕ) (received : Received)
-    → Heard relay.ports device (IsOneOf ports) received → Learns ports (relay_change_for rules relay received)
+    → Heard relay.ports device (λ state. IsOneOf ports state.port) received → Learns ports (relay_change_for rules relay received)
 of_received ports rules relay device dropped heard = λ port next networks e. absurd cc
 of_received ports rules relay device (managed on from frame) heard = of_managed ports rules relay.format on from frame
 of_received ports rules relay device (unregistered m) heard = λ port next networks e. absurd cc
@@ -91,5 +91,5 @@ unfolding move_at
 table_stays ports direct configured w (Datagram port from octets) each is =
     changed_stays ports direct configured (relay_change_for w.rules w.relay (receive w (Datagram port from octets))) w.relay
     (of_received ports w.rules w.relay (device_network w.device) (receive w (Datagram port from octets))
-    (heard_at w (IsOneOf ports) (Datagram port from octets) each)) is
+    (heard_at w (λ state. IsOneOf ports state.port) (Datagram port from octets) each)) is
 table_stays ports direct configured w Tick each is = is
