@@ -5,7 +5,8 @@ use Rattle.std.specs.Fmt.{decimal}
 use Rattle.std.specs.List.{flat_map}
 use Rattle.gw_addr.specs.declared.station.Source.{Source}
 use Rattle.gw_rules.specs.Ask.{Ask}
-use Rattle.gw_rules.specs.RuleList.{allows, first}
+use Rattle.gw_rules.specs.Rule.{quiet_mark}
+use Rattle.gw_rules.specs.RuleList.{allows, first, is_quiet_by}
 use Rattle.gw_rules.specs.declared.rule.Rule.{Rule}
 use Rattle.gw_audit.specs.Line.{ask_text}
 use Rattle.gw_script.specs.Event.{Event}
@@ -29,9 +30,11 @@ judged_text rules is_allowed by = (if is_allowed then codes "allow" else codes "
 abbrev pub verdict_text : List Rule → Ask → List ℕ
 verdict_text rules ask = judged_text rules (allows rules ask) (first rules ask)
 
--- the line of one ask: `ask `, what was asked as a line of the log shows it, and the verdict
+-- the line of one ask: `ask `, what was asked as a line of the log shows it, the verdict, and ` (quiet)` where the rule
+-- is quiet, so that the log has no such denial
 abbrev pub ask_line : List Rule → Source → Ask → List ℕ
-ask_line rules source ask = codes "ask " ++ ask_text source ask ++ codes " " ++ verdict_text rules ask ++ 10 ∷ []
+ask_line rules source ask =
+    codes "ask " ++ ask_text source ask ++ codes " " ++ verdict_text rules ask ++ quiet_mark (is_quiet_by rules (first rules ask)) ++ 10 ∷ []
 
 -- a line for each ask of a datagram that claims to come from there
 abbrev pub ask_lines : List Rule → Option Origin → List Ask → List ℕ
@@ -41,7 +44,8 @@ ask_lines rules (Some from) asks = flat_map (λ ask. ask_line rules (source_of f
 -- the line of an ask with its verdict, and of each of several: those of an event's asks (`asked_at`) are its text
 abbrev pub asked_line : List Rule → Asked → List ℕ
 asked_line rules a =
-    codes "ask " ++ ask_text a.source a.verdict.ask ++ codes " " ++ judged_text rules a.verdict.is_allowed a.verdict.by ++ 10 ∷ []
+    codes "ask " ++ ask_text a.source a.verdict.ask ++ codes " " ++ judged_text rules a.verdict.is_allowed a.verdict.by
+    ++ quiet_mark a.verdict.is_quiet ++ 10 ∷ []
 
 abbrev pub asked_lines : List Rule → List Asked → List ℕ
 asked_lines rules asked = flat_map (asked_line rules) asked

@@ -8,7 +8,7 @@ use crate::asked::Asked;
 use crate::denial::name_at;
 use gw_addr::{put_decimal, put_octet, put_slice};
 use gw_audit::put_ask;
-use gw_rules::{Ask, RuleList};
+use gw_rules::{Ask, RuleList, quiet_mark};
 use std::alloc::AllocError;
 
 /// Appends by which rule the policy decides: its number and its name, or that none matches.
@@ -57,11 +57,13 @@ fn put_line(out: &mut Vec<u8>, rules: &RuleList, asked: &Asked) -> Result<(), Al
     put_ask(out, &asked.source, &asked.verdict.ask)?;
     put_octet(out, b' ')?;
     put_judged(out, rules, asked.verdict.is_allowed, asked.verdict.by)?;
+    put_slice(out, quiet_mark(asked.verdict.is_quiet).as_bytes())?;
     put_octet(out, b'\n')
 }
 
 /// Appends a line for each ask of an event, allowed or denied, in their order, with the rule that decides it. If there is
-/// none it takes no memory. If a growth was refused, a part of the lines may be there.
+/// none it takes no memory. ` (quiet)` follows the name of a quiet rule. If a growth was refused, a part of the lines may
+/// be there.
 pub fn append_asked(out: &mut Vec<u8>, rules: &RuleList, asked: &[Asked]) -> Result<(), AllocError>
     ensures ok { OnOk result (out.new.items ≡ out.old.items ++ asked_lines rules.now asked.now) }
     ensures silent { asked.now ≡ [] → IsOk result }

@@ -8,4 +8,4 @@ mod text;
 
 pub use counting::count_asks;
 pub use tally::Tally;
-pub use text::{put_tally, quiet_mark};
+pub use text::put_tally;

@@ -7,8 +7,8 @@ ghost use Rattle.gw_notices.specs.Watch.{asks_text, audit_text, beside_text, cou
 ghost use Rattle.gw_decisions.specs.tally.Tally.{line_in, rule_line};
 
 use crate::stats::write_count;
-use gw_decisions::tally::{Tally, quiet_mark};
-use gw_rules::{Rule, RuleList};
+use gw_decisions::tally::Tally;
+use gw_rules::{Rule, RuleList, quiet_mark};
 use gw_script::{OctetSink, WriteFailed, write_whole};
 
 /// What is counted of a log beside the log.
@@ -99,7 +99,7 @@ fn write_rule<E: OctetSink>(
     write_count("rule ", number, errors)?;
     write_whole(errors, b" ")?;
     write_whole(errors, rule.name.as_str().as_bytes())?;
-    write_whole(errors, quiet_mark(rule).as_bytes())?;
+    write_whole(errors, quiet_mark(rule.quiet).as_bytes())?;
     write_count(": ", count, errors)?;
     write_whole(errors, b"\n")
 }

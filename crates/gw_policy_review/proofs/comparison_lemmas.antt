@@ -1,6 +1,7 @@
 pub mod Appending
 pub mod AskLaw
 pub mod GroupLaw
+pub mod LoggedLaw
 pub mod OneGroup
 pub mod PartsLaw
 pub mod PortionLaw

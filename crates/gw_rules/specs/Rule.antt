@@ -1,5 +1,5 @@
 -- What a rule says of each field, when it matches an ask, and the limits that it keeps.
-use Rattle.std.specs.Prelude.{ℕ, ◌≤◌, ◌<◌, Bool, false, List, [], ◌∷◌, ◌++◌, length, nat_le, All, Any}
+use Rattle.std.specs.Prelude.{ℕ, ◌≤◌, ◌<◌, Bool, false, if◌then◌else◌, List, [], ◌∷◌, ◌++◌, length, nat_le, codes, All, Any}
 use Rattle.std.specs.List.{list_all}
 use Rattle.std.specs.Option.{IsSomeAnd}
 use Rattle.gw_rules.specs.Ask.{Ask}
@@ -23,6 +23,10 @@ rule_without_fields name allow = record { name = name; allow = allow; quiet = fa
 abbrev pub with_range : FieldName → Range → Rule → Rule
 with_range field range rule =
     record rule { ranges = with_value field (ranges_of field rule ++ range ∷ []) rule.ranges }
+
+-- what follows the name of a rule that is quiet, so that a reader knows why the log lacks what it denies
+abbrev pub quiet_mark : Bool → List ℕ
+quiet_mark is_quiet = if is_quiet then codes " (quiet)" else []
 
 -- each of the twelve fields passes the test
 abbrev pub each_field : (FieldName → Bool) → Bool

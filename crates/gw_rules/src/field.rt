@@ -82,8 +82,8 @@ impl FieldName {
     /// The least and the greatest number that the field can have in a policy of this format: 1 to 11 of an
     /// operation, and to 13 in format 3; 1 to 8 of a port; 1 to 65534 of a network (clause 6), and in format
     /// 3 to 65535 of a destination, which is then all networks; 48 bits of a sender (Annex J.1.2), and so of a
-    /// source key and a station, which in format 3 have 59; 0 to 1031 of a service; 10 bits of an object's type and 22 of its instance
-    /// (clause 20.2.14); 22 bits of a property (clause 21); 1 to 16 of a priority (clause 19.2).
+    /// source key and a station, which in format 3 have 59; 0 to 1031 of a service; 10 bits of an object's type and 22
+    /// of its instance (clause 20.2.14); 22 bits of a property (clause 21); 1 to 16 of a priority (clause 19.2).
     pub fn bounds(self, format: Format) -> Range
         ensures { result ≡ bounds format self }
     {

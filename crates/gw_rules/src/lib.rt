@@ -43,7 +43,7 @@ pub use range::Range;
 pub use ranges::{Ranges, admit};
 pub use recorder::Recorder;
 pub use refusal::{Refusal, Refusals};
-pub use rule::{MAX_LONG_RANGES, MAX_RANGES, Rule};
+pub use rule::{MAX_LONG_RANGES, MAX_RANGES, Rule, quiet_mark};
 pub use rule_list::{MAX_RANGES_IN_ALL, MAX_RULES, RuleList};
 pub use service::Service;
 pub use verdict::{Verdict, Verdicts};

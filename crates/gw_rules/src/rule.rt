@@ -4,7 +4,7 @@ ghost use Rattle.gw_rules.specs.Bounds.{are_bounded};
 ghost use Rattle.gw_rules.specs.Hides.{may_match, may_match_some, must_match, must_match_all, names_no_other, settles};
 ghost use Rattle.gw_rules.specs.Name.{is_name};
 ghost use Rattle.gw_rules.specs.Fields.{in_each, value_of, with_value};
-ghost use Rattle.gw_rules.specs.Rule.{has_few_ranges, has_long_ranges, has_ordered_ranges, matches, ranges_of, rule_without_fields, with_range};
+ghost use Rattle.gw_rules.specs.Rule.{has_few_ranges, has_long_ranges, has_ordered_ranges, matches, quiet_mark, ranges_of, rule_without_fields, with_range};
 
 use crate::ranges::{admit, are_ordered, are_within};
 use crate::{Ask, FieldName, Fields, Format, Range, Ranges, RuleFault, RuleName};
@@ -16,6 +16,14 @@ pub const MAX_RANGES: usize = 4;
 
 /// How many it may have in one that [`RuleList::new_long`](crate::RuleList::new_long) makes.
 pub const MAX_LONG_RANGES: usize = 256;
+
+/// What follows the name of a rule that is quiet, where rules are listed with what they decide; nothing follows that of
+/// another one.
+pub fn quiet_mark(is_quiet: bool) -> &'static str
+    ensures { result.now ≡ quiet_mark is_quiet }
+{
+    if is_quiet { " (quiet)" } else { "" }
+}
 
 /// A rule. It matches an ask if, for every field that the rule names, the ask has that field and
 /// one of the rule's ranges holds the value. A field with no range isn't named.

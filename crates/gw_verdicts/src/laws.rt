@@ -69,7 +69,7 @@ pub fn comparisons()
 
 /// If `bacgwctl compare` says that no ask is decided otherwise, or that other parts alone differ, then a gateway of the old
 /// configuration sends under the new rules what it sends under its own, whatever comes, one event after the other; and if
-/// neither has a quiet rule, it does the same in all.
+/// neither has a quiet rule, or no other part differs either, it does the same in all.
 pub fn runs()
     ensures { AlikeRunsAlike }
 {}

@@ -2,6 +2,7 @@
 use Rattle.std.specs.Prelude.{◌≡◌, ℕ, ◌+◌, ◌-◌, ◌^◌, ◌<◌, ◌==◌, false, min, if◌then◌else◌, List, [], ◌∷◌, ◌++◌, length, count_by, slice_index, cond, codes, decimal, Option}
 use Rattle.std.specs.Option.{option_map_or}
 use Rattle.gw_rules.specs.Ask.{Ask}
+use Rattle.gw_rules.specs.Rule.{quiet_mark}
 use Rattle.gw_rules.specs.RuleList.{first}
 use Rattle.gw_rules.specs.declared.rule.Rule.{Rule}
 use Rattle.gw_script.specs.Order.{in_order}
@@ -38,13 +39,9 @@ pub record CountsOne (at : ℕ) (before after : List ℕ) : Type 0 where
   pub each : (k : ℕ) → k < length before
       → slice_index after k ≡ (if at == k then one_more (slice_index before k) else slice_index before k)
 
--- what stands behind the name of a rule that is quiet: the log leaves out what it denies
-abbrev pub quiet_mark : Rule → List ℕ
-quiet_mark rule = if rule.quiet then codes " (quiet)" else []
-
 -- a rule by its number and its name
 abbrev pub rule_text : ℕ → Rule → List ℕ
-rule_text number rule = codes "rule " ++ decimal number ++ codes " " ++ rule.name ++ quiet_mark rule
+rule_text number rule = codes "rule " ++ decimal number ++ codes " " ++ rule.name ++ quiet_mark rule.quiet
 
 -- the line of a rule: `rule 3 all: 1201`, or `rule 2 hush (quiet): 17`
 abbrev pub rule_line : ℕ → Rule → ℕ → List ℕ

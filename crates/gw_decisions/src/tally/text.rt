@@ -3,11 +3,11 @@
 ghost use Rattle.std.specs.Prelude.{◌≡◌, ◌++◌, ◌+◌, length, OnOk};
 ghost use Rattle.gw_addr.specs.Appending.{IsAppended};
 ghost use Rattle.gw_script.specs.Order.{in_order};
-ghost use Rattle.gw_decisions.specs.tally.Tally.{line_in, quiet_mark, rule_line, rule_text, tally_text};
+ghost use Rattle.gw_decisions.specs.tally.Tally.{line_in, rule_line, rule_text, tally_text};
 
 use crate::tally::tally::Tally;
 use gw_addr::{put_decimal, put_slice};
-use gw_rules::{Rule, RuleList};
+use gw_rules::{Rule, RuleList, quiet_mark};
 use std::alloc::AllocError;
 
 /// Appends a line for each rule, in order, those that decide no ask too, and one for the asks that no rule decides.
@@ -40,13 +40,6 @@ fn put_rules(rules: &[Rule], tally: &Tally, out: &mut Vec<u8>) -> Result<(), All
     Ok(())
 }
 
-/// What stands behind the name of a rule that is quiet, and nothing behind that of another one.
-pub fn quiet_mark(rule: &Rule) -> &'static str
-    ensures { result.now ≡ quiet_mark rule.now }
-{
-    if rule.quiet { " (quiet)" } else { "" }
-}
-
 fn put_rule(number: usize, rule: &Rule, count: u64, out: &mut Vec<u8>) -> Result<(), AllocError>
     ensures { OnOk result (out.new.items ≡ out.old.items ++ rule_line number rule.now count) }
 {
@@ -64,5 +57,5 @@ fn put_named(number: usize, rule: &Rule, out: &mut Vec<u8>) -> Result<(), AllocE
     put_decimal(out, number)?;
     put_slice(out, b" ")?;
     put_slice(out, rule.name.as_str().as_bytes())?;
-    put_slice(out, quiet_mark(rule).as_bytes())
+    put_slice(out, quiet_mark(rule.quiet).as_bytes())
 }

@@ -80,6 +80,7 @@ record RestSame (same : Sameness) : Type 0 where
   audits : IsTrue same.audits
   notes : IsTrue same.notes
   names : IsTrue same.names
+  quiets : IsTrue same.quiets
 
 rest_same : (same : Sameness) → rest_parts same ≡ [] → RestSame same
 rest_same same e =
@@ -88,15 +89,18 @@ rest_same same e =
     let audits = unless same.audits parts.Audits in
     let notes = unless same.notes parts.Notes in
     let names = unless same.names parts.RuleNames in
-    let f = rest_none routes (objects ++ (audits ++ (notes ++ names))) e in
-    let g = rest_none objects (audits ++ (notes ++ names)) f in
-    let h = rest_none audits (notes ++ names) g in
+    let quiets = unless same.quiets parts.Quiets in
+    let f = rest_none routes (objects ++ (audits ++ (notes ++ (names ++ quiets)))) e in
+    let g = rest_none objects (audits ++ (notes ++ (names ++ quiets))) f in
+    let h = rest_none audits (notes ++ (names ++ quiets)) g in
+    let i = rest_none notes (names ++ quiets) h in
     record {
-      routes = is_same same.routes parts.Routes (front_none routes (objects ++ (audits ++ (notes ++ names))) e);
-      objects = is_same same.objects parts.Objects (front_none objects (audits ++ (notes ++ names)) f);
-      audits = is_same same.audits parts.Audits (front_none audits (notes ++ names) g);
-      notes = is_same same.notes parts.Notes (front_none notes names h);
-      names = is_same same.names parts.RuleNames (rest_none notes names h);
+      routes = is_same same.routes parts.Routes (front_none routes (objects ++ (audits ++ (notes ++ (names ++ quiets)))) e);
+      objects = is_same same.objects parts.Objects (front_none objects (audits ++ (notes ++ (names ++ quiets))) f);
+      audits = is_same same.audits parts.Audits (front_none audits (notes ++ (names ++ quiets)) g);
+      notes = is_same same.notes parts.Notes (front_none notes (names ++ quiets) h);
+      names = is_same same.names parts.RuleNames (front_none names quiets i);
+      quiets = is_same same.quiets parts.Quiets (rest_none names quiets i);
     }
 
 -- ---- ports
@@ -177,6 +181,7 @@ none_differs old new are =
       audits = are.is_so.audits rest.names rest.audits;
       notes = are.is_so.notes rest.names rest.notes;
       names = are.is_so.names rest.names;
+      quiets = are.is_so.quiets rest.quiets;
     }
 
 none_by_length : {A : Type 0} (xs : List A) → length xs ≡ 0 → xs ≡ []

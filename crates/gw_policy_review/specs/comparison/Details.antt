@@ -3,7 +3,7 @@ use Rattle.std.specs.Prelude.{ℕ, ℤ, ◌-◌, Bool, ◌&&◌, is_some, ◌==�
 use Rattle.std.specs.Cmp.Lexicographic.{pointwise}
 use Rattle.std.specs.Fmt.{signed_decimal}
 use Rattle.std.specs.List.{flat_map, list_any}
-use Rattle.std.specs.Option.{option_and_then, option_map_or}
+use Rattle.std.specs.Option.{option_and_then, option_map, option_map_or}
 use Rattle.gw_addr.specs.Address.{text_of}
 use Rattle.gw_addr.specs.Mask.{mask_text}
 use Rattle.gw_addr.specs.declared.bip.BipAddr.{BipAddr}
@@ -291,3 +291,17 @@ note_line old rules number note =
 
 abbrev pub note_lines : Configuration → Configuration → List ℕ
 note_lines old new = in_order (note_line old new.rules) 1 new.notes
+
+abbrev pub quiet_change : Rule → Bool → Option Bool → List ℕ
+quiet_change rule now None = []
+quiet_change rule true (Some true) = []
+quiet_change rule true (Some false) = codes "rule " ++ (rule.name ++ codes ": it is quiet now\n")
+quiet_change rule false (Some true) = codes "rule " ++ (rule.name ++ codes ": it is quiet no more\n")
+quiet_change rule false (Some false) = []
+
+abbrev pub quiet_line : List Rule → Rule → List ℕ
+quiet_line was rule = quiet_change rule rule.quiet (option_map (λ other. other.quiet) (of_rule was was rule))
+
+-- which of the rules that both have are quiet now, and which no more; and what follows from whatever differs
+abbrev pub quiet_lines : List Rule → List Rule → List ℕ
+quiet_lines now was = flat_map (quiet_line was) now ++ codes "quiet rules: the log may lack other denials than before\n"

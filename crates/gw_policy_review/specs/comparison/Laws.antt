@@ -8,7 +8,7 @@ use Rattle.gw_ask_sets.specs.regions.Values.{has, is_any}
 use Rattle.gw_ask_sets.specs.declared.regions.comparison.Found.{Found}
 use Rattle.gw_rules.specs.Ask.{Ask}
 use Rattle.gw_rules.specs.Fields.{value_of}
-use Rattle.gw_rules.specs.RuleList.{allows}
+use Rattle.gw_rules.specs.RuleList.{allows, is_logged}
 use Rattle.gw_rules.specs.declared.field.FieldName.{FieldName}
 use Rattle.gw_ask_sets.specs.shapes.Shape.{LiesInOne}
 use Rattle.gw_ask_sets.specs.shapes.Shapes.{shapes}
@@ -47,6 +47,12 @@ NoneDiffers = (old new : Configuration) → AreDifferences old new [] → AreLik
 -- So it is if the text says that no ask is decided otherwise.
 abbrev pub AlikeIsLike : Type 0
 AlikeIsLike = (old new : Configuration) (most : ℕ) (text : List ℕ) → IsComparisonText old new most compared.Alike text → AreLike old new
+
+-- And then the logs have the same denials, if perhaps by rules of other names: each of these asks is logged under both or
+-- under neither.
+abbrev pub AlikeIsLogged : Type 0
+AlikeIsLogged = (old new : Configuration) (most : ℕ) (text : List ℕ) → IsComparisonText old new most compared.Alike text
+    → (ask : Ask) → IsAskOf old new ask → is_logged old.rules ask ≡ is_logged new.rules ask
 
 -- Finished or not: such an ask that lies in a region that was found is decided as the line of the region says, and by
 -- rules that it names.

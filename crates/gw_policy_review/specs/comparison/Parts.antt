@@ -1,10 +1,11 @@
 -- The parts of two configurations beside what their rules decide, and which of them differ.
-use Rattle.std.specs.Prelude.{◌≡◌, ℕ, ◌+◌, Bool, ◌==◌, IsFalse, IsTrue, if◌then◌else◌, List, [], ◌∷◌, ◌++◌, length, map, min, slice_get, codes, decimal, Some}
+use Rattle.std.specs.Prelude.{◌≡◌, ℕ, ◌+◌, Bool, false, ◌&&◌, ◌==◌, IsFalse, IsTrue, if◌then◌else◌, List, [], ◌∷◌, ◌++◌, length, map, min, slice_get, codes, decimal, Some}
 use Rattle.std.specs.List.{list_any}
 use Rattle.gw_configuration.specs.Configuration.{Configuration}
 use Rattle.gw_configuration.specs.Subnet.{Subnet, keys_of}
 use Rattle.gw_configuration.specs.declared.port.Port.{Port}
 use Rattle.gw_rules.specs.Range.{holds}
+use Rattle.gw_rules.specs.RuleList.{has_no_quiet}
 use Rattle.gw_rules.specs.declared.rule.Rule.{Rule}
 use Rattle.gw_policy_review.specs.comparison.Details.{audit_lines, note_lines}
 use Rattle.gw_policy_review.specs.declared.comparison.parts.Part.{Part}
@@ -29,6 +30,10 @@ pub record HaveSameStations (stations others : List Subnet) : Type 0 where
 abbrev pub HaveSameNames : List Rule → List Rule → Type 0
 HaveSameNames rules others = map (λ rule. rule.name) rules ≡ map (λ rule. rule.name) others
 
+-- the logs of two policies lack the same denials: no rule of either is quiet, or their rules are the same
+abbrev pub HaveSameQuiets : List Rule → List Rule → Type 0
+HaveSameQuiets rules others = (has_no_quiet rules && has_no_quiet others) ≡ false → rules ≡ others
+
 -- two ports are the same in all that has an effect
 pub record AreLikePorts (old new : Port) : Type 0 where
   pub network : old.network ≡ new.network
@@ -50,6 +55,7 @@ pub record AreLike (old new : Configuration) : Type 0 where
   pub audits : old.audits ≡ new.audits
   pub notes : old.notes ≡ new.notes
   pub names : HaveSameNames old.rules new.rules
+  pub quiets : HaveSameQuiets old.rules new.rules
 
 -- ---- what is said to be the same
 
@@ -75,6 +81,7 @@ pub record IsSameness (old new : Configuration) (same : Sameness) : Type 0 where
   pub notes : IsTrue same.names → IsTrue same.notes → old.notes ≡ new.notes
   pub notes_named : IsFalse same.names → IsTrue same.notes → note_lines old new ≡ []
   pub names : IsTrue same.names → HaveSameNames old.rules new.rules
+  pub quiets : IsTrue same.quiets → HaveSameQuiets old.rules new.rules
 
 -- ---- the parts that differ
 
@@ -91,7 +98,8 @@ abbrev pub rest_parts : Sameness → List Part
 rest_parts same =
     unless same.routes parts.Routes
     ++ (unless same.objects parts.Objects
-    ++ (unless same.audits parts.Audits ++ (unless same.notes parts.Notes ++ unless same.names parts.RuleNames)))
+    ++ (unless same.audits parts.Audits
+    ++ (unless same.notes parts.Notes ++ (unless same.names parts.RuleNames ++ unless same.quiets parts.Quiets))))
 
 abbrev pub link_parts : ℕ → PortSameness → List Part
 link_parts number same =
@@ -142,6 +150,7 @@ part_word parts.Objects = codes "objects"
 part_word parts.Audits = codes "audits"
 part_word parts.Notes = codes "notes"
 part_word parts.RuleNames = codes "names of rules"
+part_word parts.Quiets = codes "quiet rules"
 
 abbrev pub port_word : PortPart → List ℕ
 port_word of_port.Network = codes "network"

@@ -7,7 +7,7 @@ use crate::comparison::listing::{put_said, put_things};
 use crate::comparison::object_details::put_device;
 use crate::comparison::parts::{Part, PortPart};
 use crate::comparison::port_details::{port_head, put_port_part};
-use crate::comparison::rule_details::{put_audit_lines, put_note_lines};
+use crate::comparison::rule_details::{put_audit_lines, put_note_lines, put_quiet_lines};
 use gw_configuration::{Config, Format};
 use std::alloc::AllocError;
 
@@ -50,6 +50,7 @@ fn put_part(out: &mut Vec<u8>, old: &Config, new: &Config, part: Part) -> Result
         Part::Audits => put_audit_lines(out, old, new),
         Part::Notes => put_note_lines(out, old, new),
         Part::RuleNames => put_names(out, old, new),
+        Part::Quiets => put_quiet_lines(out, new.rules().rules(), old.rules().rules()),
     }
 }
 

@@ -4,8 +4,9 @@ ghost use Rattle.std.specs.List.{flat_map};
 ghost use Rattle.gw_addr.specs.declared.TheConstants.{MAX_PORTS};
 ghost use Rattle.gw_ask_sets.specs.regions.Tidying.{tidy};
 ghost use Rattle.gw_configuration.specs.Subnet.{keys_of};
+ghost use Rattle.gw_rules.specs.RuleList.{has_no_quiet};
 ghost use Rattle.gw_policy_review.specs.comparison.Details.{audit_lines, note_lines};
-ghost use Rattle.gw_policy_review.specs.comparison.Parts.{AreDifferences, ArePortParts, HaveSameNames, HaveSameStations};
+ghost use Rattle.gw_policy_review.specs.comparison.Parts.{AreDifferences, ArePortParts, HaveSameNames, HaveSameQuiets, HaveSameStations};
 ghost use Rattle.gw_policy_review.specs.comparison.Parts.{IsPortSameness, IsSameness, frame_parts, link_parts, name_line};
 ghost use Rattle.gw_policy_review.specs.comparison.Parts.{neighbour_parts, part_name, part_word, parts_of_port, port_name};
 ghost use Rattle.gw_policy_review.specs.comparison.Parts.{port_word, rest_parts, unless};
@@ -41,6 +42,8 @@ pub enum Part {
     Notes,
     /// The names of the rules, in order.
     RuleNames,
+    /// What quiet rules keep out of the log.
+    Quiets,
 }
 
 /// A part of a port.
@@ -84,6 +87,7 @@ pub(crate) struct Sameness {
     pub audits: bool,
     pub notes: bool,
     pub names: bool,
+    pub quiets: bool,
 }
 
 // ---- what is the same
@@ -197,6 +201,19 @@ fn have_same_notes(
     Ok(lines.is_empty())
 }
 
+/// Whether the logs of two policies lack the same denials, since no rule of either is quiet, or their rules are the same.
+fn have_same_quiets(rules: &[Rule], others: &[Rule]) -> bool
+    ensures { IsTrue result → HaveSameQuiets rules.now others.now }
+{
+    (have_no_quiet(rules) && have_no_quiet(others)) || are_same(rules, others)
+}
+
+fn have_no_quiet(rules: &[Rule]) -> bool
+    ensures { result ≡ has_no_quiet rules.now }
+{
+    rules.iter().all(|rule| !rule.quiet)
+}
+
 fn find_same(alloc: Global, old: &Config, new: &Config) -> Result<Sameness, AllocError>
     ensures { IfOk result (λ same. IsSameness old.now new.now same) }
 {
@@ -213,6 +230,7 @@ fn find_same(alloc: Global, old: &Config, new: &Config) -> Result<Sameness, Allo
         audits,
         notes,
         names,
+        quiets: have_same_quiets(old.rules().rules(), new.rules().rules()),
     })
 }
 
@@ -220,7 +238,8 @@ fn find_same(alloc: Global, old: &Config, new: &Config) -> Result<Sameness, Allo
 
 /// The parts that aren't the same in two configurations: what isn't among them is the same. In this order: the format,
 /// whether networks are announced, the device, how many ports there are, what of each port that both have, the routes,
-/// the objects, which rules are audited, the notes and the names of rules. An `Err` if there is no memory.
+/// the objects, which rules are audited, the notes and the names of rules, and what quiet rules keep out of the log. An
+/// `Err` if there is no memory.
 pub fn differing_parts(alloc: Global, old: &Config, new: &Config) -> Result<Vec<Part>, AllocError>
     ensures { IfOk result (λ parts. AreDifferences old.now new.now parts.items) }
 {
@@ -258,7 +277,8 @@ fn push_rest_parts(out: &mut Vec<Part>, same: Sameness) -> Result<(), AllocError
     push_unless(out, same.objects, Part::Objects)?;
     push_unless(out, same.audits, Part::Audits)?;
     push_unless(out, same.notes, Part::Notes)?;
-    push_unless(out, same.names, Part::RuleNames)
+    push_unless(out, same.names, Part::RuleNames)?;
+    push_unless(out, same.quiets, Part::Quiets)
 }
 
 /// Appends what isn't the same of the ports of each number that both have.
@@ -361,6 +381,7 @@ fn word_of(part: Part) -> &'static str
         Part::Audits => "audits",
         Part::Notes => "notes",
         Part::RuleNames => "names of rules",
+        Part::Quiets => "quiet rules",
     }
 }
 

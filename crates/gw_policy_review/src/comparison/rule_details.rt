@@ -1,9 +1,11 @@
-//! Lines on the names, the audits and the notes of the rules of two configurations.
+//! Lines on the names, the audits and the notes of the rules of two configurations, and on which are quiet.
 ghost use Rattle.std.specs.Prelude.{◌≡◌, ◌++◌, ◌≤◌, codes, length, position, IfOk, List, ℕ, OnOk, Option};
+ghost use Rattle.std.specs.List.{flat_map};
 ghost use Rattle.std.specs.Option.{option_and_then, option_copied, option_map};
 ghost use Rattle.gw_script.specs.Order.{in_order};
 ghost use Rattle.gw_policy_review.specs.comparison.Details.{audit_change, audit_line, audit_lines, is_same_rule, note_change};
-ghost use Rattle.gw_policy_review.specs.comparison.Details.{note_line, note_lines, of_rule, rule_change, rule_gone, text_change};
+ghost use Rattle.gw_policy_review.specs.comparison.Details.{note_line, note_lines, of_rule, quiet_change, quiet_line};
+ghost use Rattle.gw_policy_review.specs.comparison.Details.{quiet_lines, rule_change, rule_gone, text_change};
 
 use crate::comparison::listing::{Thing, put_text_change};
 use gw_addr::put_slice;
@@ -198,4 +200,56 @@ fn put_named_note(out: &mut Vec<u8>, rule: &Rule, now: &Text, was: &Text) -> Res
     let mut head = Vec::new(*out.allocator());
     put_rule(&mut head, rule, b": ")?;
     put_text_change(out, &head, b"note ", now, was)
+}
+
+// ---- quiet rules
+
+/// Appends which of the rules that both have are quiet now, and which no more, and that the log may differ.
+pub(crate) fn put_quiet_lines(
+    out: &mut Vec<u8>,
+    now: &[Rule],
+    was: &[Rule],
+) -> Result<(), AllocError>
+    ensures { OnOk result (out.new.items ≡ out.old.items ++ quiet_lines now.now was.now) }
+{
+    put_quiets(out, now, was)?;
+    put_slice(
+        out,
+        b"quiet rules: the log may lack other denials than before\n",
+    )
+}
+
+fn put_quiets(out: &mut Vec<u8>, now: &[Rule], was: &[Rule]) -> Result<(), AllocError>
+    ensures { OnOk result (out.new.items ≡ out.old.items ++ flat_map (quiet_line was.now) now.now) }
+{
+    for rule in now {
+        put_quiet_change(out, rule, rule.quiet, quiet_of(was, rule))?;
+    }
+    Ok(())
+}
+
+/// Whether the rule of this name is quiet among these, if there is one.
+fn quiet_of(rules: &[Rule], rule: &Rule) -> Option<bool>
+    ensures { result ≡ option_map (λ other. other.quiet) (of_rule rules.now rules.now rule.now) }
+{
+    let place = place_of(rules, rule)?;
+    match rules.get(place) {
+        Some(other) => Some(other.quiet),
+        None => None,
+    }
+}
+
+fn put_quiet_change(
+    out: &mut Vec<u8>,
+    rule: &Rule,
+    now: bool,
+    was: Option<bool>,
+) -> Result<(), AllocError>
+    ensures { OnOk result (out.new.items ≡ out.old.items ++ quiet_change rule.now now was) }
+{
+    match (now, was) {
+        (true, Some(false)) => put_rule(out, rule, b": it is quiet now\n"),
+        (false, Some(true)) => put_rule(out, rule, b": it is quiet no more\n"),
+        _ => Ok(()),
+    }
 }

@@ -1,5 +1,6 @@
+use Rattle.gw_policy_review.proofs.comparison_lemmas.LoggedLaw.{alike_is_logged}
 use Rattle.gw_policy_review.proofs.comparison_lemmas.PartsLaw.{alike_is_like, none_differs}
 use Rattle.gw_policy_review.proofs.comparison.laws.parts.Goals as goal
 
 pub returns : goal.returns
-returns c = record { none = none_differs; alike = alike_is_like }
+returns c = record { none = none_differs; alike = alike_is_like; logged = alike_is_logged }
