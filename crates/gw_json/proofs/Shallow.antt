@@ -1,14 +1,14 @@
 -- The objects of a comparison have numbers below 2^64, and aren't deep.
-use Rattle.std.proofs.Common.{ℕ, ◌^◌, ◌<◌, ◌≤◌, Bool, true, false, List, [], ◌∷◌, ◌++◌, map, Option, inl, inr, decimal, arith}
+use Rattle.std.proofs.Common.{ℕ, ◌^◌, ◌<◌, ◌≤◌, Bool, true, false, List, [], ◌∷◌, ◌++◌, map, Option, inl, inr, decimal, refl, arith}
 use Rattle.std.specs.Prelude.{codes, if◌then◌else◌, nat_le, nat_lt, slice_get, ◌-◌, ◌==◌}
 use Rattle.std.specs.List.{list_all}
 use Rattle.std.proofs.lemmas.Bool.{cases_Bool}
 use Rattle.std.specs.Str.Lines.{lines}
 use Rattle.json.specs.Json.{Json, array, null, boolean, number, string, no_members}
 use Rattle.gw_ask_sets.specs.regions.Values.{has_operation}
-use Rattle.gw_json.specs.Comparison.{deciders_members, differences_value, end_value, field_member, found_value, lines_value, named_operation, operations_value, other_fields, range_value, range_values, ranges_value, rule_value, rules_value, summary_value, values_value, verdict_word}
+use Rattle.gw_json.specs.Comparison.{deciders_members, differences_value, end_value, field_member, found_value, is_nothing, lines_value, named_operation, operations_value, other_fields, range_value, range_values, ranges_value, rule_value, rules_value, summary_value, values_value, verdict_word}
 use Rattle.gw_json.specs.Document.{items_of, members_of}
-use Rattle.gw_json.specs.Laws.{ComparisonsRead, DifferencesRead, SummariesRead}
+use Rattle.gw_json.specs.Laws.{ComparisonsRead, DifferencesRead, DifferencesStay, SummariesRead}
 use Rattle.gw_json.proofs.Documents.{AreShallow, IsShallow, array_shallow, boolean_shallow, chosen_shallow, line_read, mapped_shallow, member_shallow, none_shallow, null_shallow, number_shallow, object_shallow, or_shallow, string_shallow, wider}
 use Rattle.gw_json.proofs.Plain.{Each}
 use Rattle.gw_ask_sets.specs.regions.Ranges.{between, greater, lesser}
@@ -133,11 +133,19 @@ lines_shallow text =
     or_shallow 1 (λ (text : List ℕ). array (items_of (map string (lines text)))) text null
     (λ text. mapped_shallow 0 string (lines text) (string_shallow 0)) (null_shallow 1)
 
+assertions_shallow : (b : Bool) (text : Option (List ℕ))
+    → AreShallow 1 (members_of (if b then [] else (codes "asserts", lines_value text) ∷ []))
+assertions_shallow true text = none_shallow 1
+assertions_shallow false text = member_shallow 1 (codes "asserts") (lines_value text) no_members (lines_shallow text) (none_shallow 1)
+
 pub differences_read : DifferencesRead
-differences_read names details =
-    line_read 2 (differences_value names details) (omega arith)
+differences_read names details asserts =
+    line_read 2 (differences_value names details asserts) (omega arith)
     (object_shallow 1 _ (member_shallow 1 (codes "differ") (lines_value names) _ (lines_shallow names)
-    (member_shallow 1 (codes "details") (lines_value details) no_members (lines_shallow details) (none_shallow 1))))
+    (member_shallow 1 (codes "details") (lines_value details) _ (lines_shallow details) (assertions_shallow (is_nothing asserts) asserts))))
+
+pub differences_stay : DifferencesStay
+differences_stay names details = refl
 
 pub summaries_read : SummariesRead
 summaries_read kinds steps finished few short =

@@ -1,5 +1,5 @@
 -- What two policies decide otherwise: a JSON object for each region, and a last one that sums up.
-use Rattle.std.specs.Prelude.{ℕ, ◌-◌, Bool, ◌==◌, if◌then◌else◌, List, [], ◌∷◌, ◌++◌, drop, map, slice_get, codes, decimal, Option}
+use Rattle.std.specs.Prelude.{ℕ, ◌-◌, Bool, false, ◌==◌, if◌then◌else◌, List, [], ◌∷◌, ◌++◌, drop, length, map, slice_get, codes, decimal, Option}
 use Rattle.std.specs.List.{flat_map, list_all}
 use Rattle.std.specs.Option.{option_map_or}
 use Rattle.std.specs.Str.Lines.{lines}
@@ -100,9 +100,20 @@ abbrev pub lines_value : Option (List ℕ) → Json
 lines_value text = option_map_or (λ text. array (items_of (map string (lines text)))) text null
 
 -- the parts that differ, and what is said of them
-abbrev pub differences_value : (names details : Option (List ℕ)) → Json
-differences_value names details =
-    object_of ((codes "differ", lines_value names) ∷ (codes "details", lines_value details) ∷ [])
+abbrev pub parts_members : (names details : Option (List ℕ)) → List (List ℕ × Json)
+parts_members names details = (codes "differ", lines_value names) ∷ (codes "details", lines_value details) ∷ []
+
+-- a text that says nothing
+abbrev pub is_nothing : Option (List ℕ) → Bool
+is_nothing text = option_map_or (λ text. length text == 0) text false
+
+-- what is said of assertions, if anything is
+abbrev pub assertions_members : Option (List ℕ) → List (List ℕ × Json)
+assertions_members text = if is_nothing text then [] else (codes "asserts", lines_value text) ∷ []
+
+-- all of that
+abbrev pub differences_value : (names details asserts : Option (List ℕ)) → Json
+differences_value names details asserts = object_of (parts_members names details ++ assertions_members asserts)
 
 -- how many regions there are, whether they are all, and how many steps it took
 abbrev pub summary_value : ℕ → Bool → ℕ → Json

@@ -8,8 +8,8 @@ use Rattle.gw_audit.specs.declared.entry.ShownAsk.{ShownAsk}
 use Rattle.gw_configuration.specs.Configuration.{Configuration}
 use Rattle.gw_configuration.specs.declared.fault.ConfigFault.{ConfigFault}
 use Rattle.gw_json.specs.Check.{checked_value, fault_value}
-use Rattle.gw_json.specs.Comparison.{differences_value, found_value, summary_value}
-use Rattle.gw_json.specs.Document.{line_of}
+use Rattle.gw_json.specs.Comparison.{differences_value, found_value, lines_value, summary_value}
+use Rattle.gw_json.specs.Document.{line_of, object_of}
 use Rattle.gw_json.specs.Log.{AreFrontMembers, IsEntryIn, denial_value, front_members, front_octets_members, octets_value, text_value}
 use Rattle.gw_json.specs.Why.{IsAnswerIn, answer_value, plain_value}
 use Rattle.gw_ask_sets.specs.declared.regions.comparison.Found.{Found}
@@ -66,7 +66,13 @@ ComparisonsRead = (old new : List Rule) (f : Found) → IsRead (found_value old 
 
 -- of its first line, whatever the texts of the parts that differ are
 abbrev pub DifferencesRead : Type 0
-DifferencesRead = (names details : Option (List ℕ)) → IsRead (differences_value names details)
+DifferencesRead = (names details asserts : Option (List ℕ)) → IsRead (differences_value names details asserts)
+
+-- where nothing is said of assertions, that line is the one that it was before there were any
+abbrev pub DifferencesStay : Type 0
+DifferencesStay =
+    (names details : Option (List ℕ)) → differences_value names details (Some [])
+    ≡ object_of ((codes "differ", lines_value names) ∷ (codes "details", lines_value details) ∷ [])
 
 abbrev pub SummariesRead : Type 0
 SummariesRead =

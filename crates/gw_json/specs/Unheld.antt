@@ -3,7 +3,7 @@ use Rattle.std.specs.Prelude.{ℕ, ◌+◌, Bool, true, false, if◌then◌else�
 use Rattle.std.specs.Option.{option_map_or}
 use Rattle.json.specs.Json.{Json, null, array, boolean, number, string}
 use Rattle.gw_ask_sets.specs.declared.assertions.judging.Judged.{Judged}
-use Rattle.gw_ask_sets.specs.declared.assertions.judging.Judged.TheVariants.{Holds, Broken, Empty, Unknown}
+use Rattle.gw_ask_sets.specs.declared.assertions.judging.Judged.TheVariants.{Holds, Broken, Empty}
 use Rattle.gw_configuration.specs.Configuration.{Configuration}
 use Rattle.gw_configuration.specs.declared.assertion.Assertion.{Assertion}
 use Rattle.gw_rules.specs.Ask.{Ask}

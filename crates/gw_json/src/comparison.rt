@@ -8,7 +8,7 @@ ghost use Rattle.gw_ask_sets.specs.regions.Ranges.{both};
 ghost use Rattle.gw_rules.specs.Bounds.{bounds};
 ghost use Rattle.gw_rules.specs.declared.format.Format.TheVariants.{Three};
 ghost use Rattle.gw_rules.specs.declared.operation.TheConstants.Operation.{ALL};
-ghost use Rattle.gw_json.specs.Comparison.{deciders_members, differences_value, end_value, field_member, found_value, lines_value, name_or_null, named_operation, operations_value, other_fields, range_value, range_values, ranges_value, rule_value, rules_value, summary_value, values_value, outcome_members, verdict_word};
+ghost use Rattle.gw_json.specs.Comparison.{assertions_members, deciders_members, differences_value, end_value, field_member, found_value, is_nothing, lines_value, name_or_null, named_operation, operations_value, other_fields, parts_members, range_value, range_values, ranges_value, rule_value, rules_value, summary_value, values_value, outcome_members, verdict_word};
 ghost use Rattle.gw_json.specs.Document.{IsLinePut, items_of, object_of};
 ghost use Rattle.gw_json.specs.internal.View.{members_view, value_view, values_view};
 
@@ -38,39 +38,65 @@ pub fn put_found(
     put_object(alloc, out, members)
 }
 
-/// Appends the first line of a comparison: the names of the parts that differ beside the rules, and what is said of them,
-/// of each a text of lines, or null if there is none. An `Err` only if memory was refused; the buffer then holds what it
-/// held.
+/// Appends the first line of a comparison: the names of the parts that differ beside the rules, what is said of them, and what
+/// is said of assertions, if anything is; of each a text of lines, or null if there is none. An `Err` only if memory was
+/// refused; the buffer then holds what it held.
 ///
 /// ```text
 /// {"differ":["stations of port 1"],"details":["port 1: 10.9.0.0/24 is a station now"]}
+/// {"differ":[],"details":[],"asserts":["assert \"no-late-writes\" is new"]}
 /// ```
 pub fn put_differences(
     alloc: Global,
     out: &mut Vec<u8>,
     names: Option<&str>,
     details: Option<&str>,
+    asserts: Option<&str>,
 ) -> Result<(), AllocError>
     ensures { let names = option_map (λ text. text.now) names.entry in
         let details = option_map (λ text. text.now) details.entry in
-        IsLinePut (differences_value names details) out.old.items out.new.items result }
+        let asserts = option_map (λ text. text.now) asserts.entry in
+        IsLinePut (differences_value names details asserts) out.old.items out.new.items result }
 {
-    let members = differences_members(alloc, names, details)?;
-    put_object(alloc, out, members)
+    let parts = parts_members(alloc, names, details)?;
+    let assertions = assertions_members(alloc, asserts)?;
+    put_object(alloc, out, joined(parts, assertions)?)
 }
 
-fn differences_members(
+fn parts_members(
     alloc: Global,
     names: Option<&str>,
     details: Option<&str>,
 ) -> Result<Vec<Member>, AllocError>
     ensures { let names = option_map (λ text. text.now) names.entry in
         let details = option_map (λ text. text.now) details.entry in
-        IfOk result (λ members. object_of (members_view members.items) ≡ differences_value names details) }
+        IfOk result (λ members. members_view members.items ≡ parts_members names details) }
 {
     let differ = lines_value(alloc, names)?;
     let details = lines_value(alloc, details)?;
     Ok(vec![in alloc; ("differ", differ), ("details", details)]?)
+}
+
+/// What is said of assertions, if anything is.
+fn assertions_members(alloc: Global, text: Option<&str>) -> Result<Vec<Member>, AllocError>
+    ensures { IfOk result (λ members. members_view members.items
+        ≡ assertions_members (option_map (λ text. text.now) text.entry)) }
+{
+    if is_nothing(text) {
+        return Ok(Vec::new(alloc));
+    }
+    let asserts = lines_value(alloc, text)?;
+    Ok(vec![in alloc; ("asserts", asserts)]?)
+}
+
+/// Whether a text says nothing.
+fn is_nothing(text: Option<&str>) -> bool
+    ensures { result ≡ is_nothing (option_map (λ text. text.now) text.entry) }
+{
+    match text {
+        Some(text) => text.is_empty(),
+        None => false,
+    }
 }
 
 /// The lines of a text, or null if there is none.

@@ -42,3 +42,7 @@ tells_all old new place before now ends tells = (
       (tells.all [] (subst (λ (xs : List Assertion). AreFateTexts old xs []) (sym ends) refl)),
   tells.appended,
 )
+
+-- what was appended to nothing is the whole text
+pub told_alone : (Is : List ℕ → Type 0) (text : List ℕ) → TellsFates Is [] text → Is text
+told_alone Is text tells = subst Is (sym tells.2) tells.1

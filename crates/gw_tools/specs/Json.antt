@@ -11,9 +11,10 @@ use Rattle.gw_policy_review.specs.declared.comparison.parts.Part.{Part}
 use Rattle.gw_configuration.specs.Configuration.{Configuration}
 use Rattle.gw_configuration.specs.declared.fault.ConfigFault.{ConfigFault}
 use Rattle.gw_policy_text.specs.faults.Explanation.{ExplainsText}
-use Rattle.gw_json.specs.Check.{checked_value, fault_value, unheld_value}
+use Rattle.gw_json.specs.Check.{checked_value, fault_value}
 use Rattle.gw_json.specs.Comparison.{differences_value, found_value, summary_value}
 use Rattle.gw_json.specs.Document.{line_of}
+use Rattle.gw_json.specs.Unheld.{unheld_value}
 use Rattle.gw_ask_sets.specs.declared.assertions.judging.Judged.{Judged}
 use Rattle.gw_ask_sets.specs.regions.Comparing.{IsSummary}
 use Rattle.gw_ask_sets.specs.regions.Regions.{Region}
@@ -21,6 +22,7 @@ use Rattle.gw_ask_sets.specs.declared.regions.comparison.Found.{Found}
 use Rattle.gw_ending.specs.reading.Assertions.{do_hold}
 use Rattle.gw_ending.specs.declared.fault.Fault.{Fault}
 use Rattle.gw_ending.specs.declared.fault.Fault.TheVariants as fault
+use Rattle.gw_tools.specs.Asserting.{SaysAssertions}
 
 -- a text that was made, or memory was refused for it
 abbrev pub IsMade : List ℕ → Result (List ℕ) Fault → Type 0
@@ -55,13 +57,17 @@ abbrev pub IsTextOf : List ℕ → Option (List ℕ) → Type 0
 IsTextOf octets None = IsUtf8 octets → ⊥
 IsTextOf octets (Some text) = text ≡ octets
 
--- The line of the parts in which two configurations differ.
+-- The line of the parts in which two configurations differ, and of what is said of their assertions.
 pub record IsPartsLine (old new : Configuration) (differ : List Part) (line : List ℕ) : Type 0 where
   pub names : Option (List ℕ)
   pub are_names : IsTextOf (flat_map name_line differ) names
   pub details : Option (List ℕ)
   pub are_details : IsTextOf (details_of old new differ) details
-  pub is : line ≡ line_of (differences_value names details)
+  pub said : List ℕ
+  pub is_said : SaysAssertions old new said
+  pub asserts : Option (List ℕ)
+  pub are_asserts : IsTextOf said asserts
+  pub is : line ≡ line_of (differences_value names details asserts)
 
 -- That line, a line for each region in which the old and the new rules decide otherwise, at most so many, and a last line.
 pub record AreComparisonLines (old new : Configuration) (most : ℕ) (made : Compared) (text : List ℕ) : Type 0 where

@@ -11,6 +11,7 @@ ghost use Rattle.gw_ending.specs.reading.Files.{result_map};
 ghost use Rattle.gw_tools.specs.Json.{AreComparisonLines, IsPartsLine, IsTextOf, FaultLine, IsFaultLine, IsMade, judged_line};
 ghost use Rattle.gw_tools.specs.Program.{LeavesCheckedJson, LeavesCheckedLine, LeavesComparedJson, LeavesComparisonJson, LeavesPoints};
 
+use crate::asserting::put_assertions;
 use crate::comparing::{Lines, print_lines};
 use gw_ask_sets::assertions::{JUDGING_STEPS, Judged, judge};
 use gw_ask_sets::regions::{Found, MAX_STEPS, summarize};
@@ -133,7 +134,7 @@ fn text_of(octets: &[u8]) -> Option<&str>
     str::from_utf8(octets).ok()
 }
 
-/// The line of the parts in which two configurations differ.
+/// The line of the parts in which two configurations differ, and of what is said of their assertions.
 fn parts_line(
     alloc: Global,
     old: &Config,
@@ -142,10 +143,18 @@ fn parts_line(
 ) -> Result<Vec<u8>, AllocError>
     ensures { IfOk result (λ line. IsPartsLine old.now new.now differ.now line.items) }
 {
-    let (mut names, mut details, mut line) = (Vec::new(alloc), Vec::new(alloc), Vec::new(alloc));
+    let (mut names, mut details) = (Vec::new(alloc), Vec::new(alloc));
+    let (mut asserts, mut line) = (Vec::new(alloc), Vec::new(alloc));
     put_part_names(&mut names, differ)?;
     put_details(&mut details, old, new, differ)?;
-    put_differences(alloc, &mut line, text_of(&names), text_of(&details))?;
+    put_assertions(alloc, &mut asserts, old, new)?;
+    put_differences(
+        alloc,
+        &mut line,
+        text_of(&names),
+        text_of(&details),
+        text_of(&asserts),
+    )?;
     Ok(line)
 }
 
