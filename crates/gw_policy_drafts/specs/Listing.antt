@@ -1,5 +1,5 @@
 -- The rules of a configuration, as tables of format 3: one for each, in order.
-use Rattle.std.specs.Prelude.{◌≡◌, ℕ, ◌-◌, ◌==◌, Bool, false, if◌then◌else◌, List, [], ◌∷◌, ◌++◌, length, slice_get, codes, Ok}
+use Rattle.std.specs.Prelude.{◌≡◌, ℕ, ◌+◌, ◌-◌, ◌==◌, Bool, false, if◌then◌else◌, List, [], ◌∷◌, ◌++◌, length, slice_get, codes, decimal, Ok}
 use Rattle.std.specs.List.{flat_map}
 use Rattle.std.specs.Option.{option_map_or}
 use Rattle.gw_configuration.specs.Configuration.{Configuration}
@@ -12,6 +12,10 @@ use Rattle.gw_script.specs.Order.{in_order}
 use Rattle.gw_policy_drafts.specs.migration.Items.{field_line, quoted}
 
 -- ---- a table
+
+-- the rule's number in the list, and that of the table of the text from which it comes, each from 1: a comment
+unfoldable pub number_line : (number table : ℕ) → List ℕ
+number_line number table = codes "# rule " ++ (decimal number ++ (codes ", from table " ++ (decimal table ++ codes "\n")))
 
 -- its name, and what it says of the asks that it matches
 unfoldable pub allow_line : Bool → List ℕ
@@ -45,7 +49,10 @@ said_text rule note audit = head_text rule ++ (quiet_line rule.quiet ++ (flat_ma
 
 -- ---- the tables
 
--- the note at a place, or nothing, and whether the rule there is audited
+-- the place of the table of the rule at a place, each from 0; the rule's note, or nothing, and whether it is audited
+abbrev pub table_at : List ℕ → ℕ → ℕ
+table_at tables place = option_map_or (λ table. table) (slice_get tables place) 0
+
 abbrev pub note_at : List (List ℕ) → ℕ → List ℕ
 note_at notes place = option_map_or (λ note. note) (slice_get notes place) []
 
@@ -53,11 +60,12 @@ abbrev pub audit_at : List Bool → ℕ → Bool
 audit_at audits place = option_map_or (λ audit. audit) (slice_get audits place) false
 
 -- the table of the rule of this number, from 1
-abbrev pub rule_table : List (List ℕ) → List Bool → ℕ → Rule → List ℕ
-rule_table notes audits number rule = said_text rule (note_at notes (number - 1)) (audit_at audits (number - 1))
+abbrev pub rule_table : (tables : List ℕ) → (notes : List (List ℕ)) → (audits : List Bool) → ℕ → Rule → List ℕ
+rule_table tables notes audits number rule =
+    number_line number (table_at tables (number - 1) + 1) ++ said_text rule (note_at notes (number - 1)) (audit_at audits (number - 1))
 
 abbrev pub listing_text : Configuration → List ℕ
-listing_text c = in_order (rule_table c.notes c.audits) 1 c.rules
+listing_text c = in_order (rule_table c.tables c.notes c.audits) 1 c.rules
 
 -- Behind a text without rules the tables are read as the rules of the configuration, with their notes and audits; no rule has
 -- a set, and there are as many tables as rules.

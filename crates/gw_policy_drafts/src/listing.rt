@@ -1,14 +1,15 @@
 //! The rules of a configuration, as tables of format 3.
-ghost use Rattle.std.specs.Prelude.{◌≡◌, ◌++◌, [], length, Ok, IfOk, IsTrue, OnOk};
+ghost use Rattle.std.specs.Prelude.{◌≡◌, ◌+◌, ◌++◌, [], length, Ok, IfOk, IsTrue, OnOk};
 ghost use Rattle.std.specs.List.{flat_map};
 ghost use Rattle.gw_policy_text.specs.Document.{configuration};
 ghost use Rattle.gw_rules.specs.declared.field.TheConstants.FieldName.{ALL};
 ghost use Rattle.gw_script.specs.Order.{in_order};
 ghost use Rattle.gw_policy_drafts.specs.declared.listing.ListingFault.TheVariants as fault;
 ghost use Rattle.gw_policy_drafts.specs.Listing.{IsReadAgain, allow_line, audit_at, audit_line, field_of, head_text, last_text};
-ghost use Rattle.gw_policy_drafts.specs.Listing.{listing_text, note_at, note_line, noted_line, quiet_line, rule_table, said_text};
+ghost use Rattle.gw_policy_drafts.specs.Listing.{listing_text, note_at, note_line, noted_line, number_line, quiet_line, rule_table, said_text, table_at};
 
 use crate::migration::{put_device, put_field, put_ports, put_quoted};
+use gw_addr::put_decimal;
 use gw_configuration::sameness::are_same;
 use gw_configuration::{Config, ConfigFault, Text};
 use gw_policy_text::read_config;
@@ -37,12 +38,15 @@ impl From<AllocError> for ListingFault {
 
 /// Writes the rules of a configuration as they are judged: a table of format 3 for each rule of the list, in order. The
 /// items of sets stand in the fields that name them, the rules for the way and for the answers have tables of their own, and
-/// a rule that is turned off has none. Notes and audits stay.
+/// a rule that is turned off has none. Notes and audits stay. Before each table a comment has the rule's number in the list,
+/// and that of the table of the configuration's text from which it comes, each from 1; tables of rules that are turned off
+/// count there too.
 ///
 /// What was written is read again before it is answered, behind the device and the ports of the configuration. `Unlike` if it
 /// isn't read as these rules; `Memory` if there is none for it.
 ///
 /// ```text
+/// # rule 5, from table 3
 /// [[rule]]
 /// name = "panel-back"
 /// allow = true
@@ -68,6 +72,7 @@ fn tables_of(alloc: Global, config: &Config) -> Result<Vec<u8>, AllocError>
     let mut out = Vec::new(alloc);
     put_tables(
         &mut out,
+        config.tables(),
         config.rules().rules(),
         config.notes(),
         config.audits(),
@@ -142,13 +147,15 @@ fn is_listed(config: &Config, back: &Config) -> bool
 
 fn put_tables(
     out: &mut Vec<u8>,
+    tables: &[u16],
     rules: &[Rule],
     notes: &[Text],
     audits: &[bool],
 ) -> Result<(), AllocError>
-    ensures { OnOk result (out.new.items ≡ out.old.items ++ in_order (rule_table notes.now audits.now) 1 rules.now) }
+    ensures { OnOk result (out.new.items ≡ out.old.items ++ in_order (rule_table tables.now notes.now audits.now) 1 rules.now) }
 {
     for (place, rule) in rules.iter().enumerate() {
+        put_number(out, place + 1, usize::from(table_at(tables, place)) + 1)?;
         let said = Said {
             note: note_at(notes, place),
             audit: audit_at(audits, place),
@@ -156,6 +163,28 @@ fn put_tables(
         put_table(out, rule, &said)?;
     }
     Ok(())
+}
+
+/// The place, from 0, of the table of the text from which the rule at a place comes, or 0.
+fn table_at(tables: &[u16], place: usize) -> u16
+    ensures { result ≡ table_at tables.now place }
+{
+    match tables.get(place) {
+        Some(table) => *table,
+        None => 0,
+    }
+}
+
+/// Appends the number of a rule, and that of the table of the text from which it comes, each from 1.
+#[tactic(auto, unfolding(crate::specs::Listing::number_line))]
+fn put_number(out: &mut Vec<u8>, number: usize, table: usize) -> Result<(), AllocError>
+    ensures { OnOk result (out.new.items ≡ out.old.items ++ number_line number table) }
+{
+    out.extend_from_slice(b"# rule ")?;
+    put_decimal(out, number)?;
+    out.extend_from_slice(b", from table ")?;
+    put_decimal(out, table)?;
+    out.extend_from_slice(b"\n")
 }
 
 /// What is said of a rule beside what it decides.

@@ -108,7 +108,8 @@ fn put_left_line(out: &mut Vec<u8>, name: &str) -> Result<(), AllocError>
 {
     out.extend_from_slice(b"# left out, since it would break the assertion \"")?;
     out.extend_from_slice(name.as_bytes())?;
-    out.extend_from_slice(b"\"\n")
+    out.extend_from_slice(b"\"\n")?;
+    Ok(())
 }
 
 #[tactic(auto, unfolding(crate::specs::suggestion::Text::left_table))]
