@@ -44,5 +44,5 @@ tells_all old new place before now ends tells = (
 )
 
 -- what was appended to nothing is the whole text
-pub told_alone : (Is : List ℕ → Type 0) (text : List ℕ) → TellsFates Is [] text → Is text
-told_alone Is text tells = subst Is (sym tells.2) tells.1
+pub told_alone : (Is : List ℕ → Type 0) (before text : List ℕ) → before ≡ [] → TellsFates Is before text → Is text
+told_alone Is before text empty tells = subst Is (sym (tells.2 ∙ ap (λ (t : List ℕ). t ++ tells.0) empty)) tells.1

@@ -1,5 +1,7 @@
-use Rattle.std.proofs.Common.{length, rules, ◌≡◌, ◌<◌, ◌≤◌, ◌+◌, [], arith, drop, get_or}
+use Rattle.std.proofs.Common.{length, rules, ◌≡◌, ◌<◌, ◌≤◌, ◌+◌, [], drop, subst}
 use Rattle.std.proofs.lemmas.List.{drop_all}
+use Rattle.gw_configuration.specs.declared.assertion.Assertion.{Assertion}
+use Rattle.gw_tools.specs.Asserting.{IsFateText, TellsFates}
 use Rattle.gw_tools.proofs.AssertingLemmas.{tells_all, tells_more, tells_none}
 use Rattle.gw_tools.proofs.asserting.put_fates.Goals as goal
 
@@ -11,8 +13,10 @@ loop-place-preserved c =
     let new = c.args.new.now in
     let place = c.loop-place.place in
     let within : place < length new = search rules in
+    let grown = subst (λ (one : Assertion). TellsFates (IsFateText c.args.old.now one) c.loop-place.out.items c.put_fate_of.new.out.items)
+    c.index-new-place.is c.in_ok-put_fate_of.ensures in
     tells_more c.args.old.now new place c.index-new-place.result c.args.out.now.items c.loop-place.out.items c.put_fate_of.new.out.items within
-    c.loop-place.invariant c.in_ok-put_fate_of.ensures
+    c.loop-place.invariant grown
 
 pub returns : goal.returns
 returns c =

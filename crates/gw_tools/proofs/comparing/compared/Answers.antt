@@ -22,7 +22,7 @@ returns-clause-compared g c =
     (λ (lines : Lines). IsCompared limits old new lines.made lines.text.items)
     (λ lines made. (
       front,
-      told_alone (SaysAssertions old new) front c.in_ok-put_assertions.ensures,
+      told_alone (SaysAssertions old new) c.new-front.result.items front c.new-front.ensures.items c.in_ok-put_assertions.ensures,
       subst (λ (other : Configuration). IsComparedBehind limits front old other lines.made lines.text.items) (goes.new ∙ begun.new)
           (subst (λ (one : Configuration). IsComparedBehind limits front one at.new_one lines.made lines.text.items) (goes.old ∙ begun.old)
           (made (goes.is_right begun.is_right))),

@@ -13,7 +13,7 @@ returns-in_err-line-clause-output g c =
     let answers = answers_by (g.M.Machine.Asks c.args.machine.now) g.M.Machine.Answers in
     let held = writer_contents g.W.Write.contents c.args.output.now in
     passes_on (λ (r : Result (Unit {0}) Fault). LeavesAskedAgain answers c.args.request.now c.args.text.now held held r) fault.Memory
-    c.from_residual.result c.from_residual.ensures (Err fault.Memory, tt, refl, refl)
+    c.from_residual.result c.from_residual.ensures (Err fault.Memory, tt, (refl, refl))
 
 pub returns-clause-output : goal.returns-clause-output
 returns-clause-output g c =

@@ -1,4 +1,4 @@
-use Rattle.std.proofs.Common.{◌≡◌, ◌∙◌, ap, refl, subst, sym, true, false, ℕ, List, Result}
+use Rattle.std.proofs.Common.{◌≡◌, ◌∙◌, ◌++◌, ap, refl, subst, sym, true, false, ℕ, List, Result}
 use Rattle.std.specs.Io.Buffered.{writer_contents}
 use Rattle.std.specs.Io.KnownBytes.{Appends}
 use Rattle.gw_ending.specs.declared.fault.Fault.{Fault}
@@ -35,7 +35,8 @@ returns-in_default g c =
     let judged = c.in_ok-judged.judged.items in
     let broken : do_hold judged ≡ false = ap do_hold (sym c.deref.ensures.value) ∙ sym c.do_hold.ensures ∙ c.if-do_hold.false in
     let is_text : c.deref-3.result.now ≡ unheld_text config judged =
-    c.deref-3.ensures.value ∙ c.in_ok-put_unheld.ensures ∙ ap (unheld_text config) c.deref-2.ensures.value in
+    c.deref-3.ensures.value ∙ c.in_ok-put_unheld.ensures ∙ ap (λ (t : List ℕ). t ++ unheld_text config c.deref-2.result.now) c.new-lines.ensures.items
+    ∙ ap (unheld_text config) c.deref-2.ensures.value in
     (judged, c.in_ok-judged.ensures, broken, subst (λ (text : List ℕ). AppendsFront held holds text) is_text c.in_default.ensures.front)
 
 pub returns : goal.returns
@@ -46,5 +47,6 @@ returns g c =
     let judged = c.in_ok-judged.judged.items in
     let broken : do_hold judged ≡ false = ap do_hold (sym c.deref.ensures.value) ∙ sym c.do_hold.ensures ∙ c.if-do_hold.false in
     let is_text : c.deref-3.result.now ≡ unheld_text config judged =
-    c.deref-3.ensures.value ∙ c.in_ok-put_unheld.ensures ∙ ap (unheld_text config) c.deref-2.ensures.value in
+    c.deref-3.ensures.value ∙ c.in_ok-put_unheld.ensures ∙ ap (λ (t : List ℕ). t ++ unheld_text config c.deref-2.result.now) c.new-lines.ensures.items
+    ∙ ap (unheld_text config) c.deref-2.ensures.value in
     (judged, c.in_ok-judged.ensures, broken, subst (λ (text : List ℕ). Appends held holds text) is_text c.in-Ok.ensures.ok)
