@@ -35,8 +35,8 @@ def arms(block):
     """The patterns of a match and what each gives."""
     inner = re.search(r"^( *)(?:let .*? = )?match [^\n]*? \{\n(.*?\n)\1\}", block, re.S | re.M)
     deep = inner[1] + "    "
-    each = re.findall(rf"^{deep}(\S.*?) =>\s+(.*?),?\n(?={deep}[\w(]|\Z)", inner[2], re.S | re.M)
-    return [(pattern, flat(given)) for pattern, given in each]
+    each = [re.fullmatch(r"\s*(.*?)\s+=>\s+(.*)", arm, re.S) for arm in re.split(rf",?\n(?={deep}[\w(])", inner[2].strip().rstrip(","))]
+    return [(re.sub(r"\s+", " ", arm[1]), flat(arm[2])) for arm in each]
 
 
 def flat(code):
@@ -258,9 +258,8 @@ def fields_of(function, *values):
     names, code = body(function, TABLES)
     named = dict(zip(names, values))
     listed = re.search(r"^    \[\n(.*?\n)    \]", code, re.S | re.M)[1]
-    found = [field(worth(put(flat(each), named))) for each in re.findall(r"^        (\w.*?),\n(?=        \w|\Z)", listed, re.S | re.M)]
-    assert len(found) == listed.count("Field::") + listed.count("ranges(") - listed.count("ranges(naming, FieldName") - listed.count("ranges(Naming::Assertion, FieldName") or found, function
-    return found
+    each = re.split(r",\n(?=        \w)", listed.strip().rstrip(","))
+    return [field(worth(put(flat(code).strip(), named))) for code in each]
 
 
 def field(code):
@@ -299,16 +298,19 @@ def rule_fields():
     )
     keys = []
     for place, (key, required, shape) in enumerate(long):
-        first = short[place] if place < count else long[place]
+        first, second = (short[place], same[place]) if place < count else (long[place], long[place])
         old, new = choices(scalar_in(first[2])), choices(scalar_in(shape))
-        assert first[0] == key and first[1] == required and words(first[2], "") == words(same[place][2] if place < count else shape, "")
+        # Formats 1 and 2 have the same words, and what the section says of items first holds of them.
+        assert first[:2] == second[:2] == (key, required) and words(first[2], "") == words(second[2], ""), key
+        assert shape.startswith("Shape::One(") or shape.startswith("Shape::Items(") and (place >= count or first[2].startswith("Shape::Ranges(")), key
         text = words(first[2], "")
         if new != old:
             text += "; in format 3 " + changed(old, new)
         for other, where in ((both, "both_ways"), (allowing, "allow")):
             name, due, own = other[place]
             assert name == key
-            narrower = [changed(new, choices(scalar_in(own))) + f" where {where} is true"] if own != shape and choices(scalar_in(own)) != new else []
+            these = choices(scalar_in(own))
+            narrower = [changed(new, these) + f" where {where} is true"] if these != new else []
             if due != required:
                 narrower += ["and then required"] if narrower else [f"required where {where} is true"]
             text += f" ({', '.join(narrower)})" if narrower else ""
