@@ -81,6 +81,15 @@ NETWORK, NETWORK_OR_NONE = (False, (1, 65534)), (True, (1, 65534))
 REQUEST_OR_MESSAGE, ANSWER = (True, (0, 767)), (False, (1026, 1031))
 
 
+# Keys of stations of one to seven octets, as format 3 has them: the length in front, but of six octets the number alone.
+KEYS = (0, 8 * 2**56 - 1)
+
+
+def is_key(number):
+    length, octets = divmod(number, 2**56)
+    return number < 2**48 or length in (1, 2, 3, 4, 5, 7) and octets < 256**length
+
+
 def some(field):
     return (False, BOUNDS[field])
 
@@ -104,7 +113,7 @@ def shape(origin, operation, service, destination=NOTHING, named=False, station=
 def shapes_of(form):
     third = form == 3
     sender = some("sender") if third else NOTHING
-    aimed = perhaps("station") if third else NOTHING
+    aimed = (True, KEYS) if third else NOTHING
 
     def tables(it):
         yield shape(it, "write-table", only(769))
@@ -146,7 +155,7 @@ def shapes_of(form):
     start = 1
     for network in [*sorted({*PORTS, DEVICE}), 65535]:
         if start < network:
-            it = (only(1, len(PORTS)), only(start, network - 1), perhaps("source"), sender)
+            it = (only(1, len(PORTS)), only(start, network - 1), (True, KEYS) if third else perhaps("source"), sender)
             if third:
                 yield shape(it, "claim", NOTHING)
             yield from messages(it)
@@ -241,7 +250,10 @@ def values_within(side, cuts):
     out = [None] if absent else []
     if bounds is not None:
         low, high = bounds
-        out += sorted({low, *(it for it in cuts if low <= it <= high)})
+        found = {low, *(it for it in cuts if low <= it <= high)}
+        if bounds == KEYS:
+            found = {it for it in found | {2**56} if is_key(it)}
+        out += sorted(found)
     return out
 
 
@@ -272,6 +284,8 @@ NOUNS = {
 
 def number_of(text):
     found = re.fullmatch(r"(\d+)\.(\d+)\.(\d+)\.(\d+):(\d+)", text)
+    if text.startswith("mac:"):
+        return len(text[4:]) // 2 * 2**56 + int(text[4:], 16)
     if not found:
         return int(text)
     a, b, c, d, port = map(int, found.groups())
