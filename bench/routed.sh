@@ -274,7 +274,7 @@ class Gateway:
         key = octets if len(octets) == 6 else None
         self.base = {"port": m.port, "source_network": network, "by": octets, "source": key, "service": service_of(m.apdu)}
         if self.form == 3:
-            self.base |= {"sender": m.sender, "station": m.station if len(m.station) == 6 else None}
+            self.base |= {"sender": m.sender, "station": m.station if 1 <= len(m.station) <= 7 else None}
         if self.form < 3 or self.enters(m):
             if m.is_broadcast:
                 self.spreads(m)
@@ -343,7 +343,8 @@ def holds(items, value):
         return False
     for item in items:
         if isinstance(value, bytes) and isinstance(item, str):
-            if ipaddress.ip_address(value[:4]) in ipaddress.ip_network(item):
+            # a subnet has addresses alone, of six octets
+            if len(value) == 6 and ipaddress.ip_address(value[:4]) in ipaddress.ip_network(item):
                 return True
             continue
         low, high = item if isinstance(item, list) else (item, item)
