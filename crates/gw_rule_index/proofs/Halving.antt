@@ -59,13 +59,3 @@ nears_upper bounds value low high half room e n two less_than under = record {
       omega (arith, up, same, under);
   above = n.above;
 }
-
--- the ends have met
-pub nears_met : (bounds : List Bound) (value low high half room : ℕ) → Nears bounds value low high room → 0 < half → high ≤ low → Nears bounds value low high half
-nears_met bounds value low high half room n some met = record {
-  ordered = n.ordered;
-  within = n.within;
-  near = λ s. omega arith;
-  below = n.below;
-  above = n.above;
-}

@@ -7,7 +7,8 @@ use crate::Counted;
 use crate::bound::Bound;
 use crate::counted::COMPARISONS_A_FIELD;
 
-/// How many of the bounds, which ascend, aren't above the value. It takes at most 13 comparisons.
+/// How many of the bounds, which ascend, aren't above the value. It takes at most 13 comparisons, and ends as soon as the place is
+/// found.
 pub(crate) fn place_of(bounds: &[Bound], value: u64, counted: &mut Counted) -> usize
     requires { counted.old.comparisons + COMPARISONS_A_FIELD ≤ MAX_COMPARISONS }
     ensures within { result ≤ length bounds.now }
@@ -20,13 +21,14 @@ pub(crate) fn place_of(bounds: &[Bound], value: u64, counted: &mut Counted) -> u
     let mut low = 0;
     let mut high = bounds.len();
     for _step in 0..COMPARISONS_A_FIELD {
-        if low < high {
-            let middle = low + (high - low) / 2;
-            if bounds[middle].above(value, counted) {
-                high = middle;
-            } else {
-                low = middle + 1;
-            }
+        if low >= high {
+            return low;
+        }
+        let middle = low + (high - low) / 2;
+        if bounds[middle].above(value, counted) {
+            high = middle;
+        } else {
+            low = middle + 1;
         }
     }
     low
