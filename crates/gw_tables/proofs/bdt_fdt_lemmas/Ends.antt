@@ -1,5 +1,5 @@
 -- The ends of leases, as leases come and go.
-use Rattle.std.proofs.Common.{◌≡◌, ◌∙◌, ℕ, ◌<◌, Bool, true, false, cond, not, ◌||◌, ◌&&◌, List, [], ◌∷◌, map, Option, Some, None, is_some, if◌then◌else◌, nat_lt, nat_eq, ◌==◌, refl, sym, ap, ap₂, subst, true≢false, filter, arith, Result, Ok, OnOk}
+use Rattle.std.proofs.Common.{◌≡◌, ◌∙◌, ℕ, ◌<◌, Bool, true, false, cond, not, ◌||◌, ◌&&◌, List, [], ◌∷◌, map, Option, Some, None, is_some, if◌then◌else◌, nat_lt, nat_eq, ◌==◌, refl, sym, ap, ap₂, subst, true≢false, filter, arith}
 use Rattle.std.specs.List.{list_any, AllByRecursion, IsDistinct}
 use Rattle.std.specs.Map.{lookup, remove_entry, keys_of}
 use Rattle.std.specs.Ordering.{is_eq, is_gt, nat_cmp, ordering_then}
@@ -241,7 +241,3 @@ end_moved a o n q b = by (nat_eq o n) refl
     by : (x : Bool) → nat_eq o n ≡ x → cond (not x && tied (o, a) q) false (cond (tied (n, a) q) true b) ≡ cond (tied (n, a) q) true (cond (tied (o, a) q) false b)
     by true e = over (tied (n, a) q) b ∙ ap (λ m. cond (tied (n, a) q) true (cond (tied (m, a) q) false b)) (sym (eqb-true o n e))
     by false e = apart (tied (o, a) q) (tied (n, a) q) refl refl e
-
--- what holds if a call succeeds
-pub on_ok : {T E P : Type 0} {r : Result T E} {x : T} → r ≡ Ok x → OnOk r P → P
-on_ok {T} {E} {P} e h = subst (λ s. OnOk s P) e h

@@ -1,15 +1,16 @@
 //! How registrations are kept: by address in their order, and beside it by the tick with which each
 //! ends, so that a tick looks only at what ends first.
 ghost use Rattle.std.specs.Prelude.{◌≡◌, ◌<◌, ◌&&◌, [], length, filter, not, cond, false, nat_eq};
-ghost use Rattle.std.specs.Prelude.{is_some, Some, None, IsTrue, IsFalse, OnOk, OnErr};
+ghost use Rattle.std.specs.Prelude.{is_some, IsTrue, IsFalse, OnOk, OnErr};
 ghost use Rattle.std.specs.List.{AllByRecursion, IsDistinct, list_any};
 ghost use Rattle.std.specs.Map.{keys_of, lookup, remove_entry};
-ghost use Rattle.indexmap.specs.IndexMap.{get, insert_entry};
+ghost use Rattle.indexmap.specs.IndexMap.{insert_entry};
 ghost use Rattle.gw_tables.specs.bdt_fdt.internal.Leases.{AreTied, End, holds_at, tied};
 ghost use Rattle.gw_tables.specs.bdt_fdt.Registrations.{same};
 
 use gw_addr::BipAddr;
 use indexmap::IndexMap;
+use indexmap::map::Entry;
 use std::alloc::{AllocError, Global};
 use std::collections::BTreeSet;
 use std::marker::Model;
@@ -79,10 +80,7 @@ impl Leases {
         ensures ok { OnOk result (self.new ≡ insert_entry same self.old address lease) }
         ensures err { OnErr result (self.new ≡ self.old) }
     {
-        match self.by_address.get(&address).copied() {
-            Some(old) => renew(&mut self.by_address, &mut self.ends, address, old, lease),
-            None => add(&mut self.by_address, &mut self.ends, address, lease),
-        }
+        put(&mut self.by_address, &mut self.ends, address, lease)
     }
 
     /// Takes the lease of an address, if it has one.
@@ -131,45 +129,33 @@ fn take_ended(
     ends.retain(|end| now < end.0);
 }
 
-/// Adds the lease of an address that has none. The room is made before anything changes.
-fn add(
+/// Gives an address a lease, by one look-up. The room is made before anything changes.
+fn put(
     by_address: &mut IndexMap<BipAddr, Lease>,
     ends: &mut BTreeSet<(u64, BipAddr)>,
     address: BipAddr,
     lease: Lease,
 ) -> Result<(), AllocError>
     requires kept { AreTied ends.old.keys by_address.old.entries }
-    requires absent { get same by_address.old address ≡ None }
     ensures kept { AreTied ends.new.keys by_address.new.entries }
     ensures ok { OnOk result
         (by_address.new.entries ≡ insert_entry same by_address.old.entries address lease) }
     ensures err { OnErr result (by_address.new.entries ≡ by_address.old.entries) }
 {
-    by_address.reserve(1)?;
-    ends.insert((lease.deadline, address))?;
-    by_address.insert(address, lease).unwrap();
-    Ok(())
-}
-
-/// Gives an address another lease than its old one.
-fn renew(
-    by_address: &mut IndexMap<BipAddr, Lease>,
-    ends: &mut BTreeSet<(u64, BipAddr)>,
-    address: BipAddr,
-    old: Lease,
-    lease: Lease,
-) -> Result<(), AllocError>
-    requires kept { AreTied ends.old.keys by_address.old.entries }
-    requires there { get same by_address.old address ≡ Some old }
-    ensures kept { AreTied ends.new.keys by_address.new.entries }
-    ensures ok { OnOk result
-        (by_address.new.entries ≡ insert_entry same by_address.old.entries address lease) }
-    ensures err { OnErr result (by_address.new.entries ≡ by_address.old.entries) }
-{
-    ends.insert((lease.deadline, address))?;
-    forget(ends, address, old.deadline, lease.deadline);
-    by_address.insert(address, lease).unwrap();
-    Ok(())
+    let entry = by_address.entry(address)?;
+    match entry {
+        Entry::Occupied(mut held) => {
+            ends.insert((lease.deadline, address))?;
+            let old = held.insert(lease);
+            forget(ends, address, old.deadline, lease.deadline);
+            Ok(())
+        }
+        Entry::Vacant(room) => {
+            let _added = ends.insert((lease.deadline, address))?;
+            room.insert(lease);
+            Ok(())
+        }
+    }
 }
 
 /// Takes the old end of an address, if its new one is another.
