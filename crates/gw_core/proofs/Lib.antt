@@ -9,4 +9,5 @@ pub mod AskedLemmas
 pub mod TurnLemmas
 pub mod RespondLemmas
 pub mod PlainLemmas
+pub mod Answering
 pub mod Resuming

@@ -1,6 +1,6 @@
 //! The record of what the policy denies, but by quiet rules.
 
-ghost use Rattle.std.specs.Prelude.{◌≡◌, ◌<◌, ◌+◌, ◌^◌, [], length, IfOk, IsOk, vec_capacity};
+ghost use Rattle.std.specs.Prelude.{◌≡◌, ◌<◌, ◌+◌, ◌++◌, ◌^◌, [], length, IsOk, OnOk};
 ghost use Rattle.std.specs.Option.{option_map, option_map_or};
 ghost use Rattle.gw_core.specs.Denials.{default_name, denials_from, denials_of, name_at, rule_name};
 ghost use Rattle.gw_core.specs.Receive.{source_of};
@@ -12,7 +12,7 @@ use gw_addr::{BipAddr, Source};
 use gw_audit::{Denial, Denials};
 use gw_relay::{Message, PortState, local_source};
 use gw_rules::{Ask, NO_RULE, Operation, Refusal, Rule, RuleList, RuleName};
-use std::alloc::{AllocError, Global};
+use std::alloc::AllocError;
 
 /// The name of the rule of this number, from 1, or `default`.
 pub(crate) fn name_at(rules: &RuleList, number: u16) -> &str
@@ -86,70 +86,62 @@ pub(crate) fn origin_of<'a>(received: &'a Received<'a>) -> Option<Origin<'a>>
     }
 }
 
-/// The record of what was refused of what is received, counted on from these counts. If nothing was,
-/// it takes no memory.
-pub(crate) fn denials_of(
-    alloc: Global,
+/// Adds the record of what was refused of what is received, counted on from these counts. If nothing was, it takes no
+/// memory.
+#[inline(always)]
+pub(crate) fn add_denials(
+    denials: &mut Denials,
     rules: &RuleList,
     counts: Counts,
     received: &Received<'_>,
     refusals: &[Refusal],
-) -> Result<Denials, AllocError>
+) -> Result<(), AllocError>
     requires { counts.denials + 1 + length refusals.now < 2 ^ 64 }
     ensures denials { let from = origin_of received.now in
         let due = denials_of rules.now (counts.denials + 1) counts.ticks from refusals.now in
-        IfOk result (λ denials. denials ≡ due) }
+        OnOk result (denials.new ≡ denials.old ++ due) }
     ensures silent { refusals.now ≡ [] → IsOk result }
 {
     if refusals.is_empty() {
-        return Ok(Denials::new(alloc));
+        return Ok(());
     }
-    denials_with_origin(alloc, rules, counts, received, refusals)
+    add_denials_of(denials, rules, counts, received, refusals)
 }
 
-/// The record of what was refused, which is seldom: the room for an origin is made only then.
+/// Adds the record of what was refused, which is seldom: the room for an origin is made only then.
 #[inline(never)]
-fn denials_with_origin(
-    alloc: Global,
+fn add_denials_of(
+    denials: &mut Denials,
     rules: &RuleList,
     counts: Counts,
     received: &Received<'_>,
     refusals: &[Refusal],
-) -> Result<Denials, AllocError>
+) -> Result<(), AllocError>
     requires { counts.denials + 1 + length refusals.now < 2 ^ 64 }
     ensures { let from = origin_of received.now in
         let due = denials_of rules.now (counts.denials + 1) counts.ticks from refusals.now in
-        IfOk result (λ denials. denials ≡ due) }
+        OnOk result (denials.new ≡ denials.old ++ due) }
 {
     match origin_of(received) {
-        Some(from) => denials_from(alloc, rules, counts, &from, refusals),
-        None => Ok(Denials::new(alloc)),
+        Some(from) => add_denials_from(denials, rules, counts, &from, refusals),
+        None => Ok(()),
     }
 }
 
-/// An empty list with memory for the denials of these refusals.
-fn empty_list(alloc: Global, refusals: &[Refusal]) -> Result<Vec<Denial>, AllocError>
-    ensures empty { IfOk result (λ denials. denials.items ≡ []) }
-    ensures room { IfOk result (λ denials. vec_capacity denials ≡ length refusals.now) }
-{
-    Vec::with_capacity(alloc, refusals.len())
-}
-
-/// The record of refusals, counted on from these counts.
-fn denials_from(
-    alloc: Global,
+/// Adds the record of refusals, counted on from these counts.
+fn add_denials_from(
+    denials: &mut Denials,
     rules: &RuleList,
     counts: Counts,
     from: &Origin<'_>,
     refusals: &[Refusal],
-) -> Result<Denials, AllocError>
+) -> Result<(), AllocError>
     requires { counts.denials + 1 + length refusals.now < 2 ^ 64 }
     ensures { let from = origin_view from.now in
         let due = denials_from rules.now (counts.denials + 1) counts.ticks from refusals.now in
-        IfOk result (λ denials. denials ≡ due) }
+        OnOk result (denials.new ≡ denials.old ++ due) }
 {
     let first = counts.denials + 1;
-    let mut denials = Denials::from_vec(empty_list(alloc, refusals)?);
     for (place, refusal) in refusals.iter().enumerate() {
         denials.push(Denial {
             number: first + place as u64,
@@ -160,5 +152,5 @@ fn denials_from(
             rule: rule_name(rules, refusal.by),
         })?;
     }
-    Ok(denials)
+    Ok(())
 }

@@ -26,4 +26,14 @@ impl Effects {
             denials: Denials::new(alloc),
         }
     }
+
+    /// Lets all go.
+    #[inline(always)]
+    pub(crate) fn clear(&mut self)
+        ensures sends { self.new.sends ≡ [] }
+        ensures denials { self.new.denials ≡ [] }
+    {
+        self.sends.clear();
+        self.denials.truncate(0);
+    }
 }

@@ -1,6 +1,6 @@
 //! The gateway: its state, and what it answers to one event.
 
-ghost use Rattle.std.specs.Prelude.{◌≡◌, ◌+◌, ◌≤◌, ◌^◌, ◌↔◌, ◌||◌, [], false, true, length, None, is_some};
+ghost use Rattle.std.specs.Prelude.{◌≡◌, ◌+◌, ◌<◌, ◌≤◌, ◌^◌, ◌↔◌, ◌||◌, [], false, true, length, None, is_some};
 ghost use Rattle.std.specs.Prelude.{IsOk, IfOk, OnOk, OnErr, IsErrOf};
 ghost use Rattle.std.specs.Option.{option_map};
 ghost use Rattle.gw_addr.specs.declared.TheConstants.{MAX_PORTS};
@@ -13,14 +13,14 @@ ghost use Rattle.gw_core.specs.Resumed.{carried, saved_of};
 ghost use Rattle.gw_script.specs.Event.{Datagram, Tick};
 
 use crate::asked::{Report, Reporter};
-use crate::denial::denials_of;
+use crate::denial::add_denials;
 use crate::drops::DropReason;
 use crate::effects::Effects;
 use crate::event::Counts;
 use crate::fault::StepFault;
-use crate::receive::{Arrival, read_npdu, receive};
+use crate::receive::{Arrival, Received, read_npdu, receive};
 use crate::reporting::{DenialsAlone, Reporting};
-use crate::respond::{network_of, respond};
+use crate::respond::{network_of, put, respond};
 use crate::saving::saved_ports;
 use gw_addr::BipAddr;
 use gw_configuration::Config;
@@ -33,6 +33,7 @@ use gw_rules::RuleList;
 use gw_state::{Origin, Saved, SavedCounts};
 use std::alloc::{AllocError, Global};
 use std::marker::Model;
+use std::mem;
 
 /// Where each count of a gateway ends.
 const LAST_COUNT: u64 = 1 << 63;
@@ -47,9 +48,15 @@ pub struct Taken {
     pub drop: Option<DropReason>,
     /// Whether it was granted a table of peers (Annex J.4), or the device makes a write (clause 15.9).
     pub lasts: bool,
+    /// What the relay commits.
+    change: Option<RelayChange>,
+    /// The write that the device commits.
+    write: Option<Change>,
 }
 
 impl Taken {
+    ghost use Rattle.gw_core.specs.internal.Outcome.{IsEmpty};
+
     /// Of an event that does nothing. It takes no memory.
     pub fn nothing(alloc: Global) -> Self
         ensures sends { result.effects.sends ≡ [] }
@@ -61,7 +68,29 @@ impl Taken {
             effects: Effects::none(alloc),
             drop: None,
             lasts: false,
+            change: None,
+            write: None,
         }
+    }
+
+    /// What it does, for keeps.
+    pub(crate) fn into_effects(self) -> Effects
+        ensures { result ≡ self.effects }
+    {
+        self.effects
+    }
+
+    /// Lets go what was there: it is then of an event that does nothing.
+    #[inline(always)]
+    pub(crate) fn clear(&mut self)
+        ensures empty { IsEmpty self.new }
+        ensures drop { self.new.drop ≡ None }
+    {
+        self.effects.clear();
+        self.drop = None;
+        self.lasts = false;
+        self.change = None;
+        self.write = None;
     }
 
     /// The allocator of what it does.
@@ -75,17 +104,6 @@ impl Taken {
 pub struct Reported<T> {
     /// What it does.
     pub taken: Taken,
-    /// What is reported of what it asked.
-    pub asked: T,
-}
-
-/// The changes that a datagram is granted, and what is reported of all that it asked.
-#[derive(Drop)]
-pub struct Outcome<T> {
-    /// What the relay commits.
-    pub change: Option<RelayChange>,
-    /// The write that the device commits.
-    pub write: Option<Change>,
     /// What is reported of what it asked.
     pub asked: T,
 }
@@ -144,7 +162,11 @@ impl Gateway {
     ghost use Rattle.gw_core.specs.History.{IsStateAfter, IsStep};
     ghost use Rattle.gw_core.specs.Receive.{origin, receive};
     ghost use Rattle.gw_core.specs.Arrivals.{event_of};
-    ghost use Rattle.gw_core.specs.internal.Outcome.{IsOutcome};
+    ghost use Rattle.gw_core.specs.Asks.{asks_for};
+    ghost use Rattle.gw_core.specs.Denials.{denials_for};
+    ghost use Rattle.gw_core.specs.Effects.{sends_for};
+    ghost use Rattle.gw_core.specs.internal.Outcome.{IsAnswered, IsEmpty, IsOutcome};
+    ghost use Rattle.gw_core.specs.internal.View.{admitted_view, origin_of};
 
     /// A gateway of this configuration that goes on from these counts. The only fault is want of
     /// memory.
@@ -295,9 +317,9 @@ impl Gateway {
         LAST_COUNT - self.counts.denials
     }
 
-    /// Writes what is done about a datagram into its place, and answers what it changes and what the asker reports of its
-    /// asks, while the gateway stays as it is. The asker has asked nothing yet. The faults are those of
-    /// [`Gateway::step`]; what is in the place is then of no use.
+    /// Writes what is done about a datagram into its place, and answers what the asker reports of its asks, while the
+    /// gateway stays as it is. The asker has asked nothing yet. For one that is dropped no turn is made. The faults are
+    /// those of [`Gateway::step`]; what is in the place is then of no use.
     #[inline(always)]
     pub(crate) fn outcome<A: Reporter>(
         &self,
@@ -305,13 +327,13 @@ impl Gateway {
         arrival: &Arrival<'_>,
         asker: A,
         taken: &mut Taken,
-    ) -> Result<Outcome<A::Asked>, StepFault>
+    ) -> Result<A::Asked, StepFault>
         requires stands { A.StandsFor asker self.now.rules }
         requires begun { A.kept asker ≡ [] }
-        ensures outcome { IfOk result (IsOutcome self.now (event_of arrival.now) taken.new) }
+        ensures outcome { OnOk result (IsOutcome self.now (event_of arrival.now) taken.new) }
         ensures asked { let event = event_of arrival.now in
             let due = A.asked (origin (receive self.now event)) self.now.rules (asks self.now event) in
-            IfOk result (λ outcome. outcome.asked ≡ due) }
+            IfOk result (λ asked. asked ≡ due) }
         ensures count_end { IsErrOf result StepFault.CountEnd
             → passes_end self.now (event_of arrival.now) ≡ true }
         ensures silent { NeedsNoMemory self.now (event_of arrival.now) → IsOk result }
@@ -322,31 +344,71 @@ impl Gateway {
         read_npdu(&frame, &mut npdu);
         let network = network_of(&self.device);
         let received = receive(self.relay.ports(), network, arrival, &frame, &npdu);
-        let drop = received.drop_reason();
-        let mut turn = Turn::new(asker);
-        let write = respond(&self.relay, &self.device, network, &received, &mut turn)?;
+        taken.clear();
+        taken.drop = received.drop_reason();
+        if let Received::Dropped(_) = &received {
+            let Report { refusals: _, asked } = asker.into_report(alloc, &received)?;
+            return Ok(asked);
+        }
+        self.answer(alloc, &received, asker, taken)
+    }
+
+    /// Writes what is done about what is received into a place that is empty, and answers what the asker reports of its
+    /// asks, while the gateway stays as it is. The asker has asked nothing yet. The faults are those of
+    /// [`Gateway::step`]; what is in the place is then of no use.
+    #[inline(always)]
+    fn answer<A: Reporter>(
+        &self,
+        alloc: Global,
+        received: &Received<'_>,
+        asker: A,
+        taken: &mut Taken,
+    ) -> Result<A::Asked, StepFault>
+        requires stands { A.StandsFor asker self.now.rules }
+        requires begun { A.kept asker ≡ [] }
+        requires empty { IsEmpty taken.old }
+        ensures answered { OnOk result (IsAnswered self.now (admitted_view self.now received.now) taken.new) }
+        ensures drop { OnOk result (taken.new.drop ≡ taken.old.drop) }
+        ensures asked { let w = self.now in
+            let asks = asks_for w.rules w.relay w.device (admitted_view w received.now) in
+            IfOk result (λ asked. asked ≡ A.asked (origin_of received.now) w.rules asks) }
+        ensures count_end { IsErrOf result StepFault.CountEnd →
+            2 ^ 63 < self.now.denials + length (denials_for self.now (admitted_view self.now received.now)) }
+        ensures silent { let w = self.now in
+            asks_for w.rules w.relay w.device (admitted_view w received.now) ≡ [] →
+            sends_for w.rules w.relay w.device (admitted_view w received.now) ≡ [] → IsOk result }
+    {
+        let sends = mem::replace(&mut taken.effects.sends, Sends::new(alloc));
+        let mut turn = Turn::over(asker, sends);
+        respond(
+            &self.relay,
+            &self.device,
+            received,
+            &mut turn,
+            &mut taken.write,
+        )?;
         let Turn {
             asker,
             sends,
             change,
         } = turn;
-        let Report { refusals, asked } = asker.into_report(alloc, &received)?;
+        taken.effects.sends = sends;
+        let Report { refusals, asked } = asker.into_report(alloc, received)?;
         let refusals = refusals.as_slice();
         if refusals.len() as u64 > self.left() {
             return Err(StepFault::CountEnd);
         }
         let rules = self.policy.rules();
-        let denials = denials_of(alloc, rules, self.counts, &received, refusals)?;
-        let lasts = is_lasting(&change, &write);
-        taken.effects.sends = sends;
-        taken.effects.denials = denials;
-        taken.drop = drop;
-        taken.lasts = lasts;
-        Ok(Outcome {
-            change,
-            write,
-            asked,
-        })
+        add_denials(
+            &mut taken.effects.denials,
+            rules,
+            self.counts,
+            received,
+            refusals,
+        )?;
+        put(&mut taken.change, change);
+        taken.lasts = is_lasting(&taken.change, &taken.write);
+        Ok(asked)
     }
 
     /// Moves on by a datagram: makes its change of the relay and its write to the device, where there
@@ -404,7 +466,7 @@ impl Gateway {
         ensures err { OnErr result (self.new ≡ self.old) }
     {
         match self.take::<DenialsAlone>(alloc, port, from, octets) {
-            Ok(reported) => Ok(reported.taken.effects),
+            Ok(reported) => Ok(reported.taken.into_effects()),
             Err(fault) => Err(fault),
         }
     }
@@ -467,11 +529,9 @@ impl Gateway {
         ensures err { OnErr result (self.new ≡ self.old) }
     {
         let now = &*self;
-        let Outcome {
-            change,
-            write,
-            asked,
-        } = R::outcome(now, alloc, arrival, taken)?;
+        let asked = R::outcome(now, alloc, arrival, taken)?;
+        let change = taken.change.take();
+        let write = taken.write.take();
         self.move_on(change, write, taken.effects.denials.len() as u64)?;
         Ok(asked)
     }

@@ -1,6 +1,6 @@
 //! What is reported of what an event asks, beside its denials: nothing, or all of it.
 
-ghost use Rattle.std.specs.Prelude.{◌≡◌, true, IsOk, IfOk, IsErrOf};
+ghost use Rattle.std.specs.Prelude.{◌≡◌, true, IsOk, IfOk, OnOk, IsErrOf};
 ghost use Rattle.gw_script.specs.Event.{Event, Tick};
 ghost use Rattle.gw_core.specs.Effects.{NeedsNoMemory, passes_end};
 ghost use Rattle.gw_core.specs.State.{State};
@@ -9,7 +9,7 @@ ghost use Rattle.gw_core.specs.internal.Outcome.{IsOutcome};
 
 use crate::asked::AllAsked;
 use crate::fault::StepFault;
-use crate::gateway::{Gateway, Outcome, Taken};
+use crate::gateway::{Gateway, Taken};
 use crate::receive::Arrival;
 use gw_rules::{Authorizer, Recorder};
 use std::alloc::Global;
@@ -27,17 +27,17 @@ pub trait Reporting {
     fn nothing(alloc: Global) -> Self::Asked
         ensures { (w : State) → result ≡ asked w Tick };
 
-    /// Writes what is done about a datagram into its place, and answers what it changes and what is reported of it, while the
-    /// gateway stays as it is. The faults are those of [`Gateway::step`]; what is in the place is then of no use.
+    /// Writes what is done about a datagram into its place, and answers what is reported of it, while the gateway stays as
+    /// it is. The faults are those of [`Gateway::step`]; what is in the place is then of no use.
     fn outcome(
         gateway: &Gateway,
         alloc: Global,
         arrival: &Arrival<'_>,
         taken: &mut Taken,
-    ) -> Result<Outcome<Self::Asked>, StepFault>
-        ensures outcome { IfOk result (IsOutcome gateway.now (event_of arrival.now) taken.new) }
+    ) -> Result<Self::Asked, StepFault>
+        ensures outcome { OnOk result (IsOutcome gateway.now (event_of arrival.now) taken.new) }
         ensures asked { let event = event_of arrival.now in
-            IfOk result (λ outcome. outcome.asked ≡ asked gateway.now event) }
+            IfOk result (λ reported. reported ≡ asked gateway.now event) }
         ensures count_end { IsErrOf result StepFault.CountEnd
             → passes_end gateway.now (event_of arrival.now) ≡ true }
         ensures silent { NeedsNoMemory gateway.now (event_of arrival.now) → IsOk result };
@@ -60,7 +60,7 @@ impl Reporting for DenialsAlone {
         alloc: Global,
         arrival: &Arrival<'_>,
         taken: &mut Taken,
-    ) -> Result<Outcome<()>, StepFault> {
+    ) -> Result<(), StepFault> {
         let asker = Authorizer::new(alloc, gateway.policy());
         gateway.outcome(alloc, arrival, asker, taken)
     }
@@ -87,7 +87,7 @@ impl Reporting for AllAsks {
         alloc: Global,
         arrival: &Arrival<'_>,
         taken: &mut Taken,
-    ) -> Result<Outcome<AllAsked>, StepFault> {
+    ) -> Result<AllAsked, StepFault> {
         let asker = Recorder::new(alloc, gateway.policy());
         gateway.outcome(alloc, arrival, asker, taken)
     }

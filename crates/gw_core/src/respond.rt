@@ -1,7 +1,7 @@
 //! What is done about what is received, while the gateway stays as it is: what all its parts ask,
 //! send and change.
 
-ghost use Rattle.std.specs.Prelude.{◌≡◌, ◌++◌, [], List, false, IfOk, IsOk, OnOk};
+ghost use Rattle.std.specs.Prelude.{◌≡◌, ◌++◌, [], List, None, false, IfOk, IsOk, OnOk};
 ghost use Rattle.gw_objects.specs.Objects.{Database};
 ghost use Rattle.gw_device.specs.Response.{HasPlace};
 ghost use Rattle.gw_rules.specs.declared.rule.Rule.{Rule};
@@ -33,6 +33,16 @@ pub(crate) fn network_of(device: &Device) -> NetNum
     ensures { result ≡ device_network device.now }
 {
     device.configured().device.network
+}
+
+/// Puts a value into its place. If there is none, and none was there, nothing is moved.
+#[inline(always)]
+pub(crate) fn put<T: Drop>(place: &mut Option<T>, value: Option<T>)
+    ensures { place.new ≡ value }
+{
+    if value.is_some() || place.is_some() {
+        *place = value;
+    }
 }
 
 /// Whether a message brings an APDU, and none of the network layer.
@@ -147,51 +157,53 @@ fn add_entry<A: Asker>(
     }
 }
 
-/// Adds what the device does about a message (step 10), and answers the write that is granted, if there is
-/// one.
+/// Adds what the device does about a message (step 10), and writes what is granted into its place, which is empty, if it
+/// is a write.
 fn add_served<A: Asker>(
     format: Format,
     device: &Device,
-    network: NetNum,
     message: &Message<'_>,
     turn: &mut Turn<A>,
-) -> Result<Option<Change>, AllocError>
-    requires network { network ≡ device_network device.now }
+    write: &mut Option<Change>,
+) -> Result<(), AllocError>
+    requires none { write.old ≡ None }
     ensures walked { (rules : List Rule) → A.StandsFor turn.old.asker rules →
         let due = message_response rules format device.now (message_view message.now) in
         OnOk result (IsWalked A.kept A.kept_of rules due turn.old turn.new) }
     ensures write { (rules : List Rule) → A.StandsFor turn.old.asker rules →
         let due = message_change rules format device.now (message_view message.now) in
-        IfOk result (λ write. write ≡ due) }
-    ensures place { IfOk result (λ write. HasPlace device.now write) }
+        OnOk result (write.new ≡ due) }
+    ensures place { OnOk result (HasPlace device.now write.new) }
     ensures silent { (rules : List Rule) → A.StandsFor turn.old.asker rules →
         let m = message_view message.now in
         message_asks rules format device.now m ≡ [] → message_sends rules format device.now m ≡ [] →
         IsOk result }
 {
+    let network = network_of(device);
     let Some(apdu) = apdu_for(network, message.npdu) else {
-        return Ok(None);
+        return Ok(());
     };
     let context = context_of(format, network, message);
     let Served { answer, change } = device.answer(&context, apdu, &mut turn.asker)?;
     add_answer(network, message, answer, &mut turn.sends)?;
-    Ok(change)
+    put(write, change);
+    Ok(())
 }
 
-/// Adds what is done about a message (steps 4 to 10), and answers the write to the device that is granted, if
-/// there is one.
+/// Adds what is done about a message (steps 4 to 10), and writes into its place, which is empty, the write to the device
+/// that is granted, if there is one.
 #[inline(always)]
 fn add_message<A: Asker>(
     relay: &Relay,
     device: &Device,
-    network: NetNum,
     message: &Message<'_>,
     turn: &mut Turn<A>,
-) -> Result<Option<Change>, AllocError>
-    requires network { network ≡ device_network device.now }
+    write: &mut Option<Change>,
+) -> Result<(), AllocError>
+    requires none { write.old ≡ None }
     ensures response { (rules : List Rule) → A.StandsFor turn.old.asker rules →
         let due = admit rules relay.now (judged (message_view message.now)) in
-        IfOk result (IsResponse A.kept A.kept_of rules relay.now device.now due turn.old turn.new) }
+        OnOk result (IsResponse A.kept A.kept_of rules relay.now device.now due turn.old turn.new write.new) }
     ensures silent { (rules : List Rule) → A.StandsFor turn.old.asker rules →
         let due = admit rules relay.now (judged (message_view message.now)) in
         asks_for rules relay.now device.now due ≡ [] →
@@ -199,42 +211,42 @@ fn add_message<A: Asker>(
 {
     let taken = add_entry(relay, message, turn)?;
     if !taken {
-        return Ok(None);
+        return Ok(());
     }
     let goes_on = add_passed(relay, message, turn)?;
     if !goes_on {
-        return Ok(None);
+        return Ok(());
     }
-    let write = add_served(relay.format(), device, network, message, turn)?;
-    Ok(write)
+    add_served(relay.format(), device, message, turn, write)?;
+    Ok(())
 }
 
 /// Adds to a turn what is done about what is received: what is asked, what is sent, and what the relay commits. It
-/// answers the write to the device that is granted, if there is one. The only fault is want of memory; a part may
-/// then be added.
+/// writes into its place the write to the device that is granted, or that there is none. The only fault is want of
+/// memory; a part may then be added.
 #[inline(always)]
 pub(crate) fn respond<A: Asker>(
     relay: &Relay,
     device: &Device,
-    network: NetNum,
     received: &Received<'_>,
     turn: &mut Turn<A>,
-) -> Result<Option<Change>, AllocError>
-    requires network { network ≡ device_network device.now }
+    write: &mut Option<Change>,
+) -> Result<(), AllocError>
     ensures response { (rules : List Rule) → A.StandsFor turn.old.asker rules →
         let due = admit rules relay.now (received_view received.now) in
-        IfOk result (IsResponse A.kept A.kept_of rules relay.now device.now due turn.old turn.new) }
+        OnOk result (IsResponse A.kept A.kept_of rules relay.now device.now due turn.old turn.new write.new) }
     ensures silent { (rules : List Rule) → A.StandsFor turn.old.asker rules →
         let due = admit rules relay.now (received_view received.now) in
         asks_for rules relay.now device.now due ≡ [] →
         sends_for rules relay.now device.now due ≡ [] → IsOk result }
 {
+    *write = None;
     match received {
-        Received::Dropped(_) => Ok(None),
+        Received::Dropped(_) => Ok(()),
         Received::Managed(message) => {
             relay.link(message, turn)?;
-            Ok(None)
+            Ok(())
         }
-        Received::Message(message) => add_message(relay, device, network, message, turn),
+        Received::Message(message) => add_message(relay, device, message, turn, write),
     }
 }

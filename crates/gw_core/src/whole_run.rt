@@ -77,7 +77,7 @@ pub fn take_event_to<R: Reporting>(
         }
         Event::Tick => {
             gateway.tick()?;
-            *taken = Taken::nothing(alloc);
+            taken.clear();
             Ok(R::nothing(alloc))
         }
     }
@@ -103,7 +103,7 @@ pub fn run(
     let mut rest = events;
     while let [event, later @ ..] = rest {
         let reported = take_event::<DenialsAlone>(alloc, gateway, event)?;
-        if given.push(reported.taken.effects).is_err() {
+        if given.push(reported.taken.into_effects()).is_err() {
             return Err(StepFault::Memory);
         }
         rest = later;

@@ -168,11 +168,10 @@ impl PortState {
             let targets = targets self.now from (frame_view frame.now) in
             OnOk result (sends.new ≡ sends.old ++ sent self.now.port.number targets message) }
     {
-        let alloc = sends.alloc();
-        let mut targets = no_targets(alloc, self.most_targets(frame))?;
+        let mut targets = no_targets(sends.alloc(), self.most_targets(frame))?;
         self.add_targets(from, frame, &mut targets)?;
         let message = passed_on(from, frame);
-        match batch_of(alloc, self.port.number, targets, &message)? {
+        match batch_of(sends, self.port.number, targets, &message)? {
             Some(batch) => sends.push(batch),
             None => Ok(()),
         }
@@ -293,7 +292,7 @@ impl PortState {
         ensures { OnOk result (sends.new ≡ sends.old ++ spread self.now npdu) }
     {
         let port = self.port.number;
-        let elsewhere = self.elsewhere(sends.alloc(), npdu.npdu())?;
+        let elsewhere = self.elsewhere(npdu.npdu(), sends)?;
         sends.push(Batch::to_one(port, self.port.broadcast, npdu.into_broadcast()))?;
         match elsewhere {
             Some(forwarded) => sends.push(forwarded),
@@ -302,13 +301,14 @@ impl PortState {
     }
 
     /// The port's own Forwarded-NPDU to all peers and foreign devices, if there are any.
-    fn elsewhere(&self, alloc: Global, npdu: &[u8]) -> Result<Option<Batch>, AllocError>
-        ensures { let all = managers self.now ++ devices self.now in
+    fn elsewhere(&self, npdu: &[u8], sends: &mut Sends) -> Result<Option<Batch>, AllocError>
+        ensures batch { let all = managers self.now ++ devices self.now in
             let message = forwarded self.now.port.address npdu.now in
             IfOk result (λ batch. option_map_or sendings_of batch []
             ≡ sent self.now.port.number all message) }
+        ensures stays { sends.new ≡ sends.old }
     {
-        let mut targets = no_targets(alloc, self.entry_count())?;
+        let mut targets = no_targets(sends.alloc(), self.entry_count())?;
         self.add_all(&mut targets)?;
         if targets.is_empty() {
             return Ok(None);
@@ -317,7 +317,7 @@ impl PortState {
             originator: self.port.address,
             npdu,
         };
-        batch_of(alloc, self.port.number, targets, &message)
+        batch_of(sends, self.port.number, targets, &message)
     }
 }
 
@@ -387,18 +387,19 @@ impl Relay {
 
 /// A message to each of the addresses. None if it is too long, or if there is no address, which takes no memory.
 fn batch_of(
-    alloc: Global,
+    sends: &mut Sends,
     port: u8,
     targets: Vec<BipAddr>,
     message: &Bvll<'_>,
 ) -> Result<Option<Batch>, AllocError>
-    ensures { let all = sent port targets.items (frame_view message.now) in
+    ensures batch { let all = sent port targets.items (frame_view message.now) in
         IfOk result (λ batch. option_map_or sendings_of batch [] ≡ all) }
+    ensures stays { sends.new ≡ sends.old }
 {
     if targets.is_empty() {
         return Ok(None);
     }
-    match message_octets(alloc, message)? {
+    match message_octets(sends, message)? {
         Some(octets) => Ok(Some(Batch::to_each(port, targets, octets))),
         None => Ok(None),
     }

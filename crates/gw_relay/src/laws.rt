@@ -15,6 +15,9 @@ ghost use Rattle.gw_relay.specs.Neighbours.{LearningStaysBare, NoTablesBeside, N
 ghost use Rattle.gw_relay.specs.Neighbours.{NothingLearnedNothingSent, OnwardIsFirstLearned, OnwardIsGranted};
 ghost use Rattle.gw_relay.specs.Neighbours.{OnwardLeavesThePort, PlainBroadcasts, PlainNetworkMessages, PlainTables};
 ghost use Rattle.gw_relay.specs.Neighbours.{TablesStayBare, TicksStayBare};
+ghost use Rattle.std.specs.Prelude.{◌≡◌};
+
+use crate::{BUFFER_ROOM, KEPT_ROOM};
 
 /// The ports' tables are those of the last granted entries, and of the granted registrations and
 /// deletions and the ticks: so they begin, and each change and each tick extends that.
@@ -109,4 +112,10 @@ pub fn announcements()
     ensures learned { OnwardIsFirstLearned }
     ensures end { AnnouncementsEnd }
     ensures once { EachIsAnnouncedOnce }
+{}
+
+/// A buffer for a message has room for at least 1,000 octets, and one that is kept for at most 4,096.
+pub fn limits()
+    ensures buffer { BUFFER_ROOM ≡ 1000 }
+    ensures kept { KEPT_ROOM ≡ 4096 }
 {}

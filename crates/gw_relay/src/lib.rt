@@ -32,5 +32,5 @@ pub use change::Change;
 pub use message::{Message, TableMessage, local_source};
 pub use port::{Port, PortState, port_at};
 pub use relay::Relay;
-pub use sends::{Batch, Sends};
+pub use sends::{BUFFER_ROOM, Batch, KEPT_ROOM, Sends};
 pub use turn::Turn;

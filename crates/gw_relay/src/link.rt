@@ -190,7 +190,8 @@ impl PortState {
             Bvll::ReadBdt => self.add_answer(from, bdt_ack(alloc, &self.bdt)?, sends),
             Bvll::ReadFdt => self.add_answer(from, fdt_ack(alloc, &self.fdt)?, sends),
             Bvll::WriteBdt(_) | Bvll::Register { .. } | Bvll::Delete(_) => {
-                self.add_answer(from, result_octets(alloc, ResultCode::SUCCESS)?, sends)
+                let octets = result_octets(sends, ResultCode::SUCCESS)?;
+                self.add_answer(from, octets, sends)
             }
             _ => Ok(()),
         }
@@ -225,7 +226,8 @@ impl PortState {
         let Some(code) = ResultCode::refusal(frame.function()) else {
             return Ok(());
         };
-        self.add_answer(from, result_octets(sends.alloc(), code)?, sends)
+        let octets = result_octets(sends, code)?;
+        self.add_answer(from, octets, sends)
     }
 }
 

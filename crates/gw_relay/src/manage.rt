@@ -110,7 +110,8 @@ impl PortState {
             OnOk result (sends.new ≡ sends.old ++ sent) }
     {
         let message = message_of(kind, octets);
-        self.add_broadcast(Outgoing::made(sends.alloc(), &message)?, sends)
+        let made = Outgoing::made(sends, &message)?;
+        self.add_broadcast(made, sends)
     }
 
     /// Broadcasts an I-Am-Router-To-Network for these networks (clause 6.4.2).

@@ -10,6 +10,7 @@ ghost use Rattle.gw_frames.specs.bvll.Entries.{lent};
 ghost use Rattle.gw_relay.specs.internal.Octets.{within};
 ghost use Rattle.gw_relay.specs.internal.Rooms.{broadcast_npdu};
 
+use crate::sends::{KEPT_ROOM, Sends};
 use gw_frames::bvll::{
     BVLC_TYPE, BdtEntries, Bvll, EncodeFault, FdtEntries, Function, HEADER_LEN, ResultCode,
     set_length,
@@ -19,32 +20,33 @@ use std::alloc::{AllocError, Global};
 
 /// How many octets the entry of a table has (Annex J.2.2, J.2.8).
 const ENTRY_LEN: usize = 10;
+/// How many octets a BVLC-Result has (Annex J.2.1).
+const RESULT_LEN: usize = HEADER_LEN + 2;
 /// How many octets of a Forwarded-NPDU come before its NPDU (Annex J.2.5).
 const FORWARDED_HEADER_LEN: usize = 10;
 
-/// An empty buffer with memory for a Forwarded-NPDU, if the message is one.
-fn forwarded_buffer(alloc: Global, message: &Bvll<'_>) -> Result<Vec<u8>, AllocError>
+/// An empty buffer of the sends with memory for a Forwarded-NPDU, if the message is one.
+fn forwarded_buffer(sends: &mut Sends, message: &Bvll<'_>) -> Result<Vec<u8>, AllocError>
     ensures empty { IfOk result (λ octets. octets.items ≡ []) }
     ensures room { let most = 10 + length (broadcast_npdu (view message.now)) in
-        IfOk result (λ octets. vec_capacity octets ≤ most) }
+        IfOk result (λ octets. vec_capacity octets ≤ most + KEPT_ROOM) }
+    ensures stays { sends.new ≡ sends.old }
 {
     match message {
-        Bvll::Forwarded { npdu, .. } => Vec::with_capacity(
-            alloc,
-            FORWARDED_HEADER_LEN + npdu.len(),
-        ),
-        _ => Ok(Vec::new(alloc)),
+        Bvll::Forwarded { npdu, .. } => sends.buffer(FORWARDED_HEADER_LEN + npdu.len()),
+        _ => sends.buffer(0),
     }
 }
 
-/// The octets of a message that is distributed. None if they would be over 1507.
+/// The octets of a message that is distributed, in a buffer of the sends. None if they would be over 1507.
 pub(crate) fn message_octets(
-    alloc: Global,
+    sends: &mut Sends,
     message: &Bvll<'_>,
 ) -> Result<Option<Vec<u8>>, AllocError>
-    ensures { IfOk result (λ made. option_map (λ v. v.items) made ≡ within (view message.now)) }
+    ensures octets { IfOk result (λ made. option_map (λ v. v.items) made ≡ within (view message.now)) }
+    ensures stays { sends.new ≡ sends.old }
 {
-    let mut octets = forwarded_buffer(alloc, message)?;
+    let mut octets = forwarded_buffer(sends, message)?;
     match gw_frames::bvll::encode(message, &mut octets) {
         Ok(()) => Ok(Some(octets)),
         Err(EncodeFault::TooLong) => Ok(None),
@@ -74,12 +76,14 @@ pub(crate) fn set_header(message: &mut [u8], function: Function)
     message[..HEADER_LEN].copy_from_slice(&header);
 }
 
-/// The octets of a BVLC-Result (Annex J.2.1).
-pub(crate) fn result_octets(alloc: Global, code: ResultCode) -> Result<Vec<u8>, AllocError>
-    ensures { IfOk result (λ octets. octets.items ≡ encoding (result_code code.0)) }
+/// The octets of a BVLC-Result, in a buffer of the sends (Annex J.2.1).
+pub(crate) fn result_octets(sends: &mut Sends, code: ResultCode) -> Result<Vec<u8>, AllocError>
+    ensures octets { IfOk result (λ octets. octets.items ≡ encoding (result_code code.0)) }
+    ensures stays { sends.new ≡ sends.old }
 {
     let [high, low] = code.0.to_be_bytes();
-    let mut octets = Vec::from_slice(alloc, &[0, 0, 0, 0, high, low])?;
+    let mut octets = sends.buffer(RESULT_LEN)?;
+    octets.extend_from_slice(&[0, 0, 0, 0, high, low])?;
     set_header(octets.as_mut_slice(), Function::Result);
     Ok(octets)
 }

@@ -9,9 +9,10 @@ ghost use Rattle.gw_relay.specs.Steps.{npdu_octets};
 ghost use Rattle.gw_relay.specs.internal.Outgoing.{framed};
 
 use crate::octets::set_header;
+use crate::sends::{KEPT_ROOM, Sends};
 use gw_frames::bvll::{Function, HEADER_LEN};
 use gw_frames::npdu::{EncodeFault, Npdu, Onward};
-use std::alloc::{AllocError, Global};
+use std::alloc::AllocError;
 use std::marker::Model;
 
 /// The most octets that come before a payload: the four of the BVLL header (Annex J.2), and of the
@@ -38,17 +39,18 @@ impl Model for Outgoing {
 }
 
 impl Outgoing {
-    /// A message for its next hop; none if it would be over 1497 octets.
+    /// A message for its next hop, in a buffer of the sends; none if it would be over 1497 octets.
     pub(crate) fn onward(
-        alloc: Global,
+        sends: &mut Sends,
         npdu: &Npdu<'_>,
         how: &Onward<'_>,
     ) -> Result<Option<Self>, AllocError>
-        ensures { let next = onward (onward_view how.now) (npdu_view npdu.now) in
+        ensures made { let next = onward (onward_view how.now) (npdu_view npdu.now) in
             IfOk result (λ made. made ≡ npdu_octets next) }
+        ensures stays { sends.new ≡ sends.old }
     {
         let payload = npdu.payload.octets();
-        let mut octets = buffer(alloc, payload)?;
+        let mut octets = buffer(sends, payload)?;
         match gw_frames::npdu::relay_header(npdu, how, payload.len(), &mut octets) {
             Ok(()) => {
                 octets.extend_from_slice(payload)?;
@@ -59,12 +61,13 @@ impl Outgoing {
         }
     }
 
-    /// A message that the gateway makes; none if it would be over 1497 octets.
+    /// A message that the gateway makes, in a buffer of the sends; none if it would be over 1497 octets.
     #[inline(always)]
-    pub(crate) fn made(alloc: Global, npdu: &Npdu<'_>) -> Result<Option<Self>, AllocError>
-        ensures { IfOk result (λ made. made ≡ npdu_octets (npdu_view npdu.now)) }
+    pub(crate) fn made(sends: &mut Sends, npdu: &Npdu<'_>) -> Result<Option<Self>, AllocError>
+        ensures made { IfOk result (λ made. made ≡ npdu_octets (npdu_view npdu.now)) }
+        ensures stays { sends.new ≡ sends.old }
     {
-        let mut octets = buffer(alloc, npdu.payload.octets())?;
+        let mut octets = buffer(sends, npdu.payload.octets())?;
         match gw_frames::npdu::encode(npdu, &mut octets) {
             Ok(()) => Ok(Some(Outgoing { octets })),
             Err(EncodeFault::TooLong) => Ok(None),
@@ -116,20 +119,23 @@ impl Outgoing {
     }
 }
 
-/// An empty buffer with memory for a payload after any headers.
-fn empty_buffer(alloc: Global, payload: &[u8]) -> Result<Vec<u8>, AllocError>
+/// An empty buffer of the sends with memory for a payload after any headers.
+fn empty_buffer(sends: &mut Sends, payload: &[u8]) -> Result<Vec<u8>, AllocError>
     ensures empty { IfOk result (λ octets. octets.items ≡ []) }
-    ensures room { IfOk result (λ octets. vec_capacity octets ≡ 526 + length payload.now) }
+    ensures room { let most = 526 + length payload.now in
+        IfOk result (λ octets. vec_capacity octets ≤ most + KEPT_ROOM) }
+    ensures stays { sends.new ≡ sends.old }
 {
-    Vec::with_capacity(alloc, MOST_HEADERS + payload.len())
+    sends.buffer(MOST_HEADERS + payload.len())
 }
 
-/// A buffer that keeps four octets for the BVLL header, and has room for any headers before this
+/// A buffer of the sends that keeps four octets for the BVLL header, and has room for any headers before this
 /// payload.
-fn buffer(alloc: Global, payload: &[u8]) -> Result<Vec<u8>, AllocError>
-    ensures { IfOk result (λ octets. octets.items ≡ 0 ∷ 0 ∷ 0 ∷ 0 ∷ []) }
+fn buffer(sends: &mut Sends, payload: &[u8]) -> Result<Vec<u8>, AllocError>
+    ensures octets { IfOk result (λ octets. octets.items ≡ 0 ∷ 0 ∷ 0 ∷ 0 ∷ []) }
+    ensures stays { sends.new ≡ sends.old }
 {
-    let mut octets = empty_buffer(alloc, payload)?;
+    let mut octets = empty_buffer(sends, payload)?;
     octets.extend_from_slice(&[0; HEADER_LEN])?;
     Ok(octets)
 }

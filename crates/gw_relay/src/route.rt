@@ -24,7 +24,7 @@ use crate::turn::Turn;
 use gw_frames::npdu::{AddressRef, Destination, MessageKind, Npdu, Onward, Payload};
 use gw_rules::{Asker, Format, Operation};
 use gw_tables::routes::{Route, Way};
-use std::alloc::{AllocError, Global};
+use std::alloc::AllocError;
 
 /// Reason 1 of a Reject-Message-To-Network: no way to the network is known (clause 6.4.4).
 const UNREACHABLE: u8 = 1;
@@ -59,9 +59,14 @@ fn is_local(payload: &Payload<'_>) -> bool
 impl Message<'_> {
     /// The message for its next hop, whose destination stays or goes; the node that it came from is
     /// added if it names no source. None if it would be over 1497 octets.
-    fn hop(&self, alloc: Global, keeps_destination: bool) -> Result<Option<Outgoing>, AllocError>
-        ensures { let next = hop keeps_destination (message_view self.now) in
+    fn hop(
+        &self,
+        sends: &mut Sends,
+        keeps_destination: bool,
+    ) -> Result<Option<Outgoing>, AllocError>
+        ensures made { let next = hop keeps_destination (message_view self.now) in
             IfOk result (λ made. made ≡ npdu_octets next) }
+        ensures stays { sends.new ≡ sends.old }
     {
         let node = self.link().to_octets();
         let source = AddressRef {
@@ -72,7 +77,7 @@ impl Message<'_> {
             keeps_destination,
             source,
         };
-        Outgoing::onward(alloc, self.npdu, &how)
+        Outgoing::onward(sends, self.npdu, &how)
     }
 
     /// Adds the message on the destination's own network: to all, or to an address that belongs to the
@@ -88,12 +93,12 @@ impl Message<'_> {
             OnOk result (sends.new ≡ sends.old ++ delivered format mac.now npdu port.now) }
     {
         if mac.is_empty() {
-            let next = self.hop(sends.alloc(), false)?;
+            let next = self.hop(sends, false)?;
             return port.add_broadcast(next, sends);
         }
         match gw_addr::bip_from_slice(mac) {
             Ok(to) if port.belongs(format, to) => {
-                let next = self.hop(sends.alloc(), false)?;
+                let next = self.hop(sends, false)?;
                 add_unicast(port.port.number, to, next, sends)
             }
             _ => Ok(()),
@@ -113,7 +118,7 @@ impl Message<'_> {
         if !has_hops(destination) {
             return Ok(());
         }
-        let next = self.hop(sends.alloc(), true)?;
+        let next = self.hop(sends, true)?;
         add_unicast(route.port, route.next, next, sends)
     }
 
@@ -130,7 +135,7 @@ impl Message<'_> {
         if !has_hops(destination) {
             return Ok(());
         }
-        let next = self.hop(sends.alloc(), true)?;
+        let next = self.hop(sends, true)?;
         port.add_broadcast(next, sends)
     }
 
@@ -154,7 +159,7 @@ impl Message<'_> {
             destination,
             ..message_of(MessageKind::RejectMessageToNetwork, &octets)
         };
-        let made = Outgoing::made(sends.alloc(), &rejected)?;
+        let made = Outgoing::made(sends, &rejected)?;
         add_unicast(self.here.port.number, self.link(), made, sends)
     }
 }
@@ -175,7 +180,8 @@ pub(crate) fn add_on_others(
     if port.port.number == number {
         return add_on_others(rest, number, npdu, sends);
     }
-    port.add_broadcast(Outgoing::made(sends.alloc(), npdu)?, sends)?;
+    let made = Outgoing::made(sends, npdu)?;
+    port.add_broadcast(made, sends)?;
     add_on_others(rest, number, npdu, sends)
 }
 

@@ -12,6 +12,11 @@ use std::alloc::{AllocError, Global};
 use std::marker::Model;
 use std::mem;
 
+/// How many octets a buffer for a message has room for at least.
+pub const BUFFER_ROOM: usize = 1000;
+/// How many octets a buffer that is kept has room for at most.
+pub const KEPT_ROOM: usize = 4096;
+
 /// Whom a message goes to. One address takes no memory.
 #[derive(Drop)]
 enum Targets {
@@ -113,6 +118,16 @@ impl Batches {
         }
     }
 
+    /// The last message, for keeps.
+    #[inline(always)]
+    fn into_last(self) -> Option<Batch> {
+        match self {
+            Batches::None => None,
+            Batches::One([batch]) => Some(batch),
+            Batches::Many(mut batches) => batches.pop(),
+        }
+    }
+
     /// Adds others after them. An `Err` if there is no memory for the list: they are as before.
     #[inline(never)]
     fn append(&mut self, alloc: Global, others: Batches) -> Result<(), AllocError>
@@ -158,16 +173,17 @@ fn empty_list(alloc: Global, others: &Batches) -> Result<Vec<Batch>, AllocError>
 }
 
 /// Datagrams to send, in order, at most 2^64 - 1. Contracts see the list of them, each with its
-/// port, address and octets. One message takes no memory.
+/// port, address and octets. One message takes no memory. A buffer of messages that were let go is kept for the next.
 #[derive(Drop)]
 pub struct Sends {
     alloc: Global,
     batches: Batches,
     count: u64,
+    spare: Vec<u8>,
 }
 
 impl Model for Sends {
-    ghost use Rattle.std.specs.Prelude.{◌≡◌, ◌<◌, ◌^◌, List, length};
+    ghost use Rattle.std.specs.Prelude.{◌≡◌, ◌<◌, ◌≤◌, ◌^◌, List, length, vec_capacity};
     ghost use Rattle.std.specs.List.{flat_map};
     ghost use Rattle.gw_relay.specs.Sends.{Sending, sendings_of};
 
@@ -177,7 +193,7 @@ impl Model for Sends {
 
     ghost view = { λ s. flat_map sendings_of (batches_of s.batches) };
 
-    ghost invariant = { λ s. (s.count ≡ length (flat_map sendings_of (batches_of s.batches))) × (s.count < 2 ^ 64) };
+    ghost invariant = { λ s. (s.count ≡ length (flat_map sendings_of (batches_of s.batches))) × (s.count < 2 ^ 64) × (vec_capacity s.spare ≤ 4096) };
 }
 
 impl Sends {
@@ -189,6 +205,7 @@ impl Sends {
             alloc,
             batches: Batches::None,
             count: 0,
+            spare: Vec::new(alloc),
         }
     }
 
@@ -230,6 +247,48 @@ impl Sends {
         Ok(())
     }
 
+    /// Lets all datagrams go, and keeps the buffer of the last message.
+    #[inline(always)]
+    pub fn clear(&mut self)
+        ensures { self.new ≡ [] }
+    {
+        if self.count == 0 {
+            return;
+        }
+        let batches = mem::replace(&mut self.batches, Batches::None);
+        self.count = 0;
+        if let Some(batch) = batches.into_last() {
+            self.keep(batch.octets);
+        }
+    }
+
+    /// Keeps a buffer, unless it has too much room or the kept one has more.
+    fn keep(&mut self, octets: Vec<u8>)
+        ensures { self.new ≡ self.old }
+    {
+        let room = octets.capacity();
+        if self.spare.capacity() < room && room <= KEPT_ROOM {
+            self.spare = octets;
+        }
+    }
+
+    /// An empty buffer for a message, with room for so many octets: the one that was kept, if it has that room. The
+    /// datagrams stay as they are. An `Err` if there is no memory for it.
+    #[inline(always)]
+    pub(crate) fn buffer(&mut self, room: usize) -> Result<Vec<u8>, AllocError>
+        ensures empty { IfOk result (λ octets. octets.items ≡ []) }
+        ensures least { IfOk result (λ octets. room ≤ vec_capacity octets) }
+        ensures most { IfOk result (λ octets. vec_capacity octets ≤ room + KEPT_ROOM) }
+        ensures stays { self.new ≡ self.old }
+    {
+        if self.spare.capacity() < room {
+            return empty_buffer(self.alloc, room);
+        }
+        let mut octets = mem::replace(&mut self.spare, Vec::new(self.alloc));
+        octets.clear();
+        Ok(octets)
+    }
+
     /// The messages in order, each with the addresses that it goes to.
     pub fn batches(&self) -> &[Batch]
         ensures all { flat_map sendings_of result.now ≡ self.now }
@@ -237,6 +296,19 @@ impl Sends {
     {
         self.batches.as_slice()
     }
+}
+
+/// An empty buffer with memory for so many octets, and for no fewer than [`BUFFER_ROOM`].
+fn empty_buffer(alloc: Global, room: usize) -> Result<Vec<u8>, AllocError>
+    ensures empty { IfOk result (λ octets. octets.items ≡ []) }
+    ensures least { IfOk result (λ octets. room ≤ vec_capacity octets) }
+    ensures common { IfOk result (λ octets. BUFFER_ROOM ≤ vec_capacity octets) }
+    ensures most { IfOk result (λ octets. vec_capacity octets ≤ room + BUFFER_ROOM) }
+{
+    if room < BUFFER_ROOM {
+        return Vec::with_capacity(alloc, BUFFER_ROOM);
+    }
+    Vec::with_capacity(alloc, room)
 }
 
 /// How many datagrams two lists have together. An `Err` if that passes 2^64 - 1.

@@ -1,6 +1,6 @@
 //! What a walk over a datagram asks, sends and changes.
 
-ghost use Rattle.std.specs.Prelude.{◌≡◌, [], None};
+ghost use Rattle.std.specs.Prelude.{◌≡◌, None};
 ghost use Rattle.std.specs.Option.{option_or};
 
 use crate::change::Change;
@@ -21,14 +21,13 @@ pub struct Turn<A> {
 }
 
 impl<A: Asker> Turn<A> {
-    /// A turn of this asker that sends and changes nothing yet. It takes no memory.
+    /// A turn of this asker that adds to these sends and changes nothing yet. It takes no memory.
     #[inline(always)]
-    pub fn new(asker: A) -> Self
+    pub fn over(asker: A, sends: Sends) -> Self
         ensures asker { result.asker ≡ asker }
-        ensures sends { result.sends ≡ [] }
+        ensures sends { result.sends ≡ sends }
         ensures change { result.change ≡ None }
     {
-        let sends = Sends::new(asker.alloc());
         Turn {
             asker,
             sends,

@@ -1,5 +1,7 @@
-use Rattle.std.proofs.Common.{refl, sym, ap, subst, ◌∙◌}
+use Rattle.std.proofs.Common.{refl, sym, ap, subst, ◌∙◌, Option}
 use Rattle.gw_rules.specs.declared.format.Format.{Format}
+use Rattle.gw_device.specs.Response.{HasPlace}
+use Rattle.gw_objects.specs.Write.{Write}
 use Rattle.gw_relay.specs.Turn.{IsWalked}
 use Rattle.gw_core.specs.Asks.{message_asks}
 use Rattle.gw_core.specs.Effects.{message_change, message_sends}
@@ -24,8 +26,8 @@ returns-then-not-taken-clause-response g c = λ rules stands.
     let out = sym (c.in_ok-taken.ensures.taken rules stands) ∙ c.if-not-taken.true in
     let b = bars rules relay d m (barred_goes_on rules relay m out).0 (barred_goes_on rules relay m out).1 in record {
       walked = due_barred g.A.Asker.kept g.A.Asker.kept_of rules relay d m _ _ out (c.in_ok-taken.ensures.walked rules stands);
-      write = sym b.write;
-      place = tt;
+      write = c.requires.none ∙ sym b.write;
+      place = subst (λ (write : Option Write). HasPlace d write) (sym c.requires.none) tt;
     }
 
 pub returns-in_err-goes_on-clause-silent : goal.returns-in_err-goes_on-clause-silent
@@ -46,12 +48,12 @@ returns-then-not-goes_on-clause-response g c = λ rules stands.
     let s = stops rules relay d m off in record {
       walked = due_stopped g.A.Asker.kept g.A.Asker.kept_of g.met.A.Asker.kept_both rules relay d m _ _ _ off
           (c.in_ok-taken.ensures.walked rules stands) (c.in_ok-goes_on.ensures.walked rules (c.in_ok-taken.ensures.stays rules stands));
-      write = sym s.write;
-      place = tt;
+      write = c.requires.none ∙ sym s.write;
+      place = subst (λ (write : Option Write). HasPlace d write) (sym c.requires.none) tt;
     }
 
-pub returns-in_err-write-clause-silent : goal.returns-in_err-write-clause-silent
-returns-in_err-write-clause-silent g c = λ rules stands asks sends.
+pub returns-in_err-add_served-clause-silent : goal.returns-in_err-add_served-clause-silent
+returns-in_err-add_served-clause-silent g c = λ rules stands asks sends.
     let relay = c.args.relay.now in
     let m = message_view c.args.message.now in
     let on = sym c.in_ok-goes_on.ensures.goes_on ∙ c.if-not-goes_on.false in
@@ -59,7 +61,7 @@ returns-in_err-write-clause-silent g c = λ rules stands asks sends.
     let silent = served_silent rules relay c.args.device.now m on (admitted_on rules relay m on taken) asks sends in
     let then = c.in_ok-goes_on.ensures.stays rules (c.in_ok-taken.ensures.stays rules stands) in
     let d = c.args.device.now in
-    let ok = c.in_err-write.ensures.silent rules then (ap (λ (f : Format). message_asks rules f d m) c.format.ensures ∙ silent.0)
+    let ok = c.in_err-add_served.ensures.silent rules then (ap (λ (f : Format). message_asks rules f d m) c.format.ensures ∙ silent.0)
     (ap (λ (f : Format). message_sends rules f d m) c.format.ensures ∙ silent.1) in
     absurd cc
 
@@ -77,7 +79,7 @@ returns-clause-response g c = λ rules stands.
       walked = due_taken g.A.Asker.kept g.A.Asker.kept_of g.met.A.Asker.kept_both rules relay d m _ _ _ _ on admitted
           (c.in_ok-taken.ensures.walked rules stands) (c.in_ok-goes_on.ensures.walked rules entered)
           (subst (λ (f : Format). IsWalked g.A.Asker.kept g.A.Asker.kept_of rules (message_response rules f d m) c.add_passed.new.turn c.add_served.new.turn) c.format.ensures
-          (c.in_ok-write.ensures.walked rules then));
-      write = c.in_ok-write.ensures.write rules then ∙ ap (λ (f : Format). message_change rules f d m) c.format.ensures ∙ sym all.write;
-      place = c.in_ok-write.ensures.place;
+          (c.in_ok-add_served.ensures.walked rules then));
+      write = c.in_ok-add_served.ensures.write rules then ∙ ap (λ (f : Format). message_change rules f d m) c.format.ensures ∙ sym all.write;
+      place = c.in_ok-add_served.ensures.place;
     }

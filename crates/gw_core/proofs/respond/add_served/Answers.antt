@@ -13,10 +13,10 @@ returns-clause-walked g c = λ rules stands.
     let format = c.args.format in
     let d = c.args.device.now in
     let m = message_view c.args.message.now in
-    let network = c.args.network in
+    let network = c.network_of-network.result in
     let context = c.context_of-context.result in
     let octets = c.in-Some.apdu.now in
-    let its = c.requires.network in
+    let its = c.network_of-network.ensures in
     let answered = (c.in_ok-answer.ensures.served rules stands).answer in record {
       sends = c.in_ok-add_answer.ensures.sends ∙ ap (λ (l : List Sending). c.args.turn.now.sends ++ l)
           (sends_put rules format d m network context octets _ its c.in-Some.ensures c.context_of-context.ensures.context answered);
@@ -29,16 +29,16 @@ returns-clause-walked g c = λ rules stands.
 pub returns-in_err-answer-clause-silent : goal.returns-in_err-answer-clause-silent
 returns-in_err-answer-clause-silent g c = λ rules stands asks sends.
     let silent = silent_message rules c.args.format c.args.device.now
-    (message_view c.args.message.now) c.args.network c.context_of-context.result c.in-Some.apdu.now
-    c.requires.network c.in-Some.ensures c.context_of-context.ensures.context c.context_of-context.ensures.room asks sends in
+    (message_view c.args.message.now) c.network_of-network.result c.context_of-context.result c.in-Some.apdu.now
+    c.network_of-network.ensures c.in-Some.ensures c.context_of-context.ensures.context c.context_of-context.ensures.room asks sends in
     let ok = c.in_err-answer.ensures.silent rules silent.0 silent.1 in
     absurd cc
 
 pub returns-in_err-add_answer-clause-silent : goal.returns-in_err-add_answer-clause-silent
 returns-in_err-add_answer-clause-silent g c = λ rules stands asks sends.
     let silent = silent_message rules c.args.format c.args.device.now
-    (message_view c.args.message.now) c.args.network c.context_of-context.result c.in-Some.apdu.now
-    c.requires.network c.in-Some.ensures c.context_of-context.ensures.context c.context_of-context.ensures.room asks sends in
+    (message_view c.args.message.now) c.network_of-network.result c.context_of-context.result c.in-Some.apdu.now
+    c.network_of-network.ensures c.in-Some.ensures c.context_of-context.ensures.context c.context_of-context.ensures.room asks sends in
     let answered = (c.in_ok-answer.ensures.served rules stands).answer ∙ silent.1 in
     let ok = c.in_err-add_answer.ensures.silent (none_mapped _ c.in_ok-answer.field-0.answer answered) in
     absurd cc

@@ -43,8 +43,8 @@ loop-rest-preserved c =
     let split = first_split c.loop-rest.rest.now _ c.in-len1-up.len_at_least in
     let pushed = rw c.if-is_err.ensures.negation at c.push.ensures.items in
     run_goes_on c.args.gateway.now c.loop-rest.gateway c.take_event.new.gateway (map event_view c.args.events.now)
-    (map event_view c.loop-rest.rest.now) _ c.loop-rest.given.items _ _ c.in_ok-reported.reported.taken.effects c.loop-rest.invariant split c.in_ok-reported.ensures.moved
-    c.in_ok-reported.ensures.given pushed
+    (map event_view c.loop-rest.rest.now) _ c.loop-rest.given.items _ _ c.into_effects.result c.loop-rest.invariant split c.in_ok-reported.ensures.moved
+    (c.into_effects.ensures ∙ c.in_ok-reported.ensures.given) pushed
 
 pub returns-clause-effects : goal.returns-clause-effects
 unfolding run_from

@@ -6,4 +6,4 @@ use Rattle.gw_core.proofs.reporting.AllAsksReporting.outcome.Goals as goal
 
 pub returns-clause-asked : goal.returns-clause-asked
 returns-clause-asked c =
-    IfOk-weaker c.outcome.result _ _ (λ outcome is. is ∙ asked_is c.args.gateway.now (event_of c.args.arrival.now)) c.outcome.ensures.asked
+    IfOk-weaker c.outcome.result _ _ (λ asked is. is ∙ asked_is c.args.gateway.now (event_of c.args.arrival.now)) c.outcome.ensures.asked
