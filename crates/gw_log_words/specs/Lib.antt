@@ -3,6 +3,7 @@ pub mod internal
 pub mod Words
 pub mod Translation
 pub mod Fields
+pub mod LastDenial
 pub mod Laws
 pub mod NamedLog
 pub mod Noted

@@ -1,6 +1,7 @@
 //! Laws of the words of lines, and of their fields. The functions change nothing and answer nothing: their contracts are the laws.
 
 ghost use Rattle.std.specs.Prelude.{ℕ, List};
+ghost use Rattle.gw_log_words.specs.LastDenial.{FindsLast, HidesNothing};
 ghost use Rattle.gw_log_words.specs.Laws.{AreFields, SaysAllowed, StaysAsBefore};
 ghost use Rattle.gw_log_words.specs.Translation.{TranslatesEach, TranslatesOnce, TranslatesWords};
 
@@ -18,4 +19,11 @@ pub fn fields()
     ensures are { (text : List ℕ) → AreFields text }
     ensures before { StaysAsBefore }
     ensures audit { SaysAllowed }
+{}
+
+/// Which denial a log shows last: it is found whatever comes before it, and whatever lines follow that show none; and what is in
+/// front of it in its line, as a stamp is, doesn't hide it.
+pub fn last_denial()
+    ensures finds { FindsLast }
+    ensures front { HidesNothing }
 {}

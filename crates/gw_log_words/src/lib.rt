@@ -5,6 +5,8 @@ mod calendar;
 mod dates;
 mod fields;
 mod form;
+mod last_line;
+mod lasting;
 pub mod laws;
 mod moment;
 mod named_log;
@@ -16,6 +18,8 @@ mod words;
 
 pub use calendar::{Calendar, SystemCalendar, moment_after};
 pub use fields::{ask_front, denial_front, says_allow};
+pub use last_line::last_denial;
+pub use lasting::Lasting;
 pub use moment::Moment;
 pub use named_log::{NamedFiles, NamedLog};
 pub use noted::{Noted, Place};

@@ -1,9 +1,10 @@
 //! A log in files that one after the other have its name.
 
-ghost use Rattle.std.specs.Prelude.{◌≡◌, ◌≤◌, ◌<◌, ⊤, ℕ, List, Option, length, IfOk, IfSome};
+ghost use Rattle.std.specs.Prelude.{◌≡◌, ◌≤◌, ◌<◌, ⊤, ℕ, true, false, List, Option, length, IfOk, IfSome};
 ghost use Rattle.std.specs.Io.KnownBytes.{Keeps, WriteAppends};
-ghost use Rattle.gw_log_words.specs.NamedLog.{BeginsEmpty, joined};
+ghost use Rattle.gw_log_words.specs.NamedLog.{BeginsEmpty, IsFileSynced, IsLogSynced, joined};
 
+use crate::lasting::Lasting;
 use crate::notes::Notes;
 use gw_script::{OctetSink, WriteFailed};
 use std::mem;
@@ -11,7 +12,7 @@ use std::mem;
 /// The files that one after the other have a name.
 pub trait NamedFiles {
     /// A file that can be appended to.
-    type File: OctetSink + Drop;
+    type File: Lasting + Drop;
 
     /// What the files that were left were given, in the order in which they were left, if that is known.
     ghost left: { Self → Option (List ℕ) };
@@ -36,6 +37,10 @@ pub struct NamedLog<F: NamedFiles> {
     file: F::File,
     is_at_line: bool,
     is_anew: bool,
+    /// Whether something was written to the file since it was made to last.
+    is_unsynced: bool,
+    /// Whether a file that was left couldn't be made to last.
+    has_failed: bool,
 }
 
 impl<F: NamedFiles> NamedLog<F> {
@@ -46,15 +51,29 @@ impl<F: NamedFiles> NamedLog<F> {
             file,
             is_at_line: true,
             is_anew: false,
+            is_unsynced: false,
+            has_failed: false,
         }
     }
 
-    /// Goes on in a new file if that of the log has its name no more.
+    /// Makes the file last if something was written to it since it did so.
+    fn sync_file(&mut self) -> Result<(), WriteFailed>
+        ensures { IsFileSynced F.File.Syncs F.File.held self.old result self.new }
+    {
+        if self.is_unsynced {
+            self.file.sync()?;
+            self.is_unsynced = false;
+        }
+        Ok(())
+    }
+
+    /// Goes on in a new file if that of the log has its name no more. The old one is made to last.
     fn follow_name(&mut self)
         ensures { Keeps (joined (F.left self.old.files) (F.File.held self.old.file))
             (joined (F.left self.new.files) (F.File.held self.new.file)) }
     {
         if let Some(next) = self.files.renewed(&self.file) {
+            self.has_failed = self.has_failed || self.sync_file().is_err();
             let left = mem::replace(&mut self.file, next);
             self.files.leave(left);
             self.is_anew = true;
@@ -77,7 +96,9 @@ impl<F: NamedFiles> NamedLog<F> {
         ensures some { IfOk result (λ n. 0 < length text.now → 0 < n) }
         ensures octets { WriteAppends (joined (F.left self.old.files) (F.File.held self.old.file))
             (joined (F.left self.new.files) (F.File.held self.new.file)) result text.now }
+        ensures unsynced { self.new.is_unsynced ≡ true }
     {
+        self.is_unsynced = true;
         let count = self.file.write_octets(text)?;
         self.is_at_line = text[..count].ends_with(b"\n");
         Ok(count)
@@ -92,6 +113,19 @@ impl<F: NamedFiles> OctetSink for NamedLog<F> {
     fn write_octets(&mut self, text: &[u8]) -> Result<usize, WriteFailed> {
         self.follow_at_line();
         self.write_here(text)
+    }
+}
+
+impl<F: NamedFiles> Lasting for NamedLog<F> {
+    ghost IsLasting = { λ log. (log.is_unsynced ≡ false) × (log.has_failed ≡ false) };
+
+    ghost Syncs = { λ was result is. IsLogSynced F.File.Syncs F.File.held was result is };
+
+    fn sync(&mut self) -> Result<(), WriteFailed> {
+        if self.has_failed {
+            return Err(WriteFailed);
+        }
+        self.sync_file()
     }
 }
 

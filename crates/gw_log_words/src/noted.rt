@@ -7,6 +7,7 @@ ghost use Rattle.gw_log_words.specs.Noted.{IsAskedAnew, IsBeforeLineFeed, IsNote
 ghost use Rattle.gw_log_words.specs.Stamped.{EndsAtMost};
 ghost use Rattle.gw_log_words.specs.declared.noted.Place.TheVariants as place;
 
+use crate::lasting::Lasting;
 use crate::notes::Notes;
 use crate::stamped::first_line;
 use gw_script::{OctetSink, WriteFailed, write_whole};
@@ -252,6 +253,16 @@ impl<S: Notes> OctetSink for Noted<S> {
             return Ok(0);
         }
         self.write_line(first_line(text))
+    }
+}
+
+impl<S: Notes> Lasting for Noted<S> {
+    ghost IsLasting = { λ log. S.IsLasting log.sink };
+
+    ghost Syncs = { λ was result is. S.Syncs was.sink result is.sink };
+
+    fn sync(&mut self) -> Result<(), WriteFailed> {
+        self.sink.sync()
     }
 }
 

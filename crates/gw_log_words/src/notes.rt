@@ -4,11 +4,12 @@ ghost use Rattle.std.specs.Prelude.{◌≡◌, ℕ, Bool, false, List, Result};
 ghost use Rattle.std.specs.Io.KnownBytes.{Keeps};
 ghost use Rattle.gw_script.specs.declared.sink.WriteFailed.{WriteFailed};
 
-use gw_script::{OctetSink, WriteFailed};
+use crate::lasting::Lasting;
+use gw_script::WriteFailed;
 use std::io::Write;
 
 /// A log that may take notes between its lines, and that may go on in a new file. What it holds is seen without its notes.
-pub trait Notes: OctetSink {
+pub trait Notes: Lasting {
     /// How it may be after a note of this text, by the outcome.
     ghost Takes: { Self → List ℕ → Result (Unit {0}) WriteFailed → Self → Type 0 };
 

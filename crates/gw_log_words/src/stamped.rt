@@ -8,6 +8,7 @@ ghost use Rattle.gw_addr.specs.Text.{Lacks};
 ghost use Rattle.gw_log_words.specs.Stamped.{BeginsIf, EndsAtMost, IsWrittenStamped, ends_in_stamp, held_without, stamp_text, stamp_word};
 
 use crate::calendar::Calendar;
+use crate::lasting::Lasting;
 use crate::moment::Moment;
 use crate::notes::Notes;
 use gw_script::{OctetSink, WriteFailed, write_whole};
@@ -173,6 +174,16 @@ impl<S: Notes, C: Calendar> Stamped<S, C> {
         } else {
             false
         }
+    }
+}
+
+impl<S: Lasting, C: Calendar> Lasting for Stamped<S, C> {
+    ghost IsLasting = { λ log. S.IsLasting log.sink };
+
+    ghost Syncs = { λ was result is. S.Syncs was.sink result is.sink };
+
+    fn sync(&mut self) -> Result<(), WriteFailed> {
+        self.sink.sync()
     }
 }
 

@@ -1,6 +1,5 @@
 -- The rules in force, and the numbers of denials.
-use Rattle.std.proofs.Common.{◌≡◌, ◌∙◌, ℕ, ◌+◌, ◌<◌, ◌≤◌, List, [], ◌∷◌, Bool, Option, Some, None, refl, sym, ap, subst, inl, inr, arith}
-use Rattle.std.specs.Option.{option_map_or}
+use Rattle.std.proofs.Common.{◌≡◌, ◌∙◌, ℕ, ◌+◌, ◌<◌, ◌≤◌, List, [], ◌∷◌, Bool, Option, Some, None, refl, sym, ap, subst, arith}
 use Rattle.std.specs.List.{AllByRecursion}
 use Rattle.std.specs.Prelude.{◌^◌, true, false, nat_le, if◌then◌else◌}
 use Rattle.std.proofs.Common.{leb-false, leb-true}
@@ -10,9 +9,8 @@ use Rattle.gw_rules.specs.declared.refusal.Refusal.{Refusal}
 use Rattle.gw_core.specs.Asks.{asks_for}
 use Rattle.gw_core.specs.Receive.{Origin as Sender, origin, receive}
 use Rattle.gw_core.specs.declared.event.Counts.{Counts}
-use Rattle.gw_service.specs.Counts.{counts_after, greater, less, own_fields}
-use Rattle.gw_log_words.proofs.LawLemmas.{own_line}
-use Rattle.gw_audit.specs.Entry.{IsLineOf, IsShowable}
+use Rattle.gw_service.specs.Counts.{GoesOnAfter, GoesOnFrom, counts_after, greater, less}
+use Rattle.gw_log_words.proofs.LastLemmas.{finds_last}
 use Rattle.gw_audit.specs.declared.denial.Denial.{Denial}
 use Rattle.gw_configuration.specs.Configuration.{Configuration}
 use Rattle.gw_core.specs.Denials.{denials_from, denials_of}
@@ -25,7 +23,7 @@ use Rattle.gw_turns.specs.Serve.{Turn, events_of}
 use Rattle.gw_turns.specs.Stretch.{GoOn, Moment}
 use Rattle.gw_service.specs.Chain.{AreLinks, IsLink, IsLooked, Link, Look, Manner, Stage, Standing}
 use Rattle.gw_service.specs.Chain.{ended, passed_over, refused, served, stopping, taken_over, ticked, unrequested, withheld}
-use Rattle.gw_service.specs.Laws.{HasItsRules, NumbersGoOn, RulesAreInForce, RulesStay, Shows}
+use Rattle.gw_service.specs.Laws.{HasItsRules, NumbersGoOn, RulesAreInForce, RulesStay}
 
 -- ---- the rules in force
 
@@ -105,17 +103,12 @@ numbered : (m n : ℕ) (rules : List Rule) (number tick : ℕ) (from : Option Se
 numbered m n rules number tick None refusals is_m is_n = tt
 numbered m n rules number tick (Some from) refusals is_m is_n = numbered_from m n rules number tick from refusals is_m is_n
 
--- what a line shows is the line that its own fields are
-shown_fields : (line : List ℕ) (shown : Denial) → IsShowable shown → Shows line shown → IsLineOf (own_fields line) shown
-shown_fields line shown showable (inr spelled) = spelled
-shown_fields line shown showable (inl spelled) =
-    let own : own_fields line ≡ line = ap (λ (f : Option (List ℕ)). option_map_or (λ fields. fields) f []) (own_line line shown showable spelled) in
-    subst (λ (t : List ℕ). IsLineOf t shown) (sym own) spelled
-
 pub numbers_above : NumbersGoOn
 unfolding effects_at
-numbers_above counts later line shown w e from showable spelled most is =
-    let after : later ≡ counts_after counts shown = from.denial shown showable (shown_fields line shown showable spelled) in
+numbers_above counts later text shown w e from showable shows most is =
+    let found = finds_last text shown shows in
+    let goes : GoesOnAfter counts found.0 later = subst (λ (line : Option (List ℕ)). GoesOnFrom counts line later) found.1 from in
+    let after : later ≡ counts_after counts shown = goes.denial shown showable found.2 in
     let number : later.denials ≡ greater counts.denials (less shown.number (2 ^ 63)) = ap (λ (k : Counts). k.denials) after in
     let least = is_greater counts.denials (less shown.number (2 ^ 63)) in
     let same = is_less shown.number (2 ^ 63) most in

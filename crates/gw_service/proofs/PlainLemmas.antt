@@ -26,7 +26,7 @@ use Rattle.gw_service.specs.Chain.{ended, served, ticked, unrequested, withheld}
 use Rattle.gw_service.specs.declared.running.End.{End}
 use Rattle.gw_service.specs.declared.running.End.TheVariants as end
 use Rattle.gw_service.specs.Keeping.{IsKeptFor, failing_in, troubles_in}
-use Rattle.gw_service.specs.Kept.{AreRequestsUnder, Given, IsLastLine, IsMetricsUnder, IsStateUnder, IsStoreUnder, IsUnprepared, LeavesKept, LeavesWithState}
+use Rattle.gw_service.specs.Kept.{AreRequestsUnder, Given, IsLastDenial, IsMetricsUnder, IsStateUnder, IsStoreUnder, IsUnprepared, LeavesKept, LeavesWithState}
 use Rattle.gw_service.specs.Kept.{Names, RunsBy, RunsKept, StateMachine, StoreOpening, first_stage, given, is_plain, manner_of, names_of, ran, reporting_of, stop_text, text_before, unopened, unprepared}
 use Rattle.gw_service.specs.Serving.{Ends, LeavesServed, Machine, Service, service, shut}
 use Rattle.gw_service.specs.Serving.{served as served_by}
@@ -168,10 +168,10 @@ state_none : (FileReads : List ℕ → Result (Option (List ℕ)) ReadFailure �
 state_none FileReads None saved is under = cc
 state_none FileReads (Some name) saved is under = absurd cc
 
-line_none : (LastLines : List ℕ → Result (Option (List ℕ)) ReadFailure → Type 0) (state log line : Option (List ℕ))
-    → state ≡ None → IsLastLine LastLines state log (Ok line) → line ≡ None
-line_none LastLines None log line is under = cc
-line_none LastLines (Some state) log line is under = absurd cc
+line_none : (LastDenials : List ℕ → Result (Option (List ℕ)) ReadFailure → Type 0) (state log line : Option (List ℕ))
+    → state ≡ None → IsLastDenial LastDenials state log (Ok line) → line ≡ None
+line_none LastDenials None log line is under = cc
+line_none LastDenials (Some state) log line is under = absurd cc
 
 store_none : {S : Type 0} (StoreOpens : StoreOpening S) (name : Option (List ℕ)) (store : Option S) → name ≡ None
     → IsStoreUnder StoreOpens name (Ok store) → store ≡ None
@@ -189,11 +189,11 @@ requests_none ReloadsOpen None config None is under = refl
 requests_none ReloadsOpen None config (Some requests) is under = absurd under
 requests_none ReloadsOpen (Some name) config requests is under = absurd cc
 
-watcher_none : {Log : Type 0} (FileReads LastLines : List ℕ → Result (Option (List ℕ)) ReadFailure → Type 0) (LogOpens : LogOpening Log)
+watcher_none : {Log : Type 0} (FileReads LastDenials : List ℕ → Result (Option (List ℕ)) ReadFailure → Type 0) (LogOpens : LogOpening Log)
     (c : Configuration) (names : WatchNames) (watcher : Option (Watching Log Log)) → is_watched names ≡ false
-    → IsWatcherUnder FileReads LastLines LogOpens c names watcher → watcher ≡ None
-watcher_none FileReads LastLines LogOpens c names None is under = refl
-watcher_none FileReads LastLines LogOpens c names (Some w) is under = absurd (true≢false (sym under.0 ∙ is))
+    → IsWatcherUnder FileReads LastDenials LogOpens c names watcher → watcher ≡ None
+watcher_none FileReads LastDenials LogOpens c names None is under = refl
+watcher_none FileReads LastDenials LogOpens c names (Some w) is under = absurd (true≢false (sym under.0 ∙ is))
 
 text_none : (name : Option (List ℕ)) (is_verbose : Bool) (c : Configuration) (saved : Option Saved) → name ≡ None
     → text_before name is_verbose c saved ≡ []
@@ -207,10 +207,10 @@ no_state_fault : (FileReads : List ℕ → Result (Option (List ℕ)) ReadFailur
 no_state_fault FileReads None f is under = absurd cc
 no_state_fault FileReads (Some name) f is under = absurd cc
 
-no_line_fault : (LastLines : List ℕ → Result (Option (List ℕ)) ReadFailure → Type 0) (state log : Option (List ℕ)) (f : ServiceFault)
-    → state ≡ None → IsLastLine LastLines state log (Err f) → f ≡ fault.Memory
-no_line_fault LastLines None log f is under = absurd cc
-no_line_fault LastLines (Some state) log f is under = absurd cc
+no_line_fault : (LastDenials : List ℕ → Result (Option (List ℕ)) ReadFailure → Type 0) (state log : Option (List ℕ)) (f : ServiceFault)
+    → state ≡ None → IsLastDenial LastDenials state log (Err f) → f ≡ fault.Memory
+no_line_fault LastDenials None log f is under = absurd cc
+no_line_fault LastDenials (Some state) log f is under = absurd cc
 
 no_store_fault : {S : Type 0} (StoreOpens : StoreOpening S) (name : Option (List ℕ)) (f : ServiceFault) → name ≡ None
     → IsStoreUnder StoreOpens name (Err f) → f ≡ fault.Memory
@@ -222,17 +222,17 @@ no_metrics_fault : {S : Type 0} (StoreOpens : StoreOpening S) (name : Option (Li
 no_metrics_fault StoreOpens None f is under = absurd cc
 no_metrics_fault StoreOpens (Some name) f is under = absurd cc
 
-no_trial_fault : {Log : Type 0} (FileReads LastLines : List ℕ → Result (Option (List ℕ)) ReadFailure → Type 0) (LogOpens : LogOpening Log)
+no_trial_fault : {Log : Type 0} (FileReads LastDenials : List ℕ → Result (Option (List ℕ)) ReadFailure → Type 0) (LogOpens : LogOpening Log)
     (c : Configuration) (rules log : Option (List ℕ)) (f : ServiceFault) → rules ≡ None
-    → IsTrialNamed FileReads LastLines LogOpens c rules log (Err f) → f ≡ fault.Memory
-no_trial_fault FileReads LastLines LogOpens c None log f is under = absurd cc
-no_trial_fault FileReads LastLines LogOpens c (Some rules) log f is under = absurd cc
+    → IsTrialNamed FileReads LastDenials LogOpens c rules log (Err f) → f ≡ fault.Memory
+no_trial_fault FileReads LastDenials LogOpens c None log f is under = absurd cc
+no_trial_fault FileReads LastDenials LogOpens c (Some rules) log f is under = absurd cc
 
-no_audit_fault : {Log : Type 0} (LastLines : List ℕ → Result (Option (List ℕ)) ReadFailure → Type 0) (LogOpens : LogOpening Log)
+no_audit_fault : {Log : Type 0} (LastDenials : List ℕ → Result (Option (List ℕ)) ReadFailure → Type 0) (LogOpens : LogOpening Log)
     (c : Configuration) (name : Option (List ℕ)) (f : ServiceFault) → name ≡ None
-    → IsAuditNamed LastLines LogOpens c name (Err f) → f ≡ fault.Memory
-no_audit_fault LastLines LogOpens c None f is under = absurd cc
-no_audit_fault LastLines LogOpens c (Some name) f is under = absurd cc
+    → IsAuditNamed LastDenials LogOpens c name (Err f) → f ≡ fault.Memory
+no_audit_fault LastDenials LogOpens c None f is under = absurd cc
+no_audit_fault LastDenials LogOpens c (Some name) f is under = absurd cc
 
 -- the names of what such a run would open
 record AreNone (names : Names) : Type 0 where
@@ -244,23 +244,23 @@ record AreNone (names : Names) : Type 0 where
   watched : is_watched names.watch ≡ false
 
 -- then only memory can end it before the log is opened
-watch_memory : {Log : Type 0} (FileReads LastLines : List ℕ → Result (Option (List ℕ)) ReadFailure → Type 0) (LogOpens : LogOpening Log)
+watch_memory : {Log : Type 0} (FileReads LastDenials : List ℕ → Result (Option (List ℕ)) ReadFailure → Type 0) (LogOpens : LogOpening Log)
     (c : Configuration) (names : WatchNames) (f : ServiceFault) → names.trial ≡ None → names.audit ≡ None
-    → IsUnwatched FileReads LastLines LogOpens c names f → f ≡ fault.Memory
-watch_memory FileReads LastLines LogOpens c names f no_trial no_audit (inl trial) =
-    no_trial_fault FileReads LastLines LogOpens c names.trial names.trial_log f no_trial trial
-watch_memory FileReads LastLines LogOpens c names f no_trial no_audit (inr (inl audit)) =
-    no_audit_fault LastLines LogOpens c names.audit f no_audit audit
-watch_memory FileReads LastLines LogOpens c names f no_trial no_audit (inr (inr memory)) = memory
+    → IsUnwatched FileReads LastDenials LogOpens c names f → f ≡ fault.Memory
+watch_memory FileReads LastDenials LogOpens c names f no_trial no_audit (inl trial) =
+    no_trial_fault FileReads LastDenials LogOpens c names.trial names.trial_log f no_trial trial
+watch_memory FileReads LastDenials LogOpens c names f no_trial no_audit (inr (inl audit)) =
+    no_audit_fault LastDenials LogOpens c names.audit f no_audit audit
+watch_memory FileReads LastDenials LogOpens c names f no_trial no_audit (inr (inr memory)) = memory
 
 unprepared_memory : {S Q Log : Type 0} (states : StateMachine S Q) (LogOpens : LogOpening Log) (names : Names) (c : Configuration) (f : ServiceFault)
     → AreNone names → IsUnprepared states LogOpens names c f → f ≡ fault.Memory
 unprepared_memory states LogOpens names c f none (inl state) = no_state_fault states.FileReads names.state f none.state state
-unprepared_memory states LogOpens names c f none (inr (inl line)) = no_line_fault states.LastLines names.state names.log f none.state line
+unprepared_memory states LogOpens names c f none (inr (inl line)) = no_line_fault states.LastDenials names.state names.log f none.state line
 unprepared_memory states LogOpens names c f none (inr (inr (inl (inl store)))) = no_store_fault states.StoreOpens names.state f none.state store
 unprepared_memory states LogOpens names c f none (inr (inr (inl (inr metrics)))) = no_metrics_fault states.StoreOpens names.metrics f none.metrics metrics
 unprepared_memory states LogOpens names c f none (inr (inr (inr (inl watch)))) =
-    watch_memory states.FileReads states.LastLines LogOpens c names.watch f none.trial none.audit watch
+    watch_memory states.FileReads states.LastDenials LogOpens c names.watch f none.trial none.audit watch
 unprepared_memory states LogOpens names c f none (inr (inr (inr (inr memory)))) = memory
 
 no_note : (is_verbose : Bool) (said : List ℕ) → said ≡ [] → IsNote is_verbose (opening.Log log_failure.Memory) said
@@ -282,11 +282,11 @@ serves_plain m states names held holds c how is_verbose line said outcome none u
     (ran before log log_then sockets sockets_then output warning text prepared opens closes stays leaves warns is) =
     let at = given states.held states.said m.held before in
     let no_saved = state_none states.FileReads names.state before.saved none.state prepared.saved in
-    let no_line = line_none states.LastLines names.state names.log at.line none.state prepared.line in
+    let no_line = line_none states.LastDenials names.state names.log at.line none.state prepared.line in
     let no_store = store_none states.StoreOpens names.state before.store none.state prepared.store in
     let no_metrics = metrics_none states.StoreOpens names.metrics before.metrics none.metrics prepared.metrics in
     let no_requests = requests_none states.ReloadsOpen names.reload names.config before.requests none.reload prepared.requests in
-    let no_watcher = watcher_none states.FileReads states.LastLines m.LogOpens c names.watch before.watcher none.watched prepared.watcher in
+    let no_watcher = watcher_none states.FileReads states.LastDenials m.LogOpens c names.watch before.watcher none.watched prepared.watcher in
     let no_text = prepared.text ∙ text_none names.state is_verbose c before.saved none.state in
     let serves = as_served at no_saved no_line no_store no_requests c how _ _ text outcome quiet leaves in
     let nothing = silent at no_saved no_line no_store no_metrics no_requests no_watcher c how _ _ text outcome quiet unreported leaves in

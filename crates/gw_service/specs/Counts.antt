@@ -1,10 +1,8 @@
--- The counts from which a gateway goes on: those of its state, or the greater ones of the last line of its log.
-use Rattle.std.specs.Prelude.{◌≡◌, ℕ, ◌^◌, nat_le, if◌then◌else◌, List, [], Option, Some, None}
-use Rattle.std.specs.Option.{option_map_or}
+-- The counts from which a gateway goes on: those of its state, or the greater ones of the last denial of its log.
+use Rattle.std.specs.Prelude.{◌≡◌, ℕ, ◌^◌, nat_le, if◌then◌else◌, List, Option, Some, None}
 use Rattle.gw_audit.specs.Entry.{IsLineOf, IsShowable}
 use Rattle.gw_audit.specs.declared.denial.Denial.{Denial}
 use Rattle.gw_core.specs.declared.event.Counts.{Counts}
-use Rattle.gw_log_words.specs.Fields.{fields_of, is_denial}
 
 -- the greater of two numbers, and the less
 abbrev pub greater : ℕ → ℕ → ℕ
@@ -29,12 +27,7 @@ pub record GoesOnAfter (counts : Counts) (line : List ℕ) (later : Counts) : Ty
   pub denial : (d : Denial) → IsShowable d → IsLineOf line d → later ≡ counts_after counts d
   pub other : ((d : Denial) → IsShowable d → ¬ (IsLineOf line d)) → later ≡ counts
 
--- A line's own fields if they are the line of a denial, whatever is in front of them, such as a stamp. A line without such fields,
--- such as a note, has none.
-abbrev pub own_fields : List ℕ → List ℕ
-own_fields line = option_map_or (λ fields. fields) (fields_of is_denial line) []
-
--- The counts from which a gateway goes on after the last line of its log, if there is one.
+-- The counts from which a gateway goes on after the line of its log's last denial, if one is shown.
 abbrev pub GoesOnFrom : Counts → Option (List ℕ) → Counts → Type 0
 GoesOnFrom counts None later = later ≡ counts
-GoesOnFrom counts (Some line) later = GoesOnAfter counts (own_fields line) later
+GoesOnFrom counts (Some line) later = GoesOnAfter counts line later

@@ -58,7 +58,7 @@ IsStateUnder FileReads None outcome = outcome ≡ Ok None
 IsStateUnder FileReads (Some name) outcome =
     (read : Result (Option (List ℕ)) ReadFailure) × FileReads name read × IsStateRead read outcome
 
--- the fault of a log whose last line can't be read
+-- the fault of a log that can't be read
 abbrev pub fault_of_log_reading : ReadFailure → ServiceFault
 fault_of_log_reading (reading.Unreadable why) = fault.Log
 fault_of_log_reading reading.Memory = fault.Memory
@@ -72,12 +72,12 @@ abbrev pub line_read : Result (Option (Vec ℕ)) ServiceFault → Result (Option
 line_read (Ok line) = Ok (option_map (λ line. line.items) line)
 line_read (Err f) = Err f
 
--- the last whole line of the log, if a state is kept and the log is in a file
-abbrev pub IsLastLine : (List ℕ → Result (Option (List ℕ)) ReadFailure → Type 0) → (state log : Option (List ℕ))
+-- the line of the log's last denial, if a state is kept and the log is in a file
+abbrev pub IsLastDenial : (List ℕ → Result (Option (List ℕ)) ReadFailure → Type 0) → (state log : Option (List ℕ))
     → Result (Option (List ℕ)) ServiceFault → Type 0
-IsLastLine LastLines (Some state) (Some log) outcome =
-    (read : Result (Option (List ℕ)) ReadFailure) × LastLines log read × (outcome ≡ line_outcome read)
-IsLastLine LastLines _ _ outcome = outcome ≡ Ok None
+IsLastDenial LastDenials (Some state) (Some log) outcome =
+    (read : Result (Option (List ℕ)) ReadFailure) × LastDenials log read × (outcome ≡ line_outcome read)
+IsLastDenial LastDenials _ _ outcome = outcome ≡ Ok None
 
 -- what opening a store of a name may give, by what it is for
 abbrev pub StoreOpening : Type 0 → Type 1
@@ -124,7 +124,7 @@ KeepsFirst held _ c w _ = ⊥
 
 -- ---- a run
 
--- what a store holds, what requests say and what a log beside the log holds; what was saved, the last line of the log, and the
+-- what a store holds, what requests say and what a log beside the log holds; what was saved, the last denial of the log, and the
 -- store, that of the metrics, the requests and what watches, if there are some
 pub record Given (S Q L : Type 0) : Type 0 where
   pub held : S → Option (List ℕ)
@@ -296,11 +296,11 @@ LeavesKept given c how before after text outcome =
 
 -- ---- the whole
 
--- What a machine may give to a run that keeps its state or reads its configuration again: a file's octets, the last line of a
+-- What a machine may give to a run that keeps its state or reads its configuration again: a file's octets, the last denial of a
 -- log, a store, and what asks to read the configuration again; what a store holds, and what was asked and answered.
 pub record StateMachine (S Q : Type 0) : Type 1 where
   pub FileReads : List ℕ → Result (Option (List ℕ)) ReadFailure → Type 0
-  pub LastLines : List ℕ → Result (Option (List ℕ)) ReadFailure → Type 0
+  pub LastDenials : List ℕ → Result (Option (List ℕ)) ReadFailure → Type 0
   pub StoreOpens : StoreOpening S
   pub ReloadsOpen : List ℕ → List ℕ → Q → Type 0
   pub held : S → Option (List ℕ)
@@ -309,9 +309,9 @@ pub record StateMachine (S Q : Type 0) : Type 1 where
 abbrev pub state_machine : {S Q : Type 0} → (List ℕ → Result (Option (List ℕ)) ReadFailure → Type 0)
     → (List ℕ → Result (Option (List ℕ)) ReadFailure → Type 0) → StoreOpening S → (List ℕ → List ℕ → Q → Type 0)
     → (S → Option (List ℕ)) → (Q → Asking) → StateMachine S Q
-state_machine FileReads LastLines StoreOpens ReloadsOpen held said = record {
+state_machine FileReads LastDenials StoreOpens ReloadsOpen held said = record {
   FileReads = FileReads;
-  LastLines = LastLines;
+  LastDenials = LastDenials;
   StoreOpens = StoreOpens;
   ReloadsOpen = ReloadsOpen;
   held = held;
@@ -342,22 +342,22 @@ names_of options = record {
 pub record IsPrepared {S Q Log : Type 0} (machine : StateMachine S Q) (LogOpens : LogOpening Log) (names : Names) (c : Configuration)
     (is_verbose : Bool) (before : Before S Q Log) : Type 0 where
   pub saved : IsStateUnder machine.FileReads names.state (Ok before.saved)
-  pub line : IsLastLine machine.LastLines names.state names.log (Ok (option_map (λ line. line.items) before.line))
+  pub line : IsLastDenial machine.LastDenials names.state names.log (Ok (option_map (λ line. line.items) before.line))
   pub text : before.text.items ≡ text_before names.state is_verbose c before.saved
   pub store : IsStoreUnder machine.StoreOpens names.state (Ok before.store)
   pub metrics : IsMetricsUnder machine.StoreOpens names.metrics (Ok before.metrics)
   pub requests : AreRequestsUnder machine.ReloadsOpen names.reload names.config before.requests
-  pub watcher : IsWatcherUnder machine.FileReads machine.LastLines LogOpens c names.watch before.watcher
+  pub watcher : IsWatcherUnder machine.FileReads machine.LastDenials LogOpens c names.watch before.watcher
 
--- Why it couldn't be: the state can't be read, or isn't one; the last line of the log can't be read; its store can't be opened,
+-- Why it couldn't be: the state can't be read, or isn't one; the log can't be read; its store can't be opened,
 -- or that of the metrics; what is to watch can't; or memory ran out.
 abbrev pub IsUnprepared : {S Q Log : Type 0} → StateMachine S Q → LogOpening Log → Names → Configuration → ServiceFault → Type 0
 IsUnprepared machine LogOpens names c f =
-    IsStateUnder machine.FileReads names.state (Err f) ⊎ (IsLastLine machine.LastLines names.state names.log (Err f)
+    IsStateUnder machine.FileReads names.state (Err f) ⊎ (IsLastDenial machine.LastDenials names.state names.log (Err f)
     ⊎ ((IsStoreUnder machine.StoreOpens names.state (Err f) ⊎ IsMetricsUnder machine.StoreOpens names.metrics (Err f))
-    ⊎ (IsUnwatched machine.FileReads machine.LastLines LogOpens c names.watch f ⊎ (f ≡ fault.Memory))))
+    ⊎ (IsUnwatched machine.FileReads machine.LastDenials LogOpens c names.watch f ⊎ (f ≡ fault.Memory))))
 
--- What a run leaves under a configuration: its state or its log's last line can't be had, and nothing is opened; not all can
+-- What a run leaves under a configuration: its state or its log's last denial can't be had, and nothing is opened; not all can
 -- be opened, and why may be written; or all was opened, this line, a warning of the machine and what is due of the state were
 -- written, and then it ran and was closed.
 pub data LeavesWithState {Log Sockets S Q : Type 0} (machine : Machine Log Sockets) (states : StateMachine S Q) (names : Names)

@@ -1,11 +1,12 @@
 -- Laws of a run.
-use Rattle.std.specs.Prelude.{◌≡◌, ◌⊎◌, ⊤, ℕ, ◌<◌, ◌≤◌, ◌^◌, false, List, [], Some, None, Result, All}
-use Rattle.gw_audit.specs.Entry.{IsLineOf, IsShowable}
+use Rattle.std.specs.Prelude.{◌≡◌, ⊤, ℕ, ◌<◌, ◌≤◌, ◌^◌, false, List, None, Result, All}
+use Rattle.gw_audit.specs.Entry.{IsShowable}
 use Rattle.gw_audit.specs.declared.denial.Denial.{Denial}
 use Rattle.gw_core.specs.Effects.{effects_at}
 use Rattle.gw_core.specs.History.{state_from}
 use Rattle.gw_core.specs.State.{State}
 use Rattle.gw_core.specs.declared.event.Counts.{Counts}
+use Rattle.gw_log_words.specs.LastDenial.{ShowsLast, last_denial}
 use Rattle.gw_script.specs.Event.{Event}
 use Rattle.gw_turns.specs.declared.serving.ServeFault.{ServeFault}
 use Rattle.gw_system.specs.Requests.{nobody}
@@ -14,7 +15,7 @@ use Rattle.gw_service.specs.Chain.{ended, served, ticked, unrequested, withheld}
 use Rattle.gw_service.specs.declared.running.End.{End}
 use Rattle.gw_configuration.specs.Configuration.{Configuration}
 use Rattle.gw_watchers.specs.Watching.{Watching}
-use Rattle.gw_service.specs.Counts.{GoesOnFrom, own_fields}
+use Rattle.gw_service.specs.Counts.{GoesOnFrom}
 use Rattle.gw_service.specs.Kept.{Given, LeavesKept, RunsKept, RunsWatched}
 use Rattle.gw_service.specs.Serving.{Ends, Serves, Service}
 use Rattle.gw_service.specs.declared.fault.ServiceFault.{ServiceFault}
@@ -32,16 +33,13 @@ RulesAreInForce {K} manner =
 abbrev pub RulesStay : Type 0
 RulesStay = (w : State) (events : List Event) → (state_from w events).rules ≡ w.rules
 
--- a line is that of a denial, or its own fields are, whatever is in front of them
-abbrev pub Shows : List ℕ → Denial → Type 0
-Shows line shown = IsLineOf line shown ⊎ IsLineOf (own_fields line) shown
-
--- A gateway that goes on from these counts and the last line of its log gives each denial a greater number than that of the
--- last denial that was counted, and than that of the denial in the line.
+-- A gateway that goes on from these counts and the last denial of its log gives each denial a greater number than that of the last
+-- denial that was counted, and than that of the denial that the log's text shows last, whatever that holds before it, and after it
+-- but denials.
 abbrev pub NumbersGoOn : Type 0
 NumbersGoOn =
-    (counts later : Counts) (line : List ℕ) (shown : Denial) (w : State) (e : Event) → GoesOnFrom counts (Some line) later
-    → IsShowable shown → Shows line shown → shown.number ≤ 2 ^ 63 → w.denials ≡ later.denials
+    (counts later : Counts) (text : List ℕ) (shown : Denial) (w : State) (e : Event) → GoesOnFrom counts (last_denial text) later
+    → IsShowable shown → ShowsLast text shown → shown.number ≤ 2 ^ 63 → w.denials ≡ later.denials
     → All (λ (d : Denial). (counts.denials < d.number) × (shown.number < d.number)) (effects_at w e).denials
 
 -- A run that is watched is one that isn't, but for what is reported: its log, its wire's calls, its state and its outcome are those

@@ -1,4 +1,4 @@
--- From where a gateway begins that keeps its state: what its file holds, and the last line of its log.
+-- From where a gateway begins that keeps its state: what its file holds, and the last denial of its log.
 use Rattle.std.specs.Prelude.{◌≡◌, ⊤, ℕ, List, [], ◌++◌, Bool, true, false, map, codes, Option, Some, None, Result, Ok, Err}
 use Rattle.gw_configuration.specs.Configuration.{Configuration}
 use Rattle.gw_core.specs.History.{state_after, no_counts}
@@ -51,7 +51,7 @@ begun c (Some s) = carried c s
 abbrev pub counts_of : State → Counts
 counts_of w = record { ticks = w.ticks; denials = w.denials }
 
--- It goes on from the greater ones of the counts of the state and those of the last line of its log.
+-- It goes on from the greater ones of the counts of the state and those of the last denial of its log.
 pub record BeginsAs (c : Configuration) (saved : Option Saved) (line : Option (List ℕ)) (w : State) : Type 0 where
   pub counts : Counts
   pub from : GoesOnFrom (counts_of (begun c saved)) line counts

@@ -56,28 +56,28 @@ watch_outcome (Ok b) = Ok (Some b)
 watch_outcome (Err f) = Err (fault_of_watching f)
 
 -- the policy on trial, if its file and that of its log are named
-abbrev pub IsTrialNamed : {Log : Type 0} → (FileReads LastLines : List ℕ → Result (Option (List ℕ)) ReadFailure → Type 0) → LogOpening Log
+abbrev pub IsTrialNamed : {Log : Type 0} → (FileReads LastDenials : List ℕ → Result (Option (List ℕ)) ReadFailure → Type 0) → LogOpening Log
     → Configuration → (rules log : Option (List ℕ)) → Result (Option (Beside (List Rule) Log)) ServiceFault → Type 0
-IsTrialNamed {Log} FileReads LastLines LogOpens c (Some rules) (Some log) outcome =
-    (opened : Result (Beside (List Rule) Log) WatchFault) × IsTrialBy FileReads LastLines LogOpens c rules log opened
+IsTrialNamed {Log} FileReads LastDenials LogOpens c (Some rules) (Some log) outcome =
+    (opened : Result (Beside (List Rule) Log) WatchFault) × IsTrialBy FileReads LastDenials LogOpens c rules log opened
     × (outcome ≡ watch_outcome opened)
-IsTrialNamed FileReads LastLines LogOpens c _ _ outcome = outcome ≡ Ok None
+IsTrialNamed FileReads LastDenials LogOpens c _ _ outcome = outcome ≡ Ok None
 
-abbrev pub IsTrialUnder : {Log : Type 0} → (FileReads LastLines : List ℕ → Result (Option (List ℕ)) ReadFailure → Type 0) → LogOpening Log
+abbrev pub IsTrialUnder : {Log : Type 0} → (FileReads LastDenials : List ℕ → Result (Option (List ℕ)) ReadFailure → Type 0) → LogOpening Log
     → Configuration → WatchNames → Result (Option (Beside (List Rule) Log)) ServiceFault → Type 0
-IsTrialUnder FileReads LastLines LogOpens c names outcome =
-    IsTrialNamed FileReads LastLines LogOpens c names.trial names.trial_log outcome
+IsTrialUnder FileReads LastDenials LogOpens c names outcome =
+    IsTrialNamed FileReads LastDenials LogOpens c names.trial names.trial_log outcome
 
 -- the audit, if it is named
-abbrev pub IsAuditNamed : {Log : Type 0} → (LastLines : List ℕ → Result (Option (List ℕ)) ReadFailure → Type 0) → LogOpening Log
+abbrev pub IsAuditNamed : {Log : Type 0} → (LastDenials : List ℕ → Result (Option (List ℕ)) ReadFailure → Type 0) → LogOpening Log
     → Configuration → Option (List ℕ) → Result (Option (Beside (List Bool) Log)) ServiceFault → Type 0
-IsAuditNamed LastLines LogOpens c None outcome = outcome ≡ Ok None
-IsAuditNamed {Log} LastLines LogOpens c (Some name) outcome =
-    (opened : Result (Beside (List Bool) Log) WatchFault) × IsAuditBy LastLines LogOpens c name opened × (outcome ≡ watch_outcome opened)
+IsAuditNamed LastDenials LogOpens c None outcome = outcome ≡ Ok None
+IsAuditNamed {Log} LastDenials LogOpens c (Some name) outcome =
+    (opened : Result (Beside (List Bool) Log) WatchFault) × IsAuditBy LastDenials LogOpens c name opened × (outcome ≡ watch_outcome opened)
 
-abbrev pub IsAuditUnder : {Log : Type 0} → (LastLines : List ℕ → Result (Option (List ℕ)) ReadFailure → Type 0) → LogOpening Log
+abbrev pub IsAuditUnder : {Log : Type 0} → (LastDenials : List ℕ → Result (Option (List ℕ)) ReadFailure → Type 0) → LogOpening Log
     → Configuration → WatchNames → Result (Option (Beside (List Bool) Log)) ServiceFault → Type 0
-IsAuditUnder LastLines LogOpens c names outcome = IsAuditNamed LastLines LogOpens c names.audit outcome
+IsAuditUnder LastDenials LogOpens c names outcome = IsAuditNamed LastDenials LogOpens c names.audit outcome
 
 -- counts of the rules, of which none began, if they are asked for
 abbrev pub AreCountsOf : Configuration → Bool → Option (List ℕ) → Type 0
@@ -89,26 +89,26 @@ abbrev pub AreCountsUnder : Configuration → WatchNames → Option (List ℕ) �
 AreCountsUnder c names counts = AreCountsOf c names.counts counts
 
 -- what watches at the start
-pub record WatchesUnder {Log : Type 0} (FileReads LastLines : List ℕ → Result (Option (List ℕ)) ReadFailure → Type 0) (LogOpens : LogOpening Log)
+pub record WatchesUnder {Log : Type 0} (FileReads LastDenials : List ℕ → Result (Option (List ℕ)) ReadFailure → Type 0) (LogOpens : LogOpening Log)
     (c : Configuration) (names : WatchNames) (w : Watching Log Log) : Type 0 where
-  pub trial : IsTrialUnder FileReads LastLines LogOpens c names (Ok w.trial)
-  pub audit : IsAuditUnder LastLines LogOpens c names (Ok w.audit)
+  pub trial : IsTrialUnder FileReads LastDenials LogOpens c names (Ok w.trial)
+  pub audit : IsAuditUnder LastDenials LogOpens c names (Ok w.audit)
   pub counts : AreCountsUnder c names w.counts
   pub unseen : w.unseen ≡ 0
 
 -- something does if that is asked for
-abbrev pub IsWatcherUnder : {Log : Type 0} → (FileReads LastLines : List ℕ → Result (Option (List ℕ)) ReadFailure → Type 0) → LogOpening Log
+abbrev pub IsWatcherUnder : {Log : Type 0} → (FileReads LastDenials : List ℕ → Result (Option (List ℕ)) ReadFailure → Type 0) → LogOpening Log
     → Configuration → WatchNames → Option (Watching Log Log) → Type 0
-IsWatcherUnder FileReads LastLines LogOpens c names None = is_watched names ≡ false
-IsWatcherUnder FileReads LastLines LogOpens c names (Some w) =
-    (is_watched names ≡ true) × WatchesUnder FileReads LastLines LogOpens c names w
+IsWatcherUnder FileReads LastDenials LogOpens c names None = is_watched names ≡ false
+IsWatcherUnder FileReads LastDenials LogOpens c names (Some w) =
+    (is_watched names ≡ true) × WatchesUnder FileReads LastDenials LogOpens c names w
 
 -- or why it can't
-abbrev pub IsUnwatched : {Log : Type 0} → (FileReads LastLines : List ℕ → Result (Option (List ℕ)) ReadFailure → Type 0) → LogOpening Log
+abbrev pub IsUnwatched : {Log : Type 0} → (FileReads LastDenials : List ℕ → Result (Option (List ℕ)) ReadFailure → Type 0) → LogOpening Log
     → Configuration → WatchNames → ServiceFault → Type 0
-IsUnwatched FileReads LastLines LogOpens c names f =
-    IsTrialUnder FileReads LastLines LogOpens c names (Err f)
-    ⊎ (IsAuditUnder LastLines LogOpens c names (Err f) ⊎ (f ≡ fault.Memory))
+IsUnwatched FileReads LastDenials LogOpens c names f =
+    IsTrialUnder FileReads LastDenials LogOpens c names (Err f)
+    ⊎ (IsAuditUnder LastDenials LogOpens c names (Err f) ⊎ (f ≡ fault.Memory))
 
 -- ---- while it runs
 

@@ -1,11 +1,10 @@
 //! The counts from which a gateway goes on.
 
 ghost use Rattle.std.specs.Prelude.{◌≡◌, ◌≤◌, ◌^◌, option_map};
-ghost use Rattle.gw_service.specs.Counts.{GoesOnAfter, GoesOnFrom, counts_with, own_fields};
+ghost use Rattle.gw_service.specs.Counts.{GoesOnAfter, GoesOnFrom, counts_with};
 
 use gw_audit::read_line;
 use gw_core::Counts;
-use gw_log_words::denial_front;
 
 /// Where each count of a gateway ends.
 const LAST_COUNT: u64 = 1 << 63;
@@ -20,7 +19,7 @@ fn counts_with(counts: Counts, tick: u64, number: u64) -> Counts
     }
 }
 
-/// The counts after a line of a log: the greater ones, if it shows a denial.
+/// The counts after the line of a denial: the greater ones.
 fn after_line(counts: Counts, line: &[u8]) -> Counts
     ensures { GoesOnAfter counts line.now result }
 {
@@ -30,17 +29,7 @@ fn after_line(counts: Counts, line: &[u8]) -> Counts
     }
 }
 
-/// A line's own fields if they are the line of a denial, whatever is in front of them; nothing if it has no such fields.
-fn own_fields(line: &[u8]) -> &[u8]
-    ensures { result.now ≡ own_fields line.now }
-{
-    match denial_front(line) {
-        Some(at) => &line[at..],
-        None => &[],
-    }
-}
-
-/// The counts from which a gateway goes on after the last line of its log, if there is one: no number of a denial that is
+/// The counts from which a gateway goes on after the line of its log's last denial, if one is shown: no number of a denial that is
 /// shown there or was counted is used again.
 pub(crate) fn go_on_from(counts: Counts, line: &Option<Vec<u8>>) -> Counts
     requires ticks { counts.ticks ≤ 2 ^ 63 }
@@ -52,7 +41,7 @@ pub(crate) fn go_on_from(counts: Counts, line: &Option<Vec<u8>>) -> Counts
     ensures denials { result.denials ≤ 2 ^ 63 }
 {
     match line {
-        Some(line) => after_line(counts, own_fields(line)),
+        Some(line) => after_line(counts, line),
         None => counts,
     }
 }

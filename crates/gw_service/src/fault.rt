@@ -10,7 +10,7 @@ use std::alloc::AllocError;
 /// Why a configuration isn't served, or not to the end.
 #[derive(Clone, Copy)]
 pub enum ServiceFault {
-    /// 1: the log can't be opened, or a write to it failed; or its last line can't be read, if a state is kept.
+    /// 1: the log can't be opened, or a write to it failed; or it can't be read, if a state is kept.
     Log,
     /// 2: a socket of the port of this number can't be opened; with 1 also what waits, or the clock.
     Socket(u8),
@@ -26,7 +26,7 @@ pub enum ServiceFault {
     Store(StoreFault),
     /// 8: the policy that is to be on trial isn't, and why.
     Trial(TrialFault),
-    /// 9: the audit can't be opened, or the last line of it can't be read.
+    /// 9: the audit can't be opened or read.
     Audit,
     /// 10: the place of the metrics can't be opened, and why.
     Metrics(StoreFault),

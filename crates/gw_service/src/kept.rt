@@ -13,7 +13,7 @@ ghost use Rattle.gw_turns.specs.Announcing.{first_announcing};
 ghost use Rattle.gw_turns.specs.Serve.{zero_counts};
 ghost use Rattle.gw_turns.specs.Stretch.{CanCount};
 ghost use Rattle.gw_turns.specs.Tally.{no_tally};
-ghost use Rattle.gw_service.specs.Kept.{AreRequestsUnder, IsLastLine, IsMetricsUnder, IsStateUnder, IsStoreUnder, IsUnprepared, KeepsFirst, LeavesKept, LeavesWithState, given, line_read, names_of, outcome_by, outcome_of_stop, state_machine, text_before};
+ghost use Rattle.gw_service.specs.Kept.{AreRequestsUnder, IsLastDenial, IsMetricsUnder, IsStateUnder, IsStoreUnder, IsUnprepared, KeepsFirst, LeavesKept, LeavesWithState, given, line_read, names_of, outcome_by, outcome_of_stop, state_machine, text_before};
 ghost use Rattle.gw_notices.specs.Startup.{startup_line};
 ghost use Rattle.gw_notices.specs.Reload.{counts_since};
 ghost use Rattle.gw_service.specs.Serving.{IsFlushedFor, LogStays, ends, log_held, machine, service};
@@ -43,13 +43,13 @@ use gw_wire::{Store, StoreFault, Wire};
 use std::alloc::{AllocError, Global};
 use std::io::{BufWriter, Write};
 
-/// What is read and made before the log and the sockets are opened: what was saved, the last line of the log, what is said of
+/// What is read and made before the log and the sockets are opened: what was saved, the last denial of the log, what is said of
 /// the state, its store, that of the metrics, and what asks to read the configuration again; and what watches.
 #[derive(Drop)]
 pub(crate) struct Before<S, Q, L: OctetSink + Drop> {
     /// What was saved, if something was.
     pub saved: Option<Saved>,
-    /// The last line of the log, if there is one.
+    /// The line of the log's last denial, if it shows one.
     pub line: Option<Vec<u8>>,
     /// What is said of the state.
     pub text: Vec<u8>,
@@ -80,17 +80,17 @@ fn saved_under<H: Host>(
     }
 }
 
-/// The last whole line of the log, if a state is kept and the log is in a file.
-fn last_line<H: Host>(
+/// The line of the log's last denial, if a state is kept and the log is in a file.
+fn last_denial<H: Host>(
     alloc: Global,
     options: &RunOptions,
     host: &H,
 ) -> Result<Option<Vec<u8>>, ServiceFault>
-    ensures { IsLastLine (H.LastLines host.now) (option_map string_bytes options.now.state)
+    ensures { IsLastDenial (H.LastDenials host.now) (option_map string_bytes options.now.state)
         (option_map string_bytes options.now.log) (line_read result) }
 {
     match (&options.state, &options.log) {
-        (Some(_), Some(log)) => match host.last_line(alloc, log) {
+        (Some(_), Some(log)) => match host.last_denial(alloc, log) {
             Ok(line) => Ok(line),
             Err(ReadFailure::Memory) => Err(ServiceFault::Memory),
             Err(ReadFailure::Unreadable(_)) => Err(ServiceFault::Log),
@@ -173,7 +173,7 @@ pub(crate) fn prepare<H: Host>(
 ) -> Result<Before<H::StateStore, H::Reloads, H::Log>, ServiceFault>
     ensures saved { IfOk result (λ before.
         IsStateUnder (H.FileReads host.now) (option_map string_bytes options.now.state) (Ok before.saved)) }
-    ensures line { IfOk result (λ before. IsLastLine (H.LastLines host.now) (option_map string_bytes options.now.state)
+    ensures line { IfOk result (λ before. IsLastDenial (H.LastDenials host.now) (option_map string_bytes options.now.state)
         (option_map string_bytes options.now.log) (Ok (option_map (λ line. line.items) before.line))) }
     ensures text { IfOk result (λ before. before.text.items
         ≡ text_before (option_map string_bytes options.now.state) options.now.verbose config.now before.saved) }
@@ -184,9 +184,9 @@ pub(crate) fn prepare<H: Host>(
     ensures requests { IfOk result (λ before. AreRequestsUnder (H.ReloadsOpen host.now)
         (option_map string_bytes options.now.reload) (string_bytes options.now.config) before.requests) }
     ensures watcher { let LogOpens = OpensAtLine (H.LogOpens host.now) (H.LogIsCut host.now) H.Log.held in
-        IfOk result (λ before. IsWatcherUnder (H.FileReads host.now) (H.LastLines host.now) LogOpens config.now
+        IfOk result (λ before. IsWatcherUnder (H.FileReads host.now) (H.LastDenials host.now) LogOpens config.now
         (watch_names options.now) before.watcher) }
-    ensures fault { IfErr result (IsUnprepared (state_machine (H.FileReads host.now) (H.LastLines host.now)
+    ensures fault { IfErr result (IsUnprepared (state_machine (H.FileReads host.now) (H.LastDenials host.now)
         (H.StoreOpens host.now) (H.ReloadsOpen host.now) H.StateStore.held H.Reloads.recorded)
         (OpensAtLine (H.LogOpens host.now) (H.LogIsCut host.now) H.Log.held) (names_of options.now) config.now) }
 {
@@ -194,7 +194,7 @@ pub(crate) fn prepare<H: Host>(
         Ok(saved) => saved,
         Err(fault) => return Err(fault),
     };
-    let line = match last_line(alloc, options, host) {
+    let line = match last_denial(alloc, options, host) {
         Ok(line) => line,
         Err(fault) => return Err(fault),
     };
@@ -420,7 +420,7 @@ pub(crate) fn serve_kept<H: Host, W: Write + Drop, E: OctetSink>(
     ensures served { (said : List ℕ) × LeavesWithState
         (machine (OpensAtLine (H.LogOpens host.old) (H.LogIsCut host.old) H.Log.held)
         (H.SocketsOpen host.old) (H.RoutesIp host.old) (H.Closes host.new) H.Log.held H.Sockets.calls)
-        (state_machine (H.FileReads host.old) (H.LastLines host.old) (H.StoreOpens host.old) (H.ReloadsOpen host.old)
+        (state_machine (H.FileReads host.old) (H.LastDenials host.old) (H.StoreOpens host.old) (H.ReloadsOpen host.old)
         H.StateStore.held H.Reloads.recorded) (names_of options.now)
         (writer_contents W.contents output.old) (writer_contents W.contents output.new) config
         (service options.now.turns options.now.stats) options.now.verbose (startup_line options.now.verbose config (option_map string_bytes options.now.log)) said result

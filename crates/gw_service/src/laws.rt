@@ -27,7 +27,7 @@ pub fn rules_are_in_force<K: StateKeeper>()
 {}
 
 /// No number of a denial is used twice: a gateway that begins with a state goes on after the number of the last denial that was
-/// counted there, and after that of the last line of its log.
+/// counted there, and after that of the denial that its log shows last, whatever is in front of it and whatever notes follow.
 pub fn numbers_go_on()
     ensures { NumbersGoOn }
 {}

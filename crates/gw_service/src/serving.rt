@@ -135,7 +135,7 @@ pub fn serve_ports<H: Host, W: Write + Drop, E: OctetSink>(
     ensures served { (said : List ℕ)
         × LeavesService (whole_machine (machine (OpensAtLine (H.LogOpens host.old) (H.LogIsCut host.old) H.Log.held)
         (H.SocketsOpen host.old) (H.RoutesIp host.old) (H.Closes host.new) H.Log.held H.Sockets.calls)
-        (state_machine (H.FileReads host.old) (H.LastLines host.old) (H.StoreOpens host.old)
+        (state_machine (H.FileReads host.old) (H.LastDenials host.old) (H.StoreOpens host.old)
         (H.ReloadsOpen host.old) H.StateStore.held H.Reloads.recorded)) options.now
         (writer_contents W.contents output.old) (writer_contents W.contents output.new) config said result
         × (E.NeverFails errors.old → Appends (E.held errors.old) (E.held errors.new) said) }

@@ -48,7 +48,7 @@ fn serve_stamped<H: Host, W: Write + Drop, E: OctetSink>(
         × LeavesService (whole_with_stamps {C = H.Calendar}
         (whole_machine (machine (OpensAtLine (H.LogOpens host.old) (H.LogIsCut host.old) H.Log.held)
         (H.SocketsOpen host.old) (H.RoutesIp host.old) (H.Closes host.new) H.Log.held H.Sockets.calls)
-        (state_machine (H.FileReads host.old) (H.LastLines host.old) (H.StoreOpens host.old)
+        (state_machine (H.FileReads host.old) (H.LastDenials host.old) (H.StoreOpens host.old)
         (H.ReloadsOpen host.old) H.StateStore.held H.Reloads.recorded))) options.now
         (writer_contents W.contents output.old) (writer_contents W.contents output.new) config said result
         × (E.NeverFails errors.old → Appends (E.held errors.old) (E.held errors.new) said) }
@@ -82,7 +82,7 @@ pub fn serve_run<H: Host, W: Write + Drop, E: OctetSink>(
         × LeavesTimed (timed_machine {C = H.Calendar}
         (whole_machine (machine (OpensAtLine (H.LogOpens host.old) (H.LogIsCut host.old) H.Log.held)
         (H.SocketsOpen host.old) (H.RoutesIp host.old) (H.Closes host.new) H.Log.held H.Sockets.calls)
-        (state_machine (H.FileReads host.old) (H.LastLines host.old) (H.StoreOpens host.old)
+        (state_machine (H.FileReads host.old) (H.LastDenials host.old) (H.StoreOpens host.old)
         (H.ReloadsOpen host.old) H.StateStore.held H.Reloads.recorded))) options.now
         (writer_contents W.contents output.old) (writer_contents W.contents output.new) config said result
         × (E.NeverFails errors.old → Appends (E.held errors.old) (E.held errors.new) said) }

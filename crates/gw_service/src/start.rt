@@ -73,7 +73,7 @@ fn begin(alloc: Global, config: Config, saved: &Option<Saved>) -> Result<Gateway
 }
 
 /// A gateway of a configuration that takes over what was saved, and goes on from the greater ones of its counts and those
-/// of the last line of its log. The only fault is want of memory.
+/// of the last denial of its log. The only fault is want of memory.
 pub(crate) fn begin_after(
     alloc: Global,
     config: Config,

@@ -35,7 +35,7 @@ fn trial_under<H: Host>(
     host: &H,
 ) -> Result<Option<Beside<Policy, H::Log>>, ServiceFault>
     ensures { let LogOpens = OpensAtLine (H.LogOpens host.now) (H.LogIsCut host.now) H.Log.held in
-        IsTrialUnder (H.FileReads host.now) (H.LastLines host.now) LogOpens config.now (watch_names options.now) result }
+        IsTrialUnder (H.FileReads host.now) (H.LastDenials host.now) LogOpens config.now (watch_names options.now) result }
 {
     match (&options.trial, &options.trial_log) {
         (Some(rules), Some(log)) => match open_trial(alloc, config, rules, log, host) {
@@ -54,7 +54,7 @@ fn audit_under<H: Host>(
     host: &H,
 ) -> Result<Option<Beside<Marks, H::Log>>, ServiceFault>
     ensures { let LogOpens = OpensAtLine (H.LogOpens host.now) (H.LogIsCut host.now) H.Log.held in
-        IsAuditUnder (H.LastLines host.now) LogOpens config.now (watch_names options.now) result }
+        IsAuditUnder (H.LastDenials host.now) LogOpens config.now (watch_names options.now) result }
 {
     match &options.audit {
         Some(name) => match open_audit(alloc, config, name, host) {
@@ -95,9 +95,9 @@ pub(crate) fn watcher_under<H: Host>(
     host: &H,
 ) -> Result<Option<Watcher<H::Log, H::Log>>, ServiceFault>
     ensures watcher { let LogOpens = OpensAtLine (H.LogOpens host.now) (H.LogIsCut host.now) H.Log.held in
-        IfOk result (IsWatcherUnder (H.FileReads host.now) (H.LastLines host.now) LogOpens config.now (watch_names options.now)) }
+        IfOk result (IsWatcherUnder (H.FileReads host.now) (H.LastDenials host.now) LogOpens config.now (watch_names options.now)) }
     ensures fault { let LogOpens = OpensAtLine (H.LogOpens host.now) (H.LogIsCut host.now) H.Log.held in
-        IfErr result (IsUnwatched (H.FileReads host.now) (H.LastLines host.now) LogOpens config.now (watch_names options.now)) }
+        IfErr result (IsUnwatched (H.FileReads host.now) (H.LastDenials host.now) LogOpens config.now (watch_names options.now)) }
 {
     if !is_watched(options) {
         return Ok(None);

@@ -1,11 +1,15 @@
+pub mod Disk
 pub mod FileRequests
 pub mod Folder
 pub mod Host
+pub mod LogEnd
 pub mod Making
 pub mod Obstacle
 pub mod Opening
+pub mod Replacing
 pub mod Waiting
 pub mod Request
 pub mod Requests
 pub mod StampedHost
 pub mod Store
+pub mod internal

@@ -1,11 +1,11 @@
 //! The file of a log.
 
-ghost use Rattle.std.specs.Prelude.{None};
+ghost use Rattle.std.specs.Prelude.{None, ⊤};
 
 use crate::host::{MODE, is_link};
 use crate::opening::LogFailure;
 use crate::store::name_with;
-use gw_log_words::{NamedFiles, NamedLog};
+use gw_log_words::{Lasting, NamedFiles, NamedLog};
 use gw_script::{OctetSink, WriteFailed};
 use std::alloc::Global;
 use std::fs::{File, Metadata, OpenFile};
@@ -53,6 +53,19 @@ impl<R: Files> OctetSink for LogFile<R> {
         match self.file.write(text) {
             Ok(0) if !text.is_empty() => Err(WriteFailed),
             Ok(count) => Ok(count),
+            Err(_) => Err(WriteFailed),
+        }
+    }
+}
+
+impl<R: Files> Lasting for LogFile<R> {
+    ghost IsLasting = { λ _. ⊤ };
+
+    ghost Syncs = { λ _ _ _. ⊤ };
+
+    fn sync(&mut self) -> Result<(), WriteFailed> {
+        match self.file.sync_data() {
+            Ok(()) => Ok(()),
             Err(_) => Err(WriteFailed),
         }
     }

@@ -1,12 +1,14 @@
 //! Files by their names, as requests and their answers use them.
 
-ghost use Rattle.std.specs.Prelude.{◌≡◌, ◌≢◌, ⊤, Some, None, Ok, Result, false, true, List, ℕ, IfOk, OnOk};
+ghost use Rattle.std.specs.Prelude.{◌≡◌, ◌≢◌, ⊤, Some, None, Ok, Result, false, true, List, ℕ, string_bytes, IfOk, OnOk};
 ghost use Rattle.gw_system.specs.Folder.{Holds, IsTakenAway, Known, octets_of};
 ghost use Rattle.gw_system.specs.declared.store.Access.{Access};
 ghost use Rattle.gw_wire.specs.declared.store.StoreFault.{StoreFault};
 
+use crate::disk::SystemDisk;
 use crate::reading::{ReadFailure, read_file};
-use crate::store::{Access, replace_file, store_fault};
+use crate::replacing::{FileName, show_file};
+use crate::store::{Access, store_fault};
 use gw_wire::StoreFault;
 use std::alloc::Global;
 use std::io::ErrorKind;
@@ -39,18 +41,11 @@ pub trait Folder {
     fn read(&self, alloc: Global, name: &str, most: usize) -> Result<Option<Vec<u8>>, ReadFailure>
         ensures { IfOk result (λ octets. Holds (known self.now name.now) (octets_of octets)) };
 
-    /// Replaces the file of a name whole by these octets, which are written to the file of the other name first. Who may
-    /// read it is by `access`.
-    fn replace(
-        &mut self,
-        name: &str,
-        beside: &str,
-        access: Access,
-        octets: &[u8],
-    ) -> Result<(), StoreFault>
-        ensures replaces { Replaces self.old name.now beside.now access octets.now result self.new }
-        ensures made { OnOk result (Holds (known self.new name.now) (Some octets.now)) }
-        ensures others { (other : List ℕ) → other ≢ name.now → other ≢ beside.now →
+    /// Replaces a file whole by these octets, which are written to the file beside it first. Who may read it is by `access`.
+    fn replace(&mut self, file: &FileName, access: Access, octets: &[u8]) -> Result<(), StoreFault>
+        ensures replaces { Replaces self.old (string_bytes file.now.name) (string_bytes file.now.beside) access octets.now result self.new }
+        ensures made { OnOk result (Holds (known self.new (string_bytes file.now.name)) (Some octets.now)) }
+        ensures others { (other : List ℕ) → other ≢ string_bytes file.now.name → other ≢ string_bytes file.now.beside →
             known self.new other ≡ known self.old other };
 }
 
@@ -96,14 +91,10 @@ impl<R: Files> Folder for SystemFolder<'_, R> {
 
     fn replace(
         &mut self,
-        name: &str,
-        beside: &str,
+        file: &FileName,
         access: Access,
         octets: &[u8],
     ) -> Result<(), StoreFault> {
-        match replace_file(self.rt, name, beside, access, octets) {
-            Ok(()) => Ok(()),
-            Err(error) => Err(store_fault(&error)),
-        }
+        show_file(&mut SystemDisk { rt: self.rt }, file, access, octets)
     }
 }

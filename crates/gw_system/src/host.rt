@@ -15,12 +15,13 @@ ghost use Rattle.gw_system.specs.declared.store.StoreKind.{StoreKind};
 ghost use Rattle.gw_system.specs.declared.reading.ReadFailure.{ReadFailure};
 ghost use Rattle.gw_wire.specs.declared.store.StoreFault.{StoreFault};
 
+use crate::disk::SystemDisk;
 use crate::file_log::{self, FileLog};
 use crate::folder::{Folder, SystemFolder};
 use crate::making::{MadeRequest, make_request};
 use crate::opening::{LogFailure, SocketFailure, Step};
 use crate::poll_waiter::PollWaiter;
-use crate::reading::{ReadFailure, read_file, read_last_line};
+use crate::reading::{ReadFailure, read_file, read_last_denial};
 use crate::requests::{FileRequests, Requests, wait_for_answer};
 use crate::store::{FileStore, StoreKind};
 use crate::system_clock::SystemClock;
@@ -62,11 +63,11 @@ pub trait Host {
     /// What may be answered to a request.
     ghost Answers: { Self.Asked → List ℕ → Type 0 };
 
-    /// What reading a file of a name, or the last line of a log of a name, may give.
+    /// What reading a file of a name may give.
     ghost FileReads: { Self → List ℕ → Result (Option (List ℕ)) ReadFailure → Type 0 };
 
-    /// What looking for the last whole line of the log of a name may give.
-    ghost LastLines: { Self → List ℕ → Result (Option (List ℕ)) ReadFailure → Type 0 };
+    /// What looking for the last denial of the log of a name may give.
+    ghost LastDenials: { Self → List ℕ → Result (Option (List ℕ)) ReadFailure → Type 0 };
 
     /// What opening the store of a name may give, by what it is for.
     ghost StoreOpens: { Self → StoreKind → List ℕ → Result Self.StateStore StoreFault → Type 0 };
@@ -124,11 +125,11 @@ pub trait Host {
     ) -> Result<Option<Vec<u8>>, ReadFailure>
         ensures { FileReads self.now name.now (text_found result) };
 
-    /// The last whole line of the log of this name without its line feed, looked for in its last 65,536 octets.
-    /// `None` if there is no such file, it isn't a regular one, or no whole line is there. Faults: `Unreadable`,
-    /// and `Memory`.
-    fn last_line(&self, alloc: Global, name: &str) -> Result<Option<Vec<u8>>, ReadFailure>
-        ensures { LastLines self.now name.now (text_found result) };
+    /// The line of the denial that the log of this name shows last, without what is in front of it, such as a stamp, and its line
+    /// feed, looked for in its last 16,777,216 octets. Lines after it show none, as notes. `None` if there is no such file, it isn't
+    /// a regular one, or no whole line there shows one. Faults: `Unreadable`, and `Memory`.
+    fn last_denial(&self, alloc: Global, name: &str) -> Result<Option<Vec<u8>>, ReadFailure>
+        ensures { LastDenials self.now name.now (text_found result) };
 
     /// Opens the place that holds a text under this name for that, without reading or making anything. Faults:
     /// `NotPermitted` if it is a symbolic link, and those of the system.
@@ -257,7 +258,7 @@ impl<'a, R: Files + Net + Clock> Host for SystemHost<'a, R> {
 
     type Sockets = TimedPorts<UdpSock, SystemClock<'a, R>, PollWaiter>;
 
-    type StateStore = FileStore<'a, R>;
+    type StateStore = FileStore<SystemDisk<'a, R>>;
 
     type Reloads = FileRequests<SystemFolder<'a, R>>;
 
@@ -271,7 +272,7 @@ impl<'a, R: Files + Net + Clock> Host for SystemHost<'a, R> {
 
     ghost FileReads = { λ _ _ _. ⊤ };
 
-    ghost LastLines = { λ _ _ _. ⊤ };
+    ghost LastDenials = { λ _ _ _. ⊤ };
 
     ghost StoreOpens = { λ _ kind name opened. IfOk opened (IsStoreOf name kind) };
 
@@ -327,8 +328,8 @@ impl<'a, R: Files + Net + Clock> Host for SystemHost<'a, R> {
         read_file(self.rt, alloc, name, most)
     }
 
-    fn last_line(&self, alloc: Global, name: &str) -> Result<Option<Vec<u8>>, ReadFailure> {
-        read_last_line(self.rt, alloc, name)
+    fn last_denial(&self, alloc: Global, name: &str) -> Result<Option<Vec<u8>>, ReadFailure> {
+        read_last_denial(self.rt, alloc, name)
     }
 
     fn open_store(
@@ -336,7 +337,7 @@ impl<'a, R: Files + Net + Clock> Host for SystemHost<'a, R> {
         alloc: Global,
         name: &str,
         kind: StoreKind,
-    ) -> Result<FileStore<'a, R>, StoreFault> {
+    ) -> Result<FileStore<SystemDisk<'a, R>>, StoreFault> {
         FileStore::open(self.rt, alloc, name, kind)
     }
 
@@ -368,8 +369,8 @@ impl<'a, R: Files + Net + Clock> Host for SystemHost<'a, R> {
         let files = &asked.files;
         let found = wait_for_answer(self.rt, &folder, alloc, files, seconds);
         let done = match found {
-            Ok(Some(_)) => &files.answer,
-            Ok(None) | Err(_) => &files.request,
+            Ok(Some(_)) => &files.answer.name,
+            Ok(None) | Err(_) => &files.request.name,
         };
         let _ = folder.take_away(done);
         found

@@ -5,6 +5,7 @@
 //! and clock are a wire of `gw_wire`.
 #![tactic(auto)]
 
+mod disk;
 mod file_log;
 mod folder;
 mod host;
@@ -14,6 +15,7 @@ mod obstacle;
 mod opening;
 mod poll_waiter;
 mod reading;
+mod replacing;
 mod request;
 mod requests;
 mod stamped_host;
@@ -21,6 +23,7 @@ mod store;
 mod system_clock;
 mod udp;
 
+pub use disk::{Disk, SystemDisk};
 pub use file_log::{FileLog, LogFile, LogFiles};
 pub use folder::{Folder, SystemFolder};
 pub use host::{Host, SystemHost, open_at_line};
@@ -29,7 +32,8 @@ pub use making::MadeRequest;
 pub use obstacle::{Obstacle, obstacle_words};
 pub use opening::{FailedStep, LogFailure, OpenFailure, Reason, SocketFailure, Step, note_of};
 pub use poll_waiter::PollWaiter;
-pub use reading::{MAX_LOG_END, ReadFailure};
+pub use reading::{LOG_ENDS, ReadFailure};
+pub use replacing::{FileName, replace_file, show_file};
 pub use request::{Request, STOP_REQUEST, reload_request};
 pub use requests::{AskedFile, FileRequests, Requests};
 pub use stamped_host::{StampedHost, into_log};

@@ -39,17 +39,17 @@ pub(crate) fn make_request<F: Folder>(
     text: &[u8],
 ) -> Result<MadeRequest, StoreFault>
     ensures is { IfOk result (IsMade name.now text.now) }
-    ensures made { IfOk result (λ made. Holds (F.known folder.new (string_bytes made.files.request)) (Some text.now)) }
-    ensures unanswered { IfOk result (λ made. Holds (F.known folder.new (string_bytes made.files.answer)) None) }
+    ensures made { IfOk result (λ made. Holds (F.known folder.new (string_bytes made.files.request.name)) (Some text.now)) }
+    ensures unanswered { IfOk result (λ made. Holds (F.known folder.new (string_bytes made.files.answer.name)) None) }
 {
     let Ok(made) = MadeRequest::of(alloc, name, text) else {
         return Err(StoreFault::Memory);
     };
     let files = &made.files;
-    if let Err(fault) = folder.take_away(&files.answer) {
+    if let Err(fault) = folder.take_away(&files.answer.name) {
         return Err(fault);
     }
-    match folder.replace(&files.request, &files.beside, Access::Everyone, text) {
+    match folder.replace(&files.request, Access::Everyone, text) {
         Ok(()) => Ok(made),
         Err(fault) => Err(fault),
     }

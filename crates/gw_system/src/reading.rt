@@ -1,12 +1,15 @@
-//! Files that are read whole, and the last line of a log.
+//! Files that are read whole, and the last denial of a log.
 
 ghost use Rattle.std.specs.Fs.{IsDir, file_type};
-ghost use Rattle.std.specs.Prelude.{◌≡◌, ◌≢◌};
+ghost use Rattle.std.specs.Prelude.{◌≡◌, ◌≢◌, ◌++◌, ◌∷◌, MatchOption};
+ghost use Rattle.gw_addr.specs.Text.{Lacks};
+ghost use Rattle.gw_system.specs.LogEnd.{IsFromLine};
 ghost use Rattle.gw_system.specs.declared.obstacle.Obstacle.TheVariants.{Absent, Folder, NotPermitted, Other};
 ghost use Rattle.gw_system.specs.declared.reading.ReadFailure.TheVariants.{Memory, Unreadable};
 
 use crate::obstacle::Obstacle;
-use memchr::memrchr;
+use gw_log_words::last_denial;
+use memchr::memchr;
 use std::alloc::{AllocError, Global};
 use std::fs::Metadata;
 use std::io::{ErrorKind, Read, Seek, SeekFrom};
@@ -50,8 +53,8 @@ impl From<AllocError> for ReadFailure {
     }
 }
 
-/// How many octets the end of a log has in which its last whole line is looked for.
-pub const MAX_LOG_END: u64 = 65_536;
+/// How many octets the end of a log has in which the last denial is looked for: at first few, then more.
+pub const LOG_ENDS: [u64; 3] = [65_536, 1_048_576, 16_777_216];
 
 /// Why what has this metadata can't be read as a file.
 fn obstacle_by(metadata: &Metadata) -> Obstacle
@@ -102,9 +105,9 @@ fn read_front<R: Files>(rt: &R, alloc: Global, name: &str, most: usize) -> io::R
     Ok(octets)
 }
 
-/// The last whole line of the regular file of this name without its line feed, looked for in its last 65,536
-/// octets. `None` if there is no such file, it isn't a regular one, or no whole line is there.
-pub(crate) fn read_last_line<R: Files>(
+/// The line of the denial that the regular file of this name shows last, without what is in front of it and its line feed, looked
+/// for in its last 16,777,216 octets. `None` if there is no such file, it isn't a regular one, or no whole line there shows one.
+pub(crate) fn read_last_denial<R: Files>(
     rt: &R,
     alloc: Global,
     name: &str,
@@ -114,36 +117,62 @@ pub(crate) fn read_last_line<R: Files>(
         Ok(_) => return Ok(None),
         Err(error) => return absent_by(&error),
     }
-    match read_end(rt, alloc, name) {
-        Ok(octets) => match last_line(&octets) {
-            Some(line) => Ok(Some(Vec::from_slice(alloc, line)?)),
-            None => Ok(None),
-        },
-        Err(error) => absent_by(&error),
+    for most in LOG_ENDS {
+        let end = match read_end(rt, alloc, name, most) {
+            Ok(end) => end,
+            Err(error) => return absent_by(&error),
+        };
+        if let Some(line) = last_denial(end.whole_lines()) {
+            return Ok(Some(Vec::from_slice(alloc, line)?));
+        }
+        if end.is_whole {
+            return Ok(None);
+        }
+    }
+    Ok(None)
+}
+
+/// The end of a text: its last octets, and whether they are all of it.
+#[derive(Drop)]
+struct End {
+    octets: Vec<u8>,
+    is_whole: bool,
+}
+
+impl End {
+    /// What of it begins with a whole line: all of it if the text is whole, and else what comes after its first line feed.
+    fn whole_lines(&self) -> &[u8]
+        ensures { IsFromLine self.now.is_whole self.now.octets.items result.now }
+    {
+        if self.is_whole {
+            return &self.octets;
+        }
+        match split_line(&self.octets) {
+            Some((_cut, lines)) => lines,
+            None => &[],
+        }
     }
 }
 
-/// The last octets of a file, at most 65,536.
-fn read_end<R: Files>(rt: &R, alloc: Global, name: &str) -> io::Result<Vec<u8>> {
+/// What comes before the first line feed of a text, and what comes after it.
+fn split_line(text: &[u8]) -> Option<(&[u8], &[u8])>
+    ensures { MatchOption result (Lacks 10 text.now) (λ parts. (text.now ≡ parts.0.now ++ 10 ∷ parts.1.now) × Lacks 10 parts.0.now) }
+{
+    match memchr(b'\n', text) {
+        Some(place) => Some((&text[..place], &text[place + 1..])),
+        None => None,
+    }
+}
+
+/// The last octets of a file, at most so many.
+fn read_end<R: Files>(rt: &R, alloc: Global, name: &str, most: u64) -> io::Result<End> {
     let mut file = fs::open(rt, name)?;
     let len = file.seek(SeekFrom::End(0))?;
-    file.seek(SeekFrom::Start(len.saturating_sub(MAX_LOG_END)))?;
+    file.seek(SeekFrom::Start(len.saturating_sub(most)))?;
     let mut octets = Vec::new(alloc);
-    file.take(MAX_LOG_END).read_to_end(&mut octets)?;
-    Ok(octets)
-}
-
-/// The last line of a text that ends in a line feed, without that. What follows the last line feed is none.
-fn last_line(text: &[u8]) -> Option<&[u8]> {
-    let (lines, _cut) = rsplit_line(text)?;
-    match rsplit_line(lines) {
-        Some((_before, line)) => Some(line),
-        None => Some(lines),
-    }
-}
-
-/// What lies before the last line feed of a text and what lies after it.
-fn rsplit_line(text: &[u8]) -> Option<(&[u8], &[u8])> {
-    let place = memrchr(b'\n', text)?;
-    Some((&text[..place], &text[place + 1..]))
+    file.take(most).read_to_end(&mut octets)?;
+    Ok(End {
+        octets,
+        is_whole: len <= most,
+    })
 }

@@ -9,6 +9,7 @@ ghost use Rattle.gw_system.specs.Requests.{Asking, GoesOn, IsAsking, answered, a
 use crate::folder::Folder;
 use crate::obstacle::Obstacle;
 use crate::reading::ReadFailure;
+use crate::replacing::FileName;
 use crate::request::{MAX_REQUEST, Request, given_by, is_request, is_stop};
 use crate::store::{Access, name_with};
 use mio::{Events, Poll};
@@ -55,27 +56,26 @@ impl<Q: Requests> Requests for Option<Q> {
 /// A request that is a file, and the file of its answer, whose name has `.answer` after its name.
 #[derive(Drop)]
 pub struct AskedFile {
-    /// The name of the request.
-    pub request: String,
-    /// The name of the answer.
-    pub answer: String,
-    /// The name under which the request is written first.
-    pub beside: String,
-    pub ghost differ: { string_bytes request ≢ string_bytes answer },
-    pub ghost apart: { string_bytes beside ≢ string_bytes answer },
+    /// The file of the request.
+    pub request: FileName,
+    /// The file of the answer.
+    pub answer: FileName,
+    pub ghost differ: { string_bytes request.name ≢ string_bytes answer.name },
+    pub ghost aside: { string_bytes request.beside ≢ string_bytes answer.name },
 }
 
 impl AskedFile {
     /// The request of this name, with its answer. The only fault is want of memory.
     pub(crate) fn of(alloc: Global, request: &str) -> Result<Self, AllocError>
-        ensures request { IfOk result (λ asked. string_bytes asked.request ≡ request.now) }
-        ensures answer { IfOk result (λ asked. string_bytes asked.answer ≡ request.now ++ codes ".answer") }
-        ensures beside { IfOk result (λ asked. string_bytes asked.beside ≡ request.now ++ codes ".new") }
+        ensures request { IfOk result (λ asked. string_bytes asked.request.name ≡ request.now) }
+        ensures answer { IfOk result (λ asked. string_bytes asked.answer.name ≡ request.now ++ codes ".answer") }
+        ensures beside { IfOk result (λ asked. string_bytes asked.request.beside ≡ request.now ++ codes ".new") }
+        ensures answer_beside { IfOk result (λ asked. string_bytes asked.answer.beside ≡ request.now ++ codes ".answer.new") }
     {
+        let answer = name_with(alloc, request, ".answer")?;
         Ok(AskedFile {
-            request: name_with(alloc, request, "")?,
-            answer: name_with(alloc, request, ".answer")?,
-            beside: name_with(alloc, request, ".new")?,
+            request: FileName::of(alloc, request)?,
+            answer: FileName::of(alloc, &answer)?,
         })
     }
 }
@@ -86,7 +86,6 @@ impl AskedFile {
 pub struct FileRequests<F> {
     folder: F,
     asked: AskedFile,
-    beside: String,
     config: String,
     told: bool,
 }
@@ -99,9 +98,9 @@ impl<F> Model for FileRequests<F> {
 
     ghost view = { λ r. record {
       folder = r.folder;
-      request = string_bytes r.asked.request;
-      answer = string_bytes r.asked.answer;
-      beside = string_bytes r.beside;
+      request = string_bytes r.asked.request.name;
+      answer = string_bytes r.asked.answer.name;
+      beside = string_bytes r.asked.answer.beside;
       config = string_bytes r.config;
       told = r.told;
     } };
@@ -123,14 +122,14 @@ fn find_request<F: Folder>(folder: &F, alloc: Global, name: &str) -> Option<Vec<
 
 /// Takes the file of a request away, and before it the answer to an older one; and answers whether both were done.
 fn take_request<F: Folder>(folder: &mut F, asked: &AskedFile) -> bool
-    ensures taken { result ≡ true → IsTakenAway (F.known folder.old (string_bytes asked.now.request))
-        (F.known folder.new (string_bytes asked.now.request)) }
-    ensures unanswered { result ≡ true → Holds (F.known folder.new (string_bytes asked.now.answer)) None }
+    ensures taken { result ≡ true → IsTakenAway (F.known folder.old (string_bytes asked.now.request.name))
+        (F.known folder.new (string_bytes asked.now.request.name)) }
+    ensures unanswered { result ≡ true → Holds (F.known folder.new (string_bytes asked.now.answer.name)) None }
 {
-    if folder.take_away(&asked.answer).is_err() {
+    if folder.take_away(&asked.answer.name).is_err() {
         return false;
     }
-    match folder.take_away(&asked.request) {
+    match folder.take_away(&asked.request.name) {
         Ok(was_there) => was_there,
         Err(_) => false,
     }
@@ -144,7 +143,6 @@ impl<F: Folder + Drop> FileRequests<F> {
         Ok(FileRequests {
             folder,
             asked: AskedFile::of(alloc, request)?,
-            beside: name_with(alloc, request, ".answer.new")?,
             config: name_with(alloc, config, "")?,
             told: false,
         })
@@ -185,7 +183,7 @@ impl<F: Folder> FileRequests<F> {
         ensures names { HasSameNames self.old self.new }
     {
         let was_told = self.told;
-        self.told = self.folder.has(&self.asked.request);
+        self.told = self.folder.has(&self.asked.request.name);
         if self.told && !was_told {
             Some(Request::Untaken)
         } else {
@@ -198,7 +196,7 @@ impl<F: Folder> FileRequests<F> {
         ensures held { IfSome result (λ line. Holds (F.known self.now.folder self.now.request) (Some line.items)) }
         ensures one { IfSome result (λ line. is_request line.items ≡ true) }
     {
-        find_request(&self.folder, alloc, &self.asked.request)
+        find_request(&self.folder, alloc, &self.asked.request.name)
     }
 
     /// Takes a request away, if there is one, and gives its text.
@@ -246,9 +244,7 @@ impl<F: Folder> Requests for FileRequests<F> {
     fn answer(&mut self, text: &[u8])
         ensures { IsAnswered F.known F.Replaces self.old self.new text.now }
     {
-        let _ = self
-            .folder
-            .replace(&self.asked.answer, &self.beside, Access::Owner, text);
+        let _ = self.folder.replace(&self.asked.answer, Access::Owner, text);
     }
 }
 
@@ -270,13 +266,13 @@ fn answer_to<F: Folder>(
     alloc: Global,
     asked: &AskedFile,
 ) -> Result<Option<Vec<u8>>, ReadFailure>
-    ensures { IfOk result (λ found. IfSome found (λ text. IsAnswer (F.known folder.now (string_bytes asked.now.request))
-        (F.known folder.now (string_bytes asked.now.answer)) text.items)) }
+    ensures { IfOk result (λ found. IfSome found (λ text. IsAnswer (F.known folder.now (string_bytes asked.now.request.name))
+        (F.known folder.now (string_bytes asked.now.answer.name)) text.items)) }
 {
-    if folder.has(&asked.request) {
+    if folder.has(&asked.request.name) {
         return Ok(None);
     }
-    folder.read(alloc, &asked.answer, MAX_ANSWER)
+    folder.read(alloc, &asked.answer.name, MAX_ANSWER)
 }
 
 /// Waits at most so many seconds for the answer to a request.
@@ -287,8 +283,8 @@ pub(crate) fn wait_for_answer<F: Folder, R: Net>(
     asked: &AskedFile,
     seconds: u8,
 ) -> Result<Option<Vec<u8>>, ReadFailure>
-    ensures { IfOk result (λ found. IfSome found (λ text. IsAnswer (F.known folder.now (string_bytes asked.now.request))
-        (F.known folder.now (string_bytes asked.now.answer)) text.items)) }
+    ensures { IfOk result (λ found. IfSome found (λ text. IsAnswer (F.known folder.now (string_bytes asked.now.request.name))
+        (F.known folder.now (string_bytes asked.now.answer.name)) text.items)) }
 {
     let (Ok(mut poll), Ok(mut events)) = (Poll::new(rt), Events::with_capacity(alloc, 1)) else {
         return Err(ReadFailure::Unreadable(Obstacle::Other));

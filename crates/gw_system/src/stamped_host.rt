@@ -63,7 +63,7 @@ impl<H: Host> Host for StampedHost<'_, H> {
 
     ghost FileReads = { λ machine. H.FileReads machine.host.now };
 
-    ghost LastLines = { λ machine. H.LastLines machine.host.now };
+    ghost LastDenials = { λ machine. H.LastDenials machine.host.now };
 
     ghost StoreOpens = { λ machine. H.StoreOpens machine.host.now };
 
@@ -110,8 +110,8 @@ impl<H: Host> Host for StampedHost<'_, H> {
         self.host.read_file(alloc, name, most)
     }
 
-    fn last_line(&self, alloc: Global, name: &str) -> Result<Option<Vec<u8>>, ReadFailure> {
-        self.host.last_line(alloc, name)
+    fn last_denial(&self, alloc: Global, name: &str) -> Result<Option<Vec<u8>>, ReadFailure> {
+        self.host.last_denial(alloc, name)
     }
 
     fn open_store(

@@ -1,15 +1,16 @@
 //! The files of a state and of metrics.
 
 ghost use Rattle.std.specs.Prelude.{◌≡◌, ◌++◌, string_bytes, IfOk};
-ghost use Rattle.gw_system.specs.Store.{IsStoreOf};
+ghost use Rattle.gw_system.specs.Disk.{Leads};
+ghost use Rattle.gw_system.specs.Store.{IsPut, IsStoreOf, IsStoreOn, held_at};
 
+use crate::disk::{Disk, SystemDisk, folder_of};
 use crate::host::{MODE, is_link};
+use crate::replacing::{FileName, replace_file, show_file};
 use gw_wire::{Store, StoreFault};
 use std::alloc::{AllocError, Global};
-use std::fs::{File, OpenFile, Permissions};
-use std::io::{ErrorKind, Write};
+use std::io::ErrorKind;
 use std::marker::Model;
-use std::os::unix::fs::{OpenOptionsExt, PermissionsExt};
 use std::rt::Files;
 use std::{fs, io};
 
@@ -23,23 +24,26 @@ pub enum StoreKind {
 }
 
 /// A file that is replaced whole. The new text is written to a file beside it, whose name has `.new` after its
-/// name, before that file gets its name. Contracts see the names of both, and what it is for.
+/// name, before that file gets its name. Contracts see its disk, the names of both, and what it is for.
 #[derive(Drop)]
-pub struct FileStore<'a, R: Files> {
-    rt: &'a R,
-    name: String,
-    beside: String,
+pub struct FileStore<D> {
+    disk: D,
+    file: FileName,
     kind: StoreKind,
-    folder: R::File,
 }
 
-impl<'a, R: Files> Model for FileStore<'a, R> {
+impl<D> Model for FileStore<D> {
     ghost use Rattle.gw_system.specs.Store.{StoreFile};
     ghost use Rattle.std.specs.Prelude.{string_bytes};
 
-    ghost Value = { StoreFile };
+    ghost Value = { StoreFile D };
 
-    ghost view = { λ s. record { name = string_bytes s.name; beside = string_bytes s.beside; kind = s.kind } };
+    ghost view = { λ s. record {
+      disk = s.disk;
+      name = string_bytes s.file.name;
+      beside = string_bytes s.file.beside;
+      kind = s.kind;
+    } };
 }
 
 /// Why a text isn't kept, by the error of the system.
@@ -55,15 +59,6 @@ pub(crate) fn store_fault(error: &io::Error) -> StoreFault {
     }
 }
 
-/// The folder of the file of this name.
-fn folder_of(name: &str) -> &str {
-    match name.rsplit_once('/') {
-        Some(("", _)) => "/",
-        Some((folder, _)) => folder,
-        None => ".",
-    }
-}
-
 /// A name with this after it.
 pub(crate) fn name_with(alloc: Global, name: &str, ending: &str) -> Result<String, AllocError>
     ensures { IfOk result (λ longer. string_bytes longer ≡ name.now ++ ending.now) }
@@ -72,17 +67,6 @@ pub(crate) fn name_with(alloc: Global, name: &str, ending: &str) -> Result<Strin
     longer.push_str(name)?;
     longer.push_str(ending)?;
     Ok(longer)
-}
-
-/// Takes a file away, if there is one of this name.
-fn remove_if_there<R: Files>(rt: &R, name: &str) -> io::Result<()> {
-    match rt.remove_file(name) {
-        Ok(()) => Ok(()),
-        Err(error) => match error.kind() {
-            ErrorKind::NotFound => Ok(()),
-            _ => Err(error),
-        },
-    }
 }
 
 /// Who may read a file that is made. Its owner alone may write it.
@@ -96,7 +80,7 @@ pub enum Access {
 
 impl Access {
     /// The mode of the file.
-    fn mode(self) -> u32 {
+    pub(crate) fn mode(self) -> u32 {
         match self {
             Access::Owner => MODE,
             Access::Everyone => 0o644,
@@ -104,87 +88,69 @@ impl Access {
     }
 }
 
-/// Writes a text to a new file of this name. What had the name is taken away first; a link that gets it then isn't
-/// followed.
-fn write_new<R: Files>(rt: &R, name: &str, access: Access, octets: &[u8]) -> io::Result<R::File> {
-    remove_if_there(rt, name)?;
-    let mut file = File::options()
-        .write(true)
-        .create_new(true)
-        .mode(access.mode())
-        .open(rt, name)?;
-    file.set_permissions(Permissions::from_mode(access.mode()))?;
-    file.write_all(octets)?;
-    Ok(file)
+/// Whether something has this name that isn't to be replaced: a symbolic link, or by metrics anything but a regular file.
+fn is_taken<R: Files>(rt: &R, name: &str, kind: StoreKind) -> bool {
+    match kind {
+        StoreKind::Kept => is_link(rt, name),
+        StoreKind::Shown => match rt.symlink_metadata(name) {
+            Ok(metadata) => !metadata.is_file(),
+            Err(_) => false,
+        },
+    }
 }
 
-/// Replaces the file of a name by this text, which is written beside it first.
-pub(crate) fn replace_file<R: Files>(
-    rt: &R,
-    name: &str,
-    beside: &str,
-    access: Access,
-    octets: &[u8],
-) -> io::Result<()> {
-    let _written = write_new(rt, beside, access, octets)?;
-    rt.rename(beside, name)
+impl<D: Disk + Drop> FileStore<D> {
+    /// The store of the file of this name on a disk. The file is neither made nor read. The only fault is want of memory.
+    pub fn on(disk: D, alloc: Global, name: &str, kind: StoreKind) -> Result<Self, AllocError>
+        ensures { IfOk result (IsStoreOn disk name.now kind) }
+    {
+        Ok(FileStore {
+            disk,
+            file: FileName::of(alloc, name)?,
+            kind,
+        })
+    }
 }
 
-impl<'a, R: Files> FileStore<'a, R> {
-    /// The store of this file, whose folder it opens. The file itself is neither made nor read. An `Err` if
-    /// the folder can't be opened, or the file is a symbolic link, which it would replace.
+impl<'a, R: Files> FileStore<SystemDisk<'a, R>> {
+    /// The store of this file, whose folder can be opened. The file itself is neither made nor read. An `Err` if
+    /// the folder can't be opened, or if it would replace a symbolic link, or with metrics anything but a regular file.
     pub fn open(rt: &'a R, alloc: Global, name: &str, kind: StoreKind) -> Result<Self, StoreFault>
         ensures { IfOk result (IsStoreOf name.now kind) }
     {
-        if is_link(rt, name) {
+        if is_taken(rt, name, kind) {
             return Err(StoreFault::NotPermitted);
         }
-        let folder = match fs::open(rt, folder_of(name)) {
-            Ok(folder) => folder,
-            Err(error) => return Err(store_fault(&error)),
-        };
-        let (Ok(beside), Ok(name)) = (name_with(alloc, name, ".new"), name_with(alloc, name, ""))
-        else {
-            return Err(StoreFault::Memory);
-        };
-        Ok(FileStore {
-            rt,
-            name,
-            beside,
-            kind,
-            folder,
-        })
-    }
-
-    /// Replaces the file by a text that is on the disk before that, and waits until its new name is there too.
-    fn settle(&self, octets: &[u8]) -> io::Result<()> {
-        write_new(self.rt, &self.beside, Access::Owner, octets)?.sync_all()?;
-        self.rt.rename(&self.beside, &self.name)?;
-        self.folder.sync_all()
-    }
-
-    /// Replaces the file by a text, as its kind asks.
-    fn write(&self, octets: &[u8]) -> io::Result<()> {
-        match self.kind {
-            StoreKind::Kept => self.settle(octets),
-            StoreKind::Shown => {
-                replace_file(self.rt, &self.name, &self.beside, Access::Everyone, octets)
-            }
+        if let Err(error) = fs::open(rt, folder_of(name)) {
+            return Err(store_fault(&error));
+        }
+        match FileStore::on(SystemDisk { rt }, alloc, name, kind) {
+            Ok(store) => Ok(store),
+            Err(_) => Err(StoreFault::Memory),
         }
     }
 }
 
-impl<R: Files> Store for FileStore<'_, R> {
-    ghost use Rattle.std.specs.Prelude.{None};
+impl<D: Disk> FileStore<D> {
+    /// Replaces the file by a text, as its kind asks.
+    pub fn put(&mut self, octets: &[u8]) -> Result<(), StoreFault>
+        ensures put { Leads (IsPut self.old.kind self.old.name self.old.beside octets.now result)
+            (D.changes self.old.disk) (D.changes self.new.disk) }
+        ensures same { self.new ≡ record self.old { disk = self.new.disk } }
+    {
+        match self.kind {
+            StoreKind::Kept => replace_file(&mut self.disk, &self.file, Access::Owner, octets),
+            StoreKind::Shown => show_file(&mut self.disk, &self.file, Access::Everyone, octets),
+        }
+    }
+}
 
-    ghost held = { λ _. None };
+impl<D: Disk> Store for FileStore<D> {
+    ghost held = { λ store. held_at (D.changes store.disk) store.name };
 
     ghost NeverFails = { λ _. ⊥ };
 
     fn replace(&mut self, octets: &[u8]) -> Result<(), StoreFault> {
-        match self.write(octets) {
-            Ok(()) => Ok(()),
-            Err(error) => Err(store_fault(&error)),
-        }
+        self.put(octets)
     }
 }

@@ -1,5 +1,5 @@
 -- A policy on trial and an audit, as their files are read and opened.
-use Rattle.std.specs.Prelude.{◌≡◌, ◌⊎◌, ⊤, ℕ, ◌&&◌, Bool, true, false, nat_eq, List, [], codes, Option, Some, None}
+use Rattle.std.specs.Prelude.{◌≡◌, ◌⊎◌, ⊤, ℕ, ◌&&◌, Bool, true, false, nat_eq, List, Option, Some, None}
 use Rattle.std.specs.Prelude.{Result, Ok, Err}
 use Rattle.std.specs.Cmp.Lexicographic.{pointwise}
 use Rattle.gw_tables.specs.bdt_fdt.Registrations.{same as same_address}
@@ -48,28 +48,28 @@ IsUnreadable FileReads name why =
 
 -- ---- a log beside the log
 
--- The log of this name is open, and its lines, which have this front, are numbered on from its last whole line; none is lost.
-pub record IsOpened {C Log : Type 0} (LastLines : List ℕ → Result (Option (List ℕ)) ReadFailure → Type 0)
+-- The log of this name is open, and its lines are numbered on from its last denial; none is lost.
+pub record IsOpened {C Log : Type 0} (LastDenials : List ℕ → Result (Option (List ℕ)) ReadFailure → Type 0)
     (LogOpens : LogOpening Log)
-    (front name : List ℕ) (b : Beside C Log) : Type 0 where
+    (name : List ℕ) (b : Beside C Log) : Type 0 where
   pub line : Option (List ℕ)
-  pub last : LastLines name (Ok line)
-  pub number : IsNumberAfter front line b.number
+  pub last : LastDenials name (Ok line)
+  pub number : IsNumberAfter line b.number
   pub opens : LogOpens name (Ok b.sink)
   pub lost : b.lost ≡ 0
   pub cut : b.is_cut ≡ false
 
--- Its last line can't be read, or it can't be opened.
-abbrev pub IsUnopened : {Log : Type 0} → (LastLines : List ℕ → Result (Option (List ℕ)) ReadFailure → Type 0)
+-- It can't be read, or it can't be opened.
+abbrev pub IsUnopened : {Log : Type 0} → (LastDenials : List ℕ → Result (Option (List ℕ)) ReadFailure → Type 0)
     → LogOpening Log → List ℕ
     → Type 0
-IsUnopened LastLines LogOpens name =
-    ((why : Obstacle) × LastLines name (Err (reading.Unreadable why))) ⊎ LogOpens name (Err log_failure.Failed)
+IsUnopened LastDenials LogOpens name =
+    ((why : Obstacle) × LastDenials name (Err (reading.Unreadable why))) ⊎ LogOpens name (Err log_failure.Failed)
 
 -- ---- a trial
 
 -- the rules of the file of this name are on trial beside this configuration, and their log has that name
-pub record IsOnTrial {Log : Type 0} (FileReads LastLines : List ℕ → Result (Option (List ℕ)) ReadFailure → Type 0)
+pub record IsOnTrial {Log : Type 0} (FileReads LastDenials : List ℕ → Result (Option (List ℕ)) ReadFailure → Type 0)
     (LogOpens : LogOpening Log)
     (c : Configuration) (rules log : List ℕ) (b : Beside (List Rule) Log) : Type 0 where
   pub config : Configuration
@@ -77,48 +77,48 @@ pub record IsOnTrial {Log : Type 0} (FileReads LastLines : List ℕ → Result (
   pub format : is_same_format c.format config.format ≡ true
   pub ports : are_same_ports c.ports config.ports ≡ true
   pub choice : b.choice ≡ config.rules
-  pub opened : IsOpened LastLines LogOpens [] log b
+  pub opened : IsOpened LastDenials LogOpens log b
 
 -- Why they aren't: the file can't be read, and why; it has no configuration; one of another format, or with other ports; or
 -- the log can't be had. Memory may run out at any.
-abbrev pub IsNoTrial : {Log : Type 0} → (FileReads LastLines : List ℕ → Result (Option (List ℕ)) ReadFailure → Type 0)
+abbrev pub IsNoTrial : {Log : Type 0} → (FileReads LastDenials : List ℕ → Result (Option (List ℕ)) ReadFailure → Type 0)
     → LogOpening Log
     → Configuration → (rules log : List ℕ) → WatchFault → Type 0
-IsNoTrial FileReads LastLines LogOpens c rules log fault.Memory = ⊤
-IsNoTrial FileReads LastLines LogOpens c rules log (fault.Trial (trial.Unreadable why)) = IsUnreadable FileReads rules why
-IsNoTrial FileReads LastLines LogOpens c rules log (fault.Trial (trial.Configuration f)) =
+IsNoTrial FileReads LastDenials LogOpens c rules log fault.Memory = ⊤
+IsNoTrial FileReads LastDenials LogOpens c rules log (fault.Trial (trial.Unreadable why)) = IsUnreadable FileReads rules why
+IsNoTrial FileReads LastDenials LogOpens c rules log (fault.Trial (trial.Configuration f)) =
     (text : List ℕ) × FileReads rules (Ok (Some text)) × (configuration text ≡ Err f)
-IsNoTrial FileReads LastLines LogOpens c rules log (fault.Trial trial.Format) =
+IsNoTrial FileReads LastDenials LogOpens c rules log (fault.Trial trial.Format) =
     (new : Configuration) × IsRead FileReads rules new × (is_same_format c.format new.format ≡ false)
-IsNoTrial FileReads LastLines LogOpens c rules log (fault.Trial trial.Ports) =
+IsNoTrial FileReads LastDenials LogOpens c rules log (fault.Trial trial.Ports) =
     (new : Configuration) × IsRead FileReads rules new × (are_same_ports c.ports new.ports ≡ false)
-IsNoTrial FileReads LastLines LogOpens c rules log (fault.Trial trial.Log) = IsUnopened LastLines LogOpens log
-IsNoTrial FileReads LastLines LogOpens c rules log fault.Audit = ⊥
+IsNoTrial FileReads LastDenials LogOpens c rules log (fault.Trial trial.Log) = IsUnopened LastDenials LogOpens log
+IsNoTrial FileReads LastDenials LogOpens c rules log fault.Audit = ⊥
 
-abbrev pub IsTrialBy : {Log : Type 0} → (FileReads LastLines : List ℕ → Result (Option (List ℕ)) ReadFailure → Type 0)
+abbrev pub IsTrialBy : {Log : Type 0} → (FileReads LastDenials : List ℕ → Result (Option (List ℕ)) ReadFailure → Type 0)
     → LogOpening Log
     → Configuration → (rules log : List ℕ) → Result (Beside (List Rule) Log) WatchFault → Type 0
-IsTrialBy FileReads LastLines LogOpens c rules log (Ok b) = IsOnTrial FileReads LastLines LogOpens c rules log b
-IsTrialBy FileReads LastLines LogOpens c rules log (Err f) = IsNoTrial FileReads LastLines LogOpens c rules log f
+IsTrialBy FileReads LastDenials LogOpens c rules log (Ok b) = IsOnTrial FileReads LastDenials LogOpens c rules log b
+IsTrialBy FileReads LastDenials LogOpens c rules log (Err f) = IsNoTrial FileReads LastDenials LogOpens c rules log f
 
 -- ---- an audit
 
 -- the audit of this name is open, and the rules of this configuration are marked that are audited
-pub record IsAuditOf {Log : Type 0} (LastLines : List ℕ → Result (Option (List ℕ)) ReadFailure → Type 0)
+pub record IsAuditOf {Log : Type 0} (LastDenials : List ℕ → Result (Option (List ℕ)) ReadFailure → Type 0)
     (LogOpens : LogOpening Log)
     (c : Configuration) (name : List ℕ) (b : Beside (List Bool) Log) : Type 0 where
   pub choice : b.choice ≡ c.audits
-  pub opened : IsOpened LastLines LogOpens (codes "allow ") name b
+  pub opened : IsOpened LastDenials LogOpens name b
 
 -- why it isn't: it can't be had; memory may run out
-abbrev pub IsNoAudit : {Log : Type 0} → (LastLines : List ℕ → Result (Option (List ℕ)) ReadFailure → Type 0)
+abbrev pub IsNoAudit : {Log : Type 0} → (LastDenials : List ℕ → Result (Option (List ℕ)) ReadFailure → Type 0)
     → LogOpening Log → List ℕ
     → WatchFault → Type 0
-IsNoAudit LastLines LogOpens name fault.Memory = ⊤
-IsNoAudit LastLines LogOpens name fault.Audit = IsUnopened LastLines LogOpens name
-IsNoAudit LastLines LogOpens name (fault.Trial f) = ⊥
+IsNoAudit LastDenials LogOpens name fault.Memory = ⊤
+IsNoAudit LastDenials LogOpens name fault.Audit = IsUnopened LastDenials LogOpens name
+IsNoAudit LastDenials LogOpens name (fault.Trial f) = ⊥
 
-abbrev pub IsAuditBy : {Log : Type 0} → (LastLines : List ℕ → Result (Option (List ℕ)) ReadFailure → Type 0) → LogOpening Log
+abbrev pub IsAuditBy : {Log : Type 0} → (LastDenials : List ℕ → Result (Option (List ℕ)) ReadFailure → Type 0) → LogOpening Log
     → Configuration → (name : List ℕ) → Result (Beside (List Bool) Log) WatchFault → Type 0
-IsAuditBy LastLines LogOpens c name (Ok b) = IsAuditOf LastLines LogOpens c name b
-IsAuditBy LastLines LogOpens c name (Err f) = IsNoAudit LastLines LogOpens name f
+IsAuditBy LastDenials LogOpens c name (Ok b) = IsAuditOf LastDenials LogOpens c name b
+IsAuditBy LastDenials LogOpens c name (Err f) = IsNoAudit LastDenials LogOpens name f

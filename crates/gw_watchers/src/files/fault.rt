@@ -16,7 +16,7 @@ pub enum TrialFault {
     /// 4: its ports aren't those of the configuration in force: in this order, with these networks, own and broadcast
     /// addresses.
     Ports,
-    /// 5: its log can't be opened, or the last line of that can't be read.
+    /// 5: its log can't be opened or read.
     Log,
 }
 
@@ -25,7 +25,7 @@ pub enum TrialFault {
 pub enum WatchFault {
     /// 1: the policy isn't on trial, and why.
     Trial(TrialFault),
-    /// 2: the audit can't be opened, or the last line of it can't be read.
+    /// 2: the audit can't be opened or read.
     Audit,
     /// 3: a growth was refused.
     Memory,

@@ -65,18 +65,12 @@ fn check_fit(config: &Config, trial: &Config) -> Result<(), WatchFault>
     Ok(())
 }
 
-/// Opens the log of this name, whose lines have this front, to go on from its last whole line. `Failed` if it can't be opened
-/// or that line can't be read, and `Memory`.
-fn open_after<H: Host>(
-    alloc: Global,
-    front: &[u8],
-    name: &str,
-    host: &H,
-) -> Result<Opened<H::Log>, LogFailure>
+/// Opens the log of this name, to go on from its last denial. `Failed` if it can't be opened or read, and `Memory`.
+fn open_after<H: Host>(alloc: Global, name: &str, host: &H) -> Result<Opened<H::Log>, LogFailure>
     ensures { let LogOpens = OpensAtLine (H.LogOpens host.now) (H.LogIsCut host.now) H.Log.held in
-        IsOpenedBy (H.LastLines host.now) LogOpens front.now name.now result }
+        IsOpenedBy (H.LastDenials host.now) LogOpens name.now result }
 {
-    let line = match host.last_line(alloc, name) {
+    let line = match host.last_denial(alloc, name) {
         Ok(line) => line,
         Err(ReadFailure::Memory) => return Err(LogFailure::Memory),
         Err(ReadFailure::Unreadable(_)) => return Err(LogFailure::Failed),
@@ -84,7 +78,7 @@ fn open_after<H: Host>(
     match open_at_line(alloc, name, host) {
         Ok(sink) => Ok(Opened {
             sink,
-            number: number_after(front, &line),
+            number: number_after(&line),
         }),
         Err(failure) => Err(failure),
     }
@@ -117,7 +111,7 @@ pub fn open_trial<H: Host>(
     host: &H,
 ) -> Result<Beside<Policy, H::Log>, WatchFault>
     ensures { let LogOpens = OpensAtLine (H.LogOpens host.now) (H.LogIsCut host.now) H.Log.held in
-        IsTrialBy (H.FileReads host.now) (H.LastLines host.now) LogOpens config.now rules.now log.now result }
+        IsTrialBy (H.FileReads host.now) (H.LastDenials host.now) LogOpens config.now rules.now log.now result }
 {
     let trial = match read_trial(alloc, rules, host) {
         Ok(trial) => trial,
@@ -130,7 +124,7 @@ pub fn open_trial<H: Host>(
     let Ok(policy) = Policy::new(alloc, trial.into_rules()) else {
         return Err(WatchFault::Memory);
     };
-    match open_after(alloc, b"", log, host) {
+    match open_after(alloc, log, host) {
         Ok(opened) => Ok(beside(policy, opened)),
         Err(LogFailure::Failed) => Err(WatchFault::Trial(TrialFault::Log)),
         Err(LogFailure::Memory) => Err(WatchFault::Memory),
@@ -141,7 +135,7 @@ pub fn open_trial<H: Host>(
 ///
 /// # Errors
 ///
-/// 1 `Audit` if it can't be opened or the last line of it can't be read, and 2 `Memory`.
+/// 1 `Audit` if it can't be opened or read, and 2 `Memory`.
 pub fn open_audit<H: Host>(
     alloc: Global,
     config: &Config,
@@ -149,12 +143,12 @@ pub fn open_audit<H: Host>(
     host: &H,
 ) -> Result<Beside<Marks, H::Log>, WatchFault>
     ensures { let LogOpens = OpensAtLine (H.LogOpens host.now) (H.LogIsCut host.now) H.Log.held in
-        IsAuditBy (H.LastLines host.now) LogOpens config.now name.now result }
+        IsAuditBy (H.LastDenials host.now) LogOpens config.now name.now result }
 {
     let Ok(marks) = Marks::new(alloc, config.audits()) else {
         return Err(WatchFault::Memory);
     };
-    match open_after(alloc, b"allow ", name, host) {
+    match open_after(alloc, name, host) {
         Ok(opened) => Ok(beside(marks, opened)),
         Err(LogFailure::Failed) => Err(WatchFault::Audit),
         Err(LogFailure::Memory) => Err(WatchFault::Memory),

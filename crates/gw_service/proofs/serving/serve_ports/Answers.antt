@@ -20,7 +20,7 @@ returns-clause-served g c =
     let options = c.args.options.now in
     let given = machine (OpensAtLine (g.H.Host.LogOpens old) (g.H.Host.LogIsCut old) g.H.Log.OctetSink.held) (g.H.Host.SocketsOpen old)
     (g.H.Host.RoutesIp old) (g.H.Host.Closes c.serve_kept.new.host) g.H.Log.OctetSink.held g.H.Sockets.Wire.calls in
-    let states = state_machine (g.H.Host.FileReads old) (g.H.Host.LastLines old) (g.H.Host.StoreOpens old) (g.H.Host.ReloadsOpen old)
+    let states = state_machine (g.H.Host.FileReads old) (g.H.Host.LastDenials old) (g.H.Host.StoreOpens old) (g.H.Host.ReloadsOpen old)
     g.H.StateStore.Store.held g.H.Reloads.Requests.recorded in
     let line = startup_line options.verbose c.args.config (option_map string_bytes options.log) in (
       note ++ done.0,

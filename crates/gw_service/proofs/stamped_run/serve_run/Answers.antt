@@ -15,7 +15,7 @@ returns-then-options-clause-served g c =
     let whole : WholeMachine g.row.H-Log.Denot g.row.H-Sockets.Denot g.row.H-StateStore.Denot g.row.H-Reloads.Denot = whole_machine
     (machine (OpensAtLine (g.H.Host.LogOpens old) (g.H.Host.LogIsCut old) g.H.Log.OctetSink.held) (g.H.Host.SocketsOpen old)
     (g.H.Host.RoutesIp old) (g.H.Host.Closes c.serve_stamped.new.host) g.H.Log.OctetSink.held g.H.Sockets.Wire.calls)
-    (state_machine (g.H.Host.FileReads old) (g.H.Host.LastLines old) (g.H.Host.StoreOpens old) (g.H.Host.ReloadsOpen old)
+    (state_machine (g.H.Host.FileReads old) (g.H.Host.LastDenials old) (g.H.Host.StoreOpens old) (g.H.Host.ReloadsOpen old)
     g.H.StateStore.Store.held g.H.Reloads.Requests.recorded) in
     let done = c.serve_stamped.ensures.served in (
       done.0,
@@ -34,7 +34,7 @@ returns-else-options-clause-served g c =
     let whole : WholeMachine g.row.H-Log.Denot g.row.H-Sockets.Denot g.row.H-StateStore.Denot g.row.H-Reloads.Denot = whole_machine
     (machine (OpensAtLine (g.H.Host.LogOpens old) (g.H.Host.LogIsCut old) g.H.Log.OctetSink.held) (g.H.Host.SocketsOpen old)
     (g.H.Host.RoutesIp old) (g.H.Host.Closes c.serve_ports.new.host) g.H.Log.OctetSink.held g.H.Sockets.Wire.calls)
-    (state_machine (g.H.Host.FileReads old) (g.H.Host.LastLines old) (g.H.Host.StoreOpens old) (g.H.Host.ReloadsOpen old)
+    (state_machine (g.H.Host.FileReads old) (g.H.Host.LastDenials old) (g.H.Host.StoreOpens old) (g.H.Host.ReloadsOpen old)
     g.H.StateStore.Store.held g.H.Reloads.Requests.recorded) in
     let done = c.serve_ports.ensures.served in (
       done.0,

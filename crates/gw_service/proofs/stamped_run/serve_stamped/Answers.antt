@@ -20,7 +20,7 @@ returns-clause-served g c =
     let stamped : Machine (Noted (Stamped g.row.H-Log.Denot g.row.H-Calendar.Denot)) g.row.H-Sockets.Denot = with_stamps plain in
     let closed : Machine (Noted (Stamped g.row.H-Log.Denot g.row.H-Calendar.Denot)) g.row.H-Sockets.Denot =
     record stamped { Closes = λ sockets log. then ≡ Some (sockets, log) } in
-    let states = state_machine (g.H.Host.FileReads old) (g.H.Host.LastLines old) (g.H.Host.StoreOpens old) (g.H.Host.ReloadsOpen old)
+    let states = state_machine (g.H.Host.FileReads old) (g.H.Host.LastDenials old) (g.H.Host.StoreOpens old) (g.H.Host.ReloadsOpen old)
     g.H.StateStore.Store.held g.H.Reloads.Requests.recorded in
     let done = c.serve_ports-outcome.ensures.served in (
       done.0,

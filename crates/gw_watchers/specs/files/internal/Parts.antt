@@ -37,17 +37,17 @@ IsNoFit c new (fault.Trial trial.Format) = is_same_format c.format new.format �
 IsNoFit c new (fault.Trial trial.Ports) = are_same_ports c.ports new.ports ≡ false
 IsNoFit c new _ = ⊥
 
--- a log that goes on from its last whole line
-pub record GoesOnFromLine {Log : Type 0} (LastLines : List ℕ → Result (Option (List ℕ)) ReadFailure → Type 0)
+-- a log that goes on from its last denial
+pub record GoesOnFromDenial {Log : Type 0} (LastDenials : List ℕ → Result (Option (List ℕ)) ReadFailure → Type 0)
     (LogOpens : LogOpening Log)
-    (front name : List ℕ) (o : Opened Log) : Type 0 where
+    (name : List ℕ) (o : Opened Log) : Type 0 where
   pub line : Option (List ℕ)
-  pub last : LastLines name (Ok line)
-  pub number : IsNumberAfter front line o.number
+  pub last : LastDenials name (Ok line)
+  pub number : IsNumberAfter line o.number
   pub opens : LogOpens name (Ok o.sink)
 
-abbrev pub IsOpenedBy : {Log : Type 0} → (LastLines : List ℕ → Result (Option (List ℕ)) ReadFailure → Type 0) → LogOpening Log
-    → (front name : List ℕ) → Result (Opened Log) LogFailure → Type 0
-IsOpenedBy LastLines LogOpens front name (Ok o) = GoesOnFromLine LastLines LogOpens front name o
-IsOpenedBy LastLines LogOpens front name (Err log_failure.Failed) = IsUnopened LastLines LogOpens name
-IsOpenedBy LastLines LogOpens front name (Err log_failure.Memory) = ⊤
+abbrev pub IsOpenedBy : {Log : Type 0} → (LastDenials : List ℕ → Result (Option (List ℕ)) ReadFailure → Type 0) → LogOpening Log
+    → (name : List ℕ) → Result (Opened Log) LogFailure → Type 0
+IsOpenedBy LastDenials LogOpens name (Ok o) = GoesOnFromDenial LastDenials LogOpens name o
+IsOpenedBy LastDenials LogOpens name (Err log_failure.Failed) = IsUnopened LastDenials LogOpens name
+IsOpenedBy LastDenials LogOpens name (Err log_failure.Memory) = ⊤
