@@ -1,2 +1,4 @@
 pub mod Before
+pub mod Fields
+pub mod Single
 pub mod Macs

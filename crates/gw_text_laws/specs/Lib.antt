@@ -1,2 +1,3 @@
+pub mod SingleRules
 pub mod WithoutMacs
 pub mod WithoutNeighbours
