@@ -1,6 +1,7 @@
 -- The objects of a log and of answers have numbers below 2^64, and aren't deep.
-use Rattle.std.proofs.Common.{◌≡◌, ℕ, ◌^◌, ◌<◌, inl, inr, length, Bool, true, false, List, [], ◌∷◌, ◌++◌, Option, Some, None, decimal, refl, sym, subst, arith}
-use Rattle.std.specs.Prelude.{IfSome, codes, is_some, ◌==◌}
+use Rattle.std.proofs.Common.{◌≡◌, ℕ, zero, suc, ◌+◌, ◌-◌, ◌^◌, ◌<◌, inl, inr, length, Bool, true, false, List, [], ◌∷◌, ◌++◌, Option, Some, None, decimal, refl, sym, subst, arith, append_assoc}
+use Rattle.std.specs.Prelude.{IfSome, codes, if◌then◌else◌, is_some, option_map, slice_get, ◌==◌}
+use Rattle.std.specs.List.{AllByRecursion}
 use Rattle.hex.specs.Hex.{encode_upper}
 use Rattle.json.specs.Json.{Json, null, number, string, no_members}
 use Rattle.gw_addr.specs.Station.{is_network}
@@ -18,7 +19,8 @@ use Rattle.gw_json.specs.Ask.{ask_members, key_or_null, key_value, number_value,
 use Rattle.gw_json.specs.Document.{members_of}
 use Rattle.gw_json.specs.Laws.{AnswersRead, AnswersStay, DenialsRead, IsRead, OthersRead, ReadsAs}
 use Rattle.gw_json.specs.Log.{denial_value, front_members, front_octets_members, octets_value, rule_members, text_value}
-use Rattle.gw_json.specs.Why.{answer_value, name_value, note_at, note_value, noted_value, quiet_members, rule_at}
+use Rattle.gw_policy_review.specs.Places.{line_of as table_line}
+use Rattle.gw_json.specs.Why.{answer_value, beside_members, name_value, place_members, note_at, note_value, noted_value, quiet_members, rule_at}
 use Rattle.gw_json.proofs.Documents.{AreShallow, IsShallow, boolean_shallow, chosen_shallow, line_read, member_shallow, none_shallow, null_shallow, number_shallow, object_shallow, or_shallow, string_shallow}
 
 -- ---- values that may be missing
@@ -153,21 +155,56 @@ quiet_shallow : (is_quiet : Bool) (rest : List (List ℕ × Json)) → AreShallo
 quiet_shallow true rest are = member_shallow 0 (codes "quiet") _ _ (boolean_shallow 0 true) are
 quiet_shallow false rest are = are
 
-answer_shallow : (rules : List Rule) (notes : List (List ℕ)) (ask : ShownAsk) → length rules < 2 ^ 64 → AreSmall ask → IsShallow 1 (answer_value rules notes ask)
-answer_shallow rules notes ask few small =
+all_small : (bound : ℕ) (numbers : List ℕ) (place : ℕ) → AllByRecursion (λ n. n < bound) numbers → IfSome (slice_get numbers place) (λ n. n < bound)
+all_small bound [] zero all = tt
+all_small bound [] (suc place) all = tt
+all_small bound (n ∷ numbers) zero all = all.0
+all_small bound (n ∷ numbers) (suc place) all = all_small bound numbers place all.1
+
+beside_shallow : (lines : List ℕ) (nth table : ℕ) (rest : List (List ℕ × Json)) → table < 2 ^ 63 → AllByRecursion (λ line. line < 2 ^ 64) lines
+    → AreShallow 0 (members_of rest) → AreShallow 0 (members_of (beside_members lines nth (Some (table + 1)) ++ rest))
+beside_shallow lines nth table rest fits few are = by (table + 1 == nth)
+  where
+    by : (same : Bool) → AreShallow 0 (members_of ((if same then [] else (codes "table", number_value (Some (table + 1))) ∷ (codes "line", number_value (table_line lines (table + 1))) ∷ []) ++ rest))
+    by true = are
+    by false =
+        member_shallow 0 (codes "table") _ _ (number_if (Some (table + 1)) (omega (arith, fits)))
+        (member_shallow 0 (codes "line") _ _ (number_if (table_line lines (table + 1)) (all_small (2 ^ 64) lines (table + 1 - 1) few)) are)
+
+place_shallow : (tables lines : List ℕ) (by : Option ℕ) (rest : List (List ℕ × Json)) → AllByRecursion (λ table. table < 2 ^ 63) tables
+    → AllByRecursion (λ line. line < 2 ^ 64) lines → AreShallow 0 (members_of rest) → AreShallow 0 (members_of (place_members tables lines by ++ rest))
+place_shallow tables lines None rest places few are = are
+place_shallow tables lines (Some nth) rest places few are = at (slice_get tables (nth - 1)) (all_small (2 ^ 63) tables (nth - 1) places)
+  where
+    at : (found : Option ℕ) → IfSome found (λ n. n < 2 ^ 63) → AreShallow 0 (members_of (beside_members lines nth (option_map (λ table. table + 1) found) ++ rest))
+    at None fits = are
+    at (Some table) fits = beside_shallow lines nth table rest fits few are
+
+joined_shallow : (head second rest : List (List ℕ × Json)) → AreShallow 0 (members_of (head ++ (second ++ rest)))
+    → AreShallow 0 (members_of ((head ++ second) ++ rest))
+joined_shallow head second rest are =
+    subst (λ (members : List (List ℕ × Json)). AreShallow 0 (members_of members)) (sym (append_assoc head second rest)) are
+
+answer_shallow : (rules : List Rule) (notes : List (List ℕ)) (tables lines : List ℕ) (ask : ShownAsk) → length rules < 2 ^ 64
+    → AllByRecursion (λ table. table < 2 ^ 63) tables → AllByRecursion (λ line. line < 2 ^ 64) lines → AreSmall ask
+    → IsShallow 1 (answer_value rules notes (place_members tables lines) ask)
+answer_shallow rules notes tables lines ask few places fit small =
     let by = first rules (ask_shown ask) in
     object_shallow 0 _ (member_shallow 0 (codes "allow") _ _ (boolean_shallow 0 (allows rules (ask_shown ask)))
     (member_shallow 0 (codes "rule") _ _ (name_shallow (rule_at rules by))
     (member_shallow 0 (codes "rule_number") _ _ (number_if by (by_small rules (ask_shown ask) few))
     (member_shallow 0 (codes "note") _ _ (note_shallow (note_at notes by))
-    (quiet_shallow (is_quiet_by rules by) (ask_members ask) (ask_shallow ask [] small (none_shallow 0)))))))
+    (joined_shallow (place_members tables lines by) (quiet_members (is_quiet_by rules by)) (ask_members ask)
+    (place_shallow tables lines by (quiet_members (is_quiet_by rules by) ++ ask_members ask) places fit
+    (quiet_shallow (is_quiet_by rules by) (ask_members ask) (ask_shallow ask [] small (none_shallow 0)))))))))
 
 pub answers_stay : AnswersStay
-answers_stay rules notes ask loud = rw loud refl
+answers_stay rules notes place ask loud none = rw (loud, none) refl
 
 pub answers_read : AnswersRead
-answers_read rules notes few line text answer =
+answers_read rules notes tables lines few places fit line text answer =
     let ask = answer.ask in
-    let made : IsRead (answer_value rules notes ask) =
-    line_read 1 (answer_value rules notes ask) (omega arith) (answer_shallow rules notes ask few (small_told line ask answer.translates)) in
-    subst (λ (text : List ℕ). ReadsAs text (answer_value rules notes ask)) (sym answer.answer) made
+    let value = answer_value rules notes (place_members tables lines) ask in
+    let made : IsRead value =
+    line_read 1 value (omega arith) (answer_shallow rules notes tables lines ask few places fit (small_told line ask answer.translates)) in
+    subst (λ (text : List ℕ). ReadsAs text value) (sym answer.answer) made

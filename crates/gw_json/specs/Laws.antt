@@ -11,7 +11,7 @@ use Rattle.gw_json.specs.Check.{checked_value, fault_value}
 use Rattle.gw_json.specs.Comparison.{differences_value, found_value, lines_value, summary_value}
 use Rattle.gw_json.specs.Document.{line_of, object_of}
 use Rattle.gw_json.specs.Log.{AreFrontMembers, IsEntryIn, denial_value, front_members, front_octets_members, octets_value, text_value}
-use Rattle.gw_json.specs.Why.{IsAnswerIn, answer_value, plain_value}
+use Rattle.gw_json.specs.Why.{IsAnswerIn, answer_value, place_members, plain_value}
 use Rattle.gw_ask_sets.specs.declared.regions.comparison.Found.{Found}
 use Rattle.gw_rules.specs.RuleList.{first, is_quiet_by}
 use Rattle.gw_rules.specs.declared.rule.Rule.{Rule}
@@ -49,16 +49,20 @@ RecordsAllowed = (d : Denial) (line text : List ℕ) → IsShowable d → IsLine
 abbrev pub OthersRead : Type 0
 OthersRead = (line : List ℕ) → IsRead (text_value line) × IsRead (octets_value line)
 
--- the answer to an ask is read as the object of that answer
+-- the answer to an ask is read as the object of that answer, if the positions of the tables and their lines fit 63 and 64 bits
 abbrev pub AnswersRead : Type 0
 AnswersRead =
-    (rules : List Rule) (notes : List (List ℕ)) → length rules < 2 ^ 64
-    → (line text : List ℕ) (answer : IsAnswerIn rules notes line text) → ReadsAs text (answer_value rules notes answer.ask)
+    (rules : List Rule) (notes : List (List ℕ)) (tables lines : List ℕ) → length rules < 2 ^ 64
+    → AllByRecursion (λ table. table < 2 ^ 63) tables → AllByRecursion (λ line. line < 2 ^ 64) lines
+    → (line text : List ℕ) (answer : IsAnswerIn rules notes (place_members tables lines) line text)
+    → ReadsAs text (answer_value rules notes (place_members tables lines) answer.ask)
 
--- a rule that isn't quiet has the answer that it had before there were quiet rules
+-- a rule that isn't quiet and has no place to be named has the answer that it had before there were quiet rules and rules of both
+-- ways
 abbrev pub AnswersStay : Type 0
-AnswersStay = (rules : List Rule) (notes : List (List ℕ)) (ask : ShownAsk) → is_quiet_by rules (first rules (ask_shown ask)) ≡ false
-    → answer_value rules notes ask ≡ plain_value rules notes ask
+AnswersStay = (rules : List Rule) (notes : List (List ℕ)) (place : Option ℕ → List (List ℕ × Json)) (ask : ShownAsk)
+    → is_quiet_by rules (first rules (ask_shown ask)) ≡ false → place (first rules (ask_shown ask)) ≡ []
+    → answer_value rules notes place ask ≡ plain_value rules notes ask
 
 -- and the lines of a comparison, with numbers that fit 64 bits
 abbrev pub ComparisonsRead : Type 0

@@ -1,11 +1,12 @@
 -- Which rule would decide the asks that a text says: a JSON object for each line.
-use Rattle.std.specs.Prelude.{◌≡◌, ◌-◌, ◌==◌, ℕ, Bool, true, List, [], ◌∷◌, ◌++◌, length, if◌then◌else◌, codes, Option, Result, slice_get}
+use Rattle.std.specs.Prelude.{◌≡◌, ◌-◌, ◌==◌, ℕ, Bool, true, List, [], ◌∷◌, ◌++◌, length, if◌then◌else◌, codes, Option, Some, None, Result, slice_get}
 use Rattle.std.specs.Option.{option_and_then, option_map_or}
 use Rattle.json.specs.Json.{Json, null, boolean, string}
 use Rattle.gw_audit.specs.Entry.{ShowsAsk, ask_shown}
 use Rattle.gw_audit.specs.declared.entry.ShownAsk.{ShownAsk}
 use Rattle.gw_json.specs.Ask.{ask_members, number_value}
 use Rattle.gw_json.specs.Document.{line_of, object_of}
+use Rattle.gw_policy_review.specs.Places.{line_of as table_line, table_of}
 use Rattle.gw_rules.specs.RuleList.{allows, first, is_quiet_by}
 use Rattle.gw_rules.specs.declared.rule.Rule.{Rule}
 use Rattle.gw_script.specs.Lines.{LeavesLines}
@@ -38,27 +39,37 @@ verdict_members rules notes is_allowed by =
 abbrev pub quiet_members : Bool → List (List ℕ × Json)
 quiet_members is_quiet = if is_quiet then (codes "quiet", boolean true) ∷ [] else []
 
--- what the policy says of an ask, and the ask
-abbrev pub answer_value : List Rule → List (List ℕ) → ShownAsk → Json
-answer_value rules notes ask =
-    object_of (verdict_members rules notes (allows rules (ask_shown ask)) (first rules (ask_shown ask))
-    ++ quiet_members (is_quiet_by rules (first rules (ask_shown ask))) ++ ask_members ask)
+-- of a rule whose table in the text has another number: that, and the line on which it begins, or null if that isn't known
+abbrev pub beside_members : (lines : List ℕ) → (number : ℕ) → Option ℕ → List (List ℕ × Json)
+beside_members lines number None = []
+beside_members lines number (Some table) =
+    if table == number then [] else (codes "table", number_value (Some table)) ∷ (codes "line", number_value (table_line lines table)) ∷ []
 
--- the answer of a rule that isn't quiet, or of none
+abbrev pub place_members : (tables lines : List ℕ) → Option ℕ → List (List ℕ × Json)
+place_members tables lines None = []
+place_members tables lines (Some number) = beside_members lines number (table_of tables number)
+
+-- what the policy says of an ask, what `place` says of the rule, and the ask
+abbrev pub answer_value : List Rule → List (List ℕ) → (place : Option ℕ → List (List ℕ × Json)) → ShownAsk → Json
+answer_value rules notes place ask =
+    object_of (verdict_members rules notes (allows rules (ask_shown ask)) (first rules (ask_shown ask))
+    ++ place (first rules (ask_shown ask)) ++ quiet_members (is_quiet_by rules (first rules (ask_shown ask))) ++ ask_members ask)
+
+-- the answer of a rule that isn't quiet and whose table has its own number, or of none
 abbrev pub plain_value : List Rule → List (List ℕ) → ShownAsk → Json
 plain_value rules notes ask =
     object_of (verdict_members rules notes (allows rules (ask_shown ask)) (first rules (ask_shown ask)) ++ ask_members ask)
 
 -- a line that says an ask, and the answer to it
-pub record IsAnswerIn (rules : List Rule) (notes : List (List ℕ)) (line text : List ℕ) : Type 0 where
+pub record IsAnswerIn (rules : List Rule) (notes : List (List ℕ)) (place : Option ℕ → List (List ℕ × Json)) (line text : List ℕ) : Type 0 where
   pub ask : ShownAsk
   pub translates : ShowsAsk line ask
-  pub answer : text ≡ line_of (answer_value rules notes ask)
+  pub answer : text ≡ line_of (answer_value rules notes place ask)
 
 -- a line that says no ask
 abbrev pub SaysNoAsk : List ℕ → Type 0
 SaysNoAsk line = (ask : ShownAsk) → ¬ (ShowsAsk line ask)
 
 -- what is left written, by its outcome; a line that says no ask ends it, or one of more than 4096 octets
-abbrev pub LeavesVerdicts : List Rule → List (List ℕ) → Result (Unit {0}) LinesFault → (text before after : List ℕ) → Type 0
-LeavesVerdicts rules notes = LeavesLines (IsAnswerIn rules notes) SaysNoAsk
+abbrev pub LeavesVerdicts : List Rule → List (List ℕ) → (place : Option ℕ → List (List ℕ × Json)) → Result (Unit {0}) LinesFault → (text before after : List ℕ) → Type 0
+LeavesVerdicts rules notes place = LeavesLines (IsAnswerIn rules notes place) SaysNoAsk

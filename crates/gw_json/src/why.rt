@@ -4,14 +4,15 @@ ghost use Rattle.std.specs.Prelude.{◌≡◌, ◌+◌, ◌-◌, ◌*◌, ◌<�
 ghost use Rattle.std.specs.Option.{option_and_then};
 ghost use Rattle.gw_script.specs.Known.{OnKnown};
 ghost use Rattle.gw_json.specs.Document.{line_of};
-ghost use Rattle.gw_json.specs.Why.{IsAnswerIn, LeavesVerdicts, SaysNoAsk, answer_value, name_value, note_value, noted_value, quiet_members, verdict_members};
+ghost use Rattle.gw_json.specs.Why.{IsAnswerIn, LeavesVerdicts, SaysNoAsk, answer_value, beside_members, name_value, note_value, noted_value, place_members, quiet_members, verdict_members};
 ghost use Rattle.gw_json.specs.internal.View.{members_view, value_view};
 
 use crate::ask::ask_members;
 use crate::value::{Member, Value, joined, number_value, object_line, text_value};
 use gw_audit::{ShownAsk, read_ask};
 use gw_configuration::{Config, Text};
-use gw_rules::{NO_RULE, Rule, RuleList};
+use gw_policy_review::places::{line_of, table_of};
+use gw_rules::{NO_RULE, Rule};
 use gw_script::{LineTranslator, LinesFault, OctetSink, OctetSource, translate_lines};
 use std::alloc::{AllocError, Global};
 
@@ -25,38 +26,40 @@ use std::alloc::{AllocError, Global};
 /// {"allow":false,"rule":"hide","rule_number":1,"note":"the caretaker's","port":1,"source_network":1,"source":"192.168.1.5:47808","operation":"read","destination":100,"service":12,"object_type":5,"instance":2,"property":85,"priority":null,"sender":null,"station":null}
 /// {"allow":false,"rule":"default","rule_number":null,"note":null,"port":1,..}
 /// {"allow":false,"rule":"hush","rule_number":2,"note":null,"quiet":true,"port":1,..}
+/// {"allow":true,"rule":"panel-back","rule_number":5,"note":null,"table":3,"line":41,"port":2,..}
 /// ```
+///
+/// A rule whose table has another number in the text has that, and the line on which the table begins, or null: `lines` are those of
+/// all tables of rules in their order, or none if they aren't known.
 pub fn why_in_json<R: OctetSource, W: OctetSink>(
     alloc: Global,
     config: &Config,
+    lines: &[u32],
     reader: &mut R,
     writer: &mut W,
 ) -> Result<(), LinesFault>
     // What is written then, if the octets of the reader and the writer are known.
     ensures verdicts { OnKnown (R.left reader.old) (W.held writer.old) (W.held writer.new)
-        (LeavesVerdicts config.now.rules config.now.notes result) }
+        (LeavesVerdicts config.now.rules config.now.notes (place_members config.now.tables lines.now) result) }
     // What never fails doesn't end the answers: a reader, of a text of less than 2 GiB, and a writer.
     ensures sure_reader { R.NeverFails reader.old → (text : List ℕ) →
         R.left reader.old ≡ Some text → 2 * length text + 1 < 4294967295 →
         ¬ (IsErrOf result LinesFault.Read) }
     ensures sure_writer { W.NeverFails writer.old → ¬ (IsErrOf result LinesFault.Write) }
 {
-    let answers = Answers {
-        rules: config.rules(),
-        notes: config.notes(),
-    };
+    let answers = Answers { config, lines };
     translate_lines(alloc, &answers, reader, writer)
 }
 
-/// Makes the objects that answer the asks of a text by these rules, with their notes.
+/// Makes the objects that answer the asks of a text by the rules of a configuration, whose tables begin on these lines of its text.
 #[derive(Drop)]
 struct Answers<'a> {
-    rules: &'a RuleList,
-    notes: &'a [Text],
+    config: &'a Config,
+    lines: &'a [u32],
 }
 
 impl<'a> LineTranslator for Answers<'a> {
-    ghost Translates = { λ answers line text. IsAnswerIn answers.rules.now answers.notes.now line text };
+    ghost Translates = { λ answers line text. IsAnswerIn answers.config.now.rules answers.config.now.notes (place_members answers.config.now.tables answers.lines.now) line text };
 
     ghost Refuses = { λ _ line. SaysNoAsk line };
 
@@ -78,16 +81,61 @@ impl Answers<'_> {
     /// The object of the answer to an ask.
     fn answer(&self, alloc: Global, ask: &ShownAsk) -> Result<Vec<u8>, AllocError>
         ensures { IfOk result (λ text. text.items
-            ≡ line_of (answer_value self.now.rules.now self.now.notes.now ask.now)) }
+            ≡ line_of (answer_value self.now.config.now.rules self.now.config.now.notes
+            (place_members self.now.config.now.tables self.now.lines.now) ask.now)) }
     {
+        let rules = self.config.rules();
         let judged = ask.ask();
-        let (is_allowed, by) = (self.rules.allows(&judged), self.rules.first(&judged));
-        let verdict = verdict_members(alloc, self.rules.rules(), self.notes, is_allowed, by)?;
-        let quiet = quiet_members(alloc, self.rules.is_quiet(by))?;
-        object_line(
-            alloc,
-            joined(joined(verdict, quiet)?, ask_members(alloc, ask)?)?,
-        )
+        let (is_allowed, by) = (rules.allows(&judged), rules.first(&judged));
+        let verdict = verdict_members(alloc, rules.rules(), self.config.notes(), is_allowed, by)?;
+        let place = place_members(alloc, self.config.tables(), self.lines, by)?;
+        let quiet = quiet_members(alloc, rules.is_quiet(by))?;
+        let rest = joined(quiet, ask_members(alloc, ask)?)?;
+        object_line(alloc, joined(verdict, joined(place, rest)?)?)
+    }
+}
+
+/// The table and the line of the rule of this number, if the table has another number.
+fn place_members(
+    alloc: Global,
+    tables: &[u16],
+    lines: &[u32],
+    by: Option<u16>,
+) -> Result<Vec<Member>, AllocError>
+    ensures { IfOk result (λ members. members_view members.items ≡ place_members tables.now lines.now by) }
+{
+    match by {
+        Some(number) => beside_members(alloc, lines, number, table_of(tables, number)),
+        None => Ok(Vec::new(alloc)),
+    }
+}
+
+fn beside_members(
+    alloc: Global,
+    lines: &[u32],
+    number: u16,
+    table: Option<u32>,
+) -> Result<Vec<Member>, AllocError>
+    ensures { IfOk result (λ members. members_view members.items ≡ beside_members lines.now number table) }
+{
+    match table {
+        Some(table) if table != u32::from(number) => {
+            let line = number_value(wide(line_of(lines, table)));
+            Ok(vec![in alloc;
+                ("table", number_value(Some(u64::from(table)))),
+                ("line", line),
+            ]?)
+        }
+        _ => Ok(Vec::new(alloc)),
+    }
+}
+
+fn wide(number: Option<u32>) -> Option<u64>
+    ensures { result ≡ number }
+{
+    match number {
+        Some(number) => Some(u64::from(number)),
+        None => None,
     }
 }
 

@@ -1,3 +1,4 @@
 pub mod Putting
+pub mod Viewing
 pub mod suggestion_lemmas
 pub mod migration_lemmas

@@ -1,5 +1,5 @@
 -- The rules of a configuration, as tables of format 3: one for each, in order.
-use Rattle.std.specs.Prelude.{◌≡◌, ℕ, ◌+◌, ◌-◌, ◌==◌, Bool, false, if◌then◌else◌, List, [], ◌∷◌, ◌++◌, length, slice_get, codes, decimal, Ok}
+use Rattle.std.specs.Prelude.{◌≡◌, ℕ, ◌+◌, ◌-◌, ◌==◌, Bool, false, if◌then◌else◌, List, [], ◌∷◌, ◌++◌, length, slice_get, codes, decimal, Option, Some, None, Ok}
 use Rattle.std.specs.List.{flat_map}
 use Rattle.std.specs.Option.{option_map_or}
 use Rattle.gw_configuration.specs.Configuration.{Configuration}
@@ -13,9 +13,15 @@ use Rattle.gw_policy_drafts.specs.migration.Items.{field_line, quoted}
 
 -- ---- a table
 
--- the rule's number in the list, and that of the table of the text from which it comes, each from 1: a comment
-unfoldable pub number_line : (number table : ℕ) → List ℕ
-number_line number table = codes "# rule " ++ (decimal number ++ (codes ", from table " ++ (decimal table ++ codes "\n")))
+-- the rule's number in the list, and that of the table of the text from which it comes, each from 1, and the line on which this
+-- begins, if that is known: a comment
+unfoldable pub line_end : Option ℕ → List ℕ
+line_end None = codes "\n"
+line_end (Some line) = codes ", line " ++ (decimal line ++ codes "\n")
+
+unfoldable pub number_line : (number table : ℕ) → (line : Option ℕ) → List ℕ
+number_line number table line =
+    codes "# rule " ++ (decimal number ++ (codes ", from table " ++ (decimal table ++ line_end line)))
 
 -- its name, and what it says of the asks that it matches
 unfoldable pub allow_line : Bool → List ℕ
@@ -60,12 +66,13 @@ abbrev pub audit_at : List Bool → ℕ → Bool
 audit_at audits place = option_map_or (λ audit. audit) (slice_get audits place) false
 
 -- the table of the rule of this number, from 1
-abbrev pub rule_table : (tables : List ℕ) → (notes : List (List ℕ)) → (audits : List Bool) → ℕ → Rule → List ℕ
-rule_table tables notes audits number rule =
-    number_line number (table_at tables (number - 1) + 1) ++ said_text rule (note_at notes (number - 1)) (audit_at audits (number - 1))
+abbrev pub rule_table : (tables lines : List ℕ) → (notes : List (List ℕ)) → (audits : List Bool) → ℕ → Rule → List ℕ
+rule_table tables lines notes audits number rule =
+    number_line number (table_at tables (number - 1) + 1) (slice_get lines (table_at tables (number - 1))) ++ said_text rule (note_at notes (number - 1)) (audit_at audits (number - 1))
 
-abbrev pub listing_text : Configuration → List ℕ
-listing_text c = in_order (rule_table c.tables c.notes c.audits) 1 c.rules
+-- those of all rules, of which the tables begin on these lines of the text
+abbrev pub listing_text : Configuration → (lines : List ℕ) → List ℕ
+listing_text c lines = in_order (rule_table c.tables lines c.notes c.audits) 1 c.rules
 
 -- Behind a text without rules the tables are read as the rules of the configuration, with their notes and audits; no rule has
 -- a set, and there are as many tables as rules.

@@ -1,11 +1,11 @@
 //! The rules of a configuration, as tables of format 3.
-ghost use Rattle.std.specs.Prelude.{◌≡◌, ◌+◌, ◌++◌, [], length, Ok, IfOk, IsTrue, OnOk};
+ghost use Rattle.std.specs.Prelude.{◌≡◌, ◌+◌, ◌++◌, [], length, slice_get, Ok, IfOk, IsTrue, OnOk};
 ghost use Rattle.std.specs.List.{flat_map};
 ghost use Rattle.gw_policy_text.specs.Document.{configuration};
 ghost use Rattle.gw_rules.specs.declared.field.TheConstants.FieldName.{ALL};
 ghost use Rattle.gw_script.specs.Order.{in_order};
 ghost use Rattle.gw_policy_drafts.specs.declared.listing.ListingFault.TheVariants as fault;
-ghost use Rattle.gw_policy_drafts.specs.Listing.{IsReadAgain, allow_line, audit_at, audit_line, field_of, head_text, last_text};
+ghost use Rattle.gw_policy_drafts.specs.Listing.{IsReadAgain, allow_line, audit_at, audit_line, field_of, head_text, last_text, line_end};
 ghost use Rattle.gw_policy_drafts.specs.Listing.{listing_text, note_at, note_line, noted_line, number_line, quiet_line, rule_table, said_text, table_at};
 
 use crate::migration::{put_device, put_field, put_ports, put_quoted};
@@ -39,14 +39,15 @@ impl From<AllocError> for ListingFault {
 /// Writes the rules of a configuration as they are judged: a table of format 3 for each rule of the list, in order. The
 /// items of sets stand in the fields that name them, the rules for the way and for the answers have tables of their own, and
 /// a rule that is turned off has none. Notes and audits stay. Before each table a comment has the rule's number in the list,
-/// and that of the table of the configuration's text from which it comes, each from 1; tables of rules that are turned off
-/// count there too.
+/// and that of the table of the configuration's text from which it comes, each from 1, and the line on which this begins;
+/// tables of rules that are turned off count there too. `lines` are the lines of all tables in their order, or none if they
+/// aren't known.
 ///
 /// What was written is read again before it is answered, behind the device and the ports of the configuration. `Unlike` if it
 /// isn't read as these rules; `Memory` if there is none for it.
 ///
 /// ```text
-/// # rule 5, from table 3
+/// # rule 5, from table 3, line 41
 /// [[rule]]
 /// name = "panel-back"
 /// allow = true
@@ -55,28 +56,28 @@ impl From<AllocError> for ListingFault {
 /// destination = [1]
 /// service = [[1026, 1031]]
 /// ```
-pub fn list_rules(alloc: Global, config: &Config) -> Result<Vec<u8>, ListingFault>
-    ensures text { IfOk result (λ text. text.items ≡ listing_text config.now) }
+pub fn list_rules(alloc: Global, config: &Config, lines: &[u32]) -> Result<Vec<u8>, ListingFault>
+    ensures text { IfOk result (λ text. text.items ≡ listing_text config.now lines.now) }
     ensures again { IfOk result (λ text. IsReadAgain config.now text.items) }
 {
-    let tables = tables_of(alloc, config)?;
+    let tables = tables_of(alloc, config, lines)?;
     let front = front_of(alloc, config)?;
     read_again(alloc, config, &front, &tables)?;
     Ok(tables)
 }
 
 /// The tables of the rules.
-fn tables_of(alloc: Global, config: &Config) -> Result<Vec<u8>, AllocError>
-    ensures { IfOk result (λ text. text.items ≡ listing_text config.now) }
+fn tables_of(alloc: Global, config: &Config, lines: &[u32]) -> Result<Vec<u8>, AllocError>
+    ensures { IfOk result (λ text. text.items ≡ listing_text config.now lines.now) }
 {
+    let origins = Origins {
+        tables: config.tables(),
+        lines,
+        notes: config.notes(),
+        audits: config.audits(),
+    };
     let mut out = Vec::new(alloc);
-    put_tables(
-        &mut out,
-        config.tables(),
-        config.rules().rules(),
-        config.notes(),
-        config.audits(),
-    )?;
+    put_tables(&mut out, config.rules().rules(), &origins)?;
     Ok(out)
 }
 
@@ -145,20 +146,29 @@ fn is_listed(config: &Config, back: &Config) -> bool
         && usize::from(back.written_rules()) == config.rules().rules().len()
 }
 
-fn put_tables(
-    out: &mut Vec<u8>,
-    tables: &[u16],
-    rules: &[Rule],
-    notes: &[Text],
-    audits: &[bool],
-) -> Result<(), AllocError>
-    ensures { OnOk result (out.new.items ≡ out.old.items ++ in_order (rule_table tables.now notes.now audits.now) 1 rules.now) }
+/// Whence the rules of a list come, in their order.
+#[derive(Clone, Copy)]
+struct Origins<'a> {
+    /// The position of the table of each, from 0.
+    tables: &'a [u16],
+    /// The lines of the text on which the tables begin.
+    lines: &'a [u32],
+    /// The note of each.
+    notes: &'a [Text],
+    /// Whether what it allows is recorded, of each.
+    audits: &'a [bool],
+}
+
+fn put_tables(out: &mut Vec<u8>, rules: &[Rule], origins: &Origins<'_>) -> Result<(), AllocError>
+    ensures { OnOk result (out.new.items ≡ out.old.items
+        ++ in_order (rule_table origins.now.tables.now origins.now.lines.now origins.now.notes.now origins.now.audits.now) 1 rules.now) }
 {
     for (place, rule) in rules.iter().enumerate() {
-        put_number(out, place + 1, usize::from(table_at(tables, place)) + 1)?;
+        let table = usize::from(table_at(origins.tables, place));
+        put_number(out, place + 1, table + 1, line_at(origins.lines, table))?;
         let said = Said {
-            note: note_at(notes, place),
-            audit: audit_at(audits, place),
+            note: note_at(origins.notes, place),
+            audit: audit_at(origins.audits, place),
         };
         put_table(out, rule, &said)?;
     }
@@ -175,15 +185,42 @@ fn table_at(tables: &[u16], place: usize) -> u16
     }
 }
 
-/// Appends the number of a rule, and that of the table of the text from which it comes, each from 1.
+/// The line on which the table at a place begins, if that is known.
+fn line_at(lines: &[u32], table: usize) -> Option<u32>
+    ensures { result ≡ slice_get lines.now table }
+{
+    match lines.get(table) {
+        Some(line) => Some(*line),
+        None => None,
+    }
+}
+
+/// Appends the number of a rule, and that of the table of the text from which it comes, each from 1, and its line.
 #[tactic(auto, unfolding(crate::specs::Listing::number_line))]
-fn put_number(out: &mut Vec<u8>, number: usize, table: usize) -> Result<(), AllocError>
-    ensures { OnOk result (out.new.items ≡ out.old.items ++ number_line number table) }
+fn put_number(
+    out: &mut Vec<u8>,
+    number: usize,
+    table: usize,
+    line: Option<u32>,
+) -> Result<(), AllocError>
+    ensures { OnOk result (out.new.items ≡ out.old.items ++ number_line number table line) }
 {
     out.extend_from_slice(b"# rule ")?;
     put_decimal(out, number)?;
     out.extend_from_slice(b", from table ")?;
     put_decimal(out, table)?;
+    put_line_end(out, line)
+}
+
+#[tactic(auto, unfolding(crate::specs::Listing::line_end))]
+fn put_line_end(out: &mut Vec<u8>, line: Option<u32>) -> Result<(), AllocError>
+    ensures { OnOk result (out.new.items ≡ out.old.items ++ line_end line) }
+{
+    let Some(line) = line else {
+        return out.extend_from_slice(b"\n");
+    };
+    out.extend_from_slice(b", line ")?;
+    put_decimal(out, line)?;
     out.extend_from_slice(b"\n")
 }
 

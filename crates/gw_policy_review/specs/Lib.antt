@@ -1,3 +1,4 @@
+pub mod Places
 pub mod permissions
 pub mod warnings
 pub mod lint

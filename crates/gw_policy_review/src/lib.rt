@@ -4,4 +4,5 @@
 pub mod comparison;
 pub mod lint;
 pub mod permissions;
+pub mod places;
 pub mod warnings;

@@ -1,10 +1,9 @@
 -- A line of the log says which rule denied it.
-use Rattle.std.proofs.Common.{◌≡◌, ◌∙◌, ◌⊎◌, inl, inr, sym, ap, refl, subst, ℕ, ◌+◌, ◌-◌, ◌≤◌, Bool, true, false, List, [], ◌∷◌, ◌++◌, length, Option, Some, None, Result, Ok, Err, arith, length-append}
+use Rattle.std.proofs.Common.{◌≡◌, ◌∙◌, ◌⊎◌, inl, inr, sym, ap, refl, subst, ℕ, ◌+◌, ◌-◌, ◌≤◌, Bool, true, false, List, [], ◌∷◌, ◌++◌, Option, Some, None, Result, Ok, Err, arith}
 use Rattle.std.specs.Prelude.{◌==◌, ◌&&◌, not, if◌then◌else◌, slice_get, codes, filter, map, ⊤}
-use Rattle.std.specs.Int.{w16, to_be_bytes}
 use Rattle.std.specs.List.{AllByRecursion}
 use Rattle.std.specs.Option.{option_and_then, option_map}
-use Rattle.std.proofs.lemmas.Bool.{eq-eqb, eqb-true}
+use Rattle.std.proofs.lemmas.Bool.{eqb-true}
 use Rattle.gw_addr.specs.declared.bip.BipAddr.{BipAddr}
 use Rattle.gw_addr.specs.Address.{IsAddress, big_endian, octets_of}
 use Rattle.gw_audit.specs.Entry.{IsLineOf, IsShowable, ShowsAsk, ask_shown, format_shown, shown_ask}
@@ -49,7 +48,7 @@ use Rattle.gw_core.specs.Reply.{apdu_for, context_of}
 use Rattle.gw_core.specs.State.{State, device_network}
 use Rattle.gw_verdicts.specs.Laws.{IsSent, NamesTheRule, WhyNamesTheRule, denied_by}
 use Rattle.gw_core.specs.Explained.{by_text}
-use Rattle.gw_verdicts.specs.Why.{answer, answer_to, note_text}
+use Rattle.gw_verdicts.specs.Why.{answer, answer_to, said_text}
 use Rattle.gw_verdicts.proofs.DeviceAsks.{DeviceCases, DeviceKnown, each_device}
 use Rattle.gw_verdicts.proofs.Knowing.{nothing_known}
 use Rattle.gw_verdicts.proofs.Parts.{each_entry, each_part}
@@ -393,9 +392,9 @@ not_zero number counted = by (number == 0) refl
     by true e = absurd (omega (arith, counted, eqb-true number 0 e))
     by false e = e
 
-rule_there : (rules : List Rule) (notes : List (List ℕ)) (number : ℕ) (rule : Rule) → 1 ≤ number → slice_get rules (number - 1) ≡ Some rule
-    → (codes "deny" ++ by_text rules (Some number)) ++ note_text notes (Some number) ++ 10 ∷ [] ≡ denied_by notes number (name_at rules number)
-rule_there rules notes number rule counted there =
+rule_there : (rules : List Rule) (said : Option ℕ → List ℕ) (number : ℕ) (rule : Rule) → 1 ≤ number → slice_get rules (number - 1) ≡ Some rule
+    → (codes "deny" ++ by_text rules (Some number)) ++ said (Some number) ++ 10 ∷ [] ≡ denied_by said number (name_at rules number)
+rule_there rules said number rule counted there =
     let some_number : (number == 0) ≡ false = not_zero number counted in
     rw (there, some_number) refl
 
@@ -405,30 +404,30 @@ first_denies : (rules : List Rule) (ask : Ask) (number : ℕ) (rule : Rule) → 
 unfolding allows
 first_denies rules ask number rule e there = rw (e, there) refl
 
-names_so : (rules : List Rule) (notes : List (List ℕ)) (ask : Ask) (found : Option ℕ) → first rules ask ≡ found → allows rules ask ≡ false
-    → let answer = (codes "deny" ++ by_text rules found) ++ note_text notes found ++ 10 ∷ [] in
+names_so : (rules : List Rule) (said : Option ℕ → List ℕ) → said None ≡ [] → (ask : Ask) (found : Option ℕ) → first rules ask ≡ found → allows rules ask ≡ false
+    → let answer = (codes "deny" ++ by_text rules found) ++ said found ++ 10 ∷ [] in
     ((found ≡ None) × (rule_name rules found ≡ default_name) × (answer ≡ codes "deny default" ++ 10 ∷ []))
-    ⊎ ((number : ℕ) × (found ≡ Some number) × (answer ≡ denied_by notes number (rule_name rules found)))
-names_so rules notes ask None e denied = inl (refl, refl, refl)
-names_so rules notes ask (Some number) e denied =
+    ⊎ ((number : ℕ) × (found ≡ Some number) × (answer ≡ denied_by said number (rule_name rules found)))
+names_so rules said none ask None e denied = inl (refl, refl, rw none refl)
+names_so rules said none ask (Some number) e denied =
     let is = (first_iff rules ask number).0 e in
-    inr (number, refl, rule_there rules notes number is.rule is.numbered.counted is.numbered.there)
+    inr (number, refl, rule_there rules said number is.rule is.numbered.counted is.numbered.there)
 
-named_so_by : (rules : List Rule) (notes : List (List ℕ)) (d : Denial) (shown : ShownAsk) → IsDeniedSo rules d → shown ≡ shown_ask d → NamesTheRule rules notes d shown
-named_so_by rules notes d shown denied is =
-    let text : List ℕ = (codes "deny" ++ by_text rules (first rules d.ask)) ++ note_text notes (first rules d.ask) ++ 10 ∷ [] in
-    let says : answer rules notes d.ask ≡ text = rw denied.denied refl in
-    let same : answer_to rules notes shown ≡ text = ap (answer_to rules notes) is ∙ ap (answer rules notes) denied.ask ∙ says in
-    elim (names_so rules notes d.ask (first rules d.ask) refl denied.denied) [
+named_so_by : (rules : List Rule) (said : Option ℕ → List ℕ) → said None ≡ [] → (d : Denial) (shown : ShownAsk) → IsDeniedSo rules d → shown ≡ shown_ask d → NamesTheRule rules said d shown
+named_so_by rules said unsaid d shown denied is =
+    let text : List ℕ = (codes "deny" ++ by_text rules (first rules d.ask)) ++ said (first rules d.ask) ++ 10 ∷ [] in
+    let says : answer rules said d.ask ≡ text = rw denied.denied refl in
+    let same : answer_to rules said shown ≡ text = ap (answer_to rules said) is ∙ ap (answer rules said) denied.ask ∙ says in
+    elim (names_so rules said unsaid d.ask (first rules d.ask) refl denied.denied) [
       | inl none ↦ inl (none.0, denied.rule ∙ none.1, same ∙ none.2)
-      | inr rule ↦ inr (rule.0, rule.1, same ∙ rule.2 ∙ ap (denied_by notes rule.0) (sym denied.rule))
+      | inr rule ↦ inr (rule.0, rule.1, same ∙ rule.2 ∙ ap (denied_by said rule.0) (sym denied.rule))
     ]
 
 pub why_names_the_rule : WhyNamesTheRule
-why_names_the_rule c w under e sent =
+why_names_the_rule c lines w under e sent =
     each_weaker (IsDeniedSo w.rules)
-    (λ d. (line : List ℕ) (shown : ShownAsk) → IsShowable d → IsLineOf line d → ShowsAsk line shown → NamesTheRule c.rules c.notes d shown)
+    (λ d. (line : List ℕ) (shown : ShownAsk) → IsShowable d → IsLineOf line d → ShowsAsk line shown → NamesTheRule c.rules (said_text c lines) d shown)
     (λ d denied line shown is spelled translates.
-    subst (λ (rules : List Rule). NamesTheRule rules c.notes d shown) under.rules
-    (named_so_by w.rules c.notes d shown denied (one_ask line d shown is spelled translates)))
+    subst (λ (rules : List Rule). NamesTheRule rules (said_text c lines) d shown) under.rules
+    (named_so_by w.rules (said_text c lines) refl d shown denied (one_ask line d shown is spelled translates)))
     (effects_at w e).denials (denied_so w e sent)

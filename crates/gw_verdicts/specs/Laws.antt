@@ -1,7 +1,7 @@
 -- Every ask that a gateway raises lies in a shape of its configuration, so a rule that no ask of
 -- the shapes reaches never decides, nor does one of which a lint finds so. And what the log shows of
 -- a denied ask is enough to know which rule denied it.
-use Rattle.std.specs.Prelude.{IsFalse, ◌≡◌, ◌⊎◌, ℕ, ◌+◌, ◌≤◌, Bool, true, false, List, [], ◌∷◌, ◌++◌, length, None, Some, codes, ⊤}
+use Rattle.std.specs.Prelude.{IsFalse, ◌≡◌, ◌⊎◌, ℕ, ◌+◌, ◌≤◌, Bool, true, false, List, [], ◌∷◌, ◌++◌, length, Option, None, Some, codes, ⊤}
 use Rattle.std.specs.Fmt.{decimal}
 use Rattle.std.specs.List.{AllByRecursion}
 use Rattle.gw_addr.specs.Address.{IsAddress}
@@ -36,7 +36,7 @@ use Rattle.gw_ask_sets.specs.shapes.Search.{IsNeverFirst}
 use Rattle.gw_ask_sets.specs.shapes.Shape.{LiesInOne}
 use Rattle.gw_ask_sets.specs.shapes.Shapes.{shapes}
 use Rattle.gw_verdicts.specs.States.{IsStateUnder}
-use Rattle.gw_verdicts.specs.Why.{answer_to, note_text}
+use Rattle.gw_verdicts.specs.Why.{answer_to, said_text}
 use Rattle.gw_policy_review.specs.warnings.Warnings.{register_ask}
 
 -- a datagram of octets from an address, or a tick, as each event of the code is
@@ -125,21 +125,21 @@ abbrev pub IsSent : Event → Type 0
 IsSent (Datagram port from octets) = IsAddress from
 IsSent Tick = ⊤
 
--- the answer that the rule of this number and name denies, with its note
-abbrev pub denied_by : (notes : List (List ℕ)) → ℕ → List ℕ → List ℕ
-denied_by notes number name =
-    codes "deny rule " ++ decimal number ++ codes " " ++ name ++ note_text notes (Some number) ++ 10 ∷ []
+-- the answer that the rule of this number and name denies, with what is said of it
+abbrev pub denied_by : (said : Option ℕ → List ℕ) → ℕ → List ℕ → List ℕ
+denied_by said number name =
+    codes "deny rule " ++ decimal number ++ codes " " ++ name ++ said (Some number) ++ 10 ∷ []
 
 -- The answer names the rule of the denial: the first one that matches its ask, which has the name
 -- that the line shows. If none matches it says so, and the line shows `default`.
-abbrev pub NamesTheRule : List Rule → (notes : List (List ℕ)) → Denial → ShownAsk → Type 0
-NamesTheRule rules notes d shown =
-    ((first rules d.ask ≡ None) × (d.rule ≡ default_name) × (answer_to rules notes shown ≡ codes "deny default" ++ 10 ∷ []))
-    ⊎ ((number : ℕ) × (first rules d.ask ≡ Some number) × (answer_to rules notes shown ≡ denied_by notes number d.rule))
+abbrev pub NamesTheRule : List Rule → (said : Option ℕ → List ℕ) → Denial → ShownAsk → Type 0
+NamesTheRule rules said d shown =
+    ((first rules d.ask ≡ None) × (d.rule ≡ default_name) × (answer_to rules said shown ≡ codes "deny default" ++ 10 ∷ []))
+    ⊎ ((number : ℕ) × (first rules d.ask ≡ Some number) × (answer_to rules said shown ≡ denied_by said number d.rule))
 
 -- For each line that a gateway wrote while it went by a configuration, the answer under the same configuration names that
 -- line's rule.
 abbrev pub WhyNamesTheRule : Type 0
-WhyNamesTheRule = (c : Configuration) (w : State) → IsStateUnder c w → (e : Event) → IsSent e →
+WhyNamesTheRule = (c : Configuration) (lines : List ℕ) (w : State) → IsStateUnder c w → (e : Event) → IsSent e →
     AllByRecursion (λ d. (line : List ℕ) (shown : ShownAsk) → IsShowable d → IsLineOf line d → ShowsAsk line shown
-    → NamesTheRule c.rules c.notes d shown) (effects_at w e).denials
+    → NamesTheRule c.rules (said_text c lines) d shown) (effects_at w e).denials

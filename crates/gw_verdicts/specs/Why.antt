@@ -4,7 +4,9 @@ use Rattle.std.specs.Option.{option_map_or}
 use Rattle.gw_audit.specs.Entry.{ShowsAsk, ask_shown}
 use Rattle.gw_audit.specs.declared.entry.ShownAsk.{ShownAsk}
 use Rattle.gw_rules.specs.Ask.{Ask}
+use Rattle.gw_configuration.specs.Configuration.{Configuration}
 use Rattle.gw_configuration.specs.Shown.{shown}
+use Rattle.gw_policy_review.specs.Places.{place_words}
 use Rattle.gw_rules.specs.RuleList.{first}
 use Rattle.gw_rules.specs.declared.rule.Rule.{Rule}
 use Rattle.gw_core.specs.Explained.{verdict_text}
@@ -22,27 +24,36 @@ abbrev pub note_text : (notes : List (List ℕ)) → Option ℕ → List ℕ
 note_text notes None = []
 note_text notes (Some number) = option_map_or noted (slice_get notes (number - 1)) []
 
--- the answer to an ask: what the policy says of it, by which rule, and what is noted of that rule
-abbrev pub answer : List Rule → (notes : List (List ℕ)) → Ask → List ℕ
-answer rules notes ask = verdict_text rules ask ++ note_text notes (first rules ask) ++ 10 ∷ []
+-- what is said of the rule of a number of a configuration, if there is one: the place of its table, if that has another number, and
+-- its note; the tables of the rules begin on these lines of the text
+abbrev pub place_text : (tables lines : List ℕ) → Option ℕ → List ℕ
+place_text tables lines None = []
+place_text tables lines (Some number) = place_words tables lines number
+
+abbrev pub said_text : Configuration → (lines : List ℕ) → Option ℕ → List ℕ
+said_text c lines by = place_text c.tables lines by ++ note_text c.notes by
+
+-- the answer to an ask: what the policy says of it, by which rule, and what is said of that rule
+abbrev pub answer : List Rule → (said : Option ℕ → List ℕ) → Ask → List ℕ
+answer rules said ask = verdict_text rules ask ++ said (first rules ask) ++ 10 ∷ []
 
 -- and to an ask that is shown
-abbrev pub answer_to : List Rule → (notes : List (List ℕ)) → ShownAsk → List ℕ
-answer_to rules notes ask = answer rules notes (ask_shown ask)
+abbrev pub answer_to : List Rule → (said : Option ℕ → List ℕ) → ShownAsk → List ℕ
+answer_to rules said ask = answer rules said (ask_shown ask)
 
 -- ---- the lines of a text
 
 -- a line that shows an ask, and the answer to it
-pub record IsAnswered (rules : List Rule) (notes : List (List ℕ)) (line text : List ℕ) : Type 0 where
+pub record IsAnswered (rules : List Rule) (said : Option ℕ → List ℕ) (line text : List ℕ) : Type 0 where
   pub ask : ShownAsk
   pub translates : ShowsAsk line ask
-  pub answers : text ≡ answer_to rules notes ask
+  pub answers : text ≡ answer_to rules said ask
 
 -- a line that shows no ask
 abbrev pub ShowsNoAsk : List ℕ → Type 0
 ShowsNoAsk line = (ask : ShownAsk) → ¬ (ShowsAsk line ask)
 
--- what the answers by these rules leave written, by their outcome; a line that shows no ask ends them, or one of more
--- than 4096 octets
-abbrev pub LeavesAnswers : List Rule → (notes : List (List ℕ)) → Result (Unit {0}) LinesFault → (text before after : List ℕ) → Type 0
-LeavesAnswers rules notes = LeavesLines (IsAnswered rules notes) ShowsNoAsk
+-- what the answers by these rules leave written, of which this is said, by their outcome; a line that shows no ask ends them, or one
+-- of more than 4096 octets
+abbrev pub LeavesAnswers : List Rule → (said : Option ℕ → List ℕ) → Result (Unit {0}) LinesFault → (text before after : List ℕ) → Type 0
+LeavesAnswers rules said = LeavesLines (IsAnswered rules said) ShowsNoAsk

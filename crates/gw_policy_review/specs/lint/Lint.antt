@@ -8,17 +8,18 @@ use Rattle.gw_ask_sets.specs.shapes.Shapes.{shapes}
 use Rattle.gw_policy_review.specs.lint.Text.{line_text}
 use Rattle.gw_policy_review.specs.declared.lint.finding.Finding.{Finding}
 
--- the lines of what is found of the rules, in their order, and the notes after them
-abbrev pub lint_text : Configuration → Bool → List Finding → List ℕ
-lint_text c explains findings = in_order (line_text explains c.rules) 1 findings ++ notes_text (shapes c) c
+-- the lines of what is found of the rules, in their order, and the notes after them; the tables of the rules begin on these lines
+-- of the text
+abbrev pub lint_text : Configuration → (lines : List ℕ) → Bool → List Finding → List ℕ
+lint_text c lines explains findings = in_order (line_text explains c lines findings) 1 findings ++ notes_text (shapes c) c lines
 
 -- A text is a lint of a configuration: it is the text of one finding for each rule, each true over the shapes of the
 -- gateway's asks.
-pub record IsLint (c : Configuration) (explains : Bool) (text : List ℕ) : Type 0 where
+pub record IsLint (c : Configuration) (lines : List ℕ) (explains : Bool) (text : List ℕ) : Type 0 where
   pub findings : List Finding
   pub are_true : AreTrue (shapes c) c.rules findings
-  pub shown : text ≡ lint_text c explains findings
+  pub shown : text ≡ lint_text c lines explains findings
 
 -- a lint follows what a buffer held
-abbrev pub AppendsLint : Configuration → Bool → List ℕ → List ℕ → Type 0
-AppendsLint c explains old new = (text : List ℕ) × IsLint c explains text × (new ≡ old ++ text)
+abbrev pub AppendsLint : Configuration → (lines : List ℕ) → Bool → List ℕ → List ℕ → Type 0
+AppendsLint c lines explains old new = (text : List ℕ) × IsLint c lines explains text × (new ≡ old ++ text)

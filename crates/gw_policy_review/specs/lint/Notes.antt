@@ -21,11 +21,11 @@ use Rattle.gw_policy_review.specs.lint.Trust.{ending_words, is_open_end, is_open
 use Rattle.gw_policy_review.specs.lint.Trust.{port_words, reach_words, source_words}
 
 -- `note: rule <number> <name>: look at <words>` and a line feed
-abbrev pub head_text : List Rule → ℕ → List ℕ
-head_text rules number = codes "note: " ++ rule_text rules number ++ codes ": look at "
+abbrev pub head_text : Configuration → (lines : List ℕ) → ℕ → List ℕ
+head_text c lines number = codes "note: " ++ rule_text c lines number ++ codes ": look at "
 
-abbrev pub note_text : List Rule → ℕ → List ℕ → List ℕ
-note_text rules number words = head_text rules number ++ words ++ 10 ∷ []
+abbrev pub note_text : Configuration → (lines : List ℕ) → ℕ → List ℕ → List ℕ
+note_text c lines number words = head_text c lines number ++ words ++ 10 ∷ []
 
 -- ---- a source network that nobody has
 
@@ -44,9 +44,9 @@ network_words range =
     codes "source_network: " ++ decimal range.low ++ codes " is of no port, no route and not the device's"
 
 -- the first range of the rule's source networks that is so
-abbrev pub network_note : Configuration → ℕ → Rule → List ℕ
-network_note c number rule =
-    option_map_or (λ range. note_text c.rules number (network_words range))
+abbrev pub network_note : Configuration → (lines : List ℕ) → ℕ → Rule → List ℕ
+network_note c lines number rule =
+    option_map_or (λ range. note_text c lines number (network_words range))
     (find (is_unknown c) rule.ranges.source_network) []
 
 -- ---- ranges that overlap
@@ -59,12 +59,12 @@ abbrev pub overlap_words : FieldName → List ℕ
 overlap_words field = field_key field ++ codes ": two of its ranges overlap"
 
 -- for each field in which two ranges of the rule overlap
-abbrev pub overlap_note : List Rule → ℕ → Rule → FieldName → List ℕ
-overlap_note rules number rule field =
-    if has_overlap (ranges_of field rule) then note_text rules number (overlap_words field) else []
+abbrev pub overlap_note : Configuration → (lines : List ℕ) → ℕ → Rule → FieldName → List ℕ
+overlap_note c lines number rule field =
+    if has_overlap (ranges_of field rule) then note_text c lines number (overlap_words field) else []
 
-abbrev pub overlap_notes : List Rule → ℕ → Rule → List ℕ
-overlap_notes rules number rule = flat_map (overlap_note rules number rule) ALL
+abbrev pub overlap_notes : Configuration → (lines : List ℕ) → ℕ → Rule → List ℕ
+overlap_notes c lines number rule = flat_map (overlap_note c lines number rule) ALL
 
 -- ---- requests without an object
 
@@ -74,10 +74,10 @@ lets_unnamed shapes c number =
     list_any (λ shape. is_routed shape && is_some (opener c.rules shape)) shapes
     && list_any (λ shape. is_unnamed shape && opens_beyond c.rules c.device.network number shape) shapes
 
-abbrev pub object_note : List Shape → Configuration → ℕ → List ℕ
-object_note shapes c number =
+abbrev pub object_note : List Shape → Configuration → (lines : List ℕ) → ℕ → List ℕ
+object_note shapes c lines number =
     if lets_unnamed shapes c number
-    then note_text c.rules number (codes "object_type: without one, requests pass that name no object")
+    then note_text c lines number (codes "object_type: without one, requests pass that name no object")
     else []
 
 -- ---- requests without answers
@@ -88,43 +88,43 @@ answer_words one other =
     ++ codes " may pass, their answers (services 1026 to 1031) may not"
 
 -- for two ports, where requests may pass from the network of one to that of the other, and no answer may pass back
-abbrev pub answer_note : Configuration → ℕ → Port → ℕ → Port → List ℕ
-answer_note c number port other_number other =
+abbrev pub answer_note : Configuration → (lines : List ℕ) → ℕ → Port → ℕ → Port → List ℕ
+answer_note c lines number port other_number other =
     if (port.network == other.network) || is_some (opener c.rules (answers c.format other_number other port.network))
     then []
-    else option_map_or (λ by. note_text c.rules by (answer_words port.network other.network))
+    else option_map_or (λ by. note_text c lines by (answer_words port.network other.network))
     (opener c.rules (requests c.format number port other.network)) []
 
-abbrev pub answer_notes : Configuration → ℕ → Port → List ℕ
-answer_notes c number port = in_order (answer_note c number port) 1 c.ports
+abbrev pub answer_notes : Configuration → (lines : List ℕ) → ℕ → Port → List ℕ
+answer_notes c lines number port = in_order (answer_note c lines number port) 1 c.ports
 
 -- ---- what anyone may say (`Trust.antt`)
 
 -- a source without its network or a sender
-abbrev pub source_note : Configuration → ℕ → Rule → List ℕ
-source_note c number rule =
-    if is_source_alone rule then note_text c.rules number (source_words c.format) else []
+abbrev pub source_note : Configuration → (lines : List ℕ) → ℕ → Rule → List ℕ
+source_note c lines number rule =
+    if is_source_alone rule then note_text c lines number (source_words c.format) else []
 
 -- a source network without a source or a sender: in formats 1 and 2 anyone may be of that; in format 3 where it is
 -- that of a port without stations, the first of which is named
-abbrev pub reached_note : Configuration → ℕ → List Range → List ℕ
-reached_note c number ranges =
+abbrev pub reached_note : Configuration → (lines : List ℕ) → ℕ → List Range → List ℕ
+reached_note c lines number ranges =
     if names_stations c.format
-    then option_map_or (λ place. note_text c.rules number (port_words (place + 1)))
+    then option_map_or (λ place. note_text c lines number (port_words (place + 1)))
     (position (is_open_for ranges) c.ports) []
-    else note_text c.rules number reach_words
+    else note_text c lines number reach_words
 
-abbrev pub reach_note : Configuration → ℕ → Rule → List ℕ
-reach_note c number rule =
-    if is_source_network_alone rule then reached_note c number rule.ranges.source_network else []
+abbrev pub reach_note : Configuration → (lines : List ℕ) → ℕ → Rule → List ℕ
+reach_note c lines number rule =
+    if is_source_network_alone rule then reached_note c lines number rule.ranges.source_network else []
 
 -- the last rule without fields
-abbrev pub ending_note : Configuration → ℕ → Rule → List ℕ
-ending_note c number rule =
-    if is_open_end c.rules number rule then note_text c.rules number (ending_words c.format) else []
+abbrev pub ending_note : Configuration → (lines : List ℕ) → ℕ → Rule → List ℕ
+ending_note c lines number rule =
+    if is_open_end c.rules number rule then note_text c lines number (ending_words c.format) else []
 
-abbrev pub trust_notes : Configuration → ℕ → Rule → List ℕ
-trust_notes c number rule = source_note c number rule ++ reach_note c number rule ++ ending_note c number rule
+abbrev pub trust_notes : Configuration → (lines : List ℕ) → ℕ → Rule → List ℕ
+trust_notes c lines number rule = source_note c lines number rule ++ reach_note c lines number rule ++ ending_note c lines number rule
 
 -- ---- broadcasts
 
@@ -141,15 +141,15 @@ cast_note shapes c =
 -- ---- all of them
 
 -- on what a rule may not match as it reads
-abbrev pub field_notes : List Shape → Configuration → ℕ → Rule → List ℕ
-field_notes shapes c number rule =
-    network_note c number rule ++ overlap_notes c.rules number rule ++ object_note shapes c number
+abbrev pub field_notes : List Shape → Configuration → (lines : List ℕ) → ℕ → Rule → List ℕ
+field_notes shapes c lines number rule =
+    network_note c lines number rule ++ overlap_notes c lines number rule ++ object_note shapes c lines number
 
 -- those of a rule
-abbrev pub rule_notes : List Shape → Configuration → ℕ → Rule → List ℕ
-rule_notes shapes c number rule = field_notes shapes c number rule ++ trust_notes c number rule
+abbrev pub rule_notes : List Shape → Configuration → (lines : List ℕ) → ℕ → Rule → List ℕ
+rule_notes shapes c lines number rule = field_notes shapes c lines number rule ++ trust_notes c lines number rule
 
 -- rule by rule, then port by port, and then that on broadcasts, over the shapes of the configuration
-abbrev pub notes_text : List Shape → Configuration → List ℕ
-notes_text shapes c =
-    in_order (rule_notes shapes c) 1 c.rules ++ in_order (answer_notes c) 1 c.ports ++ cast_note shapes c
+abbrev pub notes_text : List Shape → Configuration → (lines : List ℕ) → List ℕ
+notes_text shapes c lines =
+    in_order (rule_notes shapes c lines) 1 c.rules ++ in_order (answer_notes c lines) 1 c.ports ++ cast_note shapes c

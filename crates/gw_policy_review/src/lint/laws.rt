@@ -1,6 +1,7 @@
-//! What a note on broadcasts says, and the limit of a search. The functions do nothing: their contracts are the laws.
+//! What a note on broadcasts says, which rules are left out, and the limit of a search. The functions do nothing: their contracts are the laws.
 ghost use Rattle.std.specs.Prelude.{◌≡◌};
 ghost use Rattle.gw_policy_review.specs.lint.Laws.{NoBroadcastIsAllowed};
+ghost use Rattle.gw_policy_review.specs.lint.Text.{OwnRulesAreSaid};
 
 use crate::lint::finding::MAX_STEPS;
 
@@ -12,4 +13,9 @@ pub fn broadcasts()
 /// A search for an ask that a rule decides makes 1,024 steps at most.
 pub fn limits()
     ensures { MAX_STEPS ≡ 1024 }
+{}
+
+/// A lint leaves out no rule of a table of its own.
+pub fn own_rules()
+    ensures { OwnRulesAreSaid }
 {}

@@ -4,7 +4,7 @@ ghost use Rattle.gw_policy_review.specs.lint.Lint.{AppendsLint, IsLint};
 
 use crate::lint::finding::findings_of;
 use crate::lint::note::put_notes;
-use crate::lint::text::put_lines;
+use crate::lint::text::Lint;
 use gw_addr::{keep_whole, put_slice};
 use gw_ask_sets::shapes::shapes_of;
 use gw_configuration::Config;
@@ -17,37 +17,52 @@ use std::alloc::{AllocError, Global};
 /// ```text
 /// rule 1 no-late-writes: matches no ask that this gateway raises
 /// rule 3 all: decides, for one, operation=cast port=1 source_network=1 source=0.0.0.0:0 ..
-/// rule 6 hide-door: never decides: rule 5 all-reads takes all that it matches, and says the opposite
+/// rule 6 hide-door (table 4, line 37): never decides: rule 5 all-reads takes all that it matches, and says the opposite
 /// rule 9 rest: never decides: the rules before it together take all that it matches
 /// rule 12 odd-ones: can't tell within the steps given
 /// note: rule 3 all: look at instance: two of its ranges overlap
 /// ```
 ///
+/// A rule of which the table of the text has another number has that, too, and the line on which it begins: `lines` are those of
+/// all tables of rules in their order, or none if they aren't known. A rule for the way or for the answers of one that decides
+/// something has no line, if what it is for is allowed before it.
+///
 /// An `Err` only where a growth of memory was refused: the buffer then holds what it held.
 pub fn put_lint(
     alloc: Global,
     config: &Config,
+    lines: &[u32],
     explains: bool,
     out: &mut Vec<u8>,
 ) -> Result<(), AllocError>
-    ensures ok { OnOk result (AppendsLint config.now explains out.old.items out.new.items) }
+    ensures ok { OnOk result (AppendsLint config.now lines.now explains out.old.items out.new.items) }
     ensures err { OnErr result (out.new.items ≡ out.old.items) }
 {
-    let text = lint(alloc, config, explains)?;
+    let text = lint(alloc, config, lines, explains)?;
     let len = out.len();
     let put = put_slice(out, &text);
     keep_whole(out, len, put)
 }
 
 /// The lines of the rules, and the notes after them.
-fn lint(alloc: Global, config: &Config, explains: bool) -> Result<Vec<u8>, AllocError>
-    ensures { IfOk result (λ text. IsLint config.now explains text.items) }
+fn lint(
+    alloc: Global,
+    config: &Config,
+    lines: &[u32],
+    explains: bool,
+) -> Result<Vec<u8>, AllocError>
+    ensures { IfOk result (λ text. IsLint config.now lines.now explains text.items) }
 {
     let shapes = shapes_of(alloc, config)?;
-    let rules = config.rules();
-    let findings = findings_of(alloc, &shapes, rules)?;
+    let findings = findings_of(alloc, &shapes, config.rules())?;
+    let lint = Lint {
+        explains,
+        config,
+        lines,
+        findings: &findings,
+    };
     let mut text = Vec::new(alloc);
-    put_lines(&mut text, explains, rules, &findings)?;
-    put_notes(&mut text, &shapes, config)?;
+    lint.put_lines(&mut text)?;
+    put_notes(&mut text, &shapes, &lint)?;
     Ok(text)
 }

@@ -12,7 +12,7 @@ ghost use Rattle.gw_policy_review.specs.lint.Passage.{is_cast, is_routed, is_unn
 use crate::lint::passage::{
     answers, is_cast, is_routed, is_unnamed, opener, opens_beyond, requests,
 };
-use crate::lint::text::put_rule;
+use crate::lint::text::Lint;
 use crate::lint::trust_note::put_trust_notes;
 use gw_addr::{put_decimal, put_slice};
 use gw_ask_sets::shapes::{Shape, overlaps};
@@ -24,33 +24,33 @@ use std::alloc::AllocError;
 pub(crate) fn put_notes(
     out: &mut Vec<u8>,
     shapes: &[Shape],
-    config: &Config,
+    lint: &Lint<'_>,
 ) -> Result<(), AllocError>
-    ensures { OnOk result (out.new.items ≡ out.old.items ++ notes_text shapes.now config.now) }
+    ensures { OnOk result (out.new.items ≡ out.old.items ++ notes_text shapes.now lint.now.config.now lint.now.lines.now) }
 {
-    put_rules_notes(out, shapes, config)?;
-    put_ports_notes(out, config)?;
-    put_cast_note(out, shapes, config)
+    put_rules_notes(out, shapes, lint)?;
+    put_ports_notes(out, lint)?;
+    put_cast_note(out, shapes, lint.config)
 }
 
-fn put_rules_notes(out: &mut Vec<u8>, shapes: &[Shape], config: &Config) -> Result<(), AllocError>
+fn put_rules_notes(out: &mut Vec<u8>, shapes: &[Shape], lint: &Lint<'_>) -> Result<(), AllocError>
     ensures { OnOk result (out.new.items ≡
-        out.old.items ++ in_order (rule_notes shapes.now config.now) 1 config.now.rules) }
+        out.old.items ++ in_order (rule_notes shapes.now lint.now.config.now lint.now.lines.now) 1 lint.now.config.now.rules) }
 {
-    let rules = config.rules().rules();
+    let rules = lint.config.rules().rules();
     for place in 0..rules.len() {
-        put_rule_notes(out, shapes, config, place as u16 + 1, &rules[place])?;
+        put_rule_notes(out, shapes, lint, place as u16 + 1, &rules[place])?;
     }
     Ok(())
 }
 
-fn put_ports_notes(out: &mut Vec<u8>, config: &Config) -> Result<(), AllocError>
+fn put_ports_notes(out: &mut Vec<u8>, lint: &Lint<'_>) -> Result<(), AllocError>
     ensures { OnOk result (out.new.items ≡
-        out.old.items ++ in_order (answer_notes config.now) 1 config.now.ports) }
+        out.old.items ++ in_order (answer_notes lint.now.config.now lint.now.lines.now) 1 lint.now.config.now.ports) }
 {
-    let ports = config.ports();
+    let ports = lint.config.ports();
     for place in 0..ports.len() {
-        put_answer_notes(out, config, place as u16 + 1, &ports[place])?;
+        put_answer_notes(out, lint, place as u16 + 1, &ports[place])?;
     }
     Ok(())
 }
@@ -59,39 +59,39 @@ fn put_ports_notes(out: &mut Vec<u8>, config: &Config) -> Result<(), AllocError>
 fn put_rule_notes(
     out: &mut Vec<u8>,
     shapes: &[Shape],
-    config: &Config,
+    lint: &Lint<'_>,
     number: u16,
     rule: &Rule,
 ) -> Result<(), AllocError>
     ensures { OnOk result (out.new.items ≡
-        out.old.items ++ rule_notes shapes.now config.now number rule.now) }
+        out.old.items ++ rule_notes shapes.now lint.now.config.now lint.now.lines.now number rule.now) }
 {
-    put_field_notes(out, shapes, config, number, rule)?;
-    put_trust_notes(out, config, number, rule)
+    put_field_notes(out, shapes, lint, number, rule)?;
+    put_trust_notes(out, lint, number, rule)
 }
 
 /// Appends those on what the rule may not match as it reads.
 fn put_field_notes(
     out: &mut Vec<u8>,
     shapes: &[Shape],
-    config: &Config,
+    lint: &Lint<'_>,
     number: u16,
     rule: &Rule,
 ) -> Result<(), AllocError>
     ensures { OnOk result (out.new.items ≡
-        out.old.items ++ field_notes shapes.now config.now number rule.now) }
+        out.old.items ++ field_notes shapes.now lint.now.config.now lint.now.lines.now number rule.now) }
 {
-    put_network_note(out, config, number, rule)?;
-    put_overlap_notes(out, config.rules(), number, rule, &FieldName::ALL)?;
-    put_object_note(out, shapes, config, number)
+    put_network_note(out, lint, number, rule)?;
+    put_overlap_notes(out, lint, number, rule, &FieldName::ALL)?;
+    put_object_note(out, shapes, lint, number)
 }
 
 /// Appends what each note begins with: the rule that it is on.
-pub(crate) fn put_head(out: &mut Vec<u8>, rules: &RuleList, number: u16) -> Result<(), AllocError>
-    ensures { OnOk result (out.new.items ≡ out.old.items ++ head_text rules.now number) }
+pub(crate) fn put_head(out: &mut Vec<u8>, lint: &Lint<'_>, number: u16) -> Result<(), AllocError>
+    ensures { OnOk result (out.new.items ≡ out.old.items ++ head_text lint.now.config.now lint.now.lines.now number) }
 {
     out.extend_from_slice(b"note: ")?;
-    put_rule(out, rules, number)?;
+    lint.put_rule(out, number)?;
     out.extend_from_slice(b": look at ")
 }
 
@@ -139,29 +139,29 @@ fn first_unknown(config: &Config, ranges: &[Range]) -> Option<Range>
 /// Appends a note where the rule names one source network that nobody has.
 fn put_network_note(
     out: &mut Vec<u8>,
-    config: &Config,
+    lint: &Lint<'_>,
     number: u16,
     rule: &Rule,
 ) -> Result<(), AllocError>
     ensures { OnOk result
-        (out.new.items ≡ out.old.items ++ network_note config.now number rule.now) }
+        (out.new.items ≡ out.old.items ++ network_note lint.now.config.now lint.now.lines.now number rule.now) }
 {
-    match first_unknown(config, rule.ranges.source_network.as_slice()) {
-        Some(range) => put_unknown_note(out, config.rules(), number, &range),
+    match first_unknown(lint.config, rule.ranges.source_network.as_slice()) {
+        Some(range) => put_unknown_note(out, lint, number, &range),
         None => Ok(()),
     }
 }
 
 fn put_unknown_note(
     out: &mut Vec<u8>,
-    rules: &RuleList,
+    lint: &Lint<'_>,
     number: u16,
     range: &Range,
 ) -> Result<(), AllocError>
     ensures { OnOk result (out.new.items ≡
-        out.old.items ++ note_text rules.now number (network_words range.now)) }
+        out.old.items ++ note_text lint.now.config.now lint.now.lines.now number (network_words range.now)) }
 {
-    put_head(out, rules, number)?;
+    put_head(out, lint, number)?;
     put_network_words(out, range)?;
     out.push(b'\n')?;
     Ok(())
@@ -192,34 +192,34 @@ fn has_overlap(ranges: &[Range]) -> bool
 /// Appends a note for each of these fields in which two ranges of the rule overlap.
 fn put_overlap_notes(
     out: &mut Vec<u8>,
-    rules: &RuleList,
+    lint: &Lint<'_>,
     number: u16,
     rule: &Rule,
     fields: &[FieldName],
 ) -> Result<(), AllocError>
     ensures { OnOk result (out.new.items ≡
-        out.old.items ++ flat_map (overlap_note rules.now number rule.now) fields.now) }
+        out.old.items ++ flat_map (overlap_note lint.now.config.now lint.now.lines.now number rule.now) fields.now) }
 {
     for field in fields {
-        put_overlap_note(out, rules, number, rule, *field)?;
+        put_overlap_note(out, lint, number, rule, *field)?;
     }
     Ok(())
 }
 
 fn put_overlap_note(
     out: &mut Vec<u8>,
-    rules: &RuleList,
+    lint: &Lint<'_>,
     number: u16,
     rule: &Rule,
     field: FieldName,
 ) -> Result<(), AllocError>
     ensures { OnOk result
-        (out.new.items ≡ out.old.items ++ overlap_note rules.now number rule.now field) }
+        (out.new.items ≡ out.old.items ++ overlap_note lint.now.config.now lint.now.lines.now number rule.now field) }
 {
     if !has_overlap(rule.ranges(field).as_slice()) {
         return Ok(());
     }
-    put_head(out, rules, number)?;
+    put_head(out, lint, number)?;
     put_overlap_words(out, field)?;
     out.push(b'\n')?;
     Ok(())
@@ -264,16 +264,16 @@ fn lets_unnamed(shapes: &[Shape], config: &Config, number: u16) -> bool
 fn put_object_note(
     out: &mut Vec<u8>,
     shapes: &[Shape],
-    config: &Config,
+    lint: &Lint<'_>,
     number: u16,
 ) -> Result<(), AllocError>
     ensures { OnOk result
-        (out.new.items ≡ out.old.items ++ object_note shapes.now config.now number) }
+        (out.new.items ≡ out.old.items ++ object_note shapes.now lint.now.config.now lint.now.lines.now number) }
 {
-    if !lets_unnamed(shapes, config, number) {
+    if !lets_unnamed(shapes, lint.config, number) {
         return Ok(());
     }
-    put_head(out, config.rules(), number)?;
+    put_head(out, lint, number)?;
     out.extend_from_slice(b"object_type: without one, requests pass that name no object\n")
 }
 
@@ -281,16 +281,16 @@ fn put_object_note(
 /// answer back.
 fn put_answer_notes(
     out: &mut Vec<u8>,
-    config: &Config,
+    lint: &Lint<'_>,
     number: u16,
     port: &Port,
 ) -> Result<(), AllocError>
     ensures { OnOk result
-        (out.new.items ≡ out.old.items ++ answer_notes config.now number port.now) }
+        (out.new.items ≡ out.old.items ++ answer_notes lint.now.config.now lint.now.lines.now number port.now) }
 {
-    let ports = config.ports();
+    let ports = lint.config.ports();
     for place in 0..ports.len() {
-        put_answer_note(out, config, number, port, place as u16 + 1, &ports[place])?;
+        put_answer_note(out, lint, number, port, place as u16 + 1, &ports[place])?;
     }
     Ok(())
 }
@@ -298,17 +298,17 @@ fn put_answer_notes(
 /// Appends that note for two ports.
 fn put_answer_note(
     out: &mut Vec<u8>,
-    config: &Config,
+    lint: &Lint<'_>,
     number: u16,
     port: &Port,
     other_number: u16,
     other: &Port,
 ) -> Result<(), AllocError>
     ensures { OnOk result (out.new.items ≡
-        out.old.items ++ answer_note config.now number port.now other_number other.now) }
+        out.old.items ++ answer_note lint.now.config.now lint.now.lines.now number port.now other_number other.now) }
 {
-    let format = config.format();
-    let rules = config.rules();
+    let format = lint.config.format();
+    let rules = lint.config.rules();
     let here = port.network.get();
     let there = other.network.get();
     let back = answers(format, other_number, other, here);
@@ -316,22 +316,22 @@ fn put_answer_note(
         return Ok(());
     }
     match opener(rules, &requests(format, number, port, there)) {
-        Some(by) => put_way_note(out, rules, by, here, there),
+        Some(by) => put_way_note(out, lint, by, here, there),
         None => Ok(()),
     }
 }
 
 fn put_way_note(
     out: &mut Vec<u8>,
-    rules: &RuleList,
+    lint: &Lint<'_>,
     by: u16,
     here: u16,
     there: u16,
 ) -> Result<(), AllocError>
     ensures { OnOk result
-        (out.new.items ≡ out.old.items ++ note_text rules.now by (answer_words here there)) }
+        (out.new.items ≡ out.old.items ++ note_text lint.now.config.now lint.now.lines.now by (answer_words here there)) }
 {
-    put_head(out, rules, by)?;
+    put_head(out, lint, by)?;
     put_answer_words(out, here, there)?;
     out.push(b'\n')?;
     Ok(())

@@ -1,120 +1,182 @@
 //! The line that a rule has in a lint.
-ghost use Rattle.std.specs.Prelude.{◌≡◌, ◌++◌, codes, length, OnOk};
-ghost use Rattle.std.specs.List.{flat_map};
+ghost use Rattle.std.specs.Prelude.{◌≡◌, ◌-◌, ◌++◌, codes, length, take, OnOk};
+ghost use Rattle.std.specs.List.{flat_map, list_all};
 ghost use Rattle.gw_audit.specs.Line.{operation_text};
 ghost use Rattle.gw_rules.specs.RuleList.{allows_at};
 ghost use Rattle.gw_script.specs.Order.{in_order};
-ghost use Rattle.gw_policy_review.specs.lint.Text.{ask_fields_text, found_text, is_shown, is_listed, item_text, likeness_text, line_text, rule_text};
-ghost use Rattle.gw_policy_review.specs.lint.Text.{says_same, value_text};
+ghost use Rattle.gw_policy_review.specs.lint.Text.{ask_fields_text, decides_at, found_text, head_of, is_allowed_before, is_left_out, is_listed};
+ghost use Rattle.gw_policy_review.specs.lint.Text.{is_shown, item_text, likeness_text, line_text, name_at, rule_text, says_same, value_text};
 
 use crate::comparison::words::put_station;
 use crate::lint::Finding;
+use crate::places::{is_derived, put_place};
 use gw_addr::put_decimal;
 use gw_ask_sets::shapes::rule_at;
 use gw_audit::operation_named;
-use gw_rules::{Ask, FieldName, RuleList};
+use gw_configuration::Config;
+use gw_rules::{Ask, FieldName, Rule, RuleList};
 use std::alloc::AllocError;
 
 /// What is written for a field that the ask doesn't have.
 const ABSENT: &[u8] = b"-";
 
-/// Appends the lines of what is found of the rules, in their order.
-pub(crate) fn put_lines(
-    out: &mut Vec<u8>,
-    explains: bool,
-    rules: &RuleList,
-    findings: &[Finding],
-) -> Result<(), AllocError>
-    requires { length findings.now ≡ length rules.now }
-    ensures { OnOk result (out.new.items ≡
-        out.old.items ++ in_order (line_text explains rules.now) 1 findings.now) }
-{
-    let count = rules.rules().len();
-    for place in 0..count {
-        put_line(out, explains, rules, place as u16 + 1, &findings[place])?;
-    }
-    Ok(())
+/// What a lint is made of.
+#[derive(Clone, Copy)]
+pub(crate) struct Lint<'a> {
+    /// Whether a rule that decides has a line, too.
+    pub explains: bool,
+    /// The configuration.
+    pub config: &'a Config,
+    /// The lines of its text on which the tables of its rules begin, or none if they aren't known.
+    pub lines: &'a [u32],
+    /// What is found of each rule.
+    pub findings: &'a [Finding],
 }
 
-/// Appends the line of what is found of the rule of this number, if it has one.
-fn put_line(
-    out: &mut Vec<u8>,
-    explains: bool,
-    rules: &RuleList,
-    number: u16,
-    found: &Finding,
-) -> Result<(), AllocError>
-    ensures { OnOk result
-        (out.new.items ≡ out.old.items ++ line_text explains rules.now number found.now) }
-{
-    if !is_listed(explains, found) {
-        return Ok(());
+impl Lint<'_> {
+    /// Appends the lines of what is found of the rules, in their order.
+    pub(crate) fn put_lines(&self, out: &mut Vec<u8>) -> Result<(), AllocError>
+        requires { length self.now.findings.now ≡ length self.now.config.now.rules }
+        ensures { OnOk result (out.new.items ≡ out.old.items
+            ++ in_order (line_text self.now.explains self.now.config.now self.now.lines.now self.now.findings.now) 1 self.now.findings.now) }
+    {
+        let count = self.config.rules().rules().len();
+        for place in 0..count {
+            self.put_line(out, place as u16 + 1, &self.findings[place])?;
+        }
+        Ok(())
     }
-    put_rule(out, rules, number)?;
-    out.extend_from_slice(b": ")?;
-    put_found(out, rules, number, found)?;
-    out.push(b'\n')?;
-    Ok(())
+
+    /// Appends the line of what is found of the rule of this number, if it has one.
+    fn put_line(&self, out: &mut Vec<u8>, number: u16, found: &Finding) -> Result<(), AllocError>
+        ensures { OnOk result (out.new.items ≡ out.old.items
+            ++ line_text self.now.explains self.now.config.now self.now.lines.now self.now.findings.now number found.now) }
+    {
+        if !self.is_listed(number, found) {
+            return Ok(());
+        }
+        self.put_rule(out, number)?;
+        out.extend_from_slice(b": ")?;
+        self.put_found(out, number, found)?;
+        out.push(b'\n')?;
+        Ok(())
+    }
+
+    /// Whether a finding has a line: a rule that decides has one only where that is asked for.
+    fn is_listed(&self, number: u16, found: &Finding) -> bool
+        ensures { result ≡ is_listed self.now.explains self.now.config.now self.now.findings.now number found.now }
+    {
+        match found {
+            Finding::Decides(_) => self.explains,
+            _ => !self.is_left_out(number, found),
+        }
+    }
+
+    /// Whether nothing is said of a rule: it is for the way or for the answers of a rule that decides something, and what it is for
+    /// is allowed before it.
+    fn is_left_out(&self, number: u16, found: &Finding) -> bool
+        ensures { result ≡ is_left_out self.now.config.now self.now.findings.now number found.now }
+    {
+        is_derived(self.config.tables(), number)
+            && is_allowed_before(self.config.rules(), number, found)
+            && decides_at(self.findings, head_of(self.config.tables(), number))
+    }
+
+    /// Appends a rule by its number, its name and the place of its table.
+    pub(crate) fn put_rule(&self, out: &mut Vec<u8>, number: u16) -> Result<(), AllocError>
+        ensures { OnOk result (out.new.items ≡ out.old.items ++ rule_text self.now.config.now self.now.lines.now number) }
+    {
+        out.extend_from_slice(b"rule ")?;
+        put_decimal(out, number)?;
+        out.push(b' ')?;
+        put_name(out, self.config.rules(), number)?;
+        put_place(out, self.config.tables(), self.lines, number)
+    }
+
+    /// Appends what is found of the rule of this number.
+    fn put_found(&self, out: &mut Vec<u8>, number: u16, found: &Finding) -> Result<(), AllocError>
+        ensures { OnOk result (out.new.items ≡ out.old.items ++ found_text self.now.config.now self.now.lines.now number found.now) }
+    {
+        match found {
+            Finding::MatchesNothing => {
+                out.extend_from_slice(b"matches no ask that this gateway raises")
+            }
+            Finding::TakenBy(by) => self.put_taken(out, number, *by),
+            Finding::TakenTogether => out.extend_from_slice(
+                b"never decides: the rules before it together take all that it matches",
+            ),
+            Finding::Decides(ask) => {
+                out.extend_from_slice(b"decides, for one,")?;
+                put_ask(out, ask)
+            }
+            Finding::Unknown => out.extend_from_slice(b"can't tell within the steps given"),
+        }
+    }
+
+    /// Appends which rule takes all that the one of this number matches.
+    fn put_taken(&self, out: &mut Vec<u8>, number: u16, by: u16) -> Result<(), AllocError>
+        ensures { OnOk result
+            (out.new.items ≡ out.old.items ++ codes "never decides: " ++ rule_text self.now.config.now self.now.lines.now by
+            ++ codes " takes all that it matches, and says the " ++ likeness_text self.now.config.now.rules by number) }
+    {
+        out.extend_from_slice(b"never decides: ")?;
+        self.put_rule(out, by)?;
+        out.extend_from_slice(b" takes all that it matches, and says the ")?;
+        put_likeness(out, self.config.rules(), by, number)
+    }
 }
 
-/// Whether a finding has a line: a rule that decides has one only where that is asked for.
-fn is_listed(explains: bool, found: &Finding) -> bool
-    ensures { result ≡ is_listed explains found.now }
+/// Appends the name of the rule of this number, if there is one.
+fn put_name(out: &mut Vec<u8>, rules: &RuleList, number: u16) -> Result<(), AllocError>
+    ensures { OnOk result (out.new.items ≡ out.old.items ++ name_at rules.now number) }
 {
-    match found {
-        Finding::Decides(_) => explains,
-        _ => true,
-    }
-}
-
-/// Appends a rule by its number and its name.
-pub(crate) fn put_rule(out: &mut Vec<u8>, rules: &RuleList, number: u16) -> Result<(), AllocError>
-    ensures { OnOk result (out.new.items ≡ out.old.items ++ rule_text rules.now number) }
-{
-    out.extend_from_slice(b"rule ")?;
-    put_decimal(out, number)?;
-    out.push(b' ')?;
     match rule_at(rules, number) {
         Some(rule) => out.extend_from_slice(rule.name.as_str().as_bytes()),
         None => Ok(()),
     }
 }
 
-/// Appends what is found of the rule of this number.
-fn put_found(
-    out: &mut Vec<u8>,
-    rules: &RuleList,
-    number: u16,
-    found: &Finding,
-) -> Result<(), AllocError>
-    ensures { OnOk result (out.new.items ≡ out.old.items ++ found_text rules.now number found.now) }
+/// Whether the rule of this number decides nothing, since a rule that allows takes all that it matches, or no rule before it
+/// denies.
+fn is_allowed_before(rules: &RuleList, number: u16, found: &Finding) -> bool
+    ensures { result ≡ is_allowed_before rules.now number found.now }
 {
     match found {
-        Finding::MatchesNothing => {
-            out.extend_from_slice(b"matches no ask that this gateway raises")
-        }
-        Finding::TakenBy(by) => put_taken(out, rules, number, *by),
-        Finding::TakenTogether => out.extend_from_slice(
-            b"never decides: the rules before it together take all that it matches",
-        ),
-        Finding::Decides(ask) => {
-            out.extend_from_slice(b"decides, for one,")?;
-            put_ask(out, ask)
-        }
-        Finding::Unknown => out.extend_from_slice(b"can't tell within the steps given"),
+        Finding::TakenBy(by) => allows_at(rules, *by),
+        Finding::TakenTogether => all_allow_before(rules.rules(), number),
+        _ => false,
     }
 }
 
-/// Appends which rule takes all that the one of this number matches.
-fn put_taken(out: &mut Vec<u8>, rules: &RuleList, number: u16, by: u16) -> Result<(), AllocError>
-    ensures { OnOk result
-        (out.new.items ≡ out.old.items ++ codes "never decides: " ++ rule_text rules.now by
-        ++ codes " takes all that it matches, and says the " ++ likeness_text rules.now by number) }
+/// Whether each rule before the one of this number allows.
+fn all_allow_before(rules: &[Rule], number: u16) -> bool
+    ensures { result ≡ list_all (λ rule. rule.allow) (take (number - 1) rules.now) }
 {
-    out.extend_from_slice(b"never decides: ")?;
-    put_rule(out, rules, by)?;
-    out.extend_from_slice(b" takes all that it matches, and says the ")?;
-    put_likeness(out, rules, by, number)
+    rules
+        .iter()
+        .take(usize::from(number).saturating_sub(1))
+        .all(|rule| rule.allow)
+}
+
+/// Whether an ask was found that the rule of this number decides.
+fn decides_at(findings: &[Finding], number: u16) -> bool
+    ensures { result ≡ decides_at findings.now number }
+{
+    match findings.get(usize::from(number).saturating_sub(1)) {
+        Some(Finding::Decides(_)) => true,
+        _ => false,
+    }
+}
+
+/// The number of the rule that the one of this number goes with, which is for the way or for the answers.
+fn head_of(tables: &[u16], number: u16) -> u16
+    ensures { result ≡ head_of tables.now number }
+{
+    if is_derived(tables, number.saturating_sub(1)) {
+        number.saturating_sub(2)
+    } else {
+        number.saturating_sub(1)
+    }
 }
 
 /// Appends what one rule says beside another.

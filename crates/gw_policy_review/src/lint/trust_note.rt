@@ -4,39 +4,34 @@ ghost use Rattle.gw_policy_review.specs.lint.Notes.{ending_note, note_text, reac
 ghost use Rattle.gw_policy_review.specs.lint.Trust.{port_words};
 
 use crate::lint::note::put_head;
+use crate::lint::text::Lint;
 use crate::lint::trust::{
     ending_words, is_open_end, is_source_alone, is_source_network_alone, open_place,
     put_port_words, reach_words, source_words,
 };
-use gw_configuration::Config;
-use gw_rules::{Range, Rule, RuleList};
+use gw_rules::{Range, Rule};
 use std::alloc::AllocError;
 
 /// Appends the notes on one rule, the one of this number.
 pub(crate) fn put_trust_notes(
     out: &mut Vec<u8>,
-    config: &Config,
+    lint: &Lint<'_>,
     number: u16,
     rule: &Rule,
 ) -> Result<(), AllocError>
     ensures { OnOk result
-        (out.new.items ≡ out.old.items ++ trust_notes config.now number rule.now) }
+        (out.new.items ≡ out.old.items ++ trust_notes lint.now.config.now lint.now.lines.now number rule.now) }
 {
-    put_source_note(out, config, number, rule)?;
-    put_reach_note(out, config, number, rule)?;
-    put_ending_note(out, config, number, rule)
+    put_source_note(out, lint, number, rule)?;
+    put_reach_note(out, lint, number, rule)?;
+    put_ending_note(out, lint, number, rule)
 }
 
 /// Appends a note of these words.
-fn put_note(
-    out: &mut Vec<u8>,
-    rules: &RuleList,
-    number: u16,
-    words: &[u8],
-) -> Result<(), AllocError>
-    ensures { OnOk result (out.new.items ≡ out.old.items ++ note_text rules.now number words.now) }
+fn put_note(out: &mut Vec<u8>, lint: &Lint<'_>, number: u16, words: &[u8]) -> Result<(), AllocError>
+    ensures { OnOk result (out.new.items ≡ out.old.items ++ note_text lint.now.config.now lint.now.lines.now number words.now) }
 {
-    put_head(out, rules, number)?;
+    put_head(out, lint, number)?;
     out.extend_from_slice(words)?;
     out.push(b'\n')?;
     Ok(())
@@ -45,15 +40,15 @@ fn put_note(
 /// Appends a note where the rule names a source without its network or a sender.
 fn put_source_note(
     out: &mut Vec<u8>,
-    config: &Config,
+    lint: &Lint<'_>,
     number: u16,
     rule: &Rule,
 ) -> Result<(), AllocError>
     ensures { OnOk result
-        (out.new.items ≡ out.old.items ++ source_note config.now number rule.now) }
+        (out.new.items ≡ out.old.items ++ source_note lint.now.config.now lint.now.lines.now number rule.now) }
 {
     if is_source_alone(rule) {
-        put_note(out, config.rules(), number, source_words(config.format()))
+        put_note(out, lint, number, source_words(lint.config.format()))
     } else {
         Ok(())
     }
@@ -63,15 +58,15 @@ fn put_source_note(
 /// of that.
 fn put_reach_note(
     out: &mut Vec<u8>,
-    config: &Config,
+    lint: &Lint<'_>,
     number: u16,
     rule: &Rule,
 ) -> Result<(), AllocError>
     ensures { OnOk result
-        (out.new.items ≡ out.old.items ++ reach_note config.now number rule.now) }
+        (out.new.items ≡ out.old.items ++ reach_note lint.now.config.now lint.now.lines.now number rule.now) }
 {
     if is_source_network_alone(rule) {
-        put_reached_note(out, config, number, rule.ranges.source_network.as_slice())
+        put_reached_note(out, lint, number, rule.ranges.source_network.as_slice())
     } else {
         Ok(())
     }
@@ -79,33 +74,33 @@ fn put_reach_note(
 
 fn put_reached_note(
     out: &mut Vec<u8>,
-    config: &Config,
+    lint: &Lint<'_>,
     number: u16,
     ranges: &[Range],
 ) -> Result<(), AllocError>
     ensures { OnOk result
-        (out.new.items ≡ out.old.items ++ reached_note config.now number ranges.now) }
+        (out.new.items ≡ out.old.items ++ reached_note lint.now.config.now lint.now.lines.now number ranges.now) }
 {
-    let rules = config.rules();
-    if !config.format().names_stations() {
-        return put_note(out, rules, number, reach_words());
+    let rules = lint.config.rules();
+    if !lint.config.format().names_stations() {
+        return put_note(out, lint, number, reach_words());
     }
-    match open_place(ranges, config.ports()) {
-        Some(place) => put_port_note(out, rules, number, place),
+    match open_place(ranges, lint.config.ports()) {
+        Some(place) => put_port_note(out, lint, number, place),
         None => Ok(()),
     }
 }
 
 fn put_port_note(
     out: &mut Vec<u8>,
-    rules: &RuleList,
+    lint: &Lint<'_>,
     number: u16,
     place: usize,
 ) -> Result<(), AllocError>
     ensures { OnOk result (out.new.items ≡
-        out.old.items ++ note_text rules.now number (port_words (place + 1))) }
+        out.old.items ++ note_text lint.now.config.now lint.now.lines.now number (port_words (place + 1))) }
 {
-    put_head(out, rules, number)?;
+    put_head(out, lint, number)?;
     put_port_words(out, place)?;
     out.push(b'\n')?;
     Ok(())
@@ -114,16 +109,16 @@ fn put_port_note(
 /// Appends a note if the rule is the last one and allows whatever reaches it.
 fn put_ending_note(
     out: &mut Vec<u8>,
-    config: &Config,
+    lint: &Lint<'_>,
     number: u16,
     rule: &Rule,
 ) -> Result<(), AllocError>
     ensures { OnOk result
-        (out.new.items ≡ out.old.items ++ ending_note config.now number rule.now) }
+        (out.new.items ≡ out.old.items ++ ending_note lint.now.config.now lint.now.lines.now number rule.now) }
 {
-    let rules = config.rules();
+    let rules = lint.config.rules();
     if is_open_end(rules.rules(), number, rule) {
-        put_note(out, rules, number, ending_words(config.format()))
+        put_note(out, lint, number, ending_words(lint.config.format()))
     } else {
         Ok(())
     }

@@ -4,4 +4,4 @@ use Rattle.gw_script.specs.Order.{in_order}
 use Rattle.gw_policy_review.proofs.lint.note.put_answer_notes.Given as goal
 
 abbrev pub invariant-loop-place : goal.invariant-loop-place
-invariant-loop-place l = l.out.items ≡ l.fn.out.items ++ in_order (answer_note l.config l.number l.port) 1 (take l.place l.ports)
+invariant-loop-place l = l.out.items ≡ l.fn.out.items ++ in_order (answer_note l.lint.config.now l.lint.lines.now l.number l.port) 1 (take l.place l.ports)

@@ -4,9 +4,9 @@ use Rattle.gw_policy_review.proofs.lint.note.put_overlap_notes.Goals as goal
 
 pub loop-field-preserved : goal.loop-field-preserved
 loop-field-preserved c =
-    flat_step (overlap_note c.args.rules.now c.args.number c.args.rule.now) c.args.fields.now c.loop-field.field-index _ c.args.out.now.items c.loop-field.out.items _ c.loop-field-test.true
+    flat_step (overlap_note c.args.lint.now.config.now c.args.lint.now.lines.now c.args.number c.args.rule.now) c.args.fields.now c.loop-field.field-index _ c.args.out.now.items c.loop-field.out.items _ c.loop-field-test.true
     c.loop-field.invariant c.in_ok-put_overlap_note.ensures
 
 pub returns : goal.returns
 returns c =
-    flat_end (overlap_note c.args.rules.now c.args.number c.args.rule.now) c.args.fields.now c.loop-field.field-index c.args.out.now.items _ c.loop-field-test.false c.loop-field.invariant
+    flat_end (overlap_note c.args.lint.now.config.now c.args.lint.now.lines.now c.args.number c.args.rule.now) c.args.fields.now c.loop-field.field-index c.args.out.now.items _ c.loop-field-test.false c.loop-field.invariant

@@ -5,4 +5,4 @@ use Rattle.gw_policy_review.proofs.lint.note.put_overlap_notes.Given as goal
 
 abbrev pub invariant-loop-field : goal.invariant-loop-field
 invariant-loop-field l =
-    l.out.items ≡ l.fn.out.items ++ flat_map (overlap_note l.rules l.number l.rule) (take l.field-index l.fields)
+    l.out.items ≡ l.fn.out.items ++ flat_map (overlap_note l.lint.config.now l.lint.lines.now l.number l.rule) (take l.field-index l.fields)

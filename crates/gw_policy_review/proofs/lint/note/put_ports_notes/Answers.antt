@@ -5,11 +5,11 @@ use Rattle.gw_script.proofs.Order.{in_order_none, in_order_step}
 use Rattle.gw_policy_review.proofs.lint.note.put_ports_notes.Goals as goal
 
 pub loop-place-init : goal.loop-place-init
-loop-place-init c = in_order_none (answer_notes c.args.config.now) c.args.out.now.items
+loop-place-init c = in_order_none (answer_notes c.args.lint.now.config.now c.args.lint.now.lines.now) c.args.out.now.items
 
 pub loop-place-preserved : goal.loop-place-preserved
 loop-place-preserved c =
-    let text = answer_notes c.args.config.now in
+    let text = answer_notes c.args.lint.now.config.now c.args.lint.now.lines.now in
     let item = c.index-ports-place.result in
     let here : get_or c.ports-ports.result.now c.loop-place.place item ≡ item = search rules in
     let then : c.put_answer_notes.new.out.items ≡ c.loop-place.out.items ++ text (c.loop-place.place + 1) item = search rules in
