@@ -1,5 +1,5 @@
 -- What a program reports of a fault: the line on standard error, and the exit status.
-use Rattle.std.specs.Prelude.{⊤, ℕ, Bool, true, false, List, [], ◌∷◌, ◌++◌, codes, decimal, Result, Ok, Err}
+use Rattle.std.specs.Prelude.{⊤, ℕ, ◌==◌, if◌then◌else◌, Bool, true, false, List, [], ◌∷◌, ◌++◌, length, codes, decimal, Result, Ok, Err}
 use Rattle.gw_configuration.specs.Shown.{shown}
 use Rattle.gw_command_line.specs.declared.options.fault.WordsFault.{WordsFault}
 use Rattle.gw_command_line.specs.declared.options.fault.WordsFault.TheVariants as words
@@ -81,6 +81,7 @@ text_of (fault.Unreadable why) = codes "cannot read configuration: " ++ obstacle
 text_of (fault.OtherUnreadable why) = codes "cannot read configuration: " ++ obstacle_words why
 text_of (fault.LogUnreadable why) = codes "cannot read log: " ++ obstacle_words why
 text_of (fault.Configuration f) = codes "configuration: " ++ name_of f
+text_of (fault.OtherConfiguration f) = codes "configuration: " ++ name_of f
 text_of (fault.Migration f) = codes "migration: " ++ reason_of f
 text_of (fault.Line n) = codes "line " ++ decimal n
 text_of (fault.FlawedLine n f) = codes "line " ++ decimal n ++ codes ": " ++ words_of f
@@ -116,18 +117,30 @@ rest_of f = text_of f ++ 10 ∷ []
 abbrev pub unread_line : (text name : List ℕ) → Obstacle → List ℕ
 unread_line text name why = text ++ (shown name ++ (codes ": " ++ (obstacle_words why ++ 10 ∷ [])))
 
--- the same of why a policy isn't on trial, with the name of its file if that can't be read
+-- The same of a file that can't be written: a text, why, and its name, if it has one.
+abbrev pub named : (file : List ℕ) → List ℕ
+named file = if length file == 0 then [] else codes ": " ++ shown file
+
+abbrev pub failed_line : (file text why : List ℕ) → List ℕ
+failed_line file text why = text ++ (why ++ (named file ++ 10 ∷ []))
+
+-- the same of why a policy isn't on trial, with the name of the file that can't be read, or of the log that can't be opened
 abbrev pub trial_rest : (file : List ℕ) → TrialFault → List ℕ
 trial_rest file (trial.Unreadable why) = unread_line (codes "trial: cannot read configuration ") file why
+trial_rest file trial.Log = failed_line file (codes "trial: ") (codes "log failed")
 trial_rest file f = rest_of (fault.Trial f)
 
--- the same of any fault that has a line, with the name of the file if that can't be read
+-- the same of any fault that has a line, with the name of the file if that can't be read or written
 abbrev pub rest_naming : (file : List ℕ) → Fault → List ℕ
 rest_naming file (fault.Unreadable why) = unread_line (codes "cannot read configuration ") file why
 rest_naming file (fault.OtherUnreadable why) = unread_line (codes "cannot read configuration ") file why
 rest_naming file (fault.LogUnreadable why) = unread_line (codes "cannot read log ") file why
 rest_naming file (fault.StateUnreadable why) = unread_line (codes "cannot read state ") file why
 rest_naming file (fault.Trial f) = trial_rest file f
+rest_naming file fault.Log = failed_line file (codes "log failed") []
+rest_naming file fault.Audit = failed_line file (codes "audit failed") []
+rest_naming file (fault.Store f) = failed_line file (codes "state isn't kept: ") (store_words f)
+rest_naming file (fault.Metrics f) = failed_line file (codes "metrics failed: ") (store_words f)
 rest_naming file f = rest_of f
 
 -- a fault has a line: not if `compare` found two configurations that aren't alike, if the answer to a request says why it
@@ -149,7 +162,7 @@ line_if false program rest = []
 abbrev pub line_of : (program : List ℕ) → Fault → List ℕ
 line_of program f = line_if (has_line f) program (rest_of f)
 
--- the same, which names the file that can't be read
+-- the same, which names the file that can't be read or written
 abbrev pub line_by : (program file : List ℕ) → Fault → List ℕ
 line_by program file f = line_if (has_line f) program (rest_naming file f)
 
@@ -168,6 +181,7 @@ status_of (fault.Unreadable why) = 1
 status_of (fault.OtherUnreadable why) = 1
 status_of (fault.LogUnreadable why) = 1
 status_of (fault.Configuration f) = 2
+status_of (fault.OtherConfiguration f) = 2
 status_of (fault.Migration f) = 2
 status_of (fault.Line n) = 2
 status_of (fault.FlawedLine n f) = 2
@@ -204,6 +218,7 @@ is_different _ = false
 -- the fault of the configuration that another is compared with
 abbrev pub of_other : Fault → Fault
 of_other (fault.Unreadable why) = fault.OtherUnreadable why
+of_other (fault.Configuration f) = fault.OtherConfiguration f
 of_other f = f
 
 -- why words choose nothing, as the program reports it

@@ -1,4 +1,5 @@
 pub mod Assertions
 pub mod Configured
 pub mod Files
+pub mod Places
 pub mod Printing

@@ -6,7 +6,7 @@ ghost use Rattle.std.specs.Process.{exit_status};
 ghost use Rattle.gw_ending.specs.declared.fault.Fault.TheVariants as fault;
 ghost use Rattle.gw_configuration.specs.Shown.{shown};
 ghost use Rattle.gw_notices.specs.Reload.{name_of};
-ghost use Rattle.gw_ending.specs.Ending.{cause_of, error_text, line_by, line_of, reason_of, rest_naming, rest_of, status_after};
+ghost use Rattle.gw_ending.specs.Ending.{cause_of, error_text, failed_line, line_by, line_of, named, reason_of, rest_naming, rest_of, status_after};
 ghost use Rattle.gw_ending.specs.Ending.{store_words, text_of, trial_rest, unread_line, words_of};
 ghost use Rattle.gw_system.specs.Obstacle.{obstacle_words};
 
@@ -151,7 +151,9 @@ fn write_fault<E: OctetSink>(fault: Fault, errors: &mut E) -> Result<(), WriteFa
             write_obstacle("cannot read configuration: ", why, errors)
         }
         Fault::LogUnreadable(why) => write_obstacle("cannot read log: ", why, errors),
-        Fault::Configuration(fault) => write_configuration_fault(fault, errors),
+        Fault::Configuration(fault) | Fault::OtherConfiguration(fault) => {
+            write_configuration_fault(fault, errors)
+        }
         Fault::Migration(fault) => write_migration_fault(fault, errors),
         Fault::Line(number) => write_number("line ", number, "\n", errors),
         Fault::FlawedLine(number, flaw) => write_flaw(number, flaw, errors),
@@ -208,7 +210,37 @@ fn write_unread<E: OctetSink>(
     write_obstacle(": ", why, errors)
 }
 
-/// Writes why a policy isn't on trial. It names this file if that can't be read.
+/// Writes the name of a file after a colon and a space, if it has one.
+fn write_named<E: OctetSink>(file: &str, errors: &mut E) -> Result<(), WriteFailed>
+    ensures ok { OnOk result (Appends (E.held errors.old) (E.held errors.new) (named file.now)) }
+    ensures sure { E.NeverFails errors.old → IsOk result }
+    ensures lasts { E.NeverFails errors.old → E.NeverFails errors.new }
+{
+    if file.is_empty() {
+        return Ok(());
+    }
+    write_whole(errors, b": ")?;
+    write_name(file.as_bytes(), errors)
+}
+
+/// Writes the line of a file that can't be written: a text, why, and the file's name, if it has one.
+fn write_failed<E: OctetSink>(
+    text: &str,
+    why: &str,
+    file: &str,
+    errors: &mut E,
+) -> Result<(), WriteFailed>
+    ensures ok { OnOk result (Appends (E.held errors.old) (E.held errors.new) (failed_line file.now text.now why.now)) }
+    ensures sure { E.NeverFails errors.old → IsOk result }
+    ensures lasts { E.NeverFails errors.old → E.NeverFails errors.new }
+{
+    write_whole(errors, text.as_bytes())?;
+    write_whole(errors, why.as_bytes())?;
+    write_named(file, errors)?;
+    write_whole(errors, b"\n")
+}
+
+/// Writes why a policy isn't on trial. It names this file if that can't be read, or if it is the log that can't be opened.
 fn write_trial_fault_naming<E: OctetSink>(
     file: &str,
     fault: TrialFault,
@@ -222,11 +254,12 @@ fn write_trial_fault_naming<E: OctetSink>(
         TrialFault::Unreadable(why) => {
             write_unread("trial: cannot read configuration ", file, why, errors)
         }
+        TrialFault::Log => write_failed("trial: ", "log failed", file, errors),
         _ => write_trial_fault(fault, errors),
     }
 }
 
-/// Writes the line of a fault that has one, after the program's name. It names this file if that can't be read.
+/// Writes the line of a fault that has one, after the program's name. It names this file if that can't be read or written.
 fn write_fault_naming<E: OctetSink>(
     file: &str,
     fault: Fault,
@@ -244,6 +277,10 @@ fn write_fault_naming<E: OctetSink>(
         Fault::LogUnreadable(why) => write_unread("cannot read log ", file, why, errors),
         Fault::StateUnreadable(why) => write_unread("cannot read state ", file, why, errors),
         Fault::Trial(why) => write_trial_fault_naming(file, why, errors),
+        Fault::Log => write_failed("log failed", "", file, errors),
+        Fault::Audit => write_failed("audit failed", "", file, errors),
+        Fault::Store(why) => write_failed("state isn't kept: ", store_words(why), file, errors),
+        Fault::Metrics(why) => write_failed("metrics failed: ", store_words(why), file, errors),
         _ => write_fault(fault, errors),
     }
 }
@@ -271,7 +308,7 @@ fn write_line<E: OctetSink>(program: &str, fault: Fault, errors: &mut E) -> Resu
     write_fault(fault, errors)
 }
 
-/// Writes the line of a fault, if it has one. It names this file if that can't be read.
+/// Writes the line of a fault, if it has one. It names this file if that can't be read or written.
 fn write_line_naming<E: OctetSink>(
     program: &str,
     file: &str,
@@ -289,7 +326,7 @@ fn write_line_naming<E: OctetSink>(
     write_fault_naming(file, fault, errors)
 }
 
-/// Reports a fault of the program of this name in one line, if it has one. It names this file if that can't be read.
+/// Reports a fault of the program of this name in one line, if it has one. It names this file if that can't be read or written.
 pub fn report_fault<E: OctetSink>(program: &str, file: &str, fault: Fault, errors: &mut E)
     ensures line { E.NeverFails errors.old →
         Appends (E.held errors.old) (E.held errors.new) (line_by program.now file.now fault) }

@@ -39,6 +39,8 @@ pub enum Fault {
     LogUnreadable(Obstacle),
     /// What the file of the configuration says is none, and why.
     Configuration(ConfigFault),
+    /// What the file of the configuration that it is compared with says is none, and why.
+    OtherConfiguration(ConfigFault),
     /// The configuration isn't written in format 3, and why.
     Migration(MigrationFlaw),
     /// Line `n` of the script, counted from 1, is no event; or line `n` of the asks is none; or line `n`
@@ -66,7 +68,7 @@ pub enum Fault {
     Store(StoreFault),
     /// The policy that is to be on trial isn't, and why.
     Trial(TrialFault),
-    /// The audit can't be opened, or the last line of it can't be read.
+    /// The audit can't be opened or read.
     Audit,
     /// The place of the metrics can't be opened, and why.
     Metrics(StoreFault),
@@ -140,6 +142,7 @@ impl Fault {
     {
         match self {
             Fault::Unreadable(why) => Fault::OtherUnreadable(why),
+            Fault::Configuration(fault) => Fault::OtherConfiguration(fault),
             _ => self,
         }
     }
@@ -152,6 +155,7 @@ impl Fault {
             Fault::Trial(fault) => status_of_trial(fault),
             Fault::CommandLine
             | Fault::Configuration(_)
+            | Fault::OtherConfiguration(_)
             | Fault::Migration(_)
             | Fault::Line(_)
             | Fault::FlawedLine(_, _)

@@ -39,6 +39,10 @@ impl<'a> ConfigFiles for MemFiles<'a> {
         Ok(Vec::from_slice(alloc, self.text.as_bytes())?)
     }
 
+    fn is_regular(&self, name: &str) -> bool {
+        !name.starts_with(UNREADABLE)
+    }
+
     ghost ReadsState = { λ _ _ _. ⊤ };
 
     fn read_state(&self, alloc: Global, name: &str) -> Result<Vec<u8>, Fault> {

@@ -19,7 +19,7 @@ use Rattle.gw_ending.specs.reading.Assertions.{judged_text, outcome_of_judged}
 use Rattle.gw_ending.specs.reading.Configured.{IsConfigurationOf, IsConfigured}
 use Rattle.gw_ending.specs.reading.Printing.{AppendsFront, LeavesEnding, LeavesFault}
 use Rattle.gw_shell.specs.Deciding.{ReportsAsks}
-use Rattle.gw_shell.specs.Ending.{chosen, error_text_by, usage_of}
+use Rattle.gw_shell.specs.Ending.{PlaceBy, chosen, error_text_by, usage_of}
 use Rattle.gw_shell.specs.Replay.{Plays}
 use Rattle.gw_service.specs.Serving.{IsFlushedFor}
 use Rattle.gw_service.specs.StampedRun.{TimedMachine}
@@ -90,7 +90,7 @@ LeavesOutput Reads machine input held holds said (Ok (choice.Replay file explain
 LeavesOutput Reads machine input held holds said (Ok (choice.Run options)) outcome =
     (text : Result (List ℕ) Fault) × Reads (string_bytes options.config) text
     × (c : Result Configuration Fault) × IsConfigurationOf text c
-    × LeavesRun machine text held holds options c said outcome
+    × LeavesRun machine held holds options c said outcome
 LeavesOutput Reads machine input held holds said (Ok (choice.Help text)) (Ok done) =
     Appends held holds (string_bytes text)
 LeavesOutput Reads machine input held holds said (Ok (choice.Help text)) (Err f) =
@@ -120,10 +120,10 @@ pub record IsFollowed (Leaves : List ℕ → Result Choice Fault → Result (Uni
   pub quiet : IsQuiet choice said
   pub errors : Adds said
 
--- One run of the program. `Chooses` is what the words ask for, `Leaves` what is on standard output at a choice
+-- One run of the program. `Reads` is what files give, `Chooses` what the words ask for, `Leaves` what is on standard output at a choice
 -- and an outcome, with what was reported at the start, `was` and `is` what of it wasn't flushed before and isn't then,
 -- and `Adds` what standard error is given.
-pub record IsRun (Chooses : Result Choice Fault → Type 0)
+pub record IsRun (Reads : List ℕ → Result (List ℕ) Fault → Type 0) (Chooses : Result Choice Fault → Type 0)
     (Leaves : List ℕ → Result Choice Fault → Result (Unit {0}) Fault → Type 0)
     (was is : List ℕ) (Adds : List ℕ → Type 0)
     (exit : ℕ) : Type 0 where
@@ -134,5 +134,7 @@ pub record IsRun (Chooses : Result Choice Fault → Type 0)
   pub output : Leaves said choice outcome
   pub quiet : IsQuiet choice said
   pub flush : OnOk outcome (IsFlushed choice was is)
-  pub errors : Adds (said ++ error_text_by choice outcome ++ usage_of choice)
+  pub place : List ℕ
+  pub placed : PlaceBy Reads choice outcome place
+  pub errors : Adds (said ++ place ++ error_text_by choice outcome ++ usage_of choice)
   pub status : exit ≡ status_after outcome

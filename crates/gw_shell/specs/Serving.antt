@@ -1,11 +1,10 @@
 -- What `run` leaves of a configuration that was read, and how its end is reported, over the definitions of `gw_service`.
-use Rattle.std.specs.Prelude.{◌≡◌, ℕ, List, Option, Result, Ok, Err}
+use Rattle.std.specs.Prelude.{◌≡◌, ℕ, List, [], Option, Result, Ok, Err}
 use Rattle.gw_configuration.specs.declared.run_options.RunOptions.{RunOptions}
 use Rattle.gw_configuration.specs.Configuration.{Configuration}
 use Rattle.gw_service.specs.StampedRun.{LeavesTimed, TimedMachine}
 use Rattle.gw_service.specs.declared.fault.ServiceFault.{ServiceFault}
 use Rattle.gw_service.specs.declared.fault.ServiceFault.TheVariants as service
-use Rattle.gw_ending.specs.reading.Configured.{FaultNote}
 use Rattle.gw_ending.specs.Ending.{fault_of_metrics, fault_of_state, fault_of_store}
 use Rattle.gw_ending.specs.declared.fault.Fault.{Fault}
 use Rattle.gw_ending.specs.declared.fault.Fault.TheVariants as fault
@@ -28,13 +27,11 @@ abbrev pub served : Result (Unit {0}) ServiceFault → Result (Unit {0}) Fault
 served (Ok done) = Ok done
 served (Err f) = Err (fault_of_service f)
 
--- What `run` leaves under the configuration that was read from a text. If there is none nothing
--- is opened, the outcome is why, and it may be written where its fault is.
-abbrev pub LeavesRun : {C Log Sockets S Q : Type 0} → TimedMachine C Log Sockets S Q → Result (List ℕ) Fault
+-- What `run` leaves under the configuration that was read. If there is none nothing is opened, and the outcome is why.
+abbrev pub LeavesRun : {C Log Sockets S Q : Type 0} → TimedMachine C Log Sockets S Q
     → (held holds : Option (List ℕ)) → RunOptions
     → Result Configuration Fault → (said : List ℕ) → Result (Unit {0}) Fault → Type 0
-LeavesRun machine text held holds options (Ok c) said outcome =
+LeavesRun machine held holds options (Ok c) said outcome =
     (done : Result (Unit {0}) ServiceFault) × LeavesTimed machine options held holds c said done
     × (outcome ≡ served done)
-LeavesRun machine text held holds options (Err f) said outcome =
-    (outcome ≡ Err f) × (holds ≡ held) × FaultNote options.verbose text f said
+LeavesRun machine held holds options (Err f) said outcome = (outcome ≡ Err f) × (holds ≡ held) × (said ≡ [])

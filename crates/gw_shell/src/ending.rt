@@ -5,11 +5,15 @@ ghost use Rattle.std.specs.Io.KnownBytes.{Appends};
 ghost use Rattle.std.specs.Option.{option_map_or};
 ghost use Rattle.std.specs.Process.{exit_status};
 ghost use Rattle.gw_ending.specs.Ending.{status_after};
-ghost use Rattle.gw_shell.specs.Ending.{error_text_by, file_of, first_file, state_file, trial_file, usage_of};
+ghost use Rattle.gw_shell.specs.Ending.{ReportsPlaceBy, error_text_by, explains_itself, file_of, file_of_run, first_file, trial_file, usage_of};
 
 use gw_command_line::Choice;
+use gw_configuration::RunOptions;
+use gw_ending::reading::{ConfigFiles, report_place};
 use gw_ending::{Fault, report_fault};
 use gw_script::OctetSink;
+use gw_watchers::files::TrialFault;
+use std::alloc::Global;
 use std::process::ExitCode;
 
 /// The file that the configuration of a choice is read from; nothing if it names none.
@@ -39,16 +43,6 @@ fn name_if(name: &Option<String>) -> &str
     }
 }
 
-/// The file of the state of a choice; nothing if it names none.
-fn state_file(choice: &Result<Choice, Fault>) -> &str
-    ensures { result.now ≡ state_file choice.now }
-{
-    match choice {
-        Ok(Choice::Run(options)) => name_if(&options.state),
-        _ => "",
-    }
-}
-
 /// The file of the policy that is to be on trial; nothing if there is none.
 fn trial_file(choice: &Result<Choice, Fault>) -> &str
     ensures { result.now ≡ trial_file choice.now }
@@ -59,15 +53,59 @@ fn trial_file(choice: &Result<Choice, Fault>) -> &str
     }
 }
 
+/// The file that a fault of `run` is of; nothing if it has none.
+fn file_of_run(options: &RunOptions, fault: Fault) -> &str
+    ensures { result.now ≡ file_of_run options.now fault }
+{
+    match fault {
+        Fault::StateUnreadable(_) | Fault::Store(_) => name_if(&options.state),
+        Fault::Trial(TrialFault::Log) => name_if(&options.trial_log),
+        Fault::Trial(_) => name_if(&options.trial),
+        Fault::Log => name_if(&options.log),
+        Fault::Audit => name_if(&options.audit),
+        Fault::Metrics(_) => name_if(&options.metrics),
+        _ => "",
+    }
+}
+
 /// The file that a fault is of, if it names one.
 fn file_of(choice: &Result<Choice, Fault>, fault: Fault) -> &str
     ensures { result.now ≡ file_of choice.now fault }
 {
-    match fault {
-        Fault::Unreadable(_) => first_file(choice),
-        Fault::StateUnreadable(_) => state_file(choice),
-        Fault::Trial(_) => trial_file(choice),
+    match (choice, fault) {
+        (_, Fault::Unreadable(_)) => first_file(choice),
+        (Ok(Choice::Run(options)), _) => file_of_run(options, fault),
         _ => "",
+    }
+}
+
+/// Whether it prints where a fault is on standard output.
+fn explains_itself(choice: &Result<Choice, Fault>) -> bool
+    ensures { result ≡ explains_itself choice.now }
+{
+    matches!(choice, Ok(Choice::Check(_)))
+}
+
+/// Reports where the fault is of the configuration that a choice names, or of the one on trial, unless that was printed.
+pub fn report_place_by<F: ConfigFiles, E: OctetSink>(
+    alloc: Global,
+    files: &F,
+    choice: &Result<Choice, Fault>,
+    outcome: Result<(), Fault>,
+    errors: &mut E,
+)
+    ensures place { ReportsPlaceBy (F.Reads files.now) choice.now outcome
+        (λ place. E.NeverFails errors.old → Appends (E.held errors.old) (E.held errors.new) place) }
+    ensures lasts { E.NeverFails errors.old → E.NeverFails errors.new }
+{
+    match outcome {
+        Err(Fault::Configuration(fault)) if !explains_itself(choice) => {
+            report_place(alloc, files, first_file(choice), fault, errors);
+        }
+        Err(Fault::Trial(TrialFault::Configuration(fault))) => {
+            report_place(alloc, files, trial_file(choice), fault, errors);
+        }
+        _ => {}
     }
 }
 

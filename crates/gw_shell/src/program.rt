@@ -16,7 +16,7 @@ ghost use Rattle.gw_service.specs.StampedRun.{timed_machine};
 ghost use Rattle.gw_ending.specs.declared.fault.Fault.{Fault};
 
 use crate::deciding::{Playing, play_in};
-use crate::ending::{end_by, usage_of};
+use crate::ending::{end_by, report_place_by, usage_of};
 use crate::serving::fault_of_service;
 use gw_ask_sets::assertions::{JUDGING_STEPS, judge};
 use gw_command_line::{Choice, choice_of};
@@ -98,8 +98,7 @@ fn served(done: Result<(), ServiceFault>) -> Result<(), Fault>
     }
 }
 
-/// Serves the ports of the configuration of a text that was read, or says where its fault is, if
-/// that is asked for.
+/// Serves the ports of the configuration of a text that was read.
 fn serve<H: Host, W: Write + Drop, E: OctetSink>(
     alloc: Global,
     text: &Result<Vec<u8>, Fault>,
@@ -113,9 +112,8 @@ fn serve<H: Host, W: Write + Drop, E: OctetSink>(
         × LeavesRun (timed_machine {C = H.Calendar}
         (whole_machine (machine (OpensAtLine (H.LogOpens host.old) (H.LogIsCut host.old) H.Log.held)
         (H.SocketsOpen host.old) (H.RoutesIp host.old) (H.Closes host.new) H.Log.held H.Sockets.calls)
-        (state_machine (H.FileReads host.old) (H.LastLines host.old) (H.StoreOpens host.old)
+        (state_machine (H.FileReads host.old) (H.LastDenials host.old) (H.StoreOpens host.old)
         (H.ReloadsOpen host.old) H.StateStore.held H.Reloads.recorded)))
-        (result_map (λ octets. octets.items) text.now)
         (writer_contents W.contents output.old) (writer_contents W.contents output.new) options.now
         config said result
         × (E.NeverFails errors.old → Appends (E.held errors.old) (E.held errors.new) said) }
@@ -125,10 +123,7 @@ fn serve<H: Host, W: Write + Drop, E: OctetSink>(
 {
     match configuration_of(alloc, text) {
         Ok(config) => served(serve_run(alloc, config, options, host, output, errors)),
-        Err(fault) => {
-            write_note(&fault_note(alloc, options.verbose, text, fault), errors);
-            Err(fault)
-        }
+        Err(fault) => Err(fault),
     }
 }
 
@@ -147,7 +142,7 @@ fn follow<F: ConfigFiles, H: Host, R: OctetSource, W: Write + Drop, E: OctetSink
         (timed_machine {C = H.Calendar}
         (whole_machine (machine (OpensAtLine (H.LogOpens host.old) (H.LogIsCut host.old) H.Log.held)
         (H.SocketsOpen host.old) (H.RoutesIp host.old) (H.Closes host.new) H.Log.held H.Sockets.calls)
-        (state_machine (H.FileReads host.old) (H.LastLines host.old) (H.StoreOpens host.old)
+        (state_machine (H.FileReads host.old) (H.LastDenials host.old) (H.StoreOpens host.old)
         (H.ReloadsOpen host.old) H.StateStore.held H.Reloads.recorded))) (R.left input.old)
         (writer_contents W.contents output.old) (writer_contents W.contents output.new))
         (λ said. E.NeverFails errors.old → Appends (E.held errors.old) (E.held errors.new) said)
@@ -198,7 +193,7 @@ pub fn run<F: ConfigFiles, H: Host, R: OctetSource, W: Write + Drop, E: OctetSin
     output: &mut BufWriter<W>,
     errors: &mut E,
 ) -> ExitCode
-    ensures run { IsRun
+    ensures run { IsRun (F.Reads files.now)
         (λ choice. MatchResult words
         (λ w. IsChoiceOf (map string_bytes w.items) choice)
         (λ f. choice ≡ Err f))
@@ -206,7 +201,7 @@ pub fn run<F: ConfigFiles, H: Host, R: OctetSource, W: Write + Drop, E: OctetSin
         (timed_machine {C = H.Calendar}
         (whole_machine (machine (OpensAtLine (H.LogOpens host.old) (H.LogIsCut host.old) H.Log.held)
         (H.SocketsOpen host.old) (H.RoutesIp host.old) (H.Closes host.new) H.Log.held H.Sockets.calls)
-        (state_machine (H.FileReads host.old) (H.LastLines host.old) (H.StoreOpens host.old)
+        (state_machine (H.FileReads host.old) (H.LastDenials host.old) (H.StoreOpens host.old)
         (H.ReloadsOpen host.old) H.StateStore.held H.Reloads.recorded))) (R.left input.old)
         (writer_contents W.contents output.old) (writer_contents W.contents output.new))
         (writer_buffer output.old) (writer_buffer output.new)
@@ -215,6 +210,7 @@ pub fn run<F: ConfigFiles, H: Host, R: OctetSource, W: Write + Drop, E: OctetSin
 {
     let choice = choice_from(alloc, words);
     let outcome = follow(alloc, &choice, files, host, input, output, errors);
+    report_place_by(alloc, files, &choice, outcome, errors);
     let exit = end_by(&choice, outcome, errors);
     write_note(usage_of(&choice), errors);
     exit

@@ -10,10 +10,10 @@ use Rattle.gw_decisions.specs.tally.Tally.{tally_text}
 use Rattle.gw_ending.specs.declared.fault.Fault.{Fault}
 use Rattle.gw_ending.specs.declared.fault.Fault.TheVariants as fault
 
--- `before` was written before the asks of this text were answered by these rules, with these notes and this outcome,
--- and `after` when that ended
-abbrev pub Answers : List Rule → (notes : List (List ℕ)) → List ℕ → List ℕ → Result (Unit {0}) Fault → List ℕ → Type 0
-Answers rules notes = Leaves (IsAnswered rules notes) ShowsNoAsk
+-- `before` was written before the asks of this text were answered by these rules, of which this is said, with this outcome, and
+-- `after` when that ended
+abbrev pub Answers : List Rule → (said : Option ℕ → List ℕ) → List ℕ → List ℕ → Result (Unit {0}) Fault → List ℕ → Type 0
+Answers rules said = Leaves (IsAnswered rules said) ShowsNoAsk
 
 -- how many of the asks of a text each of these rules decides, in lines; or the first line that says none
 abbrev pub Counts : List Rule → List ℕ → Result (List ℕ) Fault → Type 0

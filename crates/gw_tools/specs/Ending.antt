@@ -1,10 +1,12 @@
 -- How the program ends after a choice.
-use Rattle.std.specs.Prelude.{ℕ, List, [], codes, Some, Result, Ok, Err, string_bytes}
+use Rattle.std.specs.Prelude.{◌≡◌, ℕ, Bool, true, false, List, [], codes, Some, Result, Ok, Err, string_bytes}
 use Rattle.std.specs.Option.{option_map_or}
 use Rattle.gw_tool_line.specs.declared.command_line.Choice.{Choice}
 use Rattle.gw_tool_line.specs.declared.command_line.Choice.TheVariants as choice
 use Rattle.gw_command_line.specs.declared.options.fault.WordsFault.{WordsFault}
+use Rattle.gw_configuration.specs.declared.fault.ConfigFault.{ConfigFault}
 use Rattle.gw_ending.specs.Ending.{fault_of_words, line_by, status_after}
+use Rattle.gw_ending.specs.reading.Places.{PlaceText}
 use Rattle.gw_ending.specs.declared.fault.Fault.{Fault}
 use Rattle.gw_ending.specs.declared.fault.Fault.TheVariants as fault
 use Rattle.gw_tool_line.specs.declared.options.Shown.{Shown}
@@ -53,6 +55,29 @@ file_of choice (fault.OtherUnreadable why) = other_file choice
 file_of choice (fault.LogUnreadable why) = log_file choice
 file_of choice (fault.StateUnreadable why) = state_file choice
 file_of choice f = []
+
+-- `check`, `explain` and `lint` print on standard output where a fault is
+abbrev pub explains_itself : Result Choice Fault → Bool
+explains_itself (Ok (choice.Check file explains lints)) = true
+explains_itself (Ok (choice.CheckJson file)) = true
+explains_itself _ = false
+
+-- where the fault of the configuration of a choice is, unless that was printed; or of the one that it is compared with
+abbrev pub PlaceIf : (is_printed : Bool) → (Reads : List ℕ → Result (List ℕ) Fault → Type 0) → (file : List ℕ) → ConfigFault
+    → (place : List ℕ) → Type 0
+PlaceIf true Reads file f place = place ≡ []
+PlaceIf false Reads file f place = PlaceText Reads file f place
+
+abbrev pub PlaceBy : (Reads : List ℕ → Result (List ℕ) Fault → Type 0) → Result Choice Fault → Result (Unit {0}) Fault
+    → (place : List ℕ) → Type 0
+PlaceBy Reads choice (Err (fault.Configuration f)) place = PlaceIf (explains_itself choice) Reads (first_file choice) f place
+PlaceBy Reads choice (Err (fault.OtherConfiguration f)) place = PlaceText Reads (other_file choice) f place
+PlaceBy Reads choice outcome place = place ≡ []
+
+-- that is reported
+abbrev pub ReportsPlaceBy : (Reads : List ℕ → Result (List ℕ) Fault → Type 0) → Result Choice Fault → Result (Unit {0}) Fault
+    → (Adds : List ℕ → Type 0) → Type 0
+ReportsPlaceBy Reads choice outcome Adds = (place : List ℕ) × PlaceBy Reads choice outcome place × Adds place
 
 -- the line on standard error after a choice, if there is a fault: it names the file that can't be read
 abbrev pub error_text_by : Result Choice Fault → Result (Unit {0}) Fault → List ℕ

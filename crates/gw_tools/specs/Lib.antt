@@ -7,6 +7,7 @@ pub mod Json
 pub mod Kept
 pub mod Lines
 pub mod Objects
+pub mod Placed
 pub mod Program
 pub mod Questioning
 pub mod Reloading

@@ -1,12 +1,11 @@
 -- What `log --json` and `why --json` leave written, at each outcome: over the definitions of `gw_json`.
-use Rattle.std.specs.Prelude.{◌≡◌, ℕ, List, Option, Some, Result, Ok, Err}
+use Rattle.std.specs.Prelude.{◌≡◌, ℕ, List, Option, Result, Ok, Err}
 use Rattle.gw_log_words.specs.Translation.{RefusesNone}
-use Rattle.gw_configuration.specs.Configuration.{Configuration}
 use Rattle.gw_json.specs.Log.{IsEntryIn}
-use Rattle.gw_json.specs.Why.{IsAnswerIn, SaysNoAsk}
-use Rattle.gw_rules.specs.declared.rule.Rule.{Rule}
+use Rattle.gw_json.specs.Why.{IsAnswerIn, SaysNoAsk, place_members}
 use Rattle.gw_script.specs.Known.{OnKnown}
-use Rattle.gw_ending.specs.reading.Configured.{IsConfigured}
+use Rattle.gw_tools.specs.Placed.{IsPlacedIn}
+use Rattle.gw_tools.specs.declared.placed.Placed.{Placed}
 use Rattle.gw_tools.specs.Lines.{Leaves}
 use Rattle.gw_ending.specs.declared.fault.Fault.{Fault}
 
@@ -14,19 +13,19 @@ use Rattle.gw_ending.specs.declared.fault.Fault.{Fault}
 abbrev pub Lists : List ℕ → List ℕ → Result (Unit {0}) Fault → List ℕ → Type 0
 Lists = Leaves IsEntryIn RefusesNone
 
--- the same of the answers to asks by these rules, with these notes
-abbrev pub Judges : List Rule → List (List ℕ) → List ℕ → List ℕ → Result (Unit {0}) Fault → List ℕ → Type 0
-Judges rules notes = Leaves (IsAnswerIn rules notes) SaysNoAsk
+-- the same of the answers to asks by the rules of a configuration, with their notes and the lines of its tables
+abbrev pub Judges : Placed → List ℕ → List ℕ → Result (Unit {0}) Fault → List ℕ → Type 0
+Judges p = Leaves (IsAnswerIn p.config.rules p.config.notes (place_members p.config.tables p.lines.items)) SaysNoAsk
 
 -- What `why --json` leaves by the rules of the configuration that was read. If there is none, the outcome is why.
-abbrev pub LeavesJudged : Option (List ℕ) → Option (List ℕ) → Option (List ℕ) → Result Configuration Fault
+abbrev pub LeavesJudged : Option (List ℕ) → Option (List ℕ) → Option (List ℕ) → Result Placed Fault
     → Result (Unit {0}) Fault → Type 0
-LeavesJudged input held holds (Ok c) outcome =
-    OnKnown input held holds (λ text before. Judges c.rules c.notes text before outcome)
+LeavesJudged input held holds (Ok p) outcome =
+    OnKnown input held holds (λ text before. Judges p text before outcome)
 LeavesJudged input held holds (Err f) outcome = (outcome ≡ Err f) × (holds ≡ held)
 
 -- What it leaves by those of the file of this name.
 abbrev pub LeavesJudgedIn : (Reads : List ℕ → Result (List ℕ) Fault → Type 0) → List ℕ → Option (List ℕ) → Option (List ℕ)
     → Option (List ℕ) → Result (Unit {0}) Fault → Type 0
 LeavesJudgedIn Reads file input held holds outcome =
-    (c : Result Configuration Fault) × IsConfigured Reads (Some file) c × LeavesJudged input held holds c outcome
+    (p : Result Placed Fault) × IsPlacedIn Reads file p × LeavesJudged input held holds p outcome

@@ -37,12 +37,15 @@ use Rattle.gw_ending.specs.reading.Assertions.{do_hold, outcome_of_judged, unhel
 use Rattle.gw_ending.specs.reading.Configured.{IsConfigurationOf, IsConfigured}
 use Rattle.gw_ending.specs.reading.Printing.{AppendsFront, LeavesEnding, LeavesFault, LeavesPrinted}
 use Rattle.gw_tools.specs.Questioning.{LeavesQuestionIn, asked_text}
+use Rattle.gw_tools.specs.Placed.{IsPlacedIn}
+use Rattle.gw_tools.specs.declared.placed.Placed.{Placed}
+use Rattle.gw_verdicts.specs.Why.{said_text}
 use Rattle.gw_tools.specs.Reloading.{IsAnswerTo, Replying, octets_or, outcome_of_answer}
 use Rattle.gw_notices.specs.Notices.{stop_line}
 use Rattle.gw_system.specs.Request.{reload_request, stop_request}
 use Rattle.gw_ending.specs.Ending.{is_different, of_other}
-use Rattle.gw_tools.specs.Ending.{chosen, error_text_by, status_by, usage_of}
-use Rattle.gw_tools.specs.Checked.{IsChecked}
+use Rattle.gw_tools.specs.Ending.{PlaceBy, chosen, error_text_by, status_by, usage_of}
+use Rattle.gw_tools.specs.Checked.{IsChecked, lint_lines}
 use Rattle.gw_tools.specs.Json.{AreComparisonLines, FaultLine, IsMade, judged_line}
 use Rattle.gw_tools.specs.Kept.{IsSaidOfText}
 use Rattle.gw_tools.specs.Objects.{LeavesJudgedIn, Lists}
@@ -57,23 +60,24 @@ abbrev pub IsChoiceOf : List (List ℕ) → Result Choice Fault → Type 0
 IsChoiceOf words choice = (read : Result Choice WordsFault) × IsAnswer words read × (choice ≡ chosen read)
 
 -- What `check` leaves of a configuration whose assertions were judged: what it says of it.
-abbrev pub LeavesJudged : (explains lints : Bool) → Option (List ℕ) → Option (List ℕ) → Configuration
+abbrev pub LeavesJudged : (explains : Bool) → (lint : Option (List ℕ)) → Option (List ℕ) → Option (List ℕ) → Configuration
     → Result (Unit {0}) Fault → Type 0
-LeavesJudged explains lints held holds c outcome =
-    (judged : List Judged) × AreJudged c JUDGING_STEPS judged × (text : List ℕ) × IsChecked explains lints c judged text
+LeavesJudged explains lint held holds c outcome =
+    (judged : List Judged) × AreJudged c JUDGING_STEPS judged × (text : List ℕ) × IsChecked explains lint c judged text
     × LeavesEnding text (outcome_of_judged judged) held holds outcome
 
 -- The same, or nothing if memory ran out.
-abbrev pub LeavesConfigured : (explains lints : Bool) → Option (List ℕ) → Option (List ℕ) → Configuration
+abbrev pub LeavesConfigured : (explains : Bool) → (lint : Option (List ℕ)) → Option (List ℕ) → Option (List ℕ) → Configuration
     → Result (Unit {0}) Fault → Type 0
-LeavesConfigured explains lints held holds c outcome =
-    LeavesJudged explains lints held holds c outcome ⊎ ((outcome ≡ Err fault.Memory) × (holds ≡ held))
+LeavesConfigured explains lint held holds c outcome =
+    LeavesJudged explains lint held holds c outcome ⊎ ((outcome ≡ Err fault.Memory) × (holds ≡ held))
 
 -- What it leaves of what was read of a text. Where there is no configuration the outcome is why, whatever became of
 -- the explanation.
 abbrev pub LeavesChecked : (explains lints : Bool) → Result (List ℕ) Fault → Option (List ℕ) → Option (List ℕ)
     → Result Configuration Fault → Result (Unit {0}) Fault → Type 0
-LeavesChecked explains lints text held holds (Ok c) outcome = LeavesConfigured explains lints held holds c outcome
+LeavesChecked explains lints text held holds (Ok c) outcome =
+    LeavesConfigured explains (lint_lines lints (octets_or text) c) held holds c outcome
 LeavesChecked explains lints text held holds (Err f) outcome =
     (outcome ≡ Err f) × LeavesFault text f held holds
 
@@ -95,21 +99,21 @@ fault_of_listing unlisted.Unlike = fault.Unlisted
 fault_of_listing unlisted.Memory = fault.Memory
 
 -- a text lists the rules of a configuration, and is read again as these
-abbrev pub IsListing : Configuration → List ℕ → Type 0
-IsListing c text = (text ≡ listing_text c) × IsReadAgain c text
+abbrev pub IsListing : Configuration → (lines : List ℕ) → List ℕ → Type 0
+IsListing c lines text = (text ≡ listing_text c lines) × IsReadAgain c text
 
 -- What `bacgwctl rules` leaves of a configuration: its rules as they are in force, of which a failed write may leave a front; and
 -- nothing at any other fault.
-abbrev pub LeavesListed : Option (List ℕ) → Option (List ℕ) → Configuration → Result (Unit {0}) Fault → Type 0
-LeavesListed held holds c (Ok done) = (text : List ℕ) × IsListing c text × Appends held holds text
-LeavesListed held holds c (Err fault.Write) = (text : List ℕ) × IsListing c text × AppendsFront held holds text
-LeavesListed held holds c (Err fault.Unlisted) = holds ≡ held
-LeavesListed held holds c (Err fault.Memory) = holds ≡ held
-LeavesListed held holds c (Err _) = ⊥
+abbrev pub LeavesListed : (lines : List ℕ) → Option (List ℕ) → Option (List ℕ) → Configuration → Result (Unit {0}) Fault → Type 0
+LeavesListed lines held holds c (Ok done) = (text : List ℕ) × IsListing c lines text × Appends held holds text
+LeavesListed lines held holds c (Err fault.Write) = (text : List ℕ) × IsListing c lines text × AppendsFront held holds text
+LeavesListed lines held holds c (Err fault.Unlisted) = holds ≡ held
+LeavesListed lines held holds c (Err fault.Memory) = holds ≡ held
+LeavesListed lines held holds c (Err _) = ⊥
 
 -- What it leaves of the configuration that was read. If there is none, the outcome is why.
-abbrev pub LeavesRules : Option (List ℕ) → Option (List ℕ) → Result Configuration Fault → Result (Unit {0}) Fault → Type 0
-LeavesRules held holds (Ok c) outcome = LeavesListed held holds c outcome
+abbrev pub LeavesRules : Option (List ℕ) → Option (List ℕ) → Result Placed Fault → Result (Unit {0}) Fault → Type 0
+LeavesRules held holds (Ok p) outcome = LeavesListed p.lines.items held holds p.config outcome
 LeavesRules held holds (Err f) outcome = (outcome ≡ Err f) × (holds ≡ held)
 
 -- What `bacgwctl migrate` leaves of a configuration: a text that says it in format 3, of which a failed write may leave
@@ -344,22 +348,22 @@ abbrev pub LeavesCounts : List Rule → List ℕ → Option (List ℕ) → Optio
 LeavesCounts rules text held holds outcome =
     (lines : Result (List ℕ) Fault) × Counts rules text lines × LeavesPrinted lines held holds outcome
 
--- What `why` leaves by the rules of the configuration that was read. Where there is none nothing is answered, and the
--- outcome is why.
+-- What `why` leaves by the rules of the configuration that was read, with the lines of its tables. Where there is none nothing is
+-- answered, and the outcome is why.
 abbrev pub LeavesAnswered : Bool → Option (List ℕ) → Option (List ℕ) → Option (List ℕ)
-    → Result Configuration Fault → Result (Unit {0}) Fault → Type 0
-LeavesAnswered false input held holds (Ok c) outcome =
-    OnKnown input held holds (λ text before. Answers c.rules c.notes text before outcome)
-LeavesAnswered true input held holds (Ok c) outcome =
-    (text : List ℕ) → input ≡ Some text → LeavesCounts c.rules text held holds outcome
+    → Result Placed Fault → Result (Unit {0}) Fault → Type 0
+LeavesAnswered false input held holds (Ok p) outcome =
+    OnKnown input held holds (λ text before. Answers p.config.rules (said_text p.config p.lines.items) text before outcome)
+LeavesAnswered true input held holds (Ok p) outcome =
+    (text : List ℕ) → input ≡ Some text → LeavesCounts p.config.rules text held holds outcome
 LeavesAnswered counts input held holds (Err f) outcome = (outcome ≡ Err f) × (holds ≡ held)
 
 -- What it leaves by those of the file of this name, and reports of the lines that show no ask.
 abbrev pub LeavesAnsweredIn : (Reads : List ℕ → Result (List ℕ) Fault → Type 0) → List ℕ → Answering → Option (List ℕ)
     → Option (List ℕ) → Option (List ℕ) → (said : List ℕ) → Result (Unit {0}) Fault → Type 0
 LeavesAnsweredIn Reads file how input held holds said outcome =
-    (c : Result Configuration Fault) × IsConfigured Reads (Some file) c
-    × LeavesAnswered how.counts (asks_in how.strict input) held holds c outcome × ReportsUnread how.strict outcome said
+    (p : Result Placed Fault) × IsPlacedIn Reads file p
+    × LeavesAnswered how.counts (asks_in how.strict input) held holds p outcome × ReportsUnread how.strict outcome said
 
 -- What a log leaves that was opened, by what `Leaves` says of a log; or of why it wasn't.
 abbrev pub LeavesOpened : (Leaves : List ℕ → List ℕ → Result (Unit {0}) Fault → List ℕ → Type 0)
@@ -410,7 +414,7 @@ LeavesOutput Reads ReadsState ReadsLog Answers input held holds said (Ok (choice
 LeavesOutput Reads ReadsState ReadsLog Answers input held holds said (Ok (choice.Points file)) outcome =
     (c : Result Configuration Fault) × IsConfigured Reads (Some (string_bytes file)) c × LeavesPoints held holds c outcome
 LeavesOutput Reads ReadsState ReadsLog Answers input held holds said (Ok (choice.Rules file)) outcome =
-    (c : Result Configuration Fault) × IsConfigured Reads (Some (string_bytes file)) c × LeavesRules held holds c outcome
+    (p : Result Placed Fault) × IsPlacedIn Reads (string_bytes file) p × LeavesRules held holds p outcome
 LeavesOutput Reads ReadsState ReadsLog Answers input held holds said (Ok (choice.State config state)) outcome =
     LeavesStateIn Reads ReadsState (string_bytes config) (string_bytes state) held holds outcome
 LeavesOutput Reads ReadsState ReadsLog Answers input held holds said (Ok (choice.Suggest file fills exact)) outcome =
@@ -452,10 +456,10 @@ pub record IsFollowed (Leaves : List ℕ → Result Choice Fault → Result (Uni
   pub quiet : IsQuiet choice said
   pub errors : Adds said
 
--- One run of the program. `Chooses` is what the words ask for, `Leaves` what is on standard output at a choice
+-- One run of the program. `Reads` is what files give, `Chooses` what the words ask for, `Leaves` what is on standard output at a choice
 -- and an outcome, with what was reported at the start, `is` what of it isn't flushed then, and `Adds` what standard error is
 -- given.
-pub record IsRun (Chooses : Result Choice Fault → Type 0)
+pub record IsRun (Reads : List ℕ → Result (List ℕ) Fault → Type 0) (Chooses : Result Choice Fault → Type 0)
     (Leaves : List ℕ → Result Choice Fault → Result (Unit {0}) Fault → Type 0)
     (is : List ℕ) (Adds : List ℕ → Type 0)
     (exit : ℕ) : Type 0 where
@@ -466,5 +470,7 @@ pub record IsRun (Chooses : Result Choice Fault → Type 0)
   pub output : Leaves said choice outcome
   pub quiet : IsQuiet choice said
   pub flush : OnOk outcome (is ≡ [])
-  pub errors : Adds (said ++ error_text_by choice outcome ++ usage_of choice)
+  pub place : List ℕ
+  pub placed : PlaceBy Reads choice outcome place
+  pub errors : Adds (said ++ place ++ error_text_by choice outcome ++ usage_of choice)
   pub status : exit ≡ status_by choice outcome

@@ -7,34 +7,35 @@ ghost use Rattle.gw_script.specs.Known.{OnKnown};
 ghost use Rattle.gw_tools.specs.Asking.{Answers, Counts, ReportsUnread, asks_in};
 ghost use Rattle.gw_ending.specs.reading.Files.{result_map};
 ghost use Rattle.gw_tools.specs.Program.{LeavesAnswered, LeavesAnsweredIn, LeavesCounts};
+ghost use Rattle.gw_verdicts.specs.Why.{said_text};
 ghost use Rattle.gw_decisions.specs.tally.Tally.{tally_text};
 
 use crate::lines::first_lines_fault;
+use crate::placed::{Placed, placed_in};
 use crate::unread::report_unread;
-use gw_configuration::Config;
 use gw_decisions::tally::{Tally, count_asks, put_tally};
 use gw_ending::Fault;
-use gw_ending::reading::{ConfigFiles, configuration_in, print_made};
+use gw_ending::reading::{ConfigFiles, print_made};
 use gw_rules::RuleList;
 use gw_script::{OctetSink, OctetSource};
 use gw_verdicts::asks::{AskLines, Lent};
 use std::alloc::{AllocError, Global};
 use std::io::{BufWriter, Write};
 
-/// Answers each ask that `reader` has left by the rules of a configuration, with their notes. What was written is flushed
+/// Answers each ask that `reader` has left by the rules of a configuration, with the places of their tables and their notes. What was written is flushed
 /// at every outcome. Faults: those of the answers, and `Write` also where the flush alone fails.
 pub fn why<R: OctetSource, W: Write + Drop>(
     alloc: Global,
-    config: &Config,
+    placed: &Placed,
     reader: &mut R,
     writer: &mut BufWriter<W>,
 ) -> Result<(), Fault>
     ensures answers { OnKnown (R.left reader.old) (writer_contents W.contents writer.old)
         (writer_contents W.contents writer.new)
-        (λ text before. Answers config.now.rules config.now.notes text before result) }
+        (λ text before. Answers placed.now.config.rules (said_text placed.now.config placed.now.lines.items) text before result) }
     ensures flushed { OnOk result (writer_buffer writer.new ≡ []) }
 {
-    let answers = gw_verdicts::why(alloc, config, reader, writer);
+    let answers = gw_verdicts::why(alloc, &placed.config, &placed.lines, reader, writer);
     let is_flushed = writer.flush().is_ok();
     first_lines_fault(answers, is_flushed)
 }
@@ -68,19 +69,19 @@ fn tally_lines(alloc: Global, rules: &RuleList, tally: &Tally) -> Result<Vec<u8>
 fn answer<R: OctetSource, W: Write + Drop>(
     alloc: Global,
     counts: bool,
-    config: Result<Config, Fault>,
+    placed: Result<Placed, Fault>,
     input: &mut R,
     output: &mut BufWriter<W>,
 ) -> Result<(), Fault>
     ensures output { LeavesAnswered counts (R.left input.old) (writer_contents W.contents output.old)
-        (writer_contents W.contents output.new) config result }
+        (writer_contents W.contents output.new) placed result }
     ensures flush { OnOk result (writer_buffer output.new ≡ []) }
 {
-    let config = config?;
+    let placed = placed?;
     if counts {
-        print_counts(alloc, config.rules(), input, output)
+        print_counts(alloc, placed.config.rules(), input, output)
     } else {
-        why(alloc, &config, input, output)
+        why(alloc, &placed, input, output)
     }
 }
 
@@ -102,20 +103,20 @@ fn print_counts<R: OctetSource, W: Write + Drop>(
 fn answer_shown<R: OctetSource, W: Write + Drop, E: OctetSink>(
     alloc: Global,
     counts: bool,
-    config: Result<Config, Fault>,
+    placed: Result<Placed, Fault>,
     input: &mut R,
     output: &mut BufWriter<W>,
     errors: &mut E,
 ) -> Result<(), Fault>
     ensures shown { (said : List ℕ) × LeavesAnswered counts (asks_in false (R.left input.old))
-        (writer_contents W.contents output.old) (writer_contents W.contents output.new) config result
+        (writer_contents W.contents output.old) (writer_contents W.contents output.new) placed result
         × ReportsUnread false result said
         × (E.NeverFails errors.old → Appends (E.held errors.old) (E.held errors.new) said) }
     ensures lasting { E.NeverFails errors.old → E.NeverFails errors.new }
     ensures flush { OnOk result (writer_buffer output.new ≡ []) }
 {
     let mut asks = AskLines::new(Lent::new(input));
-    let outcome = answer(alloc, counts, config, &mut asks, output);
+    let outcome = answer(alloc, counts, placed, &mut asks, output);
     report_unread(outcome, asks.unread(), errors);
     outcome
 }
@@ -146,10 +147,10 @@ pub fn answer_in<F: ConfigFiles, R: OctetSource, W: Write + Drop, E: OctetSink>(
     ensures flush { OnOk result (writer_buffer output.new ≡ []) }
 {
     let Answering { counts, strict } = how;
-    let config = configuration_in(alloc, files, file);
+    let placed = placed_in(alloc, files, file);
     if strict {
-        answer(alloc, counts, config, input, output)
+        answer(alloc, counts, placed, input, output)
     } else {
-        answer_shown(alloc, counts, config, input, output, errors)
+        answer_shown(alloc, counts, placed, input, output, errors)
     }
 }

@@ -1,7 +1,7 @@
 //! What `check` says of a configuration. With `--explain` that is also who may do what under it, and
 //! what can't be meant; with `--lint` also which rules never decide.
 
-ghost use Rattle.std.specs.Prelude.{◌≡◌, IfOk};
+ghost use Rattle.std.specs.Prelude.{◌≡◌, option_map, IfOk};
 ghost use Rattle.gw_tools.specs.Checked.{IsChecked, explained_text};
 
 use gw_ask_sets::assertions::Judged;
@@ -13,19 +13,20 @@ use gw_policy_review::warnings::put_warnings;
 use std::alloc::{AllocError, Global};
 
 /// What `check` prints of a configuration whose assertions were judged so: its summary, or the lines of those that don't hold; and
-/// after it what else is asked for. An `Err` only where a growth of memory was refused.
+/// after it what else is asked for, a lint by the lines of the text on which the tables of the rules begin. An `Err` only where a
+/// growth of memory was refused.
 pub fn checked_text(
     alloc: Global,
     explains: bool,
-    lints: bool,
+    lint: Option<&[u32]>,
     config: &Config,
     judged: &[Judged],
 ) -> Result<Vec<u8>, AllocError>
-    ensures { IfOk result (λ text. IsChecked explains lints config.now judged.now text.items) }
+    ensures { IfOk result (λ text. IsChecked explains (option_map (λ lines. lines.now) lint) config.now judged.now text.items) }
 {
     let mut text = explained_text(alloc, explains, config, judged)?;
-    if lints {
-        put_lint(alloc, config, explains, &mut text)?;
+    if let Some(lines) = lint {
+        put_lint(alloc, config, lines, explains, &mut text)?;
     }
     Ok(text)
 }

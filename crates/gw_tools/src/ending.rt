@@ -4,12 +4,14 @@ ghost use Rattle.std.specs.Prelude.{◌≡◌, [], Err, string_bytes};
 ghost use Rattle.std.specs.Io.KnownBytes.{Appends};
 ghost use Rattle.std.specs.Option.{option_map_or};
 ghost use Rattle.std.specs.Process.{exit_status};
-ghost use Rattle.gw_tools.specs.Ending.{error_text_by, file_of, first_file, log_file, other_file, state_file};
+ghost use Rattle.gw_tools.specs.Ending.{ReportsPlaceBy, error_text_by, explains_itself, file_of, first_file, log_file, other_file, state_file};
 ghost use Rattle.gw_tools.specs.Ending.{status_by, status_of_comparison, usage_of};
 
+use gw_ending::reading::{ConfigFiles, report_place};
 use gw_ending::{Fault, report_fault};
 use gw_script::OctetSink;
 use gw_tool_line::{Choice, Shown};
+use std::alloc::Global;
 use std::process::ExitCode;
 
 /// The file that the configuration of a choice is read from, or the first of two; nothing if it names none.
@@ -99,6 +101,37 @@ fn file_of(choice: &Result<Choice, Fault>, fault: Fault) -> &str
         Fault::LogUnreadable(_) => log_file(choice),
         Fault::StateUnreadable(_) => state_file(choice),
         _ => "",
+    }
+}
+
+/// Whether it prints where a fault is on standard output.
+fn explains_itself(choice: &Result<Choice, Fault>) -> bool
+    ensures { result ≡ explains_itself choice.now }
+{
+    matches!(choice, Ok(Choice::Check { .. } | Choice::CheckJson(_)))
+}
+
+/// Reports where the fault is of the configuration that a choice names, or of the one that it is compared with, unless that was
+/// printed.
+pub fn report_place_by<F: ConfigFiles, E: OctetSink>(
+    alloc: Global,
+    files: &F,
+    choice: &Result<Choice, Fault>,
+    outcome: Result<(), Fault>,
+    errors: &mut E,
+)
+    ensures place { ReportsPlaceBy (F.Reads files.now) choice.now outcome
+        (λ place. E.NeverFails errors.old → Appends (E.held errors.old) (E.held errors.new) place) }
+    ensures lasts { E.NeverFails errors.old → E.NeverFails errors.new }
+{
+    match outcome {
+        Err(Fault::Configuration(fault)) if !explains_itself(choice) => {
+            report_place(alloc, files, first_file(choice), fault, errors);
+        }
+        Err(Fault::OtherConfiguration(fault)) => {
+            report_place(alloc, files, other_file(choice), fault, errors);
+        }
+        _ => {}
     }
 }
 

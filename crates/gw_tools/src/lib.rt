@@ -15,6 +15,7 @@ mod kept;
 mod lines;
 mod machine;
 mod objects;
+mod placed;
 mod program;
 mod questioning;
 mod reloading;

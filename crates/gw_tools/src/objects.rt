@@ -10,10 +10,10 @@ ghost use Rattle.gw_tools.specs.Objects.{Judges, LeavesJudged, LeavesJudgedIn, L
 ghost use Rattle.gw_tools.specs.Program.{LeavesOfLog, LeavesOpened};
 
 use crate::lines::first_lines_fault;
+use crate::placed::{Placed, placed_in};
 use crate::unread::report_unread;
-use gw_configuration::Config;
 use gw_ending::Fault;
-use gw_ending::reading::{ConfigFiles, configuration_in};
+use gw_ending::reading::ConfigFiles;
 use gw_json::{log_in_json, why_in_json};
 use gw_script::{OctetSink, OctetSource};
 use gw_verdicts::asks::{AskLines, Lent};
@@ -71,19 +71,19 @@ pub fn list_in<F: ConfigFiles, R: OctetSource, W: Write + Drop>(
     }
 }
 
-/// Answers each ask that `reader` has left by the rules of a configuration, with their notes, as a JSON object.
+/// Answers each ask that `reader` has left by the rules of a configuration, with their notes and places, as a JSON object.
 fn judge<R: OctetSource, W: Write + Drop>(
     alloc: Global,
-    config: &Config,
+    placed: &Placed,
     reader: &mut R,
     writer: &mut BufWriter<W>,
 ) -> Result<(), Fault>
     ensures judges { OnKnown (R.left reader.old) (writer_contents W.contents writer.old)
         (writer_contents W.contents writer.new)
-        (λ text before. Judges config.now.rules config.now.notes text before result) }
+        (λ text before. Judges placed.now text before result) }
     ensures flush { OnOk result (writer_buffer writer.new ≡ []) }
 {
-    let verdicts = why_in_json(alloc, config, reader, writer);
+    let verdicts = why_in_json(alloc, &placed.config, &placed.lines, reader, writer);
     let is_flushed = writer.flush().is_ok();
     first_lines_fault(verdicts, is_flushed)
 }
@@ -91,16 +91,16 @@ fn judge<R: OctetSource, W: Write + Drop>(
 /// Answers them by the rules of the configuration that was read.
 fn judge_by<R: OctetSource, W: Write + Drop>(
     alloc: Global,
-    config: Result<Config, Fault>,
+    placed: Result<Placed, Fault>,
     input: &mut R,
     output: &mut BufWriter<W>,
 ) -> Result<(), Fault>
     ensures output { LeavesJudged (R.left input.old) (writer_contents W.contents output.old)
-        (writer_contents W.contents output.new) config result }
+        (writer_contents W.contents output.new) placed result }
     ensures flush { OnOk result (writer_buffer output.new ≡ []) }
 {
-    let config = config?;
-    judge(alloc, &config, input, output)
+    let placed = placed?;
+    judge(alloc, &placed, input, output)
 }
 
 /// Answers them by those of the file of this name.
@@ -115,8 +115,8 @@ fn judge_strictly<F: ConfigFiles, R: OctetSource, W: Write + Drop>(
         (writer_contents W.contents output.old) (writer_contents W.contents output.new) result }
     ensures flush { OnOk result (writer_buffer output.new ≡ []) }
 {
-    let config = configuration_in(alloc, files, file);
-    judge_by(alloc, config, input, output)
+    let placed = placed_in(alloc, files, file);
+    judge_by(alloc, placed, input, output)
 }
 
 /// Answers the asks that standard input shows, whatever is in front of them, and reports how many lines show none.

@@ -1,6 +1,6 @@
 //! The whole program, over any words, reader and writers.
 
-ghost use Rattle.std.specs.Prelude.{◌≡◌, ◌++◌, [], List, ℕ, map, string_bytes, MatchResult, OnOk};
+ghost use Rattle.std.specs.Prelude.{◌≡◌, ◌++◌, [], List, ℕ, map, option_map, string_bytes, MatchResult, OnOk};
 ghost use Rattle.std.specs.Io.Buffered.{writer_buffer, writer_contents};
 ghost use Rattle.std.specs.Io.KnownBytes.{Appends};
 ghost use Rattle.std.specs.Process.{exit_status};
@@ -8,6 +8,7 @@ ghost use Rattle.gw_ending.specs.declared.fault.Fault.TheVariants as fault;
 ghost use Rattle.gw_ending.specs.declared.fault.MigrationFlaw.TheVariants as migration;
 ghost use Rattle.gw_rules.specs.declared.format.Format.TheVariants as formats;
 ghost use Rattle.gw_ending.specs.reading.Files.{result_map};
+ghost use Rattle.gw_tools.specs.Checked.{lint_lines};
 ghost use Rattle.gw_tools.specs.Program.{IsChoiceOf, IsFollowed, IsRun, LeavesConfigured, LeavesInFormatThree, LeavesMigrated};
 ghost use Rattle.gw_tools.specs.Program.{LeavesListed, LeavesOfText, LeavesOutput, LeavesRules, LeavesSaid, LeavesState, LeavesStateIn, fault_of_listing, fault_of_migration};
 ghost use Rattle.gw_tools.specs.Reloading.{answers_by};
@@ -15,13 +16,14 @@ ghost use Rattle.gw_tools.specs.Reloading.{answers_by};
 use crate::asking::{Answering, answer_in};
 use crate::checked::checked_text;
 use crate::comparing::{Both, Limits, Seconds, compare};
-use crate::ending::{end_by, usage_of};
+use crate::ending::{end_by, report_place_by, usage_of};
 use crate::json::{check_in_json, compare_in_json, print_points};
 use crate::kept::words_of_text;
 use crate::machine::Machine;
 use crate::objects;
+use crate::placed::{Placed, placed_in};
 use crate::questioning::{Questioned, answer_question_in};
-use crate::reloading::{AskedReload, reload_in, stop};
+use crate::reloading::{AskedReload, octets_or, reload_in, stop};
 use crate::reporting::print_report_in;
 use crate::suggesting::suggest_shown;
 use crate::translating::{Translating, translate_in};
@@ -32,6 +34,7 @@ use gw_ending::reading::{
 };
 use gw_ending::{Fault, MigrationFlaw};
 use gw_notices::write_note;
+use gw_policy_drafts::lines::table_lines;
 use gw_policy_drafts::listing::{ListingFault, list_rules};
 use gw_policy_drafts::migration::{MigrationFault, migrate};
 use gw_policy_drafts::suggestion::Manner;
@@ -59,22 +62,52 @@ fn choice_by(alloc: Global, words: &[String]) -> Result<Choice, Fault>
     }
 }
 
-/// Prints what a configuration has, or which of its assertions don't hold, and what else is asked for of it.
+/// Prints what a configuration has, or which of its assertions don't hold, and what else is asked for of it: a lint by the lines of
+/// its text on which the tables of its rules begin.
 fn print_checked<W: Write + Drop>(
     alloc: Global,
     explains: bool,
-    lints: bool,
+    lint: Option<&[u32]>,
     config: &Config,
     output: &mut BufWriter<W>,
 ) -> Result<(), Fault>
     ensures output { let held = writer_contents W.contents output.old in
         let holds = writer_contents W.contents output.new in
-        LeavesConfigured explains lints held holds config.now result }
+        LeavesConfigured explains (option_map (λ lines. lines.now) lint) held holds config.now result }
     ensures flush { OnOk result (writer_buffer output.new ≡ []) }
 {
     let judged = judge(alloc, config, JUDGING_STEPS)?;
-    let text = checked_text(alloc, explains, lints, config, &judged)?;
+    let text = checked_text(alloc, explains, lint, config, &judged)?;
     print_judged(&text, &judged, output)
+}
+
+/// Whether it is said who may do what, and which rules never decide.
+#[derive(Clone, Copy)]
+struct Checking {
+    explains: bool,
+    lints: bool,
+}
+
+/// Prints what a configuration has, and what else is asked for of it, by the text that was read.
+fn print_read<W: Write + Drop>(
+    alloc: Global,
+    how: Checking,
+    text: &[u8],
+    config: &Config,
+    output: &mut BufWriter<W>,
+) -> Result<(), Fault>
+    ensures output { let held = writer_contents W.contents output.old in
+        let holds = writer_contents W.contents output.new in
+        LeavesConfigured how.explains (lint_lines how.lints text.now config.now) held holds config.now result }
+    ensures flush { OnOk result (writer_buffer output.new ≡ []) }
+{
+    let Checking { explains, lints } = how;
+    if lints {
+        let lines = table_lines(alloc, config.written_rules(), text)?;
+        print_checked(alloc, explains, Some(&lines), config, output)
+    } else {
+        print_checked(alloc, explains, None, config, output)
+    }
 }
 
 /// Prints what the configuration has that was read, or what is wrong with it.
@@ -91,7 +124,10 @@ fn check<W: Write + Drop>(
     ensures flush { OnOk result (writer_buffer output.new ≡ []) }
 {
     match configuration_of(alloc, text) {
-        Ok(config) => print_checked(alloc, explains, lints, &config, output),
+        Ok(config) => {
+            let how = Checking { explains, lints };
+            print_read(alloc, how, octets_or(text), &config, output)
+        }
         Err(fault) => {
             // Where this can't be printed the fault is reported all the same.
             let _ = print(&fault_note(alloc, true, text, fault), output);
@@ -156,14 +192,14 @@ fn fault_of_listing(fault: ListingFault) -> Fault
 /// Prints the rules of a configuration as they are in force.
 fn print_listed<W: Write + Drop>(
     alloc: Global,
-    config: &Config,
+    placed: &Placed,
     output: &mut BufWriter<W>,
 ) -> Result<(), Fault>
-    ensures output { LeavesListed (writer_contents W.contents output.old)
-        (writer_contents W.contents output.new) config.now result }
+    ensures output { LeavesListed placed.now.lines.items (writer_contents W.contents output.old)
+        (writer_contents W.contents output.new) placed.now.config result }
     ensures flush { OnOk result (writer_buffer output.new ≡ []) }
 {
-    match list_rules(alloc, config) {
+    match list_rules(alloc, &placed.config, &placed.lines) {
         Ok(tables) => print(&tables, output),
         Err(fault) => Err(fault_of_listing(fault)),
     }
@@ -172,15 +208,15 @@ fn print_listed<W: Write + Drop>(
 /// Prints the rules of the configuration that was read.
 fn print_rules<W: Write + Drop>(
     alloc: Global,
-    config: Result<Config, Fault>,
+    placed: Result<Placed, Fault>,
     output: &mut BufWriter<W>,
 ) -> Result<(), Fault>
     ensures output { LeavesRules (writer_contents W.contents output.old)
-        (writer_contents W.contents output.new) config result }
+        (writer_contents W.contents output.new) placed result }
     ensures flush { OnOk result (writer_buffer output.new ≡ []) }
 {
-    let config = config?;
-    print_listed(alloc, &config, output)
+    let placed = placed?;
+    print_listed(alloc, &placed, output)
 }
 
 /// Says what the text of a state holds under the configuration that was read.
@@ -324,8 +360,8 @@ fn follow<F: ConfigFiles, M: Machine, R: OctetSource, W: Write + Drop, E: OctetS
             print_points(alloc, config, output)
         }
         Ok(Choice::Rules(file)) => {
-            let config = configuration_in(alloc, files, file);
-            print_rules(alloc, config, output)
+            let placed = placed_in(alloc, files, file);
+            print_rules(alloc, placed, output)
         }
         Ok(Choice::State { config, state }) => print_state_in(alloc, files, config, state, output),
         Ok(Choice::Suggest { file, fills, exact }) => {
@@ -384,7 +420,7 @@ pub fn run<F: ConfigFiles, M: Machine, R: OctetSource, W: Write + Drop, E: Octet
     output: &mut BufWriter<W>,
     errors: &mut E,
 ) -> ExitCode
-    ensures run { IsRun
+    ensures run { IsRun (F.Reads files.now)
         (λ choice. MatchResult words
         (λ w. IsChoiceOf (map string_bytes w.items) choice)
         (λ f. choice ≡ Err f))
@@ -397,6 +433,7 @@ pub fn run<F: ConfigFiles, M: Machine, R: OctetSource, W: Write + Drop, E: Octet
 {
     let choice = choice_from(alloc, words);
     let outcome = follow(alloc, &choice, files, machine, input, output, errors);
+    report_place_by(alloc, files, &choice, outcome, errors);
     let exit = end_by(&choice, outcome, errors);
     write_note(usage_of(&choice), errors);
     exit

@@ -271,7 +271,7 @@ fn sound_of<W: Write + Drop>(
 }
 
 /// The text of what was read, or nothing.
-fn octets_or(text: &Result<Vec<u8>, Fault>) -> &[u8]
+pub(crate) fn octets_or(text: &Result<Vec<u8>, Fault>) -> &[u8]
     ensures { result.now ≡ octets_or (result_map (λ octets. octets.items) text.now) }
 {
     match text {

@@ -26,6 +26,9 @@ pub trait ConfigFiles {
     fn read(&self, alloc: Global, name: &str) -> Result<Vec<u8>, Fault>
         ensures { Reads self.now name.now (result_map (λ octets. octets.items) result) };
 
+    /// Whether the file of this name is one that gives its text more than once, and no pipe.
+    fn is_regular(&self, name: &str) -> bool;
+
     /// What a read of the file of a state of a name may give: its octets, or a fault.
     ghost ReadsState: { Self → List ℕ → Result (List ℕ) Fault → Type 0 };
 
@@ -76,6 +79,13 @@ impl<R: Files> ConfigFiles for SystemFiles<'_, R> {
                 ErrorKind::OutOfMemory => Err(Fault::Memory),
                 kind => Err(Fault::Unreadable(Obstacle::of(kind))),
             },
+        }
+    }
+
+    fn is_regular(&self, name: &str) -> bool {
+        match self.rt.metadata(name) {
+            Ok(metadata) => metadata.is_file(),
+            Err(_) => false,
         }
     }
 

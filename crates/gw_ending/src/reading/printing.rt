@@ -97,7 +97,7 @@ pub fn fault_note(
 }
 
 /// The line that explains this fault of a text, or nothing where there is none.
-fn explanation(alloc: Global, text: &[u8], fault: ConfigFault) -> Vec<u8>
+pub(crate) fn explanation(alloc: Global, text: &[u8], fault: ConfigFault) -> Vec<u8>
     ensures { (result.items ≡ []) ⊎ IsExplainedBy text.now fault result.items }
 {
     let line = match explain(alloc, text, fault) {

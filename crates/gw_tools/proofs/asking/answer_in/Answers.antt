@@ -7,6 +7,6 @@ pub returns-then-strict-clause-answered : goal.returns-then-strict-clause-answer
 returns-then-strict-clause-answered g c =
     let leaves = strict_leaves c.args.how.strict c.args.how.counts _ _ _ _ _ c.if-strict.true c.answer.ensures.output in (
       [],
-      (c.configuration_in-config.result, c.configuration_in-config.ensures, leaves.0, leaves.1),
+      (c.placed_in-placed.result, c.placed_in-placed.ensures, leaves.0, leaves.1),
       λ never. appends_nothing (g.E.OctetSink.held c.args.errors.now),
     )

@@ -12,7 +12,7 @@ returns-clause-shown g c =
     let left = c.new-asks.ensures.left ∙ ap (option_map ask_lines) c.new.ensures.left in (
       unread_after c.unread.result outcome,
       subst (λ (input : Option (List ℕ)). LeavesAnswered c.args.counts input (contents c.args.output.now) (contents c.answer-outcome.new.output)
-          c.args.config outcome) left c.answer-outcome.ensures.output,
+          c.args.placed outcome) left c.answer-outcome.ensures.output,
       (c.unread.result, refl),
       c.report_unread.ensures.said,
     )

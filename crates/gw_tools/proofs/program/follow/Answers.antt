@@ -4,6 +4,7 @@ use Rattle.std.specs.Io.Buffered.{writer_contents}
 use Rattle.std.specs.Prelude.{option_map, string_bytes}
 use Rattle.gw_tools.specs.Asking.{asks_in}
 use Rattle.gw_ending.specs.reading.Configured.{IsConfigured}
+use Rattle.gw_tools.specs.Placed.{IsPlacedIn}
 use Rattle.gw_tools.specs.Reloading.{answers_by}
 use Rattle.gw_ending.specs.reading.Files.{result_map}
 use Rattle.gw_tool_line.specs.declared.command_line.Choice.TheVariants as choice
@@ -144,10 +145,10 @@ pub returns-in-Ok-Rules-clause-followed : goal.returns-in-Ok-Rules-clause-follow
 returns-in-Ok-Rules-clause-followed g c =
     let chosen = choice.Rules c.in-Ok-Rules.file in
     let is : c.args.choice.now ≡ Ok chosen = search rules in
-    let config = c.configuration_in-config-in-Ok-Rules.result in
-    let configured = subst (λ (name : List ℕ). IsConfigured (g.F.ConfigFiles.Reads c.args.files.now) (Some name) config)
-    c.deref-in-Ok-Rules.ensures c.configuration_in-config-in-Ok-Rules.ensures in
-    followed _ _ c.args.choice.now (Ok chosen) c.print_rules.result is refl (config, configured, c.print_rules.ensures.output)
+    let placed = c.placed_in-placed.result in
+    let is_placed = subst (λ (name : List ℕ). IsPlacedIn (g.F.ConfigFiles.Reads c.args.files.now) name placed)
+    c.deref-in-Ok-Rules.ensures c.placed_in-placed.ensures in
+    followed _ _ c.args.choice.now (Ok chosen) c.print_rules.result is refl (placed, is_placed, c.print_rules.ensures.output)
     (λ never. appends_nothing (g.E.OctetSink.held c.args.errors.now))
 
 pub returns-in-Ok-Compare-clause-followed : goal.returns-in-Ok-Compare-clause-followed

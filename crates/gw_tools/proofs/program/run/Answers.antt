@@ -9,7 +9,8 @@ returns g c =
     let held = g.E.OctetSink.held in
     let chosen = c.choice_from-choice.result in
     let outcome = c.follow-outcome.result in
-    let done = c.follow-outcome.ensures.followed in record {
+    let done = c.follow-outcome.ensures.followed in
+    let placed = c.report_place_by.ensures.place in record {
       run = record {
         choice = chosen;
         outcome = outcome;
@@ -18,11 +19,16 @@ returns g c =
         output = done.output;
         quiet = done.quiet;
         flush = c.follow-outcome.ensures.flush;
+        place = placed.0;
+        placed = placed.1;
         errors = λ never.
-            let lasting = c.follow-outcome.ensures.lasting never in
-            appends_two (held c.args.errors.now) (held c.end_by-exit.new.errors) (held c.write_note.new.errors) (done.said ++ error_text_by chosen outcome) (usage_of chosen)
-            (appends_two (held c.args.errors.now) (held c.follow-outcome.new.errors) (held c.end_by-exit.new.errors) done.said (error_text_by chosen outcome)
-            (done.errors never) (c.end_by-exit.ensures.line lasting))
+            let followed = c.follow-outcome.ensures.lasting never in
+            let lasting = c.report_place_by.ensures.lasts followed in
+            appends_two (held c.args.errors.now) (held c.end_by-exit.new.errors) (held c.write_note.new.errors)
+            (done.said ++ placed.0 ++ error_text_by chosen outcome) (usage_of chosen)
+            (appends_two (held c.args.errors.now) (held c.report_place_by.new.errors) (held c.end_by-exit.new.errors) (done.said ++ placed.0) (error_text_by chosen outcome)
+            (appends_two (held c.args.errors.now) (held c.follow-outcome.new.errors) (held c.report_place_by.new.errors) done.said placed.0
+            (done.errors never) (placed.2 followed)) (c.end_by-exit.ensures.line lasting))
             (subst (λ (text : List ℕ). Appends (held c.end_by-exit.new.errors) (held c.write_note.new.errors) text) c.usage_of.ensures
             (c.write_note.ensures.said (c.end_by-exit.ensures.lasts lasting)));
         status = c.end_by-exit.ensures.status;
