@@ -228,7 +228,7 @@ def is_unreported(turns, lines, wanted):
 def is_unstamped(words, lines, wanted):
     """Whether a run ended since a line of its log found no memory for the time in front of it: then the log failed."""
     logs, right = ([line for line in them if line.startswith(b"log ")] for them in (lines, wanted))
-    return "--stamp" in words and b"status 1" in lines and b"err bacgw: log failed" in lines and is_within(logs, right)
+    return "--stamp" in words and b"status 1" in lines and any(line.startswith(b"err bacgw: log failed") for line in lines) and is_within(logs, right)
 
 
 def has_no_room(most, lines):

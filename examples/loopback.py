@@ -20,7 +20,7 @@
     loopback.py noted PROGRAM TOOL FILE LOG REQUEST
                                              lets a read be denied by a gateway whose log has stamps and notes, has it read its
                                              configuration again, renames the log to LOG.1, and lets a read be denied again
-    loopback.py watched PROGRAM FILE TRIAL LOG
+    loopback.py watched PROGRAM FILE TRIAL LOG [OPTION..]
                                              reads two points of a gateway beside which TRIAL is on trial, with the log LOG.trial, and
                                              which audits to LOG.audit; ends it by SIGTERM; and all that again
 
@@ -120,10 +120,10 @@ def kept(program, file, log, state):
             gateway.wait(timeout=10)
 
 
-def watched(program, file, trial, log):
+def watched(program, file, trial, log, *more):
     """Reads the fan and the door of a gateway with a policy on trial and an audit, and of the next one."""
     line = open_line(CLIENT)
-    words = ["--config", file, "--log", log, "--trial", trial, "--trial-log", log + ".trial", "--audit", log + ".audit"]
+    words = ["--config", file, "--log", log, "--trial", trial, "--trial-log", log + ".trial", "--audit", log + ".audit", *more]
     for run in range(2):
         gateway = start(program, *words)
         try:

@@ -2,8 +2,8 @@
 
 use gw_addr::Source;
 use gw_audit::{ShownAsk, read_ask, read_line};
-use gw_cases::{MemReader, Streams, put_end, put_octets, put_word};
-use gw_log_words::{Moment, translate_log};
+use gw_cases::{MemReader, Streams, put_end, put_octets, put_word, unfolded};
+use gw_log_words::{Moment, last_denial, translate_log};
 use gw_rules::FieldName;
 use std::alloc::Global;
 use std::io;
@@ -71,6 +71,15 @@ pub fn since(alloc: Global, line: &str, out: &mut Vec<u8>) -> io::Result<()> {
     match Moment::parse(start) {
         Some(start) => put_translation(alloc, Some(start), line, out),
         None => write!(out, "no moment"),
+    }
+}
+
+/// The line of the denial that a log shows last, or `no denial`.
+pub fn last(alloc: Global, line: &str, out: &mut Vec<u8>) -> io::Result<()> {
+    let text = unfolded(alloc, line)?;
+    match last_denial(&text) {
+        Some(fields) => out.write_all(fields),
+        None => write!(out, "no denial"),
     }
 }
 

@@ -38,6 +38,7 @@ impl Kinds for FrameKinds {
             "read" => logs::line(alloc, line, out),
             "told" => logs::told(alloc, line, out),
             "since" => logs::since(alloc, line, out),
+            "last" => logs::last(alloc, line, out),
             "counts" => counts::counts(alloc, line, out),
             "rules" => rules::rules(alloc, line, out),
             "limits" => rules::limits(alloc, line, out),

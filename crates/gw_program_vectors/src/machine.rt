@@ -235,7 +235,7 @@ impl<'a> Host for MemHost<'a> {
 
     ghost FileReads = { λ _ _ _. ⊤ };
 
-    ghost LastLines = { λ _ _ _. ⊤ };
+    ghost LastDenials = { λ _ _ _. ⊤ };
 
     ghost StoreOpens = { λ _ _ _ _. ⊤ };
 
@@ -318,7 +318,7 @@ impl<'a> Host for MemHost<'a> {
         }
     }
 
-    fn last_line(&self, _alloc: Global, _name: &str) -> Result<Option<Vec<u8>>, ReadFailure> {
+    fn last_denial(&self, _alloc: Global, _name: &str) -> Result<Option<Vec<u8>>, ReadFailure> {
         Ok(None)
     }
 

@@ -1,8 +1,10 @@
 //! Answers cases of the program `bacgw` on a machine in memory: its words, its runs, and what it explains.
 #![tactic(auto)]
 
+mod disks;
 mod explanations;
 mod machine;
+mod mem_disk;
 mod words;
 
 use gw_cases::{Case, Kinds, write_groups};
@@ -20,6 +22,7 @@ impl Kinds for ProgramKinds {
     fn answer_line(&self, alloc: Global, case: &Case<'_>, out: &mut Vec<u8>) -> io::Result<()> {
         match case.kind() {
             "words" => words::words(alloc, case.text, out),
+            "disk" => disks::replaced(alloc, case.text, out),
             _ => Err(ErrorKind::InvalidData.into()),
         }
     }

@@ -13,7 +13,7 @@ pub fn answers(alloc: Global, config: &str, body: &str, out: &mut Vec<u8>) -> io
     let lines = event_lines(alloc, body)?;
     let config = made(read_config(alloc, config.as_bytes()), ConfigFault::Memory)?;
     let mut reader = lines.as_slice();
-    let end = why(alloc, &config, &mut reader, out);
+    let end = why(alloc, &config, &[], &mut reader, out);
     put_end(end, out)?;
     writeln!(out)
 }

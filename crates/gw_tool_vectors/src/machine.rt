@@ -115,6 +115,10 @@ impl<'a> ConfigFiles for ToolFiles<'a> {
         self.files().read(alloc, name)
     }
 
+    fn is_regular(&self, name: &str) -> bool {
+        self.files().is_regular(name)
+    }
+
     ghost ReadsState = { λ _ _ _. ⊤ };
 
     fn read_state(&self, alloc: Global, name: &str) -> Result<Vec<u8>, Fault> {
