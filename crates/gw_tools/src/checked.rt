@@ -22,7 +22,7 @@ pub fn checked_text(
     config: &Config,
     judged: &[Judged],
 ) -> Result<Vec<u8>, AllocError>
-    ensures { IfOk result (λ text. IsChecked explains (option_map (λ lines. lines.now) lint) config.now judged.now text.items) }
+    ensures { IfOk result (λ text. IsChecked explains (option_map (λ lines. lines.now) lint.entry) config.now judged.now text.items) }
 {
     let mut text = explained_text(alloc, explains, config, judged)?;
     if let Some(lines) = lint {

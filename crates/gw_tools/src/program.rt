@@ -73,7 +73,7 @@ fn print_checked<W: Write + Drop>(
 ) -> Result<(), Fault>
     ensures output { let held = writer_contents W.contents output.old in
         let holds = writer_contents W.contents output.new in
-        LeavesConfigured explains (option_map (λ lines. lines.now) lint) held holds config.now result }
+        LeavesConfigured explains (option_map (λ lines. lines.now) lint.entry) held holds config.now result }
     ensures flush { OnOk result (writer_buffer output.new ≡ []) }
 {
     let judged = judge(alloc, config, JUDGING_STEPS)?;
