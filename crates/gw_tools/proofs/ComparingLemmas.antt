@@ -26,6 +26,7 @@ module _ (Is : Compared → List ℕ → Type 0) (held holds : Option (List ℕ)
   printed lines (fault.OtherUnreadable _) is leaves = elim leaves [ ]
   printed lines (fault.LogUnreadable _) is leaves = elim leaves [ ]
   printed lines (fault.Configuration _) is leaves = elim leaves [ ]
+  printed lines (fault.OtherConfiguration _) is leaves = elim leaves [ ]
   printed lines (fault.Migration _) is leaves = elim leaves [ ]
   printed lines (fault.Line _) is leaves = elim leaves [ ]
   printed lines (fault.FlawedLine _ _) is leaves = elim leaves [ ]

@@ -1,10 +1,20 @@
-use Rattle.std.proofs.Common.{Ok, Err, refl}
+use Rattle.std.proofs.Common.{Ok, Err, refl, subst, ℕ, List}
 use Rattle.std.specs.Io.Buffered.{writer_contents}
 use Rattle.gw_ending.proofs.reading_lemmas.AppendLemmas.{front_written}
+use Rattle.gw_tools.specs.Checked.{lint_lines}
+use Rattle.gw_tools.specs.Program.{LeavesConfigured}
 use Rattle.gw_tools.proofs.program.check.Goals as goal
 
 pub returns-in-Ok-clause-output : goal.returns-in-Ok-clause-output
-returns-in-Ok-clause-output g c = (Ok c.in-Ok.config, c.in-Ok.ensures, c.print_checked.ensures.output)
+returns-in-Ok-clause-output g c =
+    let held = writer_contents g.W.Write.contents c.args.output.now in
+    let holds = writer_contents g.W.Write.contents c.print_read.new.output in
+    let config = c.in-Ok.config in (
+      Ok config,
+      c.in-Ok.ensures,
+      subst (λ (text : List ℕ). LeavesConfigured c.args.explains (lint_lines c.args.lints text config) held holds config c.print_read.result) c.octets_or.ensures
+          c.print_read.ensures.output,
+    )
 
 pub returns-in-Err-clause-output : goal.returns-in-Err-clause-output
 returns-in-Err-clause-output g c =
