@@ -7,8 +7,8 @@
 ghost use Rattle.std.specs.Prelude.{◌≡◌, ⊤, None, Some, false};
 ghost use Rattle.gw_system.specs.Requests.{silent};
 
+use crate::mem_log::MemLog;
 use gw_addr::BipAddr;
-use gw_cases::MemWriter;
 use gw_configuration::Port;
 use gw_log_words::{Calendar, Moment, moment_after};
 use gw_program_cases::{Left, MemFiles, Program, Section, UNREADABLE, put, put_left, put_lines};
@@ -193,9 +193,9 @@ fn request_of(alloc: Global, text: &[u8]) -> Result<Request, AllocError> {
 }
 
 /// The wire and the log that a machine closed.
-type Closed = (MemSockets, Option<MemWriter>);
+type Closed = (MemSockets, Option<MemLog>);
 
-/// A machine in memory: its log takes so many octets, or can't be opened, and may end in a line that
+/// A machine in memory: its log takes so many octets, or can't be opened, one sync of it may fail, and it may end in a line that
 /// was cut; the broadcast socket of one port may fail; and it may route IP. It keeps what was closed.
 #[derive(Drop)]
 struct MemHost<'a> {
@@ -203,6 +203,7 @@ struct MemHost<'a> {
     metrics: &'a RefCell<Vec<u8>>,
     state_text: &'a RefCell<Vec<u8>>,
     log: Option<usize>,
+    failing_sync: Option<u64>,
     beside: Option<usize>,
     trial: Option<Vec<u8>>,
     is_cut: bool,
@@ -217,7 +218,7 @@ struct MemHost<'a> {
 }
 
 impl<'a> Host for MemHost<'a> {
-    type Log = MemWriter;
+    type Log = MemLog;
 
     type Sockets = MemSockets;
 
@@ -251,14 +252,14 @@ impl<'a> Host for MemHost<'a> {
 
     ghost Closes = { λ host sockets log. host.closed ≡ Some (sockets, log) };
 
-    fn open_log(&self, _alloc: Global, name: &str) -> Result<MemWriter, LogFailure> {
+    fn open_log(&self, _alloc: Global, name: &str) -> Result<MemLog, LogFailure> {
         let room = if BESIDE.contains(&name) {
             self.beside
         } else {
             self.log
         };
         match room {
-            Some(room) => Ok(MemWriter::with_room(self.alloc, room, true)?),
+            Some(room) => Ok(MemLog::new(self.alloc, room, self.failing_sync)?),
             None => Err(LogFailure::Failed),
         }
     }
@@ -376,7 +377,7 @@ impl<'a> Host for MemHost<'a> {
         MemCalendar
     }
 
-    fn close(&mut self, sockets: MemSockets, log: Option<MemWriter>)
+    fn close(&mut self, sockets: MemSockets, log: Option<MemLog>)
         ensures { self.new.closed ≡ Some (sockets, log) }
     {
         self.closed = Some((sockets, log));
@@ -525,6 +526,7 @@ fn run_with(
         metrics: &metrics,
         state_text: &state_text,
         log: section.number("log "),
+        failing_sync: section.number("failing sync ").map(|number| number as u64),
         beside: section.number("beside "),
         trial: trial_of(alloc, section, config)?,
         is_cut: section.has("cut log"),
@@ -595,16 +597,20 @@ pub fn machine(alloc: Global, config: &str, text: &str, out: &mut Vec<u8>) -> io
     put_left(&served.left, out)?;
     put_lines("metrics ", &served.metrics, out)?;
     match &served.closed {
-        Some(closed) => Ok(put_closed(closed, out)?),
+        Some(closed) => Ok(put_closed(closed, section.has("syncs"), out)?),
         None => Ok(()),
     }
 }
 
-/// The log in a file, the calls of the wire if they are shown, and how often it was called.
-fn put_closed(closed: &Closed, out: &mut Vec<u8>) -> Result<(), AllocError> {
+/// The log in a file, and how often it was synced if that is shown, the calls of the wire if they are shown, and how often it was
+/// called.
+fn put_closed(closed: &Closed, shows_syncs: bool, out: &mut Vec<u8>) -> Result<(), AllocError> {
     let (sockets, log) = closed;
     if let Some(log) = log {
         put_lines("log ", log.held(), out)?;
+        if shows_syncs {
+            put(out, &["syncs ", Buffer::new().format(log.syncs()), "\n"])?;
+        }
     }
     if let Some(calls) = &sockets.calls {
         put_lines("wire ", calls, out)?;

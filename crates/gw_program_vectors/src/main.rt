@@ -5,6 +5,7 @@ mod disks;
 mod explanations;
 mod machine;
 mod mem_disk;
+mod mem_log;
 mod words;
 
 use gw_cases::{Case, Kinds, write_groups};

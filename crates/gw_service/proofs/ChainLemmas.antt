@@ -1,5 +1,5 @@
 -- Links one after the other, and what they reported.
-use Rattle.std.proofs.Common.{◌≡◌, ◌∙◌, ℕ, ◌+◌, ◌<◌, List, [], ◌∷◌, ◌++◌, Option, Some, None, refl, ap, subst, append_assoc, length, arith, rules, inr}
+use Rattle.std.proofs.Common.{◌≡◌, ◌∙◌, ℕ, ◌+◌, ◌<◌, List, [], ◌∷◌, ◌++◌, Option, Some, None, refl, sym, ap, subst, append_assoc, length, arith, rules, inr}
 use Rattle.std.specs.Io.KnownBytes.{Appends, Keeps}
 use Rattle.std.proofs.KnownBytes.{Appends-kept}
 use Rattle.std.proofs.lemmas.List.{append-nil, flat_map_more, length-append}
@@ -25,8 +25,8 @@ use Rattle.gw_turns.specs.declared.tally.Tally.{Tally}
 use Rattle.gw_system.proofs.RequestLemmas.{goes_two}
 use Rattle.gw_system.specs.Requests.{Asking, GoesOn, answered, asked}
 use Rattle.gw_system.specs.declared.reading.ReadFailure.{ReadFailure}
-use Rattle.gw_service.specs.Chain.{Advances, AdvancesBy, AreLinks, IsLink, IsLooked, IsNotedBy, IsTicked, Link, Look, Looks, Manner, Runs, Stage, chain_text, is_stopping, link_text, look_text}
-use Rattle.gw_service.specs.Chain.{ended, passed_over, refused, standing, stopping, taken_over, ticked, unrequested}
+use Rattle.gw_service.specs.Chain.{Advances, AdvancesBy, AreLinks, Edge, IsLink, IsLooked, IsNotedBy, IsTicked, Link, Look, Looks, Manner, Runs, RunsUnsynced, Stage, chain_text, end_of, is_stopping, link_text, look_text}
+use Rattle.gw_service.specs.Chain.{ended, passed_over, refused, served, standing, stopping, taken_over, ticked, unrequested}
 use Rattle.gw_service.specs.declared.running.End.{End}
 use Rattle.gw_service.specs.declared.running.End.TheVariants as end
 use Rattle.gw_service.specs.Keeping.{IsSuccessor}
@@ -232,17 +232,17 @@ chained_none manner o first Never held =
     λ c is. (c, [], is, links_none manner (first c), λ never. appends_nothing held)
 
 -- what comes of a stretch, from each configuration of this origin
-abbrev pub Advanced : {K : Type 0} → Manner K → ℕ → Origin → (Configuration → Stage K) → Result Bool ServeFault → Origin
-    → (Configuration → Stage K) → (behind : Bool) → (Never : Type 0) → (held holds : Option (List ℕ)) → Type 0
-Advanced manner count p now result q next behind Never held holds =
+abbrev pub Advanced : {K : Type 0} → Manner K → ℕ → Origin → (Configuration → Stage K) → Result (Option End) ServeFault → Origin
+    → (Configuration → Stage K) → Edge → (Never : Type 0) → (held holds : Option (List ℕ)) → Type 0
+Advanced manner count p now result q next edge Never held holds =
     (c : Configuration) → p ≡ origin_of c → (d : Configuration) × (text : List ℕ) × (q ≡ origin_of d)
-    × Advances manner count (now c) result text (next d) behind × (Never → Appends held holds text)
+    × Advances manner count (now c) result text (next d) edge × (Never → Appends held holds text)
 
 pub chained_more : {K : Type 0} (manner : Manner K) (count : ℕ) (o p q : Origin) (first now next : Configuration → Stage K)
-    (behind : Bool) (Never Then : Type 0) (held middle holds : Option (List ℕ)) → Chained manner o first p now Never held middle
-    → Advanced manner count p now (Ok false) q next behind Then middle holds → (Never → Then)
+    (edge : Edge) (Never Then : Type 0) (held middle holds : Option (List ℕ)) → Chained manner o first p now Never held middle
+    → Advanced manner count p now (Ok None) q next edge Then middle holds → (Never → Then)
     → Chained manner o first q next Never held holds
-chained_more manner count o p q first now next behind Never Then held middle holds chain advance lasts = λ c is.
+chained_more manner count o p q first now next edge Never Then held middle holds chain advance lasts = λ c is.
     let before = chain c is in
     let after = advance before.0 before.2 in
     let link = after.3.0 in (
@@ -271,9 +271,10 @@ ran_whole manner count o p first last Never held holds chain all = λ c is.
     (led.0, led.1, led.2, record { chain = led.3; turns = all c led.0 }, led.4)
 
 pub ran_to_stop : {K : Type 0} (manner : Manner K) (count left : ℕ) (o p q : Origin) (first now last : Configuration → Stage K)
-    (behind : Bool) (Never Then : Type 0) (held middle holds : Option (List ℕ)) → Chained manner o first p now Never held middle
-    → Advanced manner left p now (Ok true) q last behind Then middle holds → (Never → Then) → Ran manner count o first (Ok end.Stopped) q last Never held holds
-ran_to_stop manner count left o p q first now last behind Never Then held middle holds chain advance lasts = λ c is.
+    (edge : Edge) (Never Then : Type 0) (held middle holds : Option (List ℕ)) → Chained manner o first p now Never held middle
+    → Advanced manner left p now (Ok (Some end.Stopped)) q last edge Then middle holds → (Never → Then)
+    → Ran manner count o first (Ok end.Stopped) q last Never held holds
+ran_to_stop manner count left o p q first now last edge Never Then held middle holds chain advance lasts = λ c is.
     let before = chain c is in
     let after = advance before.0 before.2 in
     let link = ended after.3.0 after.1 in (
@@ -285,26 +286,90 @@ ran_to_stop manner count left o p q first now last behind Never Then held middle
           (appends_two held middle holds (chain_text before.1) after.1 (before.4 never) (after.4 (lasts never))),
     )
 
+-- the log couldn't be made to last
+pub ran_unsynced : {K : Type 0} (manner : Manner K) (count left : ℕ) (o p q : Origin) (first now last : Configuration → Stage K)
+    (edge : Edge) (Never Then : Type 0) (held middle holds : Option (List ℕ)) → Chained manner o first p now Never held middle
+    → Advanced manner left p now (Ok (Some end.Unsynced)) q last edge Then middle holds → (Never → Then)
+    → ((c d : Configuration) → (now d).now.served.turns + left ≡ (first c).now.served.turns + count)
+    → Ran manner count o first (Ok end.Unsynced) q last Never held holds
+ran_unsynced manner count left o p q first now last edge Never Then held middle holds chain advance lasts most = λ c is.
+    let before = chain c is in
+    let after = advance before.0 before.2 in
+    let out = after.3 in
+    let tick = taken_event event.Tick out.tries ∷ [] in
+    let turns = out.turns ++ tick in
+    let link = served turns in (
+      after.0,
+      before.1 ++ link ∷ [],
+      after.2,
+      record {
+        then = now before.0;
+        before = before.1;
+        chain = before.3;
+        turns = out.turns;
+        tries = out.tries;
+        goes = out.goes;
+        is = refl;
+        most = omega (arith, most c before.0, out.fewer, length-append out.turns tick,
+            went_turns manner.Passes (now before.0).now (last after.0).now turns out.goes.went);
+      },
+      λ never. subst (λ (t : List ℕ). Appends held holds t)
+          (ap (λ (t : List ℕ). chain_text before.1 ++ t) out.text ∙ text_more before.1 link)
+          (appends_two held middle holds (chain_text before.1) after.1 (before.4 never) (after.4 (lasts never))),
+    )
+
+-- its links lead to where it ended
+pub unsynced_chain : {K : Type 0} (manner : Manner K) (count : ℕ) (s t : Stage K) (links : List Link) → RunsUnsynced manner count s links t
+    → AreLinks manner s links t
+unsynced_chain manner count s t links runs =
+    let link = served (runs.turns ++ taken_event event.Tick runs.tries ∷ []) in
+    subst (λ (l : List Link). AreLinks manner s l t) (sym runs.is) (links_more manner s runs.before runs.then t link runs.chain runs.goes)
+
+-- a run ends so
+pub ran_ended : {K : Type 0} (manner : Manner K) (count left : ℕ) (o p q : Origin) (first now last : Configuration → Stage K)
+    (edge : Edge) (Never Then : Type 0) (held middle holds : Option (List ℕ)) (end : End) → Chained manner o first p now Never held middle
+    → Advanced manner left p now (Ok (Some end)) q last edge Then middle holds → (Never → Then)
+    → ((c d : Configuration) → (now d).now.served.turns + left ≡ (first c).now.served.turns + count)
+    → Ran manner count o first (Ok end) q last Never held holds
+ran_ended manner count left o p q first now last edge Never Then held middle holds end.Turns chain advance lasts most = λ c is.
+    let before = chain c is in
+    absurd (advance before.0 before.2).3
+ran_ended manner count left o p q first now last edge Never Then held middle holds end.Stopped chain advance lasts most =
+    ran_to_stop manner count left o p q first now last edge Never Then held middle holds chain advance lasts
+ran_ended manner count left o p q first now last edge Never Then held middle holds end.Unsynced chain advance lasts most =
+    ran_unsynced manner count left o p q first now last edge Never Then held middle holds chain advance lasts most
+
 -- what was done after a tick, by whether the gateway is to stop
-pub advanced_by : {K : Type 0} (manner : Manner K) (s : Stage K) (turns : List Turn) (look : Look) (text : List ℕ) (t : Stage K) (stops behind : Bool)
-    → stops ≡ is_stopping look → behind ≡ false → IsTicked manner stops s turns look text t → AdvancesBy manner stops s text t behind
-advanced_by manner s turns unrequested text t false behind is due done = (ticked turns unrequested text, done, refl, due)
-advanced_by manner s turns passed_over text t false behind is due done = (ticked turns passed_over text, done, refl, due)
-advanced_by manner s turns (refused read f line) text t false behind is due done = (ticked turns (refused read f line) text, done, refl, due)
-advanced_by manner s turns (taken_over read new) text t false behind is due done = (ticked turns (taken_over read new) text, done, refl, due)
-advanced_by manner s turns stopping text t false behind is due done = absurd cc
-advanced_by manner s turns unrequested text t true behind is due done = absurd cc
-advanced_by manner s turns passed_over text t true behind is due done = absurd cc
-advanced_by manner s turns (refused read f line) text t true behind is due done = absurd cc
-advanced_by manner s turns (taken_over read new) text t true behind is due done = absurd cc
-advanced_by manner s turns stopping text t true behind is due done = (turns, done, due)
+pub advanced_by : {K : Type 0} (manner : Manner K) (s : Stage K) (turns : List Turn) (look : Look) (text : List ℕ) (t : Stage K) (stops : Bool)
+    (edge : Edge) → stops ≡ is_stopping look → edge.behind ≡ false → edge.Lasted → IsTicked manner stops s turns look text t
+    → AdvancesBy manner stops s text t edge
+advanced_by manner s turns unrequested text t false edge is due lasted done = (ticked turns unrequested text, done, refl, (due, lasted))
+advanced_by manner s turns passed_over text t false edge is due lasted done = (ticked turns passed_over text, done, refl, (due, lasted))
+advanced_by manner s turns (refused read f line) text t false edge is due lasted done =
+    (ticked turns (refused read f line) text, done, refl, (due, lasted))
+advanced_by manner s turns (taken_over read new) text t false edge is due lasted done =
+    (ticked turns (taken_over read new) text, done, refl, (due, lasted))
+advanced_by manner s turns stopping text t false edge is due lasted done = absurd cc
+advanced_by manner s turns unrequested text t true edge is due lasted done = absurd cc
+advanced_by manner s turns passed_over text t true edge is due lasted done = absurd cc
+advanced_by manner s turns (refused read f line) text t true edge is due lasted done = absurd cc
+advanced_by manner s turns (taken_over read new) text t true edge is due lasted done = absurd cc
+advanced_by manner s turns stopping text t true edge is due lasted done = (turns, done, (due, lasted))
+
+-- by how it ends then
+pub advances_as : {K : Type 0} (manner : Manner K) (count : ℕ) (s : Stage K) (text : List ℕ) (t : Stage K) (stops : Bool) (edge : Edge)
+    (end : Option End) → end ≡ end_of stops → AdvancesBy manner stops s text t edge → Advances manner count s (Ok end) text t edge
+advances_as manner count s text t true edge end is by =
+    subst (λ (e : Option End). Advances manner count s (Ok e) text t edge) (sym is) by
+advances_as manner count s text t false edge end is by =
+    subst (λ (e : Option End). Advances manner count s (Ok e) text t edge) (sym is) by
 
 pub ran_until : {K : Type 0} (manner : Manner K) (count left : ℕ) (o p q : Origin) (first now last : Configuration → Stage K) (fault : ServeFault)
-    (behind : Bool) (Never Then : Type 0) (held middle holds : Option (List ℕ)) → Chained manner o first p now Never held middle
-    → Advanced manner left p now (Err fault) q last behind Then middle holds → (Never → Then)
+    (edge : Edge) (Never Then : Type 0) (held middle holds : Option (List ℕ)) → Chained manner o first p now Never held middle
+    → Advanced manner left p now (Err fault) q last edge Then middle holds → (Never → Then)
     → ((c d : Configuration) → (now d).now.served.turns + left ≡ (first c).now.served.turns + count)
     → Ran manner count o first (Err fault) q last Never held holds
-ran_until manner count left o p q first now last fault behind Never Then held middle holds chain advance lasts most = λ c is.
+ran_until manner count left o p q first now last fault edge Never Then held middle holds chain advance lasts most = λ c is.
     let before = chain c is in
     let after = advance before.0 before.2 in
     let text : after.1 ≡ [] = after.3.1 in (

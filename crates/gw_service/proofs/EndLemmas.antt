@@ -45,6 +45,7 @@ ends_stopped {K} manner report start (Ok end.Stopped) last k l requests metrics 
     subst (λ (x : K). EndsRun manner report start (Ok end.Stopped) last (rest x requests) text) (sym same)
     (stopped_so manner report start last k requests metrics keeps put answers)
 ends_stopped manner report start (Ok end.Turns) last k l requests metrics is same keeps put answers = absurd cc
+ends_stopped manner report start (Ok end.Unsynced) last k l requests metrics is same keeps put answers = absurd cc
 ends_stopped manner report start (Err fault) last k l requests metrics is same keeps put answers = absurd cc
 
 -- it wasn't
@@ -53,6 +54,8 @@ pub ends_else : {K : Type 0} (manner : Manner K) (report : K → ReloadCounts �
     → manner.Lasts last.now.guard last.now.scene.gateway k
     → EndsRun manner report start answer last (rest k last.requests) (last_text report last k last.metrics)
 ends_else manner report start (Ok end.Turns) last k is keeps =
+    record { keeps = keeps; metrics = last.metrics; put = refl; answers = refl; said = sym (append-nil (last_text report last k last.metrics)) }
+ends_else manner report start (Ok end.Unsynced) last k is keeps =
     record { keeps = keeps; metrics = last.metrics; put = refl; answers = refl; said = sym (append-nil (last_text report last k last.metrics)) }
 ends_else manner report start (Err fault) last k is keeps =
     record { keeps = keeps; metrics = last.metrics; put = refl; answers = refl; said = sym (append-nil (last_text report last k last.metrics)) }

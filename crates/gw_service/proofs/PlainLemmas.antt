@@ -36,6 +36,7 @@ use Rattle.gw_service.specs.declared.fault.ServiceFault.{ServiceFault}
 use Rattle.gw_service.specs.declared.fault.ServiceFault.TheVariants as fault
 use Rattle.gw_service.specs.declared.keeping.Kept.{Kept}
 use Rattle.gw_service.specs.declared.keeping.Kept.TheVariants.{Nowhere}
+use Rattle.gw_service.proofs.ChainLemmas.{unsynced_chain}
 use Rattle.gw_service.proofs.ServedLemmas.{IsQuiet, as_served, begins_quiet, first_nowhere, link_none, link_serves, looks_none, never_stops}
 
 -- ---- nothing is reported
@@ -109,6 +110,8 @@ run_silent held how count s t (Ok end.Stopped) links runs none nowhere quiet unr
     absurd (never_stops (manner_of held how) s t links runs none)
 run_silent held how count s t (Ok end.Turns) links runs none nowhere quiet unreported said unmetered =
     chain_silent held how s t links runs.chain none nowhere quiet unreported said unmetered
+run_silent held how count s t (Ok end.Unsynced) links runs none nowhere quiet unreported said unmetered =
+    chain_silent held how s t links (unsynced_chain (manner_of held how) count s t links runs) none nowhere quiet unreported said unmetered
 run_silent held how count s t (Err f) links runs none nowhere quiet unreported said unmetered =
     chain_silent held how s runs.then links runs.chain none nowhere quiet unreported said unmetered
 
@@ -118,6 +121,7 @@ no_stop : {S : Type 0} (held : S → Option (List ℕ)) (how : Reporting) (count
     → stop_text answer failing ≡ []
 no_stop held how count s t (Ok end.Turns) failing links runs none = refl
 no_stop held how count s t (Ok end.Stopped) failing links runs none = absurd (never_stops (manner_of held how) s t links runs none)
+no_stop held how count s t (Ok end.Unsynced) failing links runs none = refl
 no_stop held how count s t (Err f) failing links runs none = refl
 
 -- what is said of a whole run, if nothing is kept and no report is asked for

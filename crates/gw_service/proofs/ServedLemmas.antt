@@ -1,5 +1,5 @@
 -- A run in which nobody asks; and one that keeps no state either, which is one of `serve`.
-use Rattle.std.proofs.Common.{◌≡◌, ◌∙◌, ℕ, ◌+◌, ◌<◌, List, [], ◌∷◌, ◌++◌, Bool, true, false, true≢false, Option, Some, None, refl, sym, ap, subst, arith, length, inl, inr}
+use Rattle.std.proofs.Common.{◌≡◌, ◌∙◌, ℕ, ◌+◌, ◌<◌, ◌≤◌, List, [], ◌∷◌, ◌++◌, Bool, true, false, true≢false, Option, Some, None, refl, sym, ap, subst, append_assoc, arith, length, inl, inr}
 use Rattle.std.proofs.lemmas.List.{append-nil, length-append}
 use Rattle.std.proofs.lemmas.List.Elements.{All-from_recursion}
 use Rattle.std.specs.List.{AllByRecursion}
@@ -11,6 +11,7 @@ use Rattle.gw_core.specs.State.{State}
 use Rattle.gw_core.specs.declared.event.Counts.{Counts}
 use Rattle.gw_state.specs.Saved.{Saved}
 use Rattle.gw_script.specs.Event.{Event}
+use Rattle.gw_script.specs.Event as event
 use Rattle.gw_turns.proofs.ServeLemmas.{lead_along, lead_nowhere}
 use Rattle.gw_turns.specs.Serve.{EndsBy, LeadTo, Scene, Stops, Turn, count_fault, count_turn, counts_after, counts_of, empty_turn, failed_turn}
 use Rattle.gw_turns.specs.Serve.{events_of, lost_event, scene, taken_event, turn_events}
@@ -39,7 +40,7 @@ use Rattle.gw_service.specs.Stats.{Reporting}
 use Rattle.gw_service.specs.declared.fault.ServiceFault.{ServiceFault}
 use Rattle.gw_service.specs.declared.keeping.Kept.{Kept}
 use Rattle.gw_service.specs.declared.keeping.Kept.TheVariants.{Nowhere, In}
-use Rattle.gw_service.proofs.ChainLemmas.{turns_counted}
+use Rattle.gw_service.proofs.ChainLemmas.{turns_counted, unsynced_chain, went_turns}
 use Rattle.gw_service.proofs.WatchedLemmas.{as_unwatched}
 
 -- ---- nobody asks
@@ -97,6 +98,13 @@ pub nobody_asks : {K : Type 0} (manner : Manner K) → NobodyAsks manner
 nobody_asks manner count s t (Ok end.Stopped) links runs none = absurd (never_stops manner s t links runs none)
 nobody_asks manner count s t (Ok end.Turns) links runs none =
     let chain = chain_none manner s t links runs.chain none in record {
+      looks = All-from_recursion FindsNone links chain.0;
+      config = chain.1;
+      requests = chain.2;
+      counts = chain.3;
+    }
+nobody_asks manner count s t (Ok end.Unsynced) links runs none =
+    let chain = chain_none manner s t links (unsynced_chain manner count s t links runs) none in record {
       looks = All-from_recursion FindsNone links chain.0;
       config = chain.1;
       requests = chain.2;
@@ -251,7 +259,7 @@ chain_serves held how s t (link ∷ links) chain none nowhere quiet =
 by_fault : (c : Configuration) (turns : ℕ) (last : State) (before after : Ends) (by : ServeFault) (done : Served)
     → Stops turns (first_scene c before) (record { fault = by; served = done }) (scene last after.log after.calls)
     → Serves c turns before after (Err (fault_of_serving by))
-by_fault c turns last before after serving.Log done stops = record { gateway = last; served = done; stops = stops }
+by_fault c turns last before after serving.Log done stops = inl (record { gateway = last; served = done; stops = stops })
 by_fault c turns last before after serving.Memory done stops = inl (record { gateway = last; served = done; stops = stops })
 by_fault c turns last before after serving.CountEnd done stops = record { gateway = last; served = done; stops = stops }
 
@@ -292,6 +300,27 @@ run_serves held how count c before after s t (Ok end.Turns) failing links runs n
         counts = refl;
       };
     }
+run_serves held how count c before after s t (Ok end.Unsynced) failing links runs none nowhere quiet at log calls =
+    let first = first_scene c before in
+    let tick = taken_event event.Tick runs.tries ∷ [] in
+    let turns = runs.turns ++ tick in
+    let led = chain_serves held how s runs.then runs.before runs.chain none nowhere quiet in
+    let all = led.turns ++ turns in
+    let from = lead_along first s.now.scene runs.then.now.scene [] led.turns at led.led in
+    let went = lead_along first runs.then.now.scene t.now.scene led.turns turns from runs.goes.went.went in
+    let same = scene_as t.now.scene t.now.scene.gateway after.log after.calls refl log calls in
+    let counted = ap (λ (x : Served). x.turns) led.counts in
+    inr (record {
+      gateway = t.now.scene.gateway;
+      served = counts_of all;
+      count = length all;
+      most = omega (arith, runs.most, counted, turns_counted s.now.served led.turns, length-append led.turns turns,
+          went_turns (IsPassed held) runs.then.now t.now turns runs.goes.went);
+      serves = record { turns = all; all = refl; went = subst (λ (x : Scene). LeadTo first all x) same went; counts = refl };
+      earlier = led.turns ++ runs.turns;
+      tries = runs.tries;
+      tick = sym (append_assoc led.turns runs.turns tick);
+    })
 run_serves held how count c before after s t (Err f) failing links runs none nowhere quiet at log calls =
     let led = chain_serves held how s runs.then links runs.chain none nowhere quiet in
     let from = lead_along (first_scene c before) s.now.scene runs.then.now.scene [] led.turns at led.led in

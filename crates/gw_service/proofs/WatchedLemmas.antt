@@ -5,6 +5,7 @@ use Rattle.gw_configuration.specs.Configuration.{Configuration}
 use Rattle.gw_core.specs.State.{State}
 use Rattle.gw_core.specs.History.{state_from}
 use Rattle.gw_script.specs.Event.{Event}
+use Rattle.gw_script.specs.Event as event
 use Rattle.gw_turns.specs.Both.{first_moment}
 use Rattle.gw_core.specs.Guard.{LetsAllGo, PassesBoth}
 use Rattle.gw_turns.specs.Serve.{Turn, empty_turn, failed_turn, lost_event, taken_event, turn_events}
@@ -13,7 +14,7 @@ use Rattle.gw_core.specs.declared.guard.Both.{Both}
 use Rattle.gw_turns.specs.declared.serving.ServeFault.{ServeFault}
 use Rattle.gw_turns.proofs.BothLemmas.{under_first}
 use Rattle.gw_watchers.specs.Watching.{HasWatched, Watching}
-use Rattle.gw_service.specs.Chain.{AreLinks, IsLink, IsLooked, IsTicked, Link, Look, Runs, Stage, Standing, chain_text, look_text, stage, standing}
+use Rattle.gw_service.specs.Chain.{AreLinks, IsLink, IsLooked, IsServed, IsTicked, Link, Look, Runs, Stage, Standing, chain_text, look_text, stage, standing}
 use Rattle.gw_service.specs.Chain.{ended, passed_over, refused, served, stopping, taken_over, ticked, unrequested, withheld}
 use Rattle.gw_service.specs.Start.{counts_of}
 use Rattle.gw_service.specs.declared.running.End.{End}
@@ -180,20 +181,22 @@ ticks held log_held how stops s t turns look text is =
       },
     )
 
+-- turns that were served
+serves : {S L : Type 0} (held : S → _) (log_held : L → _) (how : Reporting) (s t : Stage (Both (Kept S) (Watching L L))) (turns : List Turn)
+    → IsServed (watched_manner_of held log_held how) s turns t → IsServed (manner_of held how) (unwatched s) turns (unwatched t)
+serves held log_held how s t turns is = record {
+  went = first_goes (IsPassed held) (HasWatched log_held log_held) s.now t.now turns is.went;
+  config = is.config;
+  requests = is.requests;
+  counts = is.counts;
+  announcing = is.announcing;
+  metrics = is.metrics;
+  said = ap (λ (x : Troubles). of_state x.state) is.said;
+}
+
 linked : {S L : Type 0} (held : S → _) (log_held : L → _) (how : Reporting) (s t : Stage (Both (Kept S) (Watching L L))) (link : Link)
     → IsLink (watched_manner_of held log_held how) s link t → (other : Link) × IsLink (manner_of held how) (unwatched s) other (unwatched t)
-linked held log_held how s t (served turns) is = (
-  served turns,
-  record {
-    went = first_goes (IsPassed held) (HasWatched log_held log_held) s.now t.now turns is.went;
-    config = is.config;
-    requests = is.requests;
-    counts = is.counts;
-    announcing = is.announcing;
-    metrics = is.metrics;
-    said = ap (λ (x : Troubles). of_state x.state) is.said;
-  },
-)
+linked held log_held how s t (served turns) is = (served turns, serves held log_held how s t turns is)
 linked held log_held how s t (ticked turns look text) is =
     let other = ticks held log_held how false s t turns look text is in (ticked turns look other.0, other.1)
 linked held log_held how s t (withheld turns event text) is = (
@@ -248,6 +251,21 @@ ran held log_held how count s t (Ok end.Stopped) links runs =
         text = last.0;
         stops = last.1;
         is = refl;
+      },
+    )
+ran held log_held how count s t (Ok end.Unsynced) links runs =
+    let chain = chained held log_held how s runs.then runs.before runs.chain in
+    let turns = runs.turns ++ taken_event event.Tick runs.tries ∷ [] in (
+      chain.0 ++ served turns ∷ [],
+      record {
+        then = unwatched runs.then;
+        before = chain.0;
+        chain = chain.1;
+        turns = runs.turns;
+        tries = runs.tries;
+        goes = serves held log_held how runs.then t turns runs.goes;
+        is = refl;
+        most = runs.most;
       },
     )
 ran held log_held how count s t (Err fault) links runs =

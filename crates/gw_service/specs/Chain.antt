@@ -1,7 +1,7 @@
 -- What a run is that keeps its state or reads its configuration again: a chain of stretches of serving, with what is done
 -- between two of them.
-use Rattle.std.specs.Prelude.{◌≡◌, ◌⊎◌, ⊤, ℕ, ◌+◌, Bool, true, false, List, [], ◌∷◌, ◌++◌, Option, Some, Result, Ok, Err}
-use Rattle.std.specs.Io.KnownBytes.{Appends}
+use Rattle.std.specs.Prelude.{◌≡◌, ◌⊎◌, ⊤, ℕ, ◌+◌, ◌<◌, ◌≤◌, Bool, true, false, List, [], ◌∷◌, ◌++◌, length, Option, Some, None, Result, Ok, Err}
+use Rattle.std.specs.Io.KnownBytes.{Appends, Keeps}
 use Rattle.std.specs.List.{flat_map}
 use Rattle.gw_configuration.specs.Configuration.{Configuration}
 use Rattle.gw_policy_text.specs.Document.{configuration}
@@ -342,27 +342,77 @@ pub record RunsToStop {K : Type 0} (manner : Manner K) (first : Stage K) (links 
   pub stops : IsTicked manner true then turns stopping text last
   pub is : links ≡ before ++ ended turns text ∷ []
 
+-- At a tick the log couldn't be made to last, and nothing was done after that turn, at most the last of so many.
+pub record RunsUnsynced {K : Type 0} (manner : Manner K) (count : ℕ) (first : Stage K) (links : List Link) (last : Stage K) : Type 0 where
+  pub then : Stage K
+  pub before : List Link
+  pub chain : AreLinks manner first before then
+  pub turns : List Turn
+  pub tries : List Try
+  pub goes : IsServed manner then (turns ++ taken_event event.Tick tries ∷ []) last
+  pub is : links ≡ before ++ served (turns ++ taken_event event.Tick tries ∷ []) ∷ []
+  pub most : last.now.served.turns ≤ first.now.served.turns + count
+
 -- what a run of so many turns leads to, by its answer
 abbrev pub Runs : {K : Type 0} → Manner K → ℕ → Stage K → Result End ServeFault → List Link → Stage K → Type 0
 Runs manner count first (Ok end.Turns) links last = RunsWhole manner count first links last
 Runs manner count first (Ok end.Stopped) links last = RunsToStop manner first links last
+Runs manner count first (Ok end.Unsynced) links last = RunsUnsynced manner count first links last
 Runs manner count first (Err fault) links last = RunsUntil manner fault count first links last
 
--- What is due at a tick is done, unless another tick is due already at the wire, and is done then only if none is. (Turns that were served
--- alone took no tick, or a next one was due.)
-abbrev pub DoesDue : {K : Type 0} → Stage K → Link → Stage K → Bool → Type 0
-DoesDue s (served turns) t behind = (t.now.scene.gateway.ticks ≡ s.now.scene.gateway.ticks) ⊎ (behind ≡ true)
-DoesDue s (ticked turns look text) t behind = behind ≡ false
-DoesDue s (withheld turns event text) t behind = ⊤
-DoesDue s (ended turns text) t behind = behind ≡ false
+-- ---- what is due at a tick
 
--- what is done after a stretch of at most so many turns, by whether the gateway is to stop, and whether the wire has a tick that is
--- due already
-abbrev pub AdvancesBy : {K : Type 0} → Manner K → (stops : Bool) → Stage K → List ℕ → Stage K → (behind : Bool) → Type 0
-AdvancesBy manner false s text t behind = (link : Link) × IsLink manner s link t × (text ≡ link_text link) × DoesDue s link t behind
-AdvancesBy manner true s text t behind = (turns : List Turn) × IsTicked manner true s turns stopping text t × DoesDue s (ended turns text) t behind
+-- What a stretch leaves: whether the wire has a tick that is due already; that the log lasted, and nothing was written to it since but
+-- notes; and that it couldn't be made to last.
+pub record Edge : Type 1 where
+  pub behind : Bool
+  pub Lasted : Type 0
+  pub Unsynced : Type 0
+
+abbrev pub edge : Bool → (Lasted Unsynced : Type 0) → Edge
+edge behind Lasted Unsynced = record { behind = behind; Lasted = Lasted; Unsynced = Unsynced }
+
+-- a log lasted, and what it held then it holds
+abbrev pub WasLasting : {L : Type 0} → (IsLasting : L → Type 0) → (held : L → Option (List ℕ)) → L → Type 0
+WasLasting {L} IsLasting held log = (then : L) × IsLasting then × Keeps (held then) (held log)
+
+-- a log was to be made to last, and that failed
+abbrev pub FailsToLast : {L : Type 0} → (Syncs : L → Result (Unit {0}) WriteFailed → L → Type 0) → L → Type 0
+FailsToLast {L} Syncs log = (then : L) × (failed : WriteFailed) × Syncs then (Err failed) log
+
+-- What is due at a tick is done, unless another tick is due already at the wire, and is done then only if none is; the log is made to
+-- last before that. (Turns that were served alone took no tick, or a next one was due.)
+abbrev pub DoesDue : {K : Type 0} → Stage K → Link → Stage K → Edge → Type 0
+DoesDue s (served turns) t edge = (t.now.scene.gateway.ticks ≡ s.now.scene.gateway.ticks) ⊎ (edge.behind ≡ true)
+DoesDue s (ticked turns look text) t edge = (edge.behind ≡ false) × edge.Lasted
+DoesDue s (withheld turns event text) t edge = ⊤
+DoesDue s (ended turns text) t edge = (edge.behind ≡ false) × edge.Lasted
+
+-- what is done after a stretch of at most so many turns, by whether the gateway is to stop
+abbrev pub AdvancesBy : {K : Type 0} → Manner K → (stops : Bool) → Stage K → List ℕ → Stage K → Edge → Type 0
+AdvancesBy manner false s text t edge = (link : Link) × IsLink manner s link t × (text ≡ link_text link) × DoesDue s link t edge
+AdvancesBy manner true s text t edge = (turns : List Turn) × IsTicked manner true s turns stopping text t × DoesDue s (ended turns text) t edge
+
+-- Turns were served to a tick behind which no other is due, the log couldn't be made to last, and nothing else was done.
+pub record AdvancesUnsynced {K : Type 0} (manner : Manner K) (count : ℕ) (s : Stage K) (text : List ℕ) (t : Stage K) (edge : Edge)
+    : Type 0 where
+  pub turns : List Turn
+  pub tries : List Try
+  pub goes : IsServed manner s (turns ++ taken_event event.Tick tries ∷ []) t
+  pub fewer : length turns < count
+  pub text : text ≡ []
+  pub now : edge.behind ≡ false
+  pub failed : edge.Unsynced
+
+-- how a run ends after a tick, if it is asked to stop then
+abbrev pub end_of : (stops : Bool) → Option End
+end_of true = Some end.Stopped
+end_of false = None
 
 -- what comes of a stretch of at most so many turns and of what is done after it, with what is reported then
-abbrev pub Advances : {K : Type 0} → Manner K → ℕ → Stage K → Result Bool ServeFault → List ℕ → Stage K → (behind : Bool) → Type 0
-Advances manner count s (Ok stops) text t behind = AdvancesBy manner stops s text t behind
-Advances manner count s (Err fault) text t behind = EndsSo manner count fault s t × (text ≡ [])
+abbrev pub Advances : {K : Type 0} → Manner K → ℕ → Stage K → Result (Option End) ServeFault → List ℕ → Stage K → Edge → Type 0
+Advances manner count s (Ok None) text t edge = AdvancesBy manner false s text t edge
+Advances manner count s (Ok (Some end.Turns)) text t edge = ⊥
+Advances manner count s (Ok (Some end.Stopped)) text t edge = AdvancesBy manner true s text t edge
+Advances manner count s (Ok (Some end.Unsynced)) text t edge = AdvancesUnsynced manner count s text t edge
+Advances manner count s (Err fault) text t edge = EndsSo manner count fault s t × (text ≡ [])

@@ -179,29 +179,34 @@ outcome_of_stop (Some f) = Err (fault.Store f)
 abbrev pub outcome_by : Result End ServeFault → (failing : Option StoreFault) → Result (Unit {0}) ServiceFault
 outcome_by (Ok end.Turns) failing = Ok tt
 outcome_by (Ok end.Stopped) failing = outcome_of_stop failing
+outcome_by (Ok end.Unsynced) failing = Err fault.Log
 outcome_by (Err fault) failing = Err (fault_of_serving fault)
 
 -- the gateway was asked to stop
 abbrev pub is_stopped : Result End ServeFault → Bool
 is_stopped (Ok end.Turns) = false
 is_stopped (Ok end.Stopped) = true
+is_stopped (Ok end.Unsynced) = false
 is_stopped (Err fault) = false
 
 -- what is answered and reported at the end, if the gateway was asked to stop
 abbrev pub stop_text : Result End ServeFault → (failing : Option StoreFault) → List ℕ
 stop_text (Ok end.Turns) failing = []
 stop_text (Ok end.Stopped) failing = stop_line failing
+stop_text (Ok end.Unsynced) failing = []
 stop_text (Err fault) failing = []
 
 abbrev pub AnswersStop : Result End ServeFault → (failing : Option StoreFault) → (before after : Asking) → Type 0
 AnswersStop (Ok end.Turns) failing before after = after ≡ before
 AnswersStop (Ok end.Stopped) failing before after = GoesOn before after (answered (stop_line failing) ∷ [])
+AnswersStop (Ok end.Unsynced) failing before after = after ≡ before
 AnswersStop (Err fault) failing before after = after ≡ before
 
 -- the metrics are put once more then
 abbrev pub MetersEnd : Result End ServeFault → Option Metering → Option ℕ → Option Metering → Type 0
 MetersEnd (Ok end.Turns) before seconds after = after ≡ before
 MetersEnd (Ok end.Stopped) before seconds after = MetersLast before seconds after
+MetersEnd (Ok end.Unsynced) before seconds after = after ≡ before
 MetersEnd (Err fault) before seconds after = after ≡ before
 
 -- the first stage: nothing was counted, an announcement is due, and it was reported whether the state is kept

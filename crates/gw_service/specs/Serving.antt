@@ -1,9 +1,10 @@
 -- What `run` opens: the log and the sockets; and what serving them from the gateway's first state leaves, over the definitions of
 -- `gw_core` and `gw_turns`.
-use Rattle.std.specs.Prelude.{◌≡◌, ◌⊎◌, ⊤, ℕ, Bool, List, [], ◌++◌, Option, Some, None, Result, Ok, Err}
+use Rattle.std.specs.Prelude.{◌≡◌, ◌⊎◌, ⊤, ℕ, ◌≤◌, Bool, List, [], ◌∷◌, ◌++◌, Option, Some, None, Result, Ok, Err}
 use Rattle.std.specs.Io.KnownBytes.{Keeps}
 use Rattle.gw_core.specs.History.{state_after, no_counts}
-use Rattle.gw_turns.specs.Serve.{Scene, ServesAll, Stops, scene}
+use Rattle.gw_script.specs.Event as event
+use Rattle.gw_turns.specs.Serve.{Scene, ServesAll, Stops, Try, Turn, scene, taken_event}
 use Rattle.gw_core.specs.State.{State}
 use Rattle.gw_wire.specs.Wire.{Call}
 use Rattle.gw_turns.specs.declared.serving.Served.{Served}
@@ -56,11 +57,23 @@ pub record StopsBy (by : ServeFault) (c : Configuration) (turns : ℕ) (before a
   pub stops : Stops turns (first_scene c before) (record { fault = by; served = served })
       (scene gateway after.log after.calls)
 
+-- Some turns were served, at most so many and the last one took a tick, and the gateway is as they left it: the log couldn't be made to
+-- last then.
+pub record StopsUnsynced (c : Configuration) (turns : ℕ) (before after : Ends) : Type 0 where
+  pub gateway : State
+  pub served : Served
+  pub count : ℕ
+  pub most : count ≤ turns
+  pub serves : ServesAll count (first_scene c before) served (scene gateway after.log after.calls)
+  pub earlier : List Turn
+  pub tries : List Try
+  pub tick : serves.turns ≡ earlier ++ taken_event event.Tick tries ∷ []
+
 -- What serving from the gateway's first state leaves at each outcome.
 -- Memory may run out before the first turn too, and then nothing was received.
 abbrev pub Serves : Configuration → (turns : ℕ) → Ends → Ends → Result (Unit {0}) ServiceFault → Type 0
 Serves c turns before after (Ok done) = ServesWhole c turns before after
-Serves c turns before after (Err fault.Log) = StopsBy serving.Log c turns before after
+Serves c turns before after (Err fault.Log) = StopsBy serving.Log c turns before after ⊎ StopsUnsynced c turns before after
 Serves c turns before after (Err fault.Memory) = StopsBy serving.Memory c turns before after ⊎ (after ≡ before)
 Serves c turns before after (Err fault.CountEnd) = StopsBy serving.CountEnd c turns before after
 Serves c turns before after (Err _) = ⊥

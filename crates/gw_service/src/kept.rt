@@ -309,6 +309,7 @@ fn outcome_of(
     match answer {
         Ok(End::Turns) => Ok(()),
         Ok(End::Stopped) => outcome_of_stop(failing),
+        Ok(End::Unsynced) => Err(ServiceFault::Log),
         Err(fault) => Err(ServiceFault::from(fault)),
     }
 }

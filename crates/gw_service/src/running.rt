@@ -1,7 +1,7 @@
 //! A gateway that runs by stretches: each is served to a tick, and then its state is kept, and its configuration read again
 //! if that was asked for.
 
-ghost use Rattle.std.specs.Prelude.{◌≡◌, ◌+◌, ◌≤◌, ◌<◌, ◌^◌, ◌++◌, ◌∷◌, [], ℕ, List, Option, IfOk, IsErrOf, Ok, OnOk, false, true};
+ghost use Rattle.std.specs.Prelude.{◌≡◌, ◌+◌, ◌≤◌, ◌<◌, ◌^◌, ◌++◌, ◌∷◌, [], ℕ, List, Option, IfOk, IsErrOf, Ok, OnOk, Some, false, true};
 ghost use Rattle.std.specs.Option.{option_map_or};
 ghost use Rattle.std.specs.Io.KnownBytes.{Appends, Keeps};
 ghost use Rattle.gw_configuration.specs.Configuration.{Configuration};
@@ -9,7 +9,7 @@ ghost use Rattle.gw_state.specs.Saved.{origin_of};
 ghost use Rattle.gw_turns.specs.Serve.{scene};
 ghost use Rattle.gw_turns.specs.Stretch.{CanCount, moment};
 ghost use Rattle.gw_system.specs.Requests.{Asking, GoesOn, IsAsking, answered, asked, text_found};
-ghost use Rattle.gw_service.specs.Chain.{Advances, AtTick, IsLooked, IsNotedBy, Link, Looks, Runs, chain_text, manner, stage, standing};
+ghost use Rattle.gw_service.specs.Chain.{Advances, AtTick, FailsToLast, IsLooked, IsNotedBy, Link, Looks, Runs, WasLasting, chain_text, edge, end_of, manner, stage, standing};
 ghost use Rattle.gw_notices.specs.Notices.{no_troubles, notice_of, stop_line};
 ghost use Rattle.gw_notices.specs.Reload.{refusal_line};
 ghost use Rattle.gw_service.specs.Kept.{EndsRun, RunsFrom, is_stopped, rest};
@@ -78,13 +78,15 @@ impl<K: Drop, Q: Drop, M: Store + Drop> Drop for Running<K, Q, M> {
     }
 }
 
-/// How a run ends that no fault ends.
+/// How a run ends whose last turn no fault ended.
 #[derive(Clone, Copy)]
 pub enum End {
     /// All turns were served.
     Turns,
     /// It was asked to stop.
     Stopped,
+    /// The log couldn't be made to last at a tick.
+    Unsynced,
 }
 
 /// Whether a run was asked to stop, by how it ended.
@@ -92,6 +94,13 @@ fn is_stopped(answer: Result<End, ServeFault>) -> bool
     ensures { result ≡ is_stopped answer }
 {
     matches!(answer, Ok(End::Stopped))
+}
+
+/// How a run ends after a tick, if it was asked to stop then.
+fn end_of(stops: bool) -> Option<End>
+    ensures { result ≡ end_of stops }
+{
+    if stops { Some(End::Stopped) } else { None }
 }
 
 /// This line of what isn't taken over, or else that of the fault, which takes no memory.
@@ -216,8 +225,9 @@ impl<K: StateKeeper, Q: Requests, M: Store + Drop> Running<K, Q, M> {
         self.look(alloc, log, errors)
     }
 
-    /// Serves a stretch of at most so many turns, and does what is due after it: after a tick also what is to be announced. If
-    /// another tick is due already, what is due is left to that one. It answers whether it is to stop. Faults: those of serving.
+    /// Serves a stretch of at most so many turns, and does what is due after it: after a tick it makes the log last first, and then
+    /// does also what is to be announced. If another tick is due already, what is due is left to that one. It answers how the run
+    /// ends, if it is to stop, or the log can't be made to last; then nothing else is done. Faults: those of serving.
     fn advance<W: Wire, L: Notes, E: OctetSink>(
         &mut self,
         alloc: Global,
@@ -226,7 +236,7 @@ impl<K: StateKeeper, Q: Requests, M: Store + Drop> Running<K, Q, M> {
         errors: &mut E,
         schedule: &Schedule,
         turns: u64,
-    ) -> Result<bool, ServeFault>
+    ) -> Result<Option<End>, ServeFault>
         requires count { CanCount self.old.state.served self.old.state.tally (W.failure_count wire.old) turns }
         ensures advances { (c : Configuration) → self.old.origin ≡ origin_of c →
             let before = stage c (moment (scene self.old.gateway (L.held log.old) (W.calls wire.old)) self.old.keeper
@@ -236,13 +246,13 @@ impl<K: StateKeeper, Q: Requests, M: Store + Drop> Running<K, Q, M> {
             (due_stats K.unkept K.more (reporting_by schedule.now)) (meters_by schedule.now.start) K.Lasts) turns before result text
             (stage d (moment (scene self.new.gateway (L.held log.new) (W.calls wire.new)) self.new.keeper
             self.new.state.served self.new.state.tally) (Q.recorded self.new.requests) self.new.counts self.new.announcing self.new.said (metered self.new.metrics))
-            (W.behind wire.new)
+            (edge (W.behind wire.new) (WasLasting L.IsLasting L.held log.new) (FailsToLast L.Syncs log.new))
             × (E.NeverFails errors.old → Appends (E.held errors.old) (E.held errors.new) text) }
         ensures rest { (rest : ℕ) → self.new.state.served.turns + rest ≤ self.old.state.served.turns + turns →
             CanCount self.new.state.served self.new.state.tally (W.failure_count wire.new) rest }
         ensures more { 0 < turns → OnOk result (self.old.state.served.turns < self.new.state.served.turns) }
         ensures most { self.new.state.served.turns ≤ self.old.state.served.turns + turns }
-        ensures asking { result ≡ Ok true → IsAsking (Q.recorded self.new.requests) }
+        ensures asking { result ≡ Ok (Some End.Stopped) → IsAsking (Q.recorded self.new.requests) }
         ensures lasts { E.NeverFails errors.old → E.NeverFails errors.new }
     {
         let keeper = &mut self.keeper;
@@ -250,11 +260,14 @@ impl<K: StateKeeper, Q: Requests, M: Store + Drop> Running<K, Q, M> {
             .state
             .serve_to_tick(alloc, &mut self.gateway, wire, log, keeper, turns)
         {
-            Ok(Pause::Turns) => Ok(false),
+            Ok(Pause::Turns) => Ok(None),
             Ok(Pause::Tick) => {
                 if wire.is_behind() {
-                    return Ok(false);
+                    return Ok(None);
                 }
+                let Ok(_synced) = log.sync() else {
+                    return Ok(Some(End::Unsynced));
+                };
                 let stops = self.at_tick(alloc, log, errors);
                 self.announcing.announce(alloc, &self.gateway, wire);
                 self.said = self.notice(errors);
@@ -274,18 +287,18 @@ impl<K: StateKeeper, Q: Requests, M: Store + Drop> Running<K, Q, M> {
                     &self.keeper,
                 );
                 report_metrics(was, failing_of(&self.metrics), errors);
-                Ok(stops)
+                Ok(end_of(stops))
             }
             Ok(Pause::Withheld) => {
                 self.said = self.notice(errors);
-                Ok(false)
+                Ok(None)
             }
             Err(fault) => Err(fault),
         }
     }
 
-    /// Serves a wire for so many turns, by stretches. After each tick behind which no other is due already the keeper does what is
-    /// due, and a request is looked for; if there is one to read the configuration again, that is done, and the gateway goes on by it, or as it is; after one to
+    /// Serves a wire for so many turns, by stretches. After each tick behind which no other is due already the log is made to last,
+    /// and nothing more is served if it can't be; the keeper does what is due, and a request is looked for; if there is one to read the configuration again, that is done, and the gateway goes on by it, or as it is; after one to
     /// stop nothing more is served. If an announcement is due, it is made then. It reports as the schedule asks, and its metrics
     /// are put into their store when that is due.
     ///
@@ -320,9 +333,8 @@ impl<K: StateKeeper, Q: Requests, M: Store + Drop> Running<K, Q, M> {
                 return Ok(End::Turns);
             }
             let before = self.state.served.turns;
-            let stops = self.advance(alloc, wire, log, errors, schedule, left)?;
-            if stops {
-                return Ok(End::Stopped);
+            if let Some(end) = self.advance(alloc, wire, log, errors, schedule, left)? {
+                return Ok(end);
             }
             left -= self.state.served.turns - before;
         }

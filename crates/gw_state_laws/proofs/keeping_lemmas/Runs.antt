@@ -1,10 +1,11 @@
 -- What is kept stays current over a run, link by link.
-use Rattle.std.proofs.Common.{◌≡◌, ◌∙◌, refl, sym, ap, subst, ℕ, Bool, true, false, List, [], ◌∷◌, Option, Some, None, arith, inl}
+use Rattle.std.proofs.Common.{◌≡◌, ◌∙◌, refl, sym, ap, subst, ℕ, Bool, true, false, List, [], ◌∷◌, ◌++◌, Option, Some, None, arith, inl}
 use Rattle.std.specs.Prelude.{Result, Ok, Err}
 use Rattle.std.proofs.lemmas.List.Concat.{flat_map-cons}
 use Rattle.gw_configuration.specs.Configuration.{Configuration}
 use Rattle.gw_state.specs.Saved.{Origin, Saved, origin_of}
 use Rattle.gw_script.specs.Event.{Event}
+use Rattle.gw_script.specs.Event as event
 use Rattle.gw_core.specs.History.{next, state_from}
 use Rattle.gw_core.specs.Lasting.{lasts}
 use Rattle.gw_core.specs.Resumed.{saved_of}
@@ -235,6 +236,9 @@ end_keeps : {S K : Type 0} (held : S → Option (List ℕ)) (part : K → Kept S
 end_keeps held part manner is count s t (Ok end.Turns) links runs now = links_keep held part manner is s t links runs.chain now
 end_keeps held part manner is count s t (Ok end.Stopped) links runs now =
     tick_keeps held part manner is true runs.then t runs.turns stopping runs.text runs.stops
+    (links_keep held part manner is s runs.then runs.before runs.chain now)
+end_keeps held part manner is count s t (Ok end.Unsynced) links runs now =
+    link_keeps held part manner is runs.then t (served (runs.turns ++ taken_event event.Tick runs.tries ∷ [])) runs.goes
     (links_keep held part manner is s runs.then runs.before runs.chain now)
 end_keeps held part manner is count s t (Err fault) links runs now =
     let then = runs.then in
