@@ -314,7 +314,7 @@ ran_unsynced manner count left o p q first now last edge Never Then held middle 
             went_turns manner.Passes (now before.0).now (last after.0).now turns out.goes.went);
       },
       λ never. subst (λ (t : List ℕ). Appends held holds t)
-          (ap (λ (t : List ℕ). chain_text before.1 ++ t) out.text ∙ text_more before.1 link)
+          (ap (λ (t : List ℕ). chain_text before.1 ++ t) out.silent ∙ text_more before.1 link)
           (appends_two held middle holds (chain_text before.1) after.1 (before.4 never) (after.4 (lasts never))),
     )
 
@@ -327,10 +327,10 @@ unsynced_chain manner count s t links runs =
 
 -- a run ends so
 pub ran_ended : {K : Type 0} (manner : Manner K) (count left : ℕ) (o p q : Origin) (first now last : Configuration → Stage K)
-    (edge : Edge) (Never Then : Type 0) (held middle holds : Option (List ℕ)) (end : End) → Chained manner o first p now Never held middle
-    → Advanced manner left p now (Ok (Some end)) q last edge Then middle holds → (Never → Then)
+    (edge : Edge) (Never Then : Type 0) (held middle holds : Option (List ℕ)) (how : End) → Chained manner o first p now Never held middle
+    → Advanced manner left p now (Ok (Some how)) q last edge Then middle holds → (Never → Then)
     → ((c d : Configuration) → (now d).now.served.turns + left ≡ (first c).now.served.turns + count)
-    → Ran manner count o first (Ok end) q last Never held holds
+    → Ran manner count o first (Ok how) q last Never held holds
 ran_ended manner count left o p q first now last edge Never Then held middle holds end.Turns chain advance lasts most = λ c is.
     let before = chain c is in
     absurd (advance before.0 before.2).3
@@ -358,10 +358,10 @@ advanced_by manner s turns stopping text t true edge is due lasted done = (turns
 
 -- by how it ends then
 pub advances_as : {K : Type 0} (manner : Manner K) (count : ℕ) (s : Stage K) (text : List ℕ) (t : Stage K) (stops : Bool) (edge : Edge)
-    (end : Option End) → end ≡ end_of stops → AdvancesBy manner stops s text t edge → Advances manner count s (Ok end) text t edge
-advances_as manner count s text t true edge end is by =
+    (ending : Option End) → ending ≡ end_of stops → AdvancesBy manner stops s text t edge → Advances manner count s (Ok ending) text t edge
+advances_as manner count s text t true edge ending is by =
     subst (λ (e : Option End). Advances manner count s (Ok e) text t edge) (sym is) by
-advances_as manner count s text t false edge end is by =
+advances_as manner count s text t false edge ending is by =
     subst (λ (e : Option End). Advances manner count s (Ok e) text t edge) (sym is) by
 
 pub ran_until : {K : Type 0} (manner : Manner K) (count left : ℕ) (o p q : Origin) (first now last : Configuration → Stage K) (fault : ServeFault)

@@ -400,7 +400,7 @@ pub record AdvancesUnsynced {K : Type 0} (manner : Manner K) (count : ℕ) (s : 
   pub tries : List Try
   pub goes : IsServed manner s (turns ++ taken_event event.Tick tries ∷ []) t
   pub fewer : length turns < count
-  pub text : text ≡ []
+  pub silent : text ≡ []
   pub now : edge.behind ≡ false
   pub failed : edge.Unsynced
 
