@@ -98,11 +98,10 @@ impl<S: Store + Drop, T: OctetSink + Drop, A: OctetSink + Drop> StateKeeper
             origin,
             marks,
             counts,
-            format,
         } = successor;
         self.first.keep_for(alloc, origin, gateway);
         let counts = begun_anew(self.second.counts(), counts);
-        self.second.go_on(marks, counts, format);
+        self.second.go_on(marks, counts);
     }
 
     fn keep_last(&mut self, alloc: Global, gateway: &Gateway) {
@@ -114,7 +113,6 @@ impl<S: Store + Drop, T: OctetSink + Drop, A: OctetSink + Drop> StateKeeper
             state: self.first.failing(),
             trial: has_lost(self.second.trial()),
             audit: has_lost(self.second.audit()),
-            ended: self.second.has_ended(),
         }
     }
 
