@@ -4,7 +4,6 @@ pub mod ServedLemmas
 pub mod StretchLemmas
 pub mod BothLemmas
 pub mod GuardLemmas
-pub mod LoggedLemmas
 pub mod AlikeLemmas
 pub mod KeepingLemmas
 pub mod PaceLemmas

@@ -5,7 +5,6 @@ pub mod Pace
 pub mod Reports
 pub mod Served
 pub mod Stretch
-pub mod Logged
 pub mod Both
 pub mod Keeping
 pub mod Announcing
