@@ -333,8 +333,10 @@ impl<K: StateKeeper, Q: Requests, M: Store + Drop> Running<K, Q, M> {
                 return Ok(End::Turns);
             }
             let before = self.state.served.turns;
-            if let Some(end) = self.advance(alloc, wire, log, errors, schedule, left)? {
-                return Ok(end);
+            let ended = self.advance(alloc, wire, log, errors, schedule, left)?;
+            match ended {
+                Some(end) => return Ok(end),
+                None => {}
             }
             left -= self.state.served.turns - before;
         }

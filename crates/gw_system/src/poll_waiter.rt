@@ -3,7 +3,6 @@
 ghost use Rattle.std.specs.Prelude.{◌≡◌, ◌≤◌, ◌<◌, false, length, ⊤};
 ghost use Rattle.gw_system.specs.Waiting.{has_event_of};
 
-use crate::system_clock::slowed;
 use crate::udp::UdpSock;
 use gw_addr::MAX_PORTS;
 use gw_wire::{SockPair, Waiter, Watch, socket_number};
@@ -11,33 +10,32 @@ use mio::{Events, Poll, Registry};
 use std::alloc::Global;
 use std::io;
 use std::net::Net;
-use std::time::{Clock, Duration};
+use std::time::Duration;
 
 /// How many sockets may be reported at once: two of each port.
 const MOST_SOCKETS: usize = 2 * MAX_PORTS;
 
-/// What waits for datagrams at the sockets of the system. A wait that fails takes a tenth of a second more.
+/// What waits for datagrams at the sockets of the system.
 #[derive(Drop)]
-pub struct PollWaiter<'a, R> {
-    rt: &'a R,
+pub struct PollWaiter {
     poll: Poll,
     events: Events,
 }
 
-impl<'a, R: Net + Clock> PollWaiter<'a, R> {
+impl PollWaiter {
     /// What waits at the sockets of these ports, from 1 to 8, each of which is named by its
     /// number. An `Err` where the system can't wait, or not at one of them, or memory was refused.
     pub fn open(
         alloc: Global,
-        rt: &'a R,
+        net: &impl Net,
         pairs: &mut [SockPair<Watch<UdpSock>>],
     ) -> io::Result<Self>
         requires { length pairs.old ≤ MAX_PORTS }
     {
-        let poll = Poll::new(rt)?;
+        let poll = Poll::new(net)?;
         let events = Events::with_capacity(alloc, MOST_SOCKETS)?;
         register_all(poll.registry(), pairs)?;
-        Ok(PollWaiter { rt, poll, events })
+        Ok(PollWaiter { poll, events })
     }
 }
 
@@ -74,13 +72,13 @@ fn names_socket(events: &Events, number: usize) -> bool
     events.iter().any(|event| event.token().0 == number)
 }
 
-impl<R: Clock> Waiter for PollWaiter<'_, R> {
+impl Waiter for PollWaiter {
     ghost Waited = { λ _ _. ⊤ };
 
     ghost Quiet = { λ waiter number. has_event_of number waiter.events ≡ false };
 
     fn wait(&mut self, most: Duration) -> io::Result<()> {
-        slowed(self.rt, self.poll.poll(&mut self.events, Some(most)))
+        self.poll.poll(&mut self.events, Some(most))
     }
 
     fn has_come(&self, number: usize) -> bool {

@@ -6,7 +6,7 @@ use Rattle.gw_turns.specs.Stretch.{CanCount, moment}
 use Rattle.gw_turns.specs.declared.serving.ServeState.{ServeState}
 use Rattle.gw_notices.specs.declared.troubles.Troubles.{Troubles}
 use Rattle.gw_turns.specs.declared.stretch.Pause.TheVariants as pause
-use Rattle.gw_service.specs.Chain.{look_text, manner, served, stage, standing, withheld}
+use Rattle.gw_service.specs.Chain.{FailsToLast, WasLasting, edge, look_text, manner, served, stage, standing, withheld}
 use Rattle.gw_notices.specs.Notices.{metrics_notice, notice_of}
 use Rattle.gw_wire.specs.declared.store.StoreFault.{StoreFault}
 use Rattle.gw_service.specs.Metering.{failing_by, lost_by, metered, meters_by}
@@ -15,7 +15,7 @@ use Rattle.gw_service.specs.Metrics.{PutsDue}
 use Rattle.gw_service.proofs.MeteringLemmas.{puts_metered}
 use Rattle.gw_service.specs.Scheduled.{reporting_by}
 use Rattle.gw_service.specs.Stats.{due_stats}
-use Rattle.gw_service.proofs.ChainLemmas.{advanced_by, ends_as, more_at_tick, more_at_turns, more_withheld, went_kept}
+use Rattle.gw_service.proofs.ChainLemmas.{advanced_by, advances_as, ends_as, more_at_tick, more_at_turns, more_withheld, went_kept}
 use Rattle.gw_notices.proofs.AppendLemmas.{appends_nothing, appends_two}
 use Rattle.gw_service.proofs.running.Running.advance.Goals as goal
 
@@ -86,8 +86,24 @@ returns-then-is_behind-clause-more g c = λ some.
     c.serve_to_tick.new.guard c.serve_to_tick.new.self.served c.serve_to_tick.new.self.tally) c.serve_to_tick.result c.in-Ok-Tick.field-0
     pause.Tick c.in-Ok-Tick.is c.in-Ok-Tick.field-0-is c.serve_to_tick.ensures.end)
 
-pub returns-else-is_behind-clause-advances : goal.returns-else-is_behind-clause-advances
-returns-else-is_behind-clause-advances g c = λ config is_config.
+pub returns-in_default-clause-more : goal.returns-in_default-clause-more
+returns-in_default-clause-more g c = λ some.
+    let old = c.args.self.now in
+    let new = c.serve_to_tick.new in
+    let held = g.L.OctetSink.held in
+    let calls = g.W.Wire.calls in
+    more_at_tick g.K.Guard.Passes c.args.turns
+    (moment (scene old.gateway (held c.args.log.now) (calls c.args.wire.now)) old.keeper old.state.served old.state.tally)
+    (moment (scene new.gateway (held new.log) (calls new.wire)) new.guard new.self.served new.self.tally)
+    (ends_as g.K.Guard.Passes c.args.turns
+    (moment (scene c.args.self.now.gateway (g.L.OctetSink.held c.args.log.now) (g.W.Wire.calls c.args.wire.now)) c.args.self.now.keeper
+    c.args.self.now.state.served c.args.self.now.state.tally)
+    (moment (scene c.serve_to_tick.new.gateway (g.L.OctetSink.held c.serve_to_tick.new.log) (g.W.Wire.calls c.serve_to_tick.new.wire))
+    c.serve_to_tick.new.guard c.serve_to_tick.new.self.served c.serve_to_tick.new.self.tally) c.serve_to_tick.result c.in-Ok-Tick.field-0
+    pause.Tick c.in-Ok-Tick.is c.in-Ok-Tick.field-0-is c.serve_to_tick.ensures.end)
+
+pub returns-in-Ok-clause-advances : goal.returns-in-Ok-clause-advances
+returns-in-Ok-clause-advances g c = λ config is_config.
     let end = ends_as g.K.Guard.Passes c.args.turns
     (moment (scene c.args.self.now.gateway (g.L.OctetSink.held c.args.log.now) (g.W.Wire.calls c.args.wire.now)) c.args.self.now.keeper
     c.args.self.now.state.served c.args.self.now.state.tally)
@@ -112,20 +128,27 @@ returns-else-is_behind-clause-advances g c = λ config is_config.
     let calls = g.W.Wire.calls stretch.wire in
     let noted = g.L.OctetSink.held c.at_tick-stops.new.log in
     let then = moment (scene stretch.gateway noted calls) stretch.guard stretch.self.served stretch.self.tally in
-    let went = went_kept g.K.Guard.Passes
-    (moment (scene old.gateway (g.L.OctetSink.held c.args.log.now) (g.W.Wire.calls c.args.wire.now)) old.keeper old.state.served old.state.tally)
-    turns stretch.gateway (g.L.OctetSink.held stretch.log) noted calls stretch.guard stretch.self.served stretch.self.tally end.went
-    c.at_tick-stops.ensures.log in (
+    let synced = g.L.OctetSink.held c.sync.new.self in
+    let at = moment (scene old.gateway (g.L.OctetSink.held c.args.log.now) (g.W.Wire.calls c.args.wire.now)) old.keeper old.state.served
+    old.state.tally in
+    let went = went_kept g.K.Guard.Passes at turns stretch.gateway synced noted calls stretch.guard stretch.self.served stretch.self.tally
+    (went_kept g.K.Guard.Passes at turns stretch.gateway (g.L.OctetSink.held stretch.log) synced calls stretch.guard stretch.self.served
+    stretch.self.tally end.went c.sync.ensures.keeps)
+    c.at_tick-stops.ensures.log in
+    let by = manner g.K.Guard.Passes g.K.StateKeeper.Ticks g.K.StateKeeper.Adopts g.K.StateKeeper.troubles
+    (due_stats g.K.StateKeeper.unkept g.K.StateKeeper.more (reporting_by c.args.schedule.now)) (meters_by c.args.schedule.now.start)
+    g.K.StateKeeper.Lasts in
+    let first = stage config at (g.Q.Requests.recorded old.requests) old.counts old.announcing old.said metrics in
+    let text = ((look ++ notice) ++ report) ++ lines in
+    let left = edge (g.W.Wire.behind c.announce.new.wire) (WasLasting g.L.Lasting.IsLasting g.L.OctetSink.held c.at_tick-stops.new.log)
+    (FailsToLast g.L.Lasting.Syncs c.at_tick-stops.new.log) in (
       done.0,
       ((look ++ notice) ++ report) ++ lines,
       done.2,
-      advanced_by (manner g.K.Guard.Passes g.K.StateKeeper.Ticks g.K.StateKeeper.Adopts g.K.StateKeeper.troubles
-          (due_stats g.K.StateKeeper.unkept g.K.StateKeeper.more (reporting_by c.args.schedule.now)) (meters_by c.args.schedule.now.start)
-          g.K.StateKeeper.Lasts)
-          (stage config (moment (scene old.gateway (g.L.OctetSink.held c.args.log.now) (g.W.Wire.calls c.args.wire.now)) old.keeper
-          old.state.served old.state.tally) (g.Q.Requests.recorded old.requests) old.counts old.announcing old.said metrics)
-          turns done.1 (((look ++ notice) ++ report) ++ lines) _ c.at_tick-stops.result (g.W.Wire.behind c.announce.new.wire) done.5.1
+      advances_as by c.args.turns first text _ c.at_tick-stops.result left c.end_of.result c.end_of.ensures
+          (advanced_by by first turns done.1 text _ c.at_tick-stops.result left done.5.1
           (c.announce.ensures.behind ∙ sym c.is_behind.ensures ∙ c.if-is_behind.false)
+          (c.sync.new.self, c.in-Ok.ensures.lasts, c.at_tick-stops.ensures.log)
           (record {
             is = done.5.1;
             before = end.turns;
@@ -149,7 +172,7 @@ returns-else-is_behind-clause-advances g c = λ config is_config.
                 (subst (λ (m : Option (Writing _)). PutsDue g.M.Store.held m c.measure-measured.result after.gateway
                 (g.K.StateKeeper.decisions after.keeper) c.put_due.new.metrics) c.at_tick-stops.ensures.metrics c.put_due.ensures);
             lines = refl;
-          }),
+          })),
       λ never.
           let one = c.at_tick-stops.ensures.lasts never in
           let two = c.notice-self.ensures.lasts one in
@@ -168,15 +191,15 @@ returns-else-is_behind-clause-advances g c = λ config is_config.
           (c.report_metrics.ensures.said (c.report_due.ensures.lasts two)))),
     )
 
-pub returns-else-is_behind-clause-rest : goal.returns-else-is_behind-clause-rest
-returns-else-is_behind-clause-rest g c = λ rest most.
+pub returns-in-Ok-clause-rest : goal.returns-in-Ok-clause-rest
+returns-in-Ok-clause-rest g c = λ rest most.
     subst (λ (s : ServeState). CanCount s.served s.tally (g.W.Wire.failure_count c.announce.new.wire) rest) (sym c.at_tick-stops.ensures.state)
     (c.announce.ensures.counted _ _ rest
     (c.serve_to_tick.ensures.rest rest
     (subst (λ (s : ServeState). s.served.turns + rest ≤ c.args.self.now.state.served.turns + c.args.turns) c.at_tick-stops.ensures.state most)))
 
-pub returns-else-is_behind-clause-more : goal.returns-else-is_behind-clause-more
-returns-else-is_behind-clause-more g c = λ some.
+pub returns-in-Ok-clause-more : goal.returns-in-Ok-clause-more
+returns-in-Ok-clause-more g c = λ some.
     let old = c.args.self.now in
     let new = c.serve_to_tick.new in
     let held = g.L.OctetSink.held in

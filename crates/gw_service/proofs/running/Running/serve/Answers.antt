@@ -1,15 +1,15 @@
-use Rattle.std.proofs.Common.{◌≡◌, ◌+◌, ◌-◌, ◌<◌, Bool, Result, Ok, arith, refl, subst}
+use Rattle.std.proofs.Common.{◌≡◌, ◌+◌, ◌-◌, ◌<◌, Result, Ok, Option, None, Some, arith, refl, subst}
 use Rattle.gw_configuration.specs.Configuration.{Configuration}
 use Rattle.gw_script.proofs.Passing.{passes_on}
 use Rattle.gw_turns.specs.Serve.{scene}
 use Rattle.gw_turns.specs.Stretch.{moment}
 use Rattle.gw_turns.specs.declared.serving.ServeFault.{ServeFault}
-use Rattle.gw_service.specs.Chain.{Stage, manner, stage}
+use Rattle.gw_service.specs.Chain.{FailsToLast, Stage, WasLasting, edge, manner, stage}
 use Rattle.gw_service.specs.declared.running.End.{End}
 use Rattle.gw_service.specs.Metering.{metered, meters_by}
 use Rattle.gw_service.specs.Scheduled.{reporting_by}
 use Rattle.gw_service.specs.Stats.{due_stats}
-use Rattle.gw_service.proofs.ChainLemmas.{Advanced, Ran, chained_more, chained_none, ran_to_stop, ran_until}
+use Rattle.gw_service.proofs.ChainLemmas.{Advanced, Ran, chained_more, chained_none, ran_ended, ran_until}
 use Rattle.gw_service.proofs.running.Running.serve.Goals as goal
 
 pub loop-init : goal.loop-init
@@ -38,7 +38,7 @@ loop-preserved g c =
     let new = c.advance.new.self in
     let kept = c.loop.invariant in
     let some : 0 < c.loop.left = omega (arith, c.if-left-eq0.false) in
-    let more : now.state.served.turns < new.state.served.turns = c.in_ok-stops.ensures.more some in
+    let more : now.state.served.turns < new.state.served.turns = c.in_ok-ended.ensures.more some in
     let most = c.advance.ensures.most in
     let never = g.E.OctetSink.NeverFails in
     let held = g.E.OctetSink.held in
@@ -48,7 +48,8 @@ loop-preserved g c =
     let next : Configuration → Stage _ = λ (config : Configuration). stage config
     (moment (scene new.gateway (g.L.OctetSink.held c.advance.new.log) (g.W.Wire.calls c.advance.new.wire)) new.keeper
     new.state.served new.state.tally) (g.Q.Requests.recorded new.requests) new.counts new.announcing new.said (metered new.metrics) in
-    let behind = g.W.Wire.behind c.advance.new.wire in
+    let left_by = edge (g.W.Wire.behind c.advance.new.wire) (WasLasting g.L.Lasting.IsLasting g.L.OctetSink.held c.advance.new.log)
+    (FailsToLast g.L.Lasting.Syncs c.advance.new.log) in
     let left = c.loop.left - (new.state.served.turns - now.state.served.turns) in
     let counted : new.state.served.turns + left ≡ now.state.served.turns + c.loop.left = omega (arith, more, most) in (
       omega (arith, more, most, kept.0),
@@ -58,15 +59,15 @@ loop-preserved g c =
       chained_more how c.loop.left old.origin now.origin new.origin
           (λ (config : Configuration). stage config (moment (scene old.gateway (g.L.OctetSink.held c.args.log.now) (g.W.Wire.calls c.args.wire.now))
           old.keeper old.state.served old.state.tally) (g.Q.Requests.recorded old.requests) old.counts old.announcing old.said (metered old.metrics))
-          at next behind
+          at next left_by
           (g.E.OctetSink.NeverFails c.args.errors.now) (g.E.OctetSink.NeverFails c.loop.errors)
           (g.E.OctetSink.held c.args.errors.now) (g.E.OctetSink.held c.loop.errors) (g.E.OctetSink.held c.advance.new.errors)
-          kept.4 (subst (λ (stops : Bool). Advanced how c.loop.left now.origin at (Ok stops) new.origin next behind (never c.loop.errors)
-          (held c.loop.errors) (held c.advance.new.errors)) c.if-stops.false c.in_ok-stops.ensures.advances) kept.3,
+          kept.4 (subst (λ (ending : Option End). Advanced how c.loop.left now.origin at (Ok ending) new.origin next left_by (never c.loop.errors)
+          (held c.loop.errors) (held c.advance.new.errors)) c.in-None.is c.in_ok-ended.ensures.advances) kept.3,
     )
 
-pub returns-in_err-stops-clause-runs : goal.returns-in_err-stops-clause-runs
-returns-in_err-stops-clause-runs g c =
+pub returns-in_err-ended-clause-runs : goal.returns-in_err-ended-clause-runs
+returns-in_err-ended-clause-runs g c =
     let how = manner g.K.Guard.Passes g.K.StateKeeper.Ticks g.K.StateKeeper.Adopts g.K.StateKeeper.troubles
     (due_stats g.K.StateKeeper.unkept g.K.StateKeeper.more (reporting_by c.args.schedule.now)) (meters_by c.args.schedule.now.start)
     g.K.StateKeeper.Lasts in
@@ -74,7 +75,7 @@ returns-in_err-stops-clause-runs g c =
     let now = c.loop.self in
     let new = c.advance.new.self in
     let kept = c.loop.invariant in
-    let fault = c.in_err-stops.field-0.0 in
+    let fault = c.in_err-ended.field-0.0 in
     let never = g.E.OctetSink.NeverFails in
     let held = g.E.OctetSink.held in
     let first : Configuration → Stage _ = λ (config : Configuration). stage config
@@ -88,11 +89,13 @@ returns-in_err-stops-clause-runs g c =
     (ran_until how c.args.turns c.loop.left old.origin now.origin new.origin first
     (λ (config : Configuration). stage config (moment (scene now.gateway (g.L.OctetSink.held c.loop.log) (g.W.Wire.calls c.loop.wire))
     now.keeper now.state.served now.state.tally) (g.Q.Requests.recorded now.requests) now.counts now.announcing now.said (metered now.metrics))
-    last fault (g.W.Wire.behind c.advance.new.wire) (never c.args.errors.now) (never c.loop.errors) (held c.args.errors.now) (held c.loop.errors) (held c.advance.new.errors)
-    kept.4 c.in_err-stops.ensures.advances kept.3 (λ a b. kept.1))
+    last fault (edge (g.W.Wire.behind c.advance.new.wire) (WasLasting g.L.Lasting.IsLasting g.L.OctetSink.held c.advance.new.log)
+    (FailsToLast g.L.Lasting.Syncs c.advance.new.log))
+    (never c.args.errors.now) (never c.loop.errors) (held c.args.errors.now) (held c.loop.errors) (held c.advance.new.errors)
+    kept.4 c.in_err-ended.ensures.advances kept.3 (λ a b. kept.1))
 
-pub returns-then-stops-clause-runs : goal.returns-then-stops-clause-runs
-returns-then-stops-clause-runs g c =
+pub returns-in-Some-clause-runs : goal.returns-in-Some-clause-runs
+returns-in-Some-clause-runs g c =
     let how = manner g.K.Guard.Passes g.K.StateKeeper.Ticks g.K.StateKeeper.Adopts g.K.StateKeeper.troubles
     (due_stats g.K.StateKeeper.unkept g.K.StateKeeper.more (reporting_by c.args.schedule.now)) (meters_by c.args.schedule.now.start)
     g.K.StateKeeper.Lasts in
@@ -111,8 +114,9 @@ returns-then-stops-clause-runs g c =
     let next : Configuration → Stage _ = λ (config : Configuration). stage config
     (moment (scene new.gateway (g.L.OctetSink.held c.advance.new.log) (g.W.Wire.calls c.advance.new.wire)) new.keeper
     new.state.served new.state.tally) (g.Q.Requests.recorded new.requests) new.counts new.announcing new.said (metered new.metrics) in
-    let behind = g.W.Wire.behind c.advance.new.wire in
-    ran_to_stop how c.args.turns c.loop.left old.origin now.origin new.origin first at next behind
-    (never c.args.errors.now) (never c.loop.errors) (held c.args.errors.now) (held c.loop.errors) (held c.advance.new.errors)
-    kept.4 (subst (λ (stops : Bool). Advanced how c.loop.left now.origin at (Ok stops) new.origin next behind (never c.loop.errors)
-    (held c.loop.errors) (held c.advance.new.errors)) c.if-stops.true c.in_ok-stops.ensures.advances) kept.3
+    let left_by = edge (g.W.Wire.behind c.advance.new.wire) (WasLasting g.L.Lasting.IsLasting g.L.OctetSink.held c.advance.new.log)
+    (FailsToLast g.L.Lasting.Syncs c.advance.new.log) in
+    ran_ended how c.args.turns c.loop.left old.origin now.origin new.origin first at next left_by
+    (never c.args.errors.now) (never c.loop.errors) (held c.args.errors.now) (held c.loop.errors) (held c.advance.new.errors) c.in-Some.end
+    kept.4 (subst (λ (ending : Option End). Advanced how c.loop.left now.origin at (Ok ending) new.origin next left_by (never c.loop.errors)
+    (held c.loop.errors) (held c.advance.new.errors)) c.in-Some.is c.in_ok-ended.ensures.advances) kept.3 (λ a b. kept.1)
