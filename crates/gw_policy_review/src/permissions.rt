@@ -8,6 +8,7 @@ mod passing;
 mod permissions;
 mod ports;
 mod questions;
+mod reach;
 mod words;
 
 pub use passing::{decides_all, may_allow, may_pass, place_of_all};
