@@ -13,3 +13,4 @@ mod words;
 
 pub use passing::{decides_all, may_allow, may_pass, place_of_all};
 pub use permissions::put_permissions;
+pub(crate) use words::Placed;

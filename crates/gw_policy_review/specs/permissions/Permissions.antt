@@ -1,6 +1,6 @@
 -- Who may do what under a configuration: the lines that `bacgwctl explain` has of it. In format 3 they are about its ports, its
 -- networks, what rules let others do, its objects and its rules' notes; in formats 1 and 2 about its objects alone.
-use Rattle.std.specs.Prelude.{◌≡◌, ℕ, ◌+◌, ◌-◌, ◌==◌, Bool, ◌&&◌, not, if◌then◌else◌, List, [], ◌∷◌, ◌++◌, length, slice_get}
+use Rattle.std.specs.Prelude.{◌≡◌, ℕ, ◌+◌, ◌-◌, ◌==◌, Bool, true, false, ◌&&◌, not, if◌then◌else◌, List, [], ◌∷◌, ◌++◌, length, slice_get}
 use Rattle.std.specs.Prelude.{codes, decimal, Option, Some, None}
 use Rattle.std.specs.List.{flat_map, list_any}
 use Rattle.std.specs.Option.{option_map_or}
@@ -119,10 +119,13 @@ stations_words port =
     if length port.stations == 0 then everyone_words port.bbmd
     else named_words port.stations port.bbmd
 
--- strangers enter where the port names its stations
+-- Strangers enter where the port names its stations, and not where it has none.
+abbrev pub AreEntriesOf : (has_none : Bool) → Configuration → (lines : List ℕ) → ℕ → Port → List ℕ → Type 0
+AreEntriesOf true c lines number port text = text ≡ []
+AreEntriesOf false c lines number port text = AreGrants c lines (Enter number) (entering number port.network) text
+
 abbrev pub AreEntries : Configuration → (lines : List ℕ) → ℕ → Port → List ℕ → Type 0
-AreEntries c lines number port text =
-    if length port.stations == 0 then text ≡ [] else AreGrants c lines (Enter number) (entering number port.network) text
+AreEntries c lines number port text = AreEntriesOf (length port.stations == 0) c lines number port text
 
 -- the stations of a port, and who enters there
 pub record IsPort (c : Configuration) (lines : List ℕ) (number : ℕ) (port : Port) (text : List ℕ) : Type 0 where
@@ -307,10 +310,14 @@ pub record AreFull (c : Configuration) (lines text : List ℕ) : Type 0 where
 abbrev pub AppendsFull : Configuration → (lines : List ℕ) → List ℕ → List ℕ → Type 0
 AppendsFull c lines old new = (text : List ℕ) × AreFull c lines text × (new ≡ old ++ text)
 
+-- those of a configuration of format 3, or of another
+abbrev pub AreLinesOf : (is_third : Bool) → Configuration → (lines : List ℕ) → List ℕ → Type 0
+AreLinesOf true c lines text = AreFull c lines text
+AreLinesOf false c lines text = text ≡ in_order (plain_lines c.rules c.ports) 1 c.objects
+
 -- A text says who may do what under a configuration, of whose text the tables of the rules begin on these lines.
 abbrev pub ArePermissions : Configuration → (lines : List ℕ) → List ℕ → Type 0
-ArePermissions c lines text =
-    if names_stations c.format then AreFull c lines text else text ≡ in_order (plain_lines c.rules c.ports) 1 c.objects
+ArePermissions c lines text = AreLinesOf (names_stations c.format) c lines text
 
 -- such lines follow what a buffer held
 abbrev pub AppendsPermissions : Configuration → (lines : List ℕ) → List ℕ → List ℕ → Type 0

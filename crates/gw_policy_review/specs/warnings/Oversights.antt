@@ -26,7 +26,8 @@ use Rattle.gw_rules.specs.declared.range.Range.{Range}
 use Rattle.gw_rules.specs.declared.rule.Rule.{Rule}
 use Rattle.gw_ask_sets.specs.shapes.Meeting.{overlaps}
 use Rattle.gw_script.specs.Order.{in_order}
-use Rattle.gw_policy_review.specs.Places.{is_derived, place_words}
+use Rattle.gw_policy_review.specs.Places.{is_derived}
+use Rattle.gw_policy_review.specs.permissions.Words.{rule_words}
 use Rattle.gw_policy_review.specs.warnings.Subnet.{is_beside}
 use Rattle.gw_policy_review.specs.warnings.Warnings.{address_of}
 
@@ -70,10 +71,13 @@ abbrev pub shares_with : Port → Subnet → Port → Bool
 shares_with port subnet other =
     (port.address.udp == other.address.udp) && list_any (λ its. overlaps (keys_of subnet) (keys_of its)) other.stations
 
+abbrev pub overlap_words : Subnet → ℕ → List ℕ
+overlap_words subnet other =
+    subnet_text subnet ++ (codes " overlaps with those of port " ++ (decimal (other + 1) ++ codes "\n"))
+
 abbrev pub overlap_line : ℕ → ℕ → Subnet → ℕ → List ℕ
 overlap_line number item subnet other =
-    codes "warning: port " ++ (decimal number ++ (codes ": stations: item " ++ (decimal item ++ (codes ": " ++ (subnet_text subnet
-    ++ (codes " overlaps with those of port " ++ (decimal (other + 1) ++ codes "\n")))))))
+    codes "warning: port " ++ (decimal number ++ (codes ": stations: item " ++ (decimal item ++ (codes ": " ++ overlap_words subnet other))))
 
 -- for each subnet of a port's stations, with the first port before it of which that is so
 abbrev pub overlap_lines : List Port → ℕ → Port → ℕ → Subnet → List ℕ
@@ -115,9 +119,7 @@ unheard_lines rules number port item peer =
 
 -- `warning: rule 7 "panel-writes" (table 5, line 60): `
 abbrev pub front_words : Configuration → (lines : List ℕ) → ℕ → Rule → List ℕ
-front_words c lines number rule =
-    codes "warning: rule " ++ (decimal number ++ (codes " \"" ++ (rule.name ++ (codes "\"" ++ (place_words c.tables lines number
-    ++ codes ": ")))))
+front_words c lines number rule = codes "warning: " ++ (rule_words c lines number rule.name ++ codes ": ")
 
 -- ---- rules of reads and writes that nobody passes on
 

@@ -1,6 +1,6 @@
 //! What rules surely lack.
 ghost use Rattle.std.specs.Prelude.{◌≡◌, ◌++◌, ◌==◌, OnOk};
-ghost use Rattle.std.specs.List.{list_any};
+ghost use Rattle.std.specs.List.{list_all, list_any};
 ghost use Rattle.gw_ask_sets.specs.shapes.Meeting.{overlaps};
 ghost use Rattle.gw_configuration.specs.Subnet.{keys_of};
 ghost use Rattle.gw_rules.specs.Bounds.{is_within};
@@ -10,7 +10,8 @@ ghost use Rattle.gw_policy_review.specs.warnings.Oversights.{admits_number, admi
 ghost use Rattle.gw_policy_review.specs.warnings.Oversights.{is_behind, is_carried, is_of_port, is_of_some_port, is_unsent, may_carry, names_near_stations, passes_to};
 ghost use Rattle.gw_policy_review.specs.warnings.Oversights.{rule_oversights, share, unsent_lines, unsent_of, unsent_words};
 
-use crate::places::{is_derived, put_place};
+use crate::permissions::Placed;
+use crate::places::is_derived;
 use gw_addr::put_text_number;
 use gw_ask_sets::shapes::overlaps;
 use gw_configuration::{Config, Port, Route, Subnet};
@@ -72,11 +73,12 @@ impl NumberedRule<'_> {
         ensures { OnOk result (out.new.items ≡ out.old.items
             ++ front_words self.now.config.now self.now.lines.now self.now.number self.now.rule.now) }
     {
-        put_text_number(out, "warning: rule ", self.number)?;
-        out.extend_from_slice(b" \"")?;
-        out.extend_from_slice(self.rule.name.as_str().as_bytes())?;
-        out.extend_from_slice(b"\"")?;
-        put_place(out, self.config.tables(), self.lines, self.number)?;
+        let placed = Placed {
+            config: self.config,
+            lines: self.lines,
+        };
+        out.extend_from_slice(b"warning: ")?;
+        placed.put_rule(out, self.number, self.rule)?;
         out.extend_from_slice(b": ")
     }
 
@@ -171,7 +173,13 @@ fn overlaps_one(range: &Range, ranges: &[Range]) -> bool
 pub(crate) fn share(one: &[Range], other: &[Range]) -> bool
     ensures { result ≡ share one.now other.now }
 {
-    one.is_empty() || other.is_empty() || one.iter().any(|range| overlaps_one(range, other))
+    one.is_empty() || other.is_empty() || overlap_any(one, other)
+}
+
+fn overlap_any(one: &[Range], other: &[Range]) -> bool
+    ensures { result ≡ list_any (λ range. list_any (overlaps range) other.now) one.now }
+{
+    one.iter().any(|range| overlaps_one(range, other))
 }
 
 pub(crate) fn holds_number(number: u64, ranges: &[Range]) -> bool
@@ -309,11 +317,17 @@ fn is_of_some_port(ports: &[Port], range: &Range) -> bool
     ports.iter().any(|port| is_of_port(range, port))
 }
 
+fn are_of_ports(ports: &[Port], stations: &[Range]) -> bool
+    ensures { result ≡ list_all (is_of_some_port ports.now) stations.now }
+{
+    stations.iter().all(|range| is_of_some_port(ports, range))
+}
+
 /// Whether stations are named, and each is one of a port.
 fn names_near_stations(ports: &[Port], stations: &[Range]) -> bool
     ensures { result ≡ names_near_stations ports.now stations.now }
 {
-    !stations.is_empty() && stations.iter().all(|range| is_of_some_port(ports, range))
+    !stations.is_empty() && are_of_ports(ports, stations)
 }
 
 fn is_network_of_one(routes: &[Route], network: u64) -> bool

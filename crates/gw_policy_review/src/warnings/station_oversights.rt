@@ -6,7 +6,7 @@ ghost use Rattle.gw_configuration.specs.Subnet.{keys_of, subnet_holds};
 ghost use Rattle.gw_script.specs.Order.{in_order};
 ghost use Rattle.gw_policy_review.specs.warnings.Oversights.{apart_line, apart_lines, enter_ask, first_address, has_stations, is_accounted, is_apart};
 ghost use Rattle.gw_policy_review.specs.warnings.Oversights.{is_left_out, is_near, is_station, is_unheard, overlap_line, overlap_lines, port_oversights, shares_with};
-ghost use Rattle.gw_policy_review.specs.warnings.Oversights.{unheard_line, unheard_lines};
+ghost use Rattle.gw_policy_review.specs.warnings.Oversights.{overlap_words, unheard_line, unheard_lines};
 
 use crate::warnings::port_warnings::is_same;
 use crate::warnings::rule_warnings::address_of;
@@ -203,12 +203,18 @@ fn put_overlap_line(
 ) -> Result<(), AllocError>
     ensures { OnOk result (out.new.items ≡ out.old.items ++ overlap_line number item subnet other) }
 {
-    let text = subnet.to_string(*out.allocator())?;
     put_text_number(out, "warning: port ", number)?;
     put_text_number(out, ": stations: item ", item)?;
     out.extend_from_slice(b": ")?;
+    put_overlap_words(out, subnet, other)
+}
+
+fn put_overlap_words(out: &mut Vec<u8>, subnet: Subnet, other: usize) -> Result<(), AllocError>
+    ensures { OnOk result (out.new.items ≡ out.old.items ++ overlap_words subnet other) }
+{
+    let text = subnet.to_string(*out.allocator())?;
     out.extend_from_slice(text.as_bytes())?;
-    put_text_number(out, " overlaps with those of port ", other as u64 + 1)?;
+    put_text_number(out, " overlaps with those of port ", other as u128 + 1)?;
     out.extend_from_slice(b"\n")
 }
 

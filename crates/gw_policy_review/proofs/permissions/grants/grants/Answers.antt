@@ -1,4 +1,4 @@
-use Rattle.std.proofs.Common.{rules, ◌≡◌, ◌++◌, ◌+◌, [], get_or, subst, sym}
+use Rattle.std.proofs.Common.{rules, ◌≡◌, ◌∙◌, ◌++◌, ◌+◌, [], get_or, subst, sym}
 use Rattle.gw_rules.specs.declared.rule.Rule.{Rule}
 use Rattle.gw_policy_review.specs.permissions.Permissions.{grant_line}
 use Rattle.gw_script.proofs.Order.{in_order_none, in_order_step}
@@ -6,7 +6,8 @@ use Rattle.gw_policy_review.proofs.permissions.grants.grants.Goals as goal
 
 pub loop-place-init : goal.loop-place-init
 loop-place-init c =
-    in_order_none (grant_line c.args.inquiry.now.placed.config.now c.args.inquiry.now.placed.lines.now c.args.inquiry.now.deed c.args.inquiry.now.shape c.args.findings.now)
+    c.new-text.ensures.items
+    ∙ in_order_none (grant_line c.args.inquiry.now.placed.config.now c.args.inquiry.now.placed.lines.now c.args.inquiry.now.deed c.args.inquiry.now.shape c.args.findings.now)
     []
 
 pub loop-place-preserved : goal.loop-place-preserved
