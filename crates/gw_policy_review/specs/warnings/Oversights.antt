@@ -73,7 +73,7 @@ shares_with port subnet other =
 
 abbrev pub overlap_words : Subnet → ℕ → List ℕ
 overlap_words subnet other =
-    subnet_text subnet ++ (codes " overlaps with those of port " ++ (decimal (other + 1) ++ codes "\n"))
+    subnet_text subnet ++ (codes " overlaps with those of port " ++ (decimal other ++ codes "\n"))
 
 abbrev pub overlap_line : ℕ → ℕ → Subnet → ℕ → List ℕ
 overlap_line number item subnet other =
@@ -82,7 +82,8 @@ overlap_line number item subnet other =
 -- for each subnet of a port's stations, with the first port before it of which that is so
 abbrev pub overlap_lines : List Port → ℕ → Port → ℕ → Subnet → List ℕ
 overlap_lines ports number port item subnet =
-    option_map_or (overlap_line number item subnet) (position (shares_with port subnet) (take (number - 1) ports)) []
+    option_map_or (λ place. overlap_line number item subnet (place + 1))
+    (position (shares_with port subnet) (take (number - 1) ports)) []
 
 -- ---- peers that aren't heard
 

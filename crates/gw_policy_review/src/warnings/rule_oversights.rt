@@ -5,6 +5,7 @@ ghost use Rattle.gw_ask_sets.specs.shapes.Meeting.{overlaps};
 ghost use Rattle.gw_configuration.specs.Subnet.{keys_of};
 ghost use Rattle.gw_rules.specs.Bounds.{is_within};
 ghost use Rattle.gw_rules.specs.Range.{holds};
+ghost use Rattle.gw_rules.specs.Rule.{each_field};
 ghost use Rattle.gw_script.specs.Order.{in_order};
 ghost use Rattle.gw_policy_review.specs.warnings.Oversights.{admits_number, admits_passage, asks_beyond, behind_line, behind_lines, behinds_lines, carries_field, front_words};
 ghost use Rattle.gw_policy_review.specs.warnings.Oversights.{is_behind, is_carried, is_of_port, is_of_some_port, is_unsent, may_carry, names_near_stations, passes_to};
@@ -227,13 +228,18 @@ fn carries_field(service: u64, rule: &Rule, carrier: &Rule, field: FieldName) ->
     }
 }
 
+fn carries_all(service: u64, rule: &Rule, carrier: &Rule) -> bool
+    ensures { result ≡ each_field (carries_field service rule.now carrier.now) }
+{
+    FieldName::ALL
+        .iter()
+        .all(|field| carries_field(service, rule, carrier, *field))
+}
+
 fn may_carry(service: u64, rule: &Rule, carrier: &Rule) -> bool
     ensures { result ≡ may_carry service rule.now carrier.now }
 {
-    carrier.allow
-        && FieldName::ALL
-            .iter()
-            .all(|field| carries_field(service, rule, carrier, *field))
+    carrier.allow && carries_all(service, rule, carrier)
 }
 
 fn has_carrier(rules: &[Rule], rule: &Rule, service: u64) -> bool

@@ -11,7 +11,7 @@ ghost use Rattle.gw_policy_review.specs.warnings.Oversights.{overlap_words, unhe
 use crate::warnings::port_warnings::is_same;
 use crate::warnings::rule_warnings::address_of;
 use crate::warnings::subnet::has_beside;
-use gw_addr::{BdtEntry, BipAddr, put_slice, put_text_number};
+use gw_addr::{BdtEntry, BipAddr, put_decimal, put_slice, put_text_number};
 use gw_ask_sets::shapes::overlaps;
 use gw_configuration::{Config, Port, Subnet};
 use gw_rules::{Ask, Operation, Range, RuleList};
@@ -189,7 +189,7 @@ fn put_overlap(
     let ports = numbered.config.ports();
     let before = numbered.number.saturating_sub(1).min(ports.len());
     match first_sharing(&ports[..before], numbered.port, subnet) {
-        Some(other) => put_overlap_line(out, numbered.number, item, subnet, other),
+        Some(place) => put_overlap_line(out, numbered.number, item, subnet, place as u128 + 1),
         None => Ok(()),
     }
 }
@@ -199,7 +199,7 @@ fn put_overlap_line(
     number: usize,
     item: usize,
     subnet: Subnet,
-    other: usize,
+    other: u128,
 ) -> Result<(), AllocError>
     ensures { OnOk result (out.new.items ≡ out.old.items ++ overlap_line number item subnet other) }
 {
@@ -209,13 +209,14 @@ fn put_overlap_line(
     put_overlap_words(out, subnet, other)
 }
 
-fn put_overlap_words(out: &mut Vec<u8>, subnet: Subnet, other: usize) -> Result<(), AllocError>
+fn put_overlap_words(out: &mut Vec<u8>, subnet: Subnet, other: u128) -> Result<(), AllocError>
     ensures { OnOk result (out.new.items ≡ out.old.items ++ overlap_words subnet other) }
 {
     let text = subnet.to_string(*out.allocator())?;
     out.extend_from_slice(text.as_bytes())?;
-    put_text_number(out, " overlaps with those of port ", other as u128 + 1)?;
-    out.extend_from_slice(b"\n")
+    out.extend_from_slice(b" overlaps with those of port ")?;
+    put_decimal(out, other)?;
+    put_slice(out, b"\n")
 }
 
 // ---- peers that aren't heard

@@ -1,4 +1,4 @@
-use Rattle.std.proofs.Common.{length, rules, ◌≡◌, ◌<◌, ◌≤◌, ◌+◌, [], drop, subst}
+use Rattle.std.proofs.Common.{List, length, rules, ◌≡◌, ◌∙◌, ◌<◌, ◌≤◌, ◌+◌, ap, drop, get_or, subst}
 use Rattle.std.proofs.lemmas.List.{drop_all}
 use Rattle.gw_configuration.specs.declared.port.Port.{Port}
 use Rattle.gw_policy_review.specs.permissions.Permissions.{AppendsPort}
@@ -14,7 +14,9 @@ loop-place-preserved c =
     let lines = c.args.placed.now.lines.now in
     let place = c.loop-place.place in
     let within : place < length config.ports = search rules in
-    let here : c.index-ports-place.result ≡ _ = c.index-ports-place.is in
+    let item = c.index-ports-place.result in
+    let here : item ≡ get_or config.ports place item =
+    c.index-ports-place.is ∙ ap (λ (ps : List Port). get_or ps place item) c.ports-ports.ensures.ports in
     let grown = subst (λ (one : Port). AppendsPort config lines (place + 1) one c.loop-place.out.items c.put_port.new.out.items)
     here c.in_ok-put_port.ensures in
     appended_more config lines config.ports place c.index-ports-place.result c.args.out.now.items c.loop-place.out.items c.put_port.new.out.items within

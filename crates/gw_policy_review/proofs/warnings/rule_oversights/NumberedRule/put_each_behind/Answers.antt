@@ -1,5 +1,3 @@
-use Rattle.std.proofs.Common.{rules, ◌≡◌, ◌++◌, ◌+◌, get_or, subst, sym}
-use Rattle.gw_rules.specs.declared.range.Range.{Range}
 use Rattle.gw_policy_review.specs.warnings.Oversights.{behind_lines}
 use Rattle.gw_script.proofs.Order.{in_order_none, in_order_step}
 use Rattle.gw_policy_review.proofs.warnings.rule_oversights.NumberedRule.put_each_behind.Goals as goal
@@ -9,10 +7,5 @@ loop-place-init c = in_order_none (behind_lines c.args.self.now.config.now c.arg
 
 pub loop-place-preserved : goal.loop-place-preserved
 loop-place-preserved c =
-    let text = behind_lines c.args.self.now.config.now c.args.self.now.lines.now c.args.self.now.number c.args.self.now.rule.now in
-    let item = c.index-ranges-place.result in
-    let here : get_or c.args.ranges.now c.loop-place.place item ≡ item = search rules in
-    let then : c.put_behind.new.out.items ≡ c.loop-place.out.items ++ text (c.loop-place.place + 1) item = search rules in
-    in_order_step text c.args.out.now.items c.loop-place.out.items c.put_behind.new.out.items c.args.ranges.now c.loop-place.place item
-    c.loop-place-test.true c.loop-place.invariant
-    (subst (λ (x : Range). c.put_behind.new.out.items ≡ c.loop-place.out.items ++ text (c.loop-place.place + 1) x) (sym here) then)
+    in_order_step (behind_lines c.args.self.now.config.now c.args.self.now.lines.now c.args.self.now.number c.args.self.now.rule.now) c.args.out.now.items c.loop-place.out.items c.put_behind.new.out.items c.args.ranges.now c.loop-place.place _
+    c.loop-place-test.true c.loop-place.invariant c.in_ok-put_behind.ensures
