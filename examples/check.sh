@@ -721,13 +721,18 @@ checked "$work/hiding.toml"
 echo 'ok 2 ports 2 objects 2 rules' > "$work/line"
 agrees 'a check that explains nothing' 0 "$work/line" /dev/null
 
-# What is odd about the rules is shown by a lint, and what can't be meant of the rest by the explanation.
+# What is odd about the rules is shown by a lint, and what can't be meant or is lacking by a check.
 "$tool" lint --config "$here/lint.toml" < /dev/null > "$work/out" 2> "$work/err"
 status=$?
 agrees 'a lint' 0 "$here/lint.out" /dev/null
-"$tool" explain --config "$here/warnings.toml" < /dev/null > "$work/out" 2> "$work/err"
+for command in explain check; do
+    "$tool" $command --config "$here/warnings.toml" < /dev/null > "$work/out" 2> "$work/err"
+    status=$?
+    agrees "what cannot be meant: $command" 0 "$here/warnings.out" /dev/null
+done
+"$tool" check --config "$here/oversights.toml" < /dev/null > "$work/out" 2> "$work/err"
 status=$?
-agrees 'what cannot be meant' 0 "$here/warnings.out" /dev/null
+agrees 'what is surely lacking' 0 "$here/oversights.out" /dev/null
 
 # unsuspected FILE [NOTES]: a lint finds nothing in a configuration, or this, and nothing in it can't be meant. Two notes don't count: what
 # formats 1 and 2 can't keep out of a network, and that a policy passes no broadcast on
@@ -745,7 +750,7 @@ for file in "$here"/*.toml "$here"/format2/*.toml "$here/site/site.toml" "$here/
         base.toml | recipes.toml) # they have no rules
             same "the warnings of $file" "$("$tool" explain --config "$file" | grep '^warning: ')" \
                 'warning: there is no rule, so every ask is denied' ;;
-        lint.toml | warnings.toml | wrong_texts.toml) ;;
+        lint.toml | oversights.toml | warnings.toml | wrong_texts.toml) ;;
         *) unsuspected "$file" ;;
     esac
 done

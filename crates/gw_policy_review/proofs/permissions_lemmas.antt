@@ -1,3 +1,6 @@
 pub mod Allowing
 pub mod Appending
+pub mod Full
+pub mod Letting
+pub mod Ports
 pub mod Truth

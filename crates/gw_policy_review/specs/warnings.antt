@@ -1,2 +1,3 @@
+pub mod Oversights
 pub mod Subnet
 pub mod Warnings

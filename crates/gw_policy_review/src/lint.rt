@@ -1,5 +1,6 @@
 //! What is odd about a policy: rules that can never decide, since no ask that the gateway raises
 //! reaches them, and rules that may not mean what they say.
+mod discovery_note;
 mod finding;
 pub mod laws;
 mod lint;

@@ -8,7 +8,9 @@ mod passing;
 mod permissions;
 mod ports;
 mod questions;
+mod reach;
 mod words;
 
 pub use passing::{decides_all, may_allow, may_pass, place_of_all};
 pub use permissions::put_permissions;
+pub(crate) use words::Placed;

@@ -298,16 +298,22 @@ fn put_extent(page: &mut Page, extent: Option<Extent>) -> Result<(), AllocError>
     }
 }
 
-/// The lines that say who may enter, speak for a network, and read what is hidden.
-pub(crate) fn lines_of(alloc: Global, config: &Config) -> Result<Page, AllocError> {
+/// The lines that say who may enter, speak for a network, and read what is hidden, by the lines of the text on which the tables of the
+/// rules begin.
+pub(crate) fn lines_of(alloc: Global, config: &Config, lines: &[u32]) -> Result<Page, AllocError> {
     let mut page = Page::new(alloc);
-    put_lines(alloc, &mut page, config)?;
+    put_lines(alloc, &mut page, config, lines)?;
     Ok(page)
 }
 
-fn put_lines(alloc: Global, page: &mut Page, config: &Config) -> Result<(), AllocError> {
+fn put_lines(
+    alloc: Global,
+    page: &mut Page,
+    config: &Config,
+    lines: &[u32],
+) -> Result<(), AllocError> {
     let mut octets = Vec::new(alloc);
-    put_permissions(alloc, config, &mut octets)?;
+    put_permissions(alloc, config, lines, &mut octets)?;
     let Ok(text) = str::from_utf8(&octets) else {
         return Ok(());
     };

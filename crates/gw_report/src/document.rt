@@ -25,14 +25,15 @@ use std::alloc::{AllocError, Global};
 
 /// A page of HTML that shows a configuration: the site as a picture, who may do what, the rules with their notes, the
 /// assertions with what is found of each, and the objects. It has no script and takes nothing from elsewhere, and every text of the configuration is escaped.
+/// `lines` are those of the configuration's text on which the tables of its rules begin, or none if they aren't known.
 ///
 /// An `Err` only if a growth of memory was refused.
-pub fn report(alloc: Global, config: &Config) -> Result<Vec<u8>, AllocError>
+pub fn report(alloc: Global, config: &Config, lines: &[u32]) -> Result<Vec<u8>, AllocError>
     ensures page { IfOk result (λ octets. IsPage octets.items) }
     ensures shows { IfOk result (λ octets. IsReport config.now false [] octets.items) }
 {
     let times = Times::none(alloc);
-    let page = page_of(alloc, config, &times, None)?;
+    let page = page_of(alloc, config, lines, &times, None)?;
     Ok(page.into_octets())
 }
 
@@ -43,6 +44,7 @@ pub fn report(alloc: Global, config: &Config) -> Result<Vec<u8>, AllocError>
 pub fn report_with_log<R: OctetSource>(
     alloc: Global,
     config: &Config,
+    lines: &[u32],
     log: &mut R,
 ) -> Result<Vec<u8>, ReportFault>
     ensures page { IfOk result (λ octets. IsPage octets.items) }
@@ -50,7 +52,7 @@ pub fn report_with_log<R: OctetSource>(
 {
     let denials = read_log(alloc, log)?;
     let times = times_of(alloc, config, &denials)?;
-    let page = page_of(alloc, config, &times, Some(&denials))?;
+    let page = page_of(alloc, config, lines, &times, Some(&denials))?;
     Ok(page.into_octets())
 }
 
@@ -79,14 +81,19 @@ struct Parts {
     judged: Vec<Judged>,
 }
 
-fn parts_of(alloc: Global, config: &Config, denials: Option<&Denials>) -> Result<Parts, AllocError>
+fn parts_of(
+    alloc: Global,
+    config: &Config,
+    lines: &[u32],
+    denials: Option<&Denials>,
+) -> Result<Parts, AllocError>
     ensures picture { IfOk result (λ parts. IsPage parts.picture) }
     ensures lines { IfOk result (λ parts. IsPage parts.lines) }
     ensures plots { IfOk result (λ parts. IsPage parts.plots) }
     ensures judged { IfOk result (λ parts. AreJudged config.now 4096 parts.judged.items) }
 {
     let picture = picture_of(alloc, config)?;
-    let lines = lines_of(alloc, config)?;
+    let lines = lines_of(alloc, config, lines)?;
     let plots = plots_of(alloc, denials)?;
     let judged = judge(alloc, config, JUDGING_STEPS)?;
     picture.is_page();
@@ -103,12 +110,13 @@ fn parts_of(alloc: Global, config: &Config, denials: Option<&Denials>) -> Result
 fn page_of(
     alloc: Global,
     config: &Config,
+    lines: &[u32],
     times: &Times,
     denials: Option<&Denials>,
 ) -> Result<Page, AllocError>
     ensures { IfOk result (λ page. IsReport config.now times.now.are_shown times.now.counts.items page) }
 {
-    let parts = parts_of(alloc, config, denials)?;
+    let parts = parts_of(alloc, config, lines, denials)?;
     let mut page = Page::new(alloc);
     put_first(alloc, &mut page, config, &parts)?;
     put_last(alloc, &mut page, config, times, &parts)?;

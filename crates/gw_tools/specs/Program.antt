@@ -9,6 +9,7 @@ use Rattle.gw_policy_review.specs.comparison.Laws.{says_alike}
 use Rattle.gw_policy_review.specs.declared.comparison.comparison.Compared.{Compared}
 use Rattle.gw_policy_review.specs.declared.comparison.comparison.Compared.TheVariants as compared
 use Rattle.gw_configuration.specs.Configuration.{Configuration}
+use Rattle.gw_policy_drafts.specs.Lines.{table_lines}
 use Rattle.gw_policy_drafts.specs.migration.Migration.{Migrates}
 use Rattle.gw_policy_drafts.specs.declared.migration.fault.MigrationFault.{MigrationFault}
 use Rattle.gw_policy_drafts.specs.declared.migration.fault.MigrationFault.TheVariants as unmigrated
@@ -45,7 +46,7 @@ use Rattle.gw_notices.specs.Notices.{stop_line}
 use Rattle.gw_system.specs.Request.{reload_request, stop_request}
 use Rattle.gw_ending.specs.Ending.{is_different, of_other}
 use Rattle.gw_tools.specs.Ending.{PlaceBy, chosen, error_text_by, status_by, usage_of}
-use Rattle.gw_tools.specs.Checked.{IsChecked, lint_lines}
+use Rattle.gw_tools.specs.Checked.{IsChecked}
 use Rattle.gw_tools.specs.Json.{AreComparisonLines, FaultLine, IsMade, judged_line}
 use Rattle.gw_tools.specs.Kept.{IsSaidOfText}
 use Rattle.gw_tools.specs.Objects.{LeavesJudgedIn, Lists}
@@ -59,25 +60,26 @@ use Rattle.gw_tools.specs.Translating.{Translates}
 abbrev pub IsChoiceOf : List (List ℕ) → Result Choice Fault → Type 0
 IsChoiceOf words choice = (read : Result Choice WordsFault) × IsAnswer words read × (choice ≡ chosen read)
 
--- What `check` leaves of a configuration whose assertions were judged: what it says of it.
-abbrev pub LeavesJudged : (explains : Bool) → (lint : Option (List ℕ)) → Option (List ℕ) → Option (List ℕ) → Configuration
+-- What `check` leaves of a configuration whose assertions were judged: what it says of it, by the lines of its text on which the tables
+-- of its rules begin.
+abbrev pub LeavesJudged : (explains lints : Bool) → (lines : List ℕ) → Option (List ℕ) → Option (List ℕ) → Configuration
     → Result (Unit {0}) Fault → Type 0
-LeavesJudged explains lint held holds c outcome =
-    (judged : List Judged) × AreJudged c JUDGING_STEPS judged × (text : List ℕ) × IsChecked explains lint c judged text
+LeavesJudged explains lints lines held holds c outcome =
+    (judged : List Judged) × AreJudged c JUDGING_STEPS judged × (text : List ℕ) × IsChecked explains lints c lines judged text
     × LeavesEnding text (outcome_of_judged judged) held holds outcome
 
 -- The same, or nothing if memory ran out.
-abbrev pub LeavesConfigured : (explains : Bool) → (lint : Option (List ℕ)) → Option (List ℕ) → Option (List ℕ) → Configuration
+abbrev pub LeavesConfigured : (explains lints : Bool) → (lines : List ℕ) → Option (List ℕ) → Option (List ℕ) → Configuration
     → Result (Unit {0}) Fault → Type 0
-LeavesConfigured explains lint held holds c outcome =
-    LeavesJudged explains lint held holds c outcome ⊎ ((outcome ≡ Err fault.Memory) × (holds ≡ held))
+LeavesConfigured explains lints lines held holds c outcome =
+    LeavesJudged explains lints lines held holds c outcome ⊎ ((outcome ≡ Err fault.Memory) × (holds ≡ held))
 
 -- What it leaves of what was read of a text. Where there is no configuration the outcome is why, whatever became of
 -- the explanation.
 abbrev pub LeavesChecked : (explains lints : Bool) → Result (List ℕ) Fault → Option (List ℕ) → Option (List ℕ)
     → Result Configuration Fault → Result (Unit {0}) Fault → Type 0
 LeavesChecked explains lints text held holds (Ok c) outcome =
-    LeavesConfigured explains (lint_lines lints (octets_or text) c) held holds c outcome
+    LeavesConfigured explains lints (table_lines c.written (octets_or text)) held holds c outcome
 LeavesChecked explains lints text held holds (Err f) outcome =
     (outcome ≡ Err f) × LeavesFault text f held holds
 
@@ -226,16 +228,16 @@ LeavesStateIn Reads ReadsState config state held holds outcome =
 -- What `report` leaves of the configuration that was read, and of the log of this name if there is one: a page, or why
 -- there is none.
 abbrev pub LeavesReport : (ReadsLog : List ℕ → Result (Option (List ℕ)) Fault → Type 0) → Option (List ℕ)
-    → Option (List ℕ) → Option (List ℕ) → Result Configuration Fault → Result (Unit {0}) Fault → Type 0
-LeavesReport ReadsLog log held holds c outcome =
-    (made : Result (List ℕ) Fault) × IsReported ReadsLog log c made × LeavesPrinted made held holds outcome
+    → Option (List ℕ) → Option (List ℕ) → Result Placed Fault → Result (Unit {0}) Fault → Type 0
+LeavesReport ReadsLog log held holds p outcome =
+    (made : Result (List ℕ) Fault) × IsReported ReadsLog log p made × LeavesPrinted made held holds outcome
 
 -- What it leaves of that of the file of this name.
 abbrev pub LeavesReportIn : (Reads : List ℕ → Result (List ℕ) Fault → Type 0)
     → (ReadsLog : List ℕ → Result (Option (List ℕ)) Fault → Type 0) → List ℕ → Option (List ℕ)
     → Option (List ℕ) → Option (List ℕ) → Result (Unit {0}) Fault → Type 0
 LeavesReportIn Reads ReadsLog file log held holds outcome =
-    (c : Result Configuration Fault) × IsConfigured Reads (Some file) c × LeavesReport ReadsLog log held holds c outcome
+    (p : Result Placed Fault) × IsPlacedIn Reads file p × LeavesReport ReadsLog log held holds p outcome
 
 -- What `suggest` leaves under the configuration of a text that was read. If there is none, the outcome is why.
 abbrev pub LeavesSuggested : Manner → Option (List ℕ) → Option (List ℕ) → Option (List ℕ) → Result (List ℕ) Fault

@@ -5,6 +5,7 @@ use Rattle.gw_report.specs.Report.{IsReport}
 use Rattle.gw_report.specs.page.Page.{IsPage}
 use Rattle.gw_ending.specs.declared.fault.Fault.{Fault}
 use Rattle.gw_ending.specs.declared.fault.Fault.TheVariants as fault
+use Rattle.gw_tools.specs.declared.placed.Placed.{Placed}
 
 -- a page about the configuration, in which every foreign text is escaped; or memory ran out
 abbrev pub IsPageAlone : Configuration → Result (List ℕ) Fault → Type 0
@@ -28,6 +29,6 @@ IsPageOf ReadsLog (Some log) c made = (opened : Result (Option (List ℕ)) Fault
 
 -- what is made of the configuration that was read, or of why there is none
 abbrev pub IsReported : (ReadsLog : List ℕ → Result (Option (List ℕ)) Fault → Type 0) → Option (List ℕ)
-    → Result Configuration Fault → Result (List ℕ) Fault → Type 0
-IsReported ReadsLog log (Ok c) made = IsPageOf ReadsLog log c made
+    → Result Placed Fault → Result (List ℕ) Fault → Type 0
+IsReported ReadsLog log (Ok p) made = IsPageOf ReadsLog log p.config made
 IsReported ReadsLog log (Err f) made = made ≡ Err f

@@ -1,6 +1,6 @@
 //! The whole program, over any words, reader and writers.
 
-ghost use Rattle.std.specs.Prelude.{◌≡◌, ◌++◌, [], List, ℕ, map, option_map, string_bytes, MatchResult, OnOk};
+ghost use Rattle.std.specs.Prelude.{◌≡◌, ◌++◌, [], List, ℕ, map, string_bytes, MatchResult, OnOk};
 ghost use Rattle.std.specs.Io.Buffered.{writer_buffer, writer_contents};
 ghost use Rattle.std.specs.Io.KnownBytes.{Appends};
 ghost use Rattle.std.specs.Process.{exit_status};
@@ -8,13 +8,13 @@ ghost use Rattle.gw_ending.specs.declared.fault.Fault.TheVariants as fault;
 ghost use Rattle.gw_ending.specs.declared.fault.MigrationFlaw.TheVariants as migration;
 ghost use Rattle.gw_rules.specs.declared.format.Format.TheVariants as formats;
 ghost use Rattle.gw_ending.specs.reading.Files.{result_map};
-ghost use Rattle.gw_tools.specs.Checked.{lint_lines};
+ghost use Rattle.gw_policy_drafts.specs.Lines.{table_lines};
 ghost use Rattle.gw_tools.specs.Program.{IsChoiceOf, IsFollowed, IsRun, LeavesConfigured, LeavesInFormatThree, LeavesMigrated};
 ghost use Rattle.gw_tools.specs.Program.{LeavesListed, LeavesOfText, LeavesOutput, LeavesRules, LeavesSaid, LeavesState, LeavesStateIn, fault_of_listing, fault_of_migration};
 ghost use Rattle.gw_tools.specs.Reloading.{answers_by};
 
 use crate::asking::{Answering, answer_in};
-use crate::checked::checked_text;
+use crate::checked::{Checking, checked_text};
 use crate::comparing::{Both, Limits, Seconds, compare};
 use crate::ending::{end_by, report_place_by, usage_of};
 use crate::json::{check_in_json, compare_in_json, print_points};
@@ -62,30 +62,23 @@ fn choice_by(alloc: Global, words: &[String]) -> Result<Choice, Fault>
     }
 }
 
-/// Prints what a configuration has, or which of its assertions don't hold, and what else is asked for of it: a lint by the lines of
-/// its text on which the tables of its rules begin.
+/// Prints what a configuration has, or which of its assertions don't hold, and what else is asked for of it, by the lines of its text
+/// on which the tables of its rules begin.
 fn print_checked<W: Write + Drop>(
     alloc: Global,
-    explains: bool,
-    lint: Option<&[u32]>,
+    how: Checking,
     config: &Config,
+    lines: &[u32],
     output: &mut BufWriter<W>,
 ) -> Result<(), Fault>
     ensures output { let held = writer_contents W.contents output.old in
         let holds = writer_contents W.contents output.new in
-        LeavesConfigured explains (option_map (λ lines. lines.now) lint.entry) held holds config.now result }
+        LeavesConfigured how.explains how.lints lines.now held holds config.now result }
     ensures flush { OnOk result (writer_buffer output.new ≡ []) }
 {
     let judged = judge(alloc, config, JUDGING_STEPS)?;
-    let text = checked_text(alloc, explains, lint, config, &judged)?;
+    let text = checked_text(alloc, how, config, lines, &judged)?;
     print_judged(&text, &judged, output)
-}
-
-/// Whether it is said who may do what, and which rules never decide.
-#[derive(Clone, Copy)]
-struct Checking {
-    explains: bool,
-    lints: bool,
 }
 
 /// Prints what a configuration has, and what else is asked for of it, by the text that was read.
@@ -98,16 +91,11 @@ fn print_read<W: Write + Drop>(
 ) -> Result<(), Fault>
     ensures output { let held = writer_contents W.contents output.old in
         let holds = writer_contents W.contents output.new in
-        LeavesConfigured how.explains (lint_lines how.lints text.now config.now) held holds config.now result }
+        LeavesConfigured how.explains how.lints (table_lines config.now.written text.now) held holds config.now result }
     ensures flush { OnOk result (writer_buffer output.new ≡ []) }
 {
-    let Checking { explains, lints } = how;
-    if lints {
-        let lines = table_lines(alloc, config.written_rules(), text)?;
-        print_checked(alloc, explains, Some(&lines), config, output)
-    } else {
-        print_checked(alloc, explains, None, config, output)
-    }
+    let lines = table_lines(alloc, config.written_rules(), text)?;
+    print_checked(alloc, how, config, &lines, output)
 }
 
 /// Prints what the configuration has that was read, or what is wrong with it.

@@ -3,13 +3,17 @@ use Rattle.std.specs.Prelude.{ℕ, ◌+◌, Bool, not, ◌&&◌, ◌||◌, ◌==
 use Rattle.std.specs.Prelude.{codes, decimal, position}
 use Rattle.std.specs.List.{filter, flat_map, list_any}
 use Rattle.std.specs.Option.{is_some, option_map_or}
+use Rattle.gw_addr.specs.Address.{text_of}
 use Rattle.gw_configuration.specs.Configuration.{Configuration}
 use Rattle.gw_configuration.specs.declared.port.Port.{Port}
 use Rattle.gw_rules.specs.Field.{field_key}
 use Rattle.gw_rules.specs.Format.{names_stations}
+use Rattle.gw_rules.specs.Operation.{operation_number}
+use Rattle.gw_rules.specs.Range.{holds}
 use Rattle.gw_rules.specs.Rule.{ranges_of}
 use Rattle.gw_rules.specs.declared.field.FieldName.{FieldName}
 use Rattle.gw_rules.specs.declared.field.TheConstants.FieldName.{ALL}
+use Rattle.gw_rules.specs.declared.operation.Operation.TheVariants.{Cast}
 use Rattle.gw_rules.specs.declared.range.Range.{Range}
 use Rattle.gw_rules.specs.declared.rule.Rule.{Rule}
 use Rattle.gw_ask_sets.specs.shapes.Meeting.{overlaps}
@@ -19,6 +23,7 @@ use Rattle.gw_ask_sets.specs.shapes.Shape.{Shape}
 use Rattle.gw_policy_review.specs.lint.Text.{rule_text}
 use Rattle.gw_policy_review.specs.lint.Trust.{ending_words, is_open_end, is_open_for, is_source_alone, is_source_network_alone}
 use Rattle.gw_policy_review.specs.lint.Trust.{port_words, reach_words, source_words}
+use Rattle.gw_policy_review.specs.warnings.Oversights.{admits_number, is_station, share}
 
 -- `note: rule <number> <name>: look at <words>` and a line feed
 abbrev pub head_text : Configuration → (lines : List ℕ) → ℕ → List ℕ
@@ -126,6 +131,53 @@ ending_note c lines number rule =
 abbrev pub trust_notes : Configuration → (lines : List ℕ) → ℕ → Rule → List ℕ
 trust_notes c lines number rule = source_note c lines number rule ++ reach_note c lines number rule ++ ending_note c lines number rule
 
+-- ---- stations without the broadcast address
+
+-- a subnet of the port's stations has its own address, and none has its broadcast address
+abbrev pub lacks_broadcast : Port → Bool
+lacks_broadcast port = is_station port port.address && not (is_station port port.broadcast)
+
+abbrev pub stations_words : ℕ → Port → List ℕ
+stations_words number port =
+    codes "note: look at port " ++ (decimal number ++ (codes ": stations: none of them has its broadcast address "
+    ++ (text_of port.broadcast ++ codes ", though one has its own\n")))
+
+abbrev pub stations_note : ℕ → Port → List ℕ
+stations_note number port = if lacks_broadcast port then stations_words number port else []
+
+-- those of a port
+abbrev pub port_notes : Configuration → (lines : List ℕ) → ℕ → Port → List ℕ
+port_notes c lines number port = stations_note number port ++ answer_notes c lines number port
+
+-- ---- broadcasts to all networks
+
+-- I-Am and I-Have, Who-Has and Who-Is (clause 21)
+abbrev pub discovery : List Range
+discovery = record { low = 256; high = 257 } ∷ record { low = 263; high = 264 } ∷ []
+
+-- A rule lets broadcasts by which devices are found pass to networks that it names, and all networks (65535) aren't among these.
+abbrev pub discovers_some : Rule → Bool
+discovers_some rule =
+    rule.allow && (list_any (holds (operation_number Cast)) rule.ranges.operation && (share discovery rule.ranges.service
+    && not (admits_number 65535 rule.ranges.destination_network)))
+
+-- two rules may match asks from one place, as to these fields
+abbrev pub are_from_one : Rule → Rule → Bool
+are_from_one rule other =
+    share rule.ranges.port other.ranges.port && (share rule.ranges.source_network other.ranges.source_network
+    && (share rule.ranges.source_key other.ranges.source_key && share rule.ranges.sender other.ranges.sender))
+
+-- another one lets some of them pass to all networks
+abbrev pub discovers_all : Rule → Rule → Bool
+discovers_all rule other =
+    other.allow && (admits_number (operation_number Cast) other.ranges.operation && (share rule.ranges.service other.ranges.service
+    && (admits_number 65535 other.ranges.destination_network && are_from_one rule other)))
+
+abbrev pub discovery_note : Configuration → (lines : List ℕ) → ℕ → Rule → List ℕ
+discovery_note c lines number rule =
+    if discovers_some rule && not (list_any (discovers_all rule) c.rules)
+    then note_text c lines number (codes "destination: no rule lets these broadcasts pass to all networks (65535)") else []
+
 -- ---- broadcasts
 
 -- one of the broadcasts of these shapes may pass
@@ -147,9 +199,10 @@ field_notes shapes c lines number rule =
 
 -- those of a rule
 abbrev pub rule_notes : List Shape → Configuration → (lines : List ℕ) → ℕ → Rule → List ℕ
-rule_notes shapes c lines number rule = field_notes shapes c lines number rule ++ trust_notes c lines number rule
+rule_notes shapes c lines number rule =
+    field_notes shapes c lines number rule ++ (trust_notes c lines number rule ++ discovery_note c lines number rule)
 
 -- rule by rule, then port by port, and then that on broadcasts, over the shapes of the configuration
 abbrev pub notes_text : List Shape → Configuration → (lines : List ℕ) → List ℕ
 notes_text shapes c lines =
-    in_order (rule_notes shapes c lines) 1 c.rules ++ in_order (answer_notes c lines) 1 c.ports ++ cast_note shapes c
+    in_order (rule_notes shapes c lines) 1 c.rules ++ in_order (port_notes c lines) 1 c.ports ++ cast_note shapes c

@@ -1,10 +1,16 @@
 -- What the lines on rules say of asks.
-use Rattle.std.specs.Prelude.{◌≡◌, ℕ, ◌≤◌, true, false, List, Some}
+use Rattle.std.specs.Prelude.{◌≡◌, ℕ, ◌≤◌, true, false, List, [], ◌∷◌, Some}
+use Rattle.gw_configuration.specs.Configuration.{Configuration}
 use Rattle.gw_rules.specs.Ask.{Ask}
 use Rattle.gw_rules.specs.RuleList.{HasNumber, allows, first}
 use Rattle.gw_rules.specs.declared.rule.Rule.{Rule}
 use Rattle.gw_ask_sets.specs.shapes.Shape.{LiesIn, Shape}
-use Rattle.gw_policy_review.specs.permissions.Passing.{decides_all, may_allow, may_pass, reached}
+use Rattle.gw_policy_review.specs.lint.Finding.{AreTrue}
+use Rattle.gw_policy_review.specs.permissions.Passing.{decides_all, finding_at, lets, may_allow, may_pass, reached}
+use Rattle.gw_policy_review.specs.permissions.Permissions.{grants_text}
+use Rattle.gw_policy_review.specs.declared.lint.finding.Finding.{Finding}
+use Rattle.gw_policy_review.specs.declared.lint.finding.Finding.TheVariants as finding
+use Rattle.gw_policy_review.specs.declared.permissions.grants.Deed.{Deed}
 
 -- a rule has a line: it may allow asks of the shape, and is one of those to which they come
 pub record IsListed (shape : Shape) (rules : List Rule) (number : ℕ) : Type 0 where
@@ -31,3 +37,28 @@ EachAskIsAllowed =
     (shape : Shape) (rules : List Rule) (number : ℕ) (rule : Rule) (ask : Ask) → HasNumber rules number rule →
     may_allow shape rule ≡ true → decides_all shape rules number rule ≡ true → LiesIn shape ask →
     (first rules ask ≡ Some number) × (allows rules ask ≡ true)
+
+-- ---- by the exact search
+
+-- An ask of the shape that is allowed is allowed by a rule that lets somebody, by what is found of the rules over the asks of the
+-- shape.
+abbrev pub OnlyLettingAllow : Type 0
+OnlyLettingAllow =
+    (shape : Shape) (rules : List Rule) (findings : List Finding) (ask : Ask) → AreTrue (shape ∷ []) rules findings → LiesIn shape ask →
+    allows rules ask ≡ true →
+    (number : ℕ) × (rule : Rule) × HasNumber rules number rule × (first rules ask ≡ Some number)
+    × (lets rule (finding_at findings number) ≡ true)
+
+-- If a line says that no rule lets anyone, no ask of the shape is allowed.
+abbrev pub NoneIsLet : Type 0
+NoneIsLet =
+    (c : Configuration) (lines : List ℕ) (deed : Deed) (shape : Shape) (findings : List Finding) (ask : Ask) →
+    AreTrue (shape ∷ []) c.rules findings → grants_text c lines deed shape findings ≡ [] → LiesIn shape ask →
+    allows c.rules ask ≡ false
+
+-- If a line says that a rule lets some, it is the first to match an ask of the shape, and allows it.
+abbrev pub SomeAreAllowed : Type 0
+SomeAreAllowed =
+    (shape : Shape) (rules : List Rule) (findings : List Finding) (number : ℕ) (rule : Rule) (ask : Ask) →
+    AreTrue (shape ∷ []) rules findings → HasNumber rules number rule → finding_at findings number ≡ finding.Decides ask →
+    rule.allow ≡ true → LiesIn shape ask × (first rules ask ≡ Some number) × (allows rules ask ≡ true)

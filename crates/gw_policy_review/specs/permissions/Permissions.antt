@@ -1,27 +1,33 @@
 -- Who may do what under a configuration: the lines that `bacgwctl explain` has of it. In format 3 they are about its ports, its
 -- networks, what rules let others do, its objects and its rules' notes; in formats 1 and 2 about its objects alone.
-use Rattle.std.specs.Prelude.{ℕ, ◌-◌, ◌==◌, Bool, if◌then◌else◌, List, [], ◌++◌, length, take, slice_get}
+use Rattle.std.specs.Prelude.{◌≡◌, ℕ, ◌+◌, ◌-◌, ◌==◌, Bool, true, false, ◌&&◌, not, if◌then◌else◌, List, [], ◌∷◌, ◌++◌, length, slice_get}
 use Rattle.std.specs.Prelude.{codes, decimal, Option, Some, None}
-use Rattle.std.specs.List.{flat_map}
+use Rattle.std.specs.List.{flat_map, list_any}
 use Rattle.std.specs.Option.{option_map_or}
 use Rattle.gw_addr.specs.Address.{text_of}
 use Rattle.gw_addr.specs.declared.bip.BipAddr.{BipAddr}
 use Rattle.gw_configuration.specs.Configuration.{Configuration}
 use Rattle.gw_configuration.specs.Kinds.{type_number}
 use Rattle.gw_configuration.specs.Shown.{shown}
-use Rattle.gw_configuration.specs.Subnet.{Subnet, subnet_text}
+use Rattle.gw_configuration.specs.Subnet.{Subnet, keys_of, subnet_text}
 use Rattle.gw_configuration.specs.declared.device.Device.{Device}
 use Rattle.gw_configuration.specs.declared.object.Object.{Object}
 use Rattle.gw_configuration.specs.declared.port.Port.{Port}
 use Rattle.gw_configuration.specs.declared.route.Route.{Route}
 use Rattle.gw_rules.specs.Format.{names_stations}
 use Rattle.gw_rules.specs.Hides.{hides_from_network}
+use Rattle.gw_rules.specs.Range.{holds}
 use Rattle.gw_rules.specs.declared.rule.Rule.{Rule}
 use Rattle.gw_script.specs.Order.{in_order}
 use Rattle.gw_ask_sets.specs.shapes.Shape.{Shape}
-use Rattle.gw_policy_review.specs.permissions.Passing.{decides_all, may_allow, may_pass, reached}
+use Rattle.gw_policy_review.specs.permissions.Passing.{decides_all, finding_at, lets, may_pass}
 use Rattle.gw_policy_review.specs.permissions.Questions.{claiming, entering, reading}
 use Rattle.gw_policy_review.specs.permissions.Words.{rule_words}
+use Rattle.gw_policy_review.specs.Places.{is_derived}
+use Rattle.gw_policy_review.specs.lint.Finding.{AreTrue}
+use Rattle.gw_policy_review.specs.warnings.Oversights.{is_near, passes_to, share}
+use Rattle.gw_policy_review.specs.declared.lint.finding.Finding.{Finding}
+use Rattle.gw_policy_review.specs.declared.lint.finding.Finding.TheVariants as finding
 use Rattle.gw_policy_review.specs.declared.permissions.grants.Deed.{Deed}
 use Rattle.gw_policy_review.specs.declared.permissions.grants.Deed.TheVariants.{Enter, Claim}
 use Rattle.gw_policy_review.specs.declared.permissions.questions.Point.{Point}
@@ -32,35 +38,58 @@ abbrev pub head_words : Deed → List ℕ
 head_words (Enter port) = codes "port " ++ decimal port ++ codes ": "
 head_words Claim = []
 
--- each ask for the deed is allowed by the rule, some may be, or none is by any
+-- each ask for the deed is allowed by the rule, one is, some may be, or none is by any
 abbrev pub every_words : Deed → List ℕ
 every_words (Enter port) = codes " lets every stranger enter\n"
 every_words Claim = codes " lets everyone speak for every network behind a router\n"
 
 abbrev pub some_words : Deed → List ℕ
-some_words (Enter port) = codes " may let strangers enter\n"
-some_words Claim = codes " may let others speak for a network behind a router\n"
+some_words (Enter port) = codes " lets some strangers enter\n"
+some_words Claim = codes " lets some others speak for a network behind a router\n"
+
+abbrev pub maybe_words : Deed → List ℕ
+maybe_words (Enter port) = codes " may let strangers enter\n"
+maybe_words Claim = codes " may let others speak for a network behind a router\n"
 
 abbrev pub none_words : Deed → List ℕ
 none_words (Enter port) = codes "no rule lets a stranger enter\n"
 none_words Claim = codes "no rule lets others speak for a network behind a router\n"
 
-abbrev pub extent_words : Bool → Deed → List ℕ
-extent_words every deed = if every then every_words deed else some_words deed
+-- what is found of a rule over the asks for the deed: it decides one, or that isn't known
+abbrev pub found_words : Finding → Deed → List ℕ
+found_words (finding.Decides ask) deed = some_words deed
+found_words _ deed = maybe_words deed
+
+abbrev pub extent_words : Bool → Finding → Deed → List ℕ
+extent_words every found deed = if every then every_words deed else found_words found deed
 
 -- the line of the rule of this number, for a deed whose asks have this shape
-abbrev pub grant_line : Deed → Shape → List Rule → ℕ → Rule → List ℕ
-grant_line deed shape rules number rule =
-    if may_allow shape rule
-    then head_words deed ++ rule_words number rule.name ++ extent_words (decides_all shape rules number rule) deed
-    else []
+abbrev pub grant_words : Configuration → (lines : List ℕ) → Deed → Shape → ℕ → Rule → Finding → List ℕ
+grant_words c lines deed shape number rule found =
+    head_words deed ++ (rule_words c lines number rule.name ++ extent_words (decides_all shape c.rules number rule) found deed)
 
--- a line for each rule that may allow the deed, of those that its asks come to, or that there is none
-abbrev pub grant_lines : Deed → Shape → List Rule → List ℕ
-grant_lines deed shape rules =
-    if may_pass shape rules
-    then in_order (grant_line deed shape rules) 1 (take (reached shape rules) rules)
-    else head_words deed ++ none_words deed
+-- if it lets anybody do it
+abbrev pub grant_line : Configuration → (lines : List ℕ) → Deed → Shape → List Finding → ℕ → Rule → List ℕ
+grant_line c lines deed shape findings number rule =
+    if lets rule (finding_at findings number) then grant_words c lines deed shape number rule (finding_at findings number) else []
+
+abbrev pub grants_text : Configuration → (lines : List ℕ) → Deed → Shape → List Finding → List ℕ
+grants_text c lines deed shape findings = in_order (grant_line c lines deed shape findings) 1 c.rules
+
+-- these lines, or that there is none
+abbrev pub grants_or_none : Deed → (grants : List ℕ) → List ℕ
+grants_or_none deed grants = if length grants == 0 then head_words deed ++ none_words deed else grants
+
+-- A text has a line for each rule that lets somebody do a deed, by what is found of the rules over the asks of this shape, or says that
+-- there is none.
+pub record AreGrants (c : Configuration) (lines : List ℕ) (deed : Deed) (shape : Shape) (text : List ℕ) : Type 0 where
+  pub findings : List Finding
+  pub are_true : AreTrue (shape ∷ []) c.rules findings
+  pub shown : text ≡ grants_or_none deed (grants_text c lines deed shape findings)
+
+-- such lines follow what a buffer held
+abbrev pub AppendsGrants : Configuration → (lines : List ℕ) → Deed → Shape → List ℕ → List ℕ → Type 0
+AppendsGrants c lines deed shape old new = (text : List ℕ) × AreGrants c lines deed shape text × (new ≡ old ++ text)
 
 -- ---- ports
 
@@ -90,14 +119,32 @@ stations_words port =
     if length port.stations == 0 then everyone_words port.bbmd
     else named_words port.stations port.bbmd
 
--- strangers enter where the port names its stations
-abbrev pub entry_lines : List Rule → ℕ → Port → List ℕ
-entry_lines rules number port =
-    if length port.stations == 0 then [] else grant_lines (Enter number) (entering number port.network) rules
+-- Strangers enter where the port names its stations, and not where it has none.
+abbrev pub AreEntriesOf : (has_none : Bool) → Configuration → (lines : List ℕ) → ℕ → Port → List ℕ → Type 0
+AreEntriesOf true c lines number port text = text ≡ []
+AreEntriesOf false c lines number port text = AreGrants c lines (Enter number) (entering number port.network) text
 
-abbrev pub port_lines : List Rule → ℕ → Port → List ℕ
-port_lines rules number port =
-    codes "port " ++ decimal number ++ stations_words port ++ entry_lines rules number port
+abbrev pub AreEntries : Configuration → (lines : List ℕ) → ℕ → Port → List ℕ → Type 0
+AreEntries c lines number port text = AreEntriesOf (length port.stations == 0) c lines number port text
+
+-- the stations of a port, and who enters there
+pub record IsPort (c : Configuration) (lines : List ℕ) (number : ℕ) (port : Port) (text : List ℕ) : Type 0 where
+  pub entries : List ℕ
+  pub are_entries : AreEntries c lines number port entries
+  pub shown : text ≡ codes "port " ++ (decimal number ++ (stations_words port ++ entries))
+
+-- such lines follow what a buffer held
+abbrev pub AppendsEntries : Configuration → (lines : List ℕ) → ℕ → Port → List ℕ → List ℕ → Type 0
+AppendsEntries c lines number port old new = (text : List ℕ) × AreEntries c lines number port text × (new ≡ old ++ text)
+
+abbrev pub AppendsPort : Configuration → (lines : List ℕ) → ℕ → Port → List ℕ → List ℕ → Type 0
+AppendsPort c lines number port old new = (text : List ℕ) × IsPort c lines number port text × (new ≡ old ++ text)
+
+-- those of all ports, counted on from a number
+abbrev pub ArePorts : Configuration → (lines : List ℕ) → ℕ → List Port → List ℕ → Type 0
+ArePorts c lines number [] text = text ≡ []
+ArePorts c lines number (port ∷ ports) text =
+    (first rest : List ℕ) × IsPort c lines number port first × ArePorts c lines (number + 1) ports rest × (text ≡ first ++ rest)
 
 -- ---- networks
 
@@ -120,6 +167,33 @@ route_line route = (codes "network " ++ decimal route.network) ++ router_words r
 -- of the ports' networks, the device's, and those of the routes
 abbrev pub network_lines : Configuration → List ℕ
 network_lines c = in_order own_line 1 c.ports ++ device_line c.device ++ flat_map route_line c.routes
+
+-- ---- where a network is more than the port's own subnet
+
+-- a rule that allows messages to pass, or what they name, to the stations of a subnet in a network that it names
+abbrev pub reaches : Rule → (network : ℕ) → Subnet → Bool
+reaches rule network subnet =
+    rule.allow && (list_any (holds network) rule.ranges.destination_network
+    && (passes_to rule.ranges.operation && share rule.ranges.station (keys_of subnet ∷ [])))
+
+abbrev pub reach_line : Configuration → (lines : List ℕ) → ℕ → Rule → (network : ℕ) → Subnet → List ℕ
+reach_line c lines number rule network subnet =
+    rule_words c lines number rule.name ++ (codes " reaches " ++ (subnet_text subnet ++ (codes " too, by network " ++ (decimal network
+    ++ codes "\n"))))
+
+-- of a subnet of the stations of a port that isn't the port's own
+abbrev pub reached_line : Configuration → (lines : List ℕ) → ℕ → Rule → Port → Subnet → List ℕ
+reached_line c lines number rule port subnet =
+    if not (is_near port subnet) && reaches rule port.network subnet
+    then reach_line c lines number rule port.network subnet else []
+
+abbrev pub reached_lines : Configuration → (lines : List ℕ) → ℕ → Rule → Port → List ℕ
+reached_lines c lines number rule port = flat_map (reached_line c lines number rule port) port.stations
+
+-- for each port, if the table is the rule's own
+abbrev pub reach_lines : Configuration → (lines : List ℕ) → ℕ → Rule → List ℕ
+reach_lines c lines number rule =
+    if is_derived c.tables number then [] else flat_map (reached_lines c lines number rule) c.ports
 
 -- ---- objects
 
@@ -194,14 +268,14 @@ object_lines c number object = flat_map (reading_lines c number object) c.ports
 
 -- ---- notes
 
-abbrev pub named_note : ℕ → List ℕ → List ℕ → List ℕ
-named_note number name note = rule_words number name ++ codes ": " ++ shown note ++ codes "\n"
+abbrev pub named_note : Configuration → (lines : List ℕ) → ℕ → List ℕ → List ℕ → List ℕ
+named_note c lines number name note = rule_words c lines number name ++ (codes ": " ++ (shown note ++ codes "\n"))
 
 -- the note of the rule of this number, if it has one
-abbrev pub note_line : List Rule → ℕ → List ℕ → List ℕ
-note_line rules number note =
+abbrev pub note_line : Configuration → (lines : List ℕ) → ℕ → List ℕ → List ℕ
+note_line c lines number note =
     if length note == 0 then []
-    else option_map_or (λ rule. named_note number rule.name note) (slice_get rules (number - 1)) []
+    else option_map_or (λ rule. named_note c lines number rule.name note) (slice_get c.rules (number - 1)) []
 
 -- ---- formats 1 and 2
 
@@ -215,17 +289,36 @@ plain_lines rules ports number object = flat_map (hidden_line rules number objec
 
 -- ---- the whole
 
--- the rules that may let others speak for a network behind a router
-abbrev pub claim_lines : Configuration → List ℕ
-claim_lines c = grant_lines Claim (claiming (length c.ports)) c.rules
+-- the lines after those of who may enter and speak for a network
+abbrev pub later_lines : Configuration → (lines : List ℕ) → List ℕ
+later_lines c lines =
+    in_order (reach_lines c lines) 1 c.rules
+    ++ (in_order (object_lines c) 1 c.objects ++ in_order (note_line c lines) 1 c.notes)
 
-abbrev pub passage_lines : Configuration → List ℕ
-passage_lines c = in_order (port_lines c.rules) 1 c.ports ++ network_lines c ++ claim_lines c
+-- such lines follow what a buffer held
+abbrev pub AppendsPorts : Configuration → (lines : List ℕ) → List Port → List ℕ → List ℕ → Type 0
+AppendsPorts c lines ports old new = (text : List ℕ) × ArePorts c lines 1 ports text × (new ≡ old ++ text)
 
-abbrev pub full_lines : Configuration → List ℕ
-full_lines c =
-    passage_lines c ++ in_order (object_lines c) 1 c.objects ++ in_order (note_line c.rules) 1 c.notes
+-- the lines of a configuration of format 3
+pub record AreFull (c : Configuration) (lines text : List ℕ) : Type 0 where
+  pub ports : List ℕ
+  pub are_ports : ArePorts c lines 1 c.ports ports
+  pub claims : List ℕ
+  pub are_claims : AreGrants c lines Claim (claiming (length c.ports)) claims
+  pub shown : text ≡ ports ++ (network_lines c ++ (claims ++ later_lines c lines))
 
-abbrev pub permissions : Configuration → List ℕ
-permissions c =
-    if names_stations c.format then full_lines c else in_order (plain_lines c.rules c.ports) 1 c.objects
+abbrev pub AppendsFull : Configuration → (lines : List ℕ) → List ℕ → List ℕ → Type 0
+AppendsFull c lines old new = (text : List ℕ) × AreFull c lines text × (new ≡ old ++ text)
+
+-- those of a configuration of format 3, or of another
+abbrev pub AreLinesOf : (is_third : Bool) → Configuration → (lines : List ℕ) → List ℕ → Type 0
+AreLinesOf true c lines text = AreFull c lines text
+AreLinesOf false c lines text = text ≡ in_order (plain_lines c.rules c.ports) 1 c.objects
+
+-- A text says who may do what under a configuration, of whose text the tables of the rules begin on these lines.
+abbrev pub ArePermissions : Configuration → (lines : List ℕ) → List ℕ → Type 0
+ArePermissions c lines text = AreLinesOf (names_stations c.format) c lines text
+
+-- such lines follow what a buffer held
+abbrev pub AppendsPermissions : Configuration → (lines : List ℕ) → List ℕ → List ℕ → Type 0
+AppendsPermissions c lines old new = (text : List ℕ) × ArePermissions c lines text × (new ≡ old ++ text)

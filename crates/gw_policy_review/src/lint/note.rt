@@ -5,16 +5,18 @@ ghost use Rattle.gw_ask_sets.specs.shapes.Meeting.{overlaps};
 ghost use Rattle.gw_policy_review.specs.lint.Notes.{answer_note, answer_notes, answer_words, cast_note, field_notes, has_overlap};
 ghost use Rattle.gw_policy_review.specs.lint.Notes.{head_text, is_known, is_unknown, lets_broadcasts, lets_unnamed, network_note};
 ghost use Rattle.gw_policy_review.specs.lint.Notes.{network_words, note_text, notes_text, object_note, overlap_note, overlap_words};
-ghost use Rattle.gw_policy_review.specs.lint.Notes.{rule_notes};
+ghost use Rattle.gw_policy_review.specs.lint.Notes.{lacks_broadcast, port_notes, rule_notes, stations_note, stations_words};
 ghost use Rattle.gw_script.specs.Order.{in_order};
 ghost use Rattle.gw_policy_review.specs.lint.Passage.{is_cast, is_routed, is_unnamed, opener, opens_beyond};
 
+use crate::lint::discovery_note::put_discovery_note;
 use crate::lint::passage::{
     answers, is_cast, is_routed, is_unnamed, opener, opens_beyond, requests,
 };
 use crate::lint::text::Lint;
 use crate::lint::trust_note::put_trust_notes;
-use gw_addr::{put_decimal, put_slice};
+use crate::warnings::is_station;
+use gw_addr::{put_decimal, put_slice, put_text_number};
 use gw_ask_sets::shapes::{Shape, overlaps};
 use gw_configuration::{Config, Port, Route};
 use gw_rules::{FieldName, Range, Rule, RuleList};
@@ -46,13 +48,54 @@ fn put_rules_notes(out: &mut Vec<u8>, shapes: &[Shape], lint: &Lint<'_>) -> Resu
 
 fn put_ports_notes(out: &mut Vec<u8>, lint: &Lint<'_>) -> Result<(), AllocError>
     ensures { OnOk result (out.new.items ≡
-        out.old.items ++ in_order (answer_notes lint.now.config.now lint.now.lines.now) 1 lint.now.config.now.ports) }
+        out.old.items ++ in_order (port_notes lint.now.config.now lint.now.lines.now) 1 lint.now.config.now.ports) }
 {
     let ports = lint.config.ports();
     for place in 0..ports.len() {
-        put_answer_notes(out, lint, place as u16 + 1, &ports[place])?;
+        put_port_notes(out, lint, place as u16 + 1, &ports[place])?;
     }
     Ok(())
+}
+
+/// Appends the notes on one port, the one of this number.
+fn put_port_notes(
+    out: &mut Vec<u8>,
+    lint: &Lint<'_>,
+    number: u16,
+    port: &Port,
+) -> Result<(), AllocError>
+    ensures { OnOk result
+        (out.new.items ≡ out.old.items ++ port_notes lint.now.config.now lint.now.lines.now number port.now) }
+{
+    put_stations_note(out, number, port)?;
+    put_answer_notes(out, lint, number, port)
+}
+
+/// Whether a subnet of the port's stations has its own address, and none has its broadcast address.
+fn lacks_broadcast(port: &Port) -> bool
+    ensures { result ≡ lacks_broadcast port.now }
+{
+    is_station(port, port.address) && !is_station(port, port.broadcast)
+}
+
+/// Appends a note if that is so.
+fn put_stations_note(out: &mut Vec<u8>, number: u16, port: &Port) -> Result<(), AllocError>
+    ensures { OnOk result (out.new.items ≡ out.old.items ++ stations_note number port.now) }
+{
+    if lacks_broadcast(port) {
+        put_stations_words(out, number, port)
+    } else {
+        Ok(())
+    }
+}
+
+fn put_stations_words(out: &mut Vec<u8>, number: u16, port: &Port) -> Result<(), AllocError>
+    ensures { OnOk result (out.new.items ≡ out.old.items ++ stations_words number port.now) }
+{
+    put_text_number(out, "note: look at port ", number)?;
+    out.extend_from_slice(b": stations: none of them has its broadcast address ")?;
+    port.broadcast.put_text(out)?;
+    put_slice(out, b", though one has its own\n")
 }
 
 /// Appends the notes on one rule, the one of this number.
@@ -67,7 +110,8 @@ fn put_rule_notes(
         out.old.items ++ rule_notes shapes.now lint.now.config.now lint.now.lines.now number rule.now) }
 {
     put_field_notes(out, shapes, lint, number, rule)?;
-    put_trust_notes(out, lint, number, rule)
+    put_trust_notes(out, lint, number, rule)?;
+    put_discovery_note(out, lint, number, rule)
 }
 
 /// Appends those on what the rule may not match as it reads.

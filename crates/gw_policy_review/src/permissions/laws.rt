@@ -1,11 +1,21 @@
 //! What the lines on rules say of asks. The functions do nothing: their contracts are the laws.
-ghost use Rattle.gw_policy_review.specs.permissions.Laws.{EachAskIsAllowed, NoAskIsAllowed, OnlyListedAllow};
+ghost use Rattle.gw_policy_review.specs.permissions.Laws.{EachAskIsAllowed, NoAskIsAllowed, NoneIsLet, OnlyLettingAllow, OnlyListedAllow, SomeAreAllowed};
 
-/// An ask of a reported shape is allowed only by a rule that has a line: if there is none, no
-/// such ask is allowed.
+/// An ask that is looked at by ranges alone is allowed only by a rule that may allow some: if there is none, no such ask is allowed.
 pub fn others()
     ensures listed { OnlyListedAllow }
     ensures none { NoAskIsAllowed }
+{}
+
+/// An ask of a reported shape is allowed only by a rule that has a line: if there is none, no such ask is allowed.
+pub fn lines()
+    ensures letting { OnlyLettingAllow }
+    ensures none { NoneIsLet }
+{}
+
+/// A rule that is reported to let some do it allows such an ask.
+pub fn some()
+    ensures { SomeAreAllowed }
 {}
 
 /// A rule that is reported to let everyone do it allows each such ask.

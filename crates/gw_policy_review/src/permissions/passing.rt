@@ -27,7 +27,7 @@ pub fn place_of_all(shape: &Shape, rules: &[Rule]) -> Option<usize>
 }
 
 /// How many rules the asks of the shape come to: those up to the first that matches each of them.
-pub(crate) fn reached(shape: &Shape, rules: &[Rule]) -> usize
+fn reached(shape: &Shape, rules: &[Rule]) -> usize
     ensures count { result ≡ reached shape.now rules.now }
     ensures within { result ≤ length rules.now }
 {

@@ -1,38 +1,47 @@
 //! The stations of ports, and who else may enter there.
-ghost use Rattle.std.specs.Prelude.{◌≡◌, ◌++◌, ◌≤◌, length, OnOk};
+ghost use Rattle.std.specs.Prelude.{◌≡◌, ◌++◌, OnOk};
 ghost use Rattle.std.specs.List.{flat_map};
-ghost use Rattle.gw_addr.specs.declared.TheConstants.{MAX_PORTS};
-ghost use Rattle.gw_script.specs.Order.{in_order};
 ghost use Rattle.gw_policy_review.specs.permissions.Questions.{entering};
-ghost use Rattle.gw_policy_review.specs.permissions.Permissions.{entry_lines, everyone_words, foreign_words, grant_lines, managed_words, named_words};
-ghost use Rattle.gw_policy_review.specs.permissions.Permissions.{manager_words, port_lines, stations_words, subnet_words};
+ghost use Rattle.gw_policy_review.specs.permissions.Permissions.{AppendsEntries, AppendsGrants, AppendsPort, AppendsPorts, everyone_words, foreign_words};
+ghost use Rattle.gw_policy_review.specs.permissions.Permissions.{managed_words, manager_words, named_words, stations_words, subnet_words};
 
 use crate::permissions::grants::{Deed, Inquiry, put_grants};
 use crate::permissions::questions::entering;
+use crate::permissions::words::Placed;
 use gw_addr::{BipAddr, put_slice, put_text_number};
 use gw_configuration::{Port, Subnet};
-use gw_rules::Rule;
-use std::alloc::AllocError;
+use std::alloc::{AllocError, Global};
 
 /// Appends the lines of the ports in their order.
-pub(crate) fn put_ports(out: &mut Vec<u8>, rules: &[Rule], ports: &[Port]) -> Result<(), AllocError>
-    requires { length ports.now ≤ MAX_PORTS }
-    ensures { OnOk result
-        (out.new.items ≡ out.old.items ++ in_order (port_lines rules.now) 1 ports.now) }
+pub(crate) fn put_ports(
+    alloc: Global,
+    out: &mut Vec<u8>,
+    placed: &Placed<'_>,
+) -> Result<(), AllocError>
+    ensures { OnOk result (AppendsPorts placed.now.config.now placed.now.lines.now placed.now.config.now.ports
+        out.old.items out.new.items) }
 {
+    let ports = placed.config.ports();
     for place in 0..ports.len() {
-        put_port(out, rules, place + 1, &ports[place])?;
+        put_port(alloc, out, placed, place + 1, &ports[place])?;
     }
     Ok(())
 }
 
 /// Appends the lines of the port of this number.
-fn put_port(out: &mut Vec<u8>, rules: &[Rule], number: usize, port: &Port) -> Result<(), AllocError>
-    ensures { OnOk result (out.new.items ≡ out.old.items ++ port_lines rules.now number port.now) }
+fn put_port(
+    alloc: Global,
+    out: &mut Vec<u8>,
+    placed: &Placed<'_>,
+    number: usize,
+    port: &Port,
+) -> Result<(), AllocError>
+    ensures { OnOk result
+        (AppendsPort placed.now.config.now placed.now.lines.now number port.now out.old.items out.new.items) }
 {
     put_text_number(out, "port ", number)?;
     put_stations(out, port)?;
-    put_entries(out, rules, number, port)
+    put_entries(alloc, out, placed, number, port)
 }
 
 /// Appends who the stations are.
@@ -112,32 +121,35 @@ fn put_subnet(out: &mut Vec<u8>, subnet: Subnet) -> Result<(), AllocError>
 
 /// Appends which rules let strangers enter, if the port names its stations.
 fn put_entries(
+    alloc: Global,
     out: &mut Vec<u8>,
-    rules: &[Rule],
+    placed: &Placed<'_>,
     number: usize,
     port: &Port,
 ) -> Result<(), AllocError>
-    ensures { OnOk result (out.new.items ≡ out.old.items ++ entry_lines rules.now number port.now) }
+    ensures { OnOk result
+        (AppendsEntries placed.now.config.now placed.now.lines.now number port.now out.old.items out.new.items) }
 {
     if port.stations.as_slice().is_empty() {
         return Ok(());
     }
-    put_strangers(out, rules, number, port.network.get())
+    put_strangers(alloc, out, placed, number, port.network.get())
 }
 
 fn put_strangers(
+    alloc: Global,
     out: &mut Vec<u8>,
-    rules: &[Rule],
+    placed: &Placed<'_>,
     number: usize,
     network: u16,
 ) -> Result<(), AllocError>
-    ensures { OnOk result (out.new.items ≡
-        out.old.items ++ grant_lines (Deed.Enter number) (entering number network) rules.now) }
+    ensures { OnOk result (AppendsGrants placed.now.config.now placed.now.lines.now (Deed.Enter number)
+        (entering number network) out.old.items out.new.items) }
 {
     let inquiry = Inquiry {
         deed: Deed::Enter(number),
         shape: entering(number as u64, u64::from(network)),
-        rules,
+        placed: *placed,
     };
-    put_grants(out, &inquiry)
+    put_grants(alloc, out, &inquiry)
 }

@@ -207,7 +207,7 @@ fn put_cut(
 }
 
 /// The address of a key of 48 bits.
-fn address_of(key: u64) -> BipAddr
+pub(crate) fn address_of(key: u64) -> BipAddr
     ensures { result ≡ address_of key }
 {
     let [_, _, a, b, c, d, high, low] = key.to_be_bytes();

@@ -118,12 +118,18 @@ pub(crate) fn is_off_subnet(own: BipAddr, broadcast: BipAddr) -> bool
 pub(crate) fn is_elsewhere(own: BipAddr, broadcast: BipAddr, other: BipAddr) -> bool
     ensures { result ≡ is_elsewhere own broadcast other }
 {
-    !is_off_subnet(own, broadcast)
-        && !is_beside(
-            number_of(own.ip),
-            number_of(broadcast.ip),
-            number_of(other.ip),
-        )
+    !is_off_subnet(own, broadcast) && !has_beside(own, broadcast, other)
+}
+
+/// Whether some subnet holds the own address and another one, and has this broadcast address.
+pub(crate) fn has_beside(own: BipAddr, broadcast: BipAddr, other: BipAddr) -> bool
+    ensures { result ≡ is_beside own broadcast other }
+{
+    is_beside(
+        number_of(own.ip),
+        number_of(broadcast.ip),
+        number_of(other.ip),
+    )
 }
 
 /// Whether a mask isn't ones and then zeros.

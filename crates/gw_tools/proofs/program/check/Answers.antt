@@ -1,7 +1,7 @@
 use Rattle.std.proofs.Common.{Ok, Err, refl, subst, ℕ, List}
 use Rattle.std.specs.Io.Buffered.{writer_contents}
 use Rattle.gw_ending.proofs.reading_lemmas.AppendLemmas.{front_written}
-use Rattle.gw_tools.specs.Checked.{lint_lines}
+use Rattle.gw_policy_drafts.specs.Lines.{table_lines}
 use Rattle.gw_tools.specs.Program.{LeavesConfigured}
 use Rattle.gw_tools.proofs.program.check.Goals as goal
 
@@ -12,7 +12,7 @@ returns-in-Ok-clause-output g c =
     let config = c.in-Ok.config in (
       Ok config,
       c.in-Ok.ensures,
-      subst (λ (text : List ℕ). LeavesConfigured c.args.explains (lint_lines c.args.lints text config) held holds config c.print_read.result) c.octets_or.ensures
+      subst (λ (text : List ℕ). LeavesConfigured c.args.explains c.args.lints (table_lines config.written text) held holds config c.print_read.result) c.octets_or.ensures
           c.print_read.ensures.output,
     )
 

@@ -1,5 +1,4 @@
 use Rattle.std.proofs.Common.{inl, inr, refl, subst, ℕ, List, Result}
-use Rattle.std.specs.Prelude.{option_map}
 use Rattle.std.specs.Io.Buffered.{writer_contents}
 use Rattle.gw_ask_sets.specs.declared.assertions.judging.Judged.{Judged}
 use Rattle.gw_ending.specs.declared.fault.Fault.{Fault}
@@ -14,13 +13,13 @@ use Rattle.gw_tools.proofs.program.print_checked.Goals as goal
 pub returns-in_err-judged-clause-output : goal.returns-in_err-judged-clause-output
 returns-in_err-judged-clause-output g c =
     let held = writer_contents g.W.Write.contents c.args.output.now in
-    passes_on (λ (r : Result (Unit {0}) Fault). LeavesConfigured c.args.explains (option_map (λ lines. lines.now) c.args.lint) held held c.args.config.now r) fault.Memory
+    passes_on (λ (r : Result (Unit {0}) Fault). LeavesConfigured c.args.how.explains c.args.how.lints c.args.lines.now held held c.args.config.now r) fault.Memory
     c.from_residual.result c.from_residual.ensures (inr (refl, refl))
 
 pub returns-in_err-text-clause-output : goal.returns-in_err-text-clause-output
 returns-in_err-text-clause-output g c =
     let held = writer_contents g.W.Write.contents c.args.output.now in
-    passes_on (λ (r : Result (Unit {0}) Fault). LeavesConfigured c.args.explains (option_map (λ lines. lines.now) c.args.lint) held held c.args.config.now r) fault.Memory
+    passes_on (λ (r : Result (Unit {0}) Fault). LeavesConfigured c.args.how.explains c.args.how.lints c.args.lines.now held held c.args.config.now r) fault.Memory
     c.from_residual-in_err-text.result c.from_residual-in_err-text.ensures (inr (refl, refl))
 
 pub returns-clause-output : goal.returns-clause-output
@@ -33,7 +32,7 @@ returns-clause-output g c =
       judged,
       c.in_ok-judged.ensures,
       text,
-      subst (λ (found : List Judged). IsChecked c.args.explains (option_map (λ lines. lines.now) c.args.lint) c.args.config.now found text) c.deref.ensures.value c.in_ok-text.ensures,
+      subst (λ (found : List Judged). IsChecked c.args.how.explains c.args.how.lints c.args.config.now c.args.lines.now found text) c.deref.ensures.value c.in_ok-text.ensures,
       subst (λ (t : List ℕ). LeavesEnding t (outcome_of_judged judged) held holds c.print_judged.result) c.deref-2.ensures.value
           (subst (λ (found : List Judged). LeavesEnding c.deref-2.result.now (outcome_of_judged found) held holds c.print_judged.result)
           c.deref-3.ensures.value c.print_judged.ensures.output),

@@ -4,4 +4,4 @@ use Rattle.gw_script.specs.Order.{in_order}
 use Rattle.gw_policy_review.proofs.permissions.notes.put_notes.Given as goal
 
 abbrev pub invariant-loop-place : goal.invariant-loop-place
-invariant-loop-place l = l.out.items ≡ l.fn.out.items ++ in_order (note_line l.rules) 1 (take l.place l.notes)
+invariant-loop-place l = l.out.items ≡ l.fn.out.items ++ in_order (note_line l.placed.config.now l.placed.lines.now) 1 (take l.place l.notes)

@@ -1,24 +1,30 @@
-use Rattle.std.proofs.Common.{arith, length, rules, ◌≡◌, get_or, subst, ◌++◌, ◌+◌, sym}
+use Rattle.std.proofs.Common.{List, length, rules, ◌≡◌, ◌∙◌, ◌<◌, ◌≤◌, ◌+◌, ap, drop, get_or, subst}
+use Rattle.std.proofs.lemmas.List.{drop_all}
 use Rattle.gw_configuration.specs.declared.port.Port.{Port}
-use Rattle.gw_policy_review.specs.permissions.Permissions.{port_lines}
-use Rattle.gw_script.proofs.Order.{in_order_end, in_order_none, in_order_step}
+use Rattle.gw_policy_review.specs.permissions.Permissions.{AppendsPort}
+use Rattle.gw_policy_review.proofs.permissions_lemmas.Ports.{appended_all, appended_more, appended_none}
 use Rattle.gw_policy_review.proofs.permissions.ports.put_ports.Goals as goal
 
 pub loop-place-init : goal.loop-place-init
-loop-place-init c = in_order_none (port_lines c.args.rules.now) c.args.out.now.items
+loop-place-init c = appended_none c.args.placed.now.config.now c.args.placed.now.lines.now c.args.placed.now.config.now.ports c.args.out.now.items
 
 pub loop-place-preserved : goal.loop-place-preserved
 loop-place-preserved c =
-    let text = port_lines c.args.rules.now in
+    let config = c.args.placed.now.config.now in
+    let lines = c.args.placed.now.lines.now in
+    let place = c.loop-place.place in
+    let within : place < length config.ports = search rules in
     let item = c.index-ports-place.result in
-    let here : get_or c.args.ports.now c.loop-place.place item ≡ item = search rules in
-    let then : c.put_port.new.out.items ≡ c.loop-place.out.items ++ text (c.loop-place.place + 1) item = search rules in
-    in_order_step text c.args.out.now.items c.loop-place.out.items c.put_port.new.out.items c.args.ports.now c.loop-place.place item
-    c.loop-place-test.true c.loop-place.invariant
-    (subst (λ (x : Port). c.put_port.new.out.items ≡ c.loop-place.out.items ++ text (c.loop-place.place + 1) x) (sym here) then)
+    let here : item ≡ get_or config.ports place item =
+    c.index-ports-place.is ∙ ap (λ (ps : List Port). get_or ps place item) c.ports-ports.ensures.ports in
+    let grown = subst (λ (one : Port). AppendsPort config lines (place + 1) one c.loop-place.out.items c.put_port.new.out.items)
+    here c.in_ok-put_port.ensures in
+    appended_more config lines config.ports place c.index-ports-place.result c.args.out.now.items c.loop-place.out.items c.put_port.new.out.items within
+    c.loop-place.invariant grown
 
 pub returns : goal.returns
 returns c =
-    let ends : c.loop-place.place ≡ length c.args.ports.now = omega (arith, c.loop-place.auto.place-end, c.loop-place-test.false) in
-    in_order_end (port_lines c.args.rules.now) c.args.out.now.items c.loop-place.out.items c.args.ports.now
-    c.loop-place.place ends c.loop-place.invariant
+    let ports = c.args.placed.now.config.now.ports in
+    let ends : length ports ≤ c.loop-place.place = search rules in
+    appended_all c.args.placed.now.config.now c.args.placed.now.lines.now ports c.loop-place.place c.args.out.now.items c.loop-place.out.items
+    (drop_all c.loop-place.place ports ends) c.loop-place.invariant

@@ -1,7 +1,5 @@
-use Rattle.std.proofs.Common.{◌≡◌, ◌++◌, take}
-use Rattle.gw_policy_review.specs.permissions.Permissions.{port_lines}
-use Rattle.gw_script.specs.Order.{in_order}
+use Rattle.gw_policy_review.proofs.permissions_lemmas.Ports.{Appended}
 use Rattle.gw_policy_review.proofs.permissions.ports.put_ports.Given as goal
 
 abbrev pub invariant-loop-place : goal.invariant-loop-place
-invariant-loop-place l = l.out.items ≡ l.fn.out.items ++ in_order (port_lines l.rules) 1 (take l.place l.ports)
+invariant-loop-place l = Appended l.placed.config.now l.placed.lines.now l.placed.config.now.ports l.place l.fn.out.items l.out.items

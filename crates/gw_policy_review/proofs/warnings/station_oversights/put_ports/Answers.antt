@@ -1,0 +1,18 @@
+use Rattle.std.proofs.Common.{rules, ◌≡◌, ◌++◌, ◌+◌, get_or, subst, sym}
+use Rattle.gw_configuration.specs.declared.port.Port.{Port}
+use Rattle.gw_policy_review.specs.warnings.Oversights.{port_oversights}
+use Rattle.gw_script.proofs.Order.{in_order_none, in_order_step}
+use Rattle.gw_policy_review.proofs.warnings.station_oversights.put_ports.Goals as goal
+
+pub loop-place-init : goal.loop-place-init
+loop-place-init c = in_order_none (port_oversights c.args.config.now) c.args.out.now.items
+
+pub loop-place-preserved : goal.loop-place-preserved
+loop-place-preserved c =
+    let text = port_oversights c.args.config.now in
+    let item = c.index-ports-place.result in
+    let here : get_or c.ports-ports.result.now c.loop-place.place item ≡ item = search rules in
+    let then : c.put_port.new.out.items ≡ c.loop-place.out.items ++ text (c.loop-place.place + 1) item = search rules in
+    in_order_step text c.args.out.now.items c.loop-place.out.items c.put_port.new.out.items c.ports-ports.result.now c.loop-place.place item
+    c.loop-place-test.true c.loop-place.invariant
+    (subst (λ (x : Port). c.put_port.new.out.items ≡ c.loop-place.out.items ++ text (c.loop-place.place + 1) x) (sym here) then)
