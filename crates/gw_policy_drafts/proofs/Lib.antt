@@ -1,3 +1,4 @@
+pub mod BegunLaw
 pub mod Putting
 pub mod Viewing
 pub mod suggestion_lemmas
