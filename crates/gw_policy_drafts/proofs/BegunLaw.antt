@@ -34,6 +34,13 @@ use Rattle.gw_policy_drafts.specs.beginning.Site.{Site}
 use Rattle.gw_policy_drafts.specs.internal.Safe.{are_safe, is_one, is_safe, is_safe_for, may_allow, names_operators, spares}
 use Rattle.gw_policy_drafts.specs.declared.beginning.part.Part.{Part}
 
+apart : true ≡ false → ⊥
+apart e = absurd cc
+
+both_ways : (b : Bool) → not b ≡ true → b ≡ true → ⊥
+both_ways true e t = apart (sym e)
+both_ways false e t = apart (sym t)
+
 -- ---- the rule that allows an ask
 
 record Opens (test : Rule → Bool) (ask : Ask) : Type 0 where
@@ -44,19 +51,18 @@ record Opens (test : Rule → Bool) (ask : Ask) : Type 0 where
 
 opener_of : (test : Rule → Bool) (rules : List Rule) (ask : Ask) → list_all test rules ≡ true → decided rules false ask ≡ true → Opens test ask
 opener_of test [] ask all e = absurd cc
-opener_of test (rule ∷ rules) ask all e = by (matches rule ask) refl
+opener_of test (rule ∷ rules) ask all e =
+    let parts = and_parts (test rule) (list_all test rules) all in
+    by parts.0 (opener_of test rules ask parts.1) (matches rule ask) refl
   where
-    parts : (test rule ≡ true) × (list_all test rules ≡ true)
-    parts = and_parts (test rule) (list_all test rules) all
-
-    by : (b : Bool) → matches rule ask ≡ b → Opens test ask
-    by true m = record {
+    by : test rule ≡ true → (decided rules false ask ≡ true → Opens test ask) → (b : Bool) → matches rule ask ≡ b → Opens test ask
+    by safe later true m = record {
       rule = rule;
-      safe = parts.0;
+      safe = safe;
       allow = sym (ap (λ (b : Bool). if b then rule.allow else decided rules false ask) m) ∙ e;
       matching = m;
     }
-    by false m = opener_of test rules ask parts.1 (sym (ap (λ (b : Bool). if b then rule.allow else decided rules false ask) m) ∙ e)
+    by safe later false m = later (sym (ap (λ (b : Bool). if b then rule.allow else decided rules false ask) m) ∙ e)
 
 opener : (test : Rule → Bool) (rules : List Rule) (ask : Ask) → list_all test rules ≡ true → allows rules ask ≡ true → Opens test ask
 opener test rules ask all e = opener_of test rules ask all (decided_allows rules ask ∙ e)
@@ -103,29 +109,40 @@ may_allow_of operators ask o asked opens =
 held_by : (operators : List Part) (ranges : List Range) (key : ℕ) → list_all (is_one operators) ranges ≡ true → list_any (holds key) ranges ≡ true
     → is_operator operators key ≡ true
 held_by operators [] key all any = absurd cc
-held_by operators (range ∷ ranges) key all any = by (or_cases (holds key range) (list_any (holds key) ranges) any)
+held_by operators (range ∷ ranges) key all any =
+    let parts = and_parts (is_one operators range) (list_all (is_one operators) ranges) all in
+    let ends = and_parts (range.low == range.high) (is_operator operators range.low) parts.0 in
+    by (eqb-true range.low range.high ends.0) ends.1 (held_by operators ranges key parts.1)
+    (or_cases (holds key range) (list_any (holds key) ranges) any)
   where
-    parts : (is_one operators range ≡ true) × (list_all (is_one operators) ranges ≡ true)
-    parts = and_parts (is_one operators range) (list_all (is_one operators) ranges) all
-
-    ends : ((range.low == range.high) ≡ true) × (is_operator operators range.low ≡ true)
-    ends = and_parts (range.low == range.high) (is_operator operators range.low) parts.0
-
-    by : (holds key range ≡ true) ⊎ (list_any (holds key) ranges ≡ true) → is_operator operators key ≡ true
-    by (inl held) =
+    by : range.low ≡ range.high → is_operator operators range.low ≡ true → (list_any (holds key) ranges ≡ true → is_operator operators key ≡ true)
+        → (holds key range ≡ true) ⊎ (list_any (holds key) ranges ≡ true) → is_operator operators key ≡ true
+    by one operator later (inl held) =
         let both = and_parts (nat_le range.low key) (nat_le key range.high) held in
         let low : range.low ≤ key = leb-true range.low key both.0 in
         let high : key ≤ range.high = leb-true key range.high both.1 in
-        let one : range.low ≡ range.high = eqb-true range.low range.high ends.0 in
-        let is : range.low ≡ key = omega (arith, low, high, one) in
-        ap (is_operator operators) (sym is) ∙ ends.1
-    by (inr later) = held_by operators ranges key parts.1 later
+        let is : key ≡ range.low = omega (arith, low, high, one) in
+        ap (is_operator operators) is ∙ operator
+    by one operator later (inr any) = later any
+
+-- a list of one or more isn't empty
+of_some : (range : Range) (ranges : List Range) (b : Bool) → ((length (range ∷ ranges) == 0) || b) ≡ true → b ≡ true
+of_some range ranges b e = by (or_cases (length (range ∷ ranges) == 0) b e)
+  where
+    by : ((length (range ∷ ranges) == 0) ≡ true) ⊎ (b ≡ true) → b ≡ true
+    by (inl none) =
+        let is : suc (length ranges) ≡ 0 = eqb-true (length (range ∷ ranges)) 0 none in
+        absurd (omega (arith, is))
+    by (inr holds_so) = holds_so
 
 named_by : (operators : List Part) (ranges : List Range) (sender : Option ℕ) → (not (length ranges == 0) && list_all (is_one operators) ranges) ≡ true
     → admits ranges sender ≡ true → option_map_or (is_operator operators) sender false ≡ true
-named_by operators [] sender named admitted = absurd cc
-named_by operators (range ∷ ranges) None named admitted = absurd cc
-named_by operators (range ∷ ranges) (Some key) named admitted = held_by operators (range ∷ ranges) key named admitted
+named_by operators [] sender named admitted = absurd (apart (sym named))
+named_by operators (range ∷ ranges) None named admitted = absurd (apart (sym (of_some range ranges false admitted)))
+named_by operators (range ∷ ranges) (Some key) named admitted =
+    held_by operators (range ∷ ranges) key
+    (and_parts (not (length (range ∷ ranges) == 0)) (list_all (is_one operators) (range ∷ ranges)) named).1
+    (of_some range ranges (list_any (holds key) (range ∷ ranges)) admitted)
 
 pub writes_of : (operators : List Part) (rules : List Rule) → are_safe operators rules ≡ true → (ask : Ask) → is_for operation.Write ask ≡ true
     → allows rules ask ≡ true → is_operators operators ask ≡ true
@@ -144,29 +161,25 @@ denied_by rules ask never = by (allows rules ask) refl
     by false e = refl
     by true e = absurd (never e)
 
+spared_one : (services : List ℕ) (ranges : List Range) (number : ℕ) → list_all (λ n. not (admits ranges (Some n))) services ≡ true
+    → list_any (nat_eq number) services ≡ true → admits ranges (Some number) ≡ true → ⊥
+spared_one [] ranges number all any admitted = apart (sym any)
+spared_one (n ∷ more) ranges number all any admitted =
+    let parts = and_parts (not (admits ranges (Some n))) (list_all (λ m. not (admits ranges (Some m))) more) all in
+    by parts.0 (λ later. spared_one more ranges number parts.1 later admitted) (or_cases (nat_eq number n) (list_any (nat_eq number) more) any)
+  where
+    by : not (admits ranges (Some n)) ≡ true → (list_any (nat_eq number) more ≡ true → ⊥)
+        → (nat_eq number n ≡ true) ⊎ (list_any (nat_eq number) more ≡ true) → ⊥
+    by not_one later (inl same) =
+        let is : n ≡ number = sym (eqb-true number n same) in
+        both_ways (admits ranges (Some n)) not_one (ap (λ (m : ℕ). admits ranges (Some m)) is ∙ admitted)
+    by not_one later (inr any) = later any
+
 -- a service that changes a device isn't among those of a rule that spares it
 spared : (services : List ℕ) (ranges : List Range) (service : Option ℕ) → list_all (λ n. not (admits ranges (Some n))) services ≡ true
     → option_map_or (λ number. list_any (nat_eq number) services) service false ≡ true → admits ranges service ≡ true → ⊥
-spared services ranges None all any admitted = cc
-spared services ranges (Some number) all any admitted = go services all any
-  where
-    go : (services : List ℕ) → list_all (λ n. not (admits ranges (Some n))) services ≡ true → list_any (nat_eq number) services ≡ true → ⊥
-    go [] all any = cc
-    go (n ∷ more) all any = by (or_cases (nat_eq number n) (list_any (nat_eq number) more) any)
-      where
-        parts : (not (admits ranges (Some n)) ≡ true) × (list_all (λ m. not (admits ranges (Some m))) more ≡ true)
-        parts = and_parts (not (admits ranges (Some n))) (list_all (λ m. not (admits ranges (Some m))) more) all
-
-        by : (nat_eq number n ≡ true) ⊎ (list_any (nat_eq number) more ≡ true) → ⊥
-        by (inl same) =
-            let is : number ≡ n = eqb-true number n same in
-            let one : admits ranges (Some n) ≡ true = ap (λ (m : ℕ). admits ranges (Some m)) (sym is) ∙ admitted in
-            never (admits ranges (Some n)) parts.0 one
-        by (inr later) = go more parts.1 later
-
-    never : (b : Bool) → not b ≡ true → b ≡ true → ⊥
-    never true e t = cc
-    never false e t = cc
+spared services ranges None all any admitted = apart (sym any)
+spared services ranges (Some number) all any admitted = spared_one services ranges number all any admitted
 
 pub changes_of : (operators : List Part) (rules : List Rule) → are_safe operators rules ≡ true → (ask : Ask) → is_passed ask ≡ true
     → is_of_service WRITING_SERVICES ask ≡ true → allows rules ask ≡ false
@@ -204,7 +217,7 @@ closed_of operators rules safe o ask closed asked = denied_by rules ask (λ allo
     let opens = opener (is_safe operators) rules ask safe allowed in
     let may : may_allow operators opens.rule o ≡ true = may_allow_of operators ask o asked opens in
     let may_not : may_allow operators opens.rule o ≡ false = closed_to operators opens.rule o closed in
-    let both : true ≡ false = sym may ∙ may_not in cc)
+    apart (sym may ∙ may_not))
 
 -- ---- the whole
 

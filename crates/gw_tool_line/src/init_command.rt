@@ -22,12 +22,7 @@ fn make_many<'a>(alloc: Global, name: &'a str, value_name: &'a str, help: &'a st
 }
 
 /// One that has to be given.
-fn make_many_needed<'a>(
-    alloc: Global,
-    name: &'a str,
-    value_name: &'a str,
-    help: &'a str,
-) -> Arg<'a>
+fn make_many_needed<'a>(alloc: Global, name: &'a str, value_name: &'a str, help: &'a str) -> Arg<'a>
     ensures rule { rule_of result ≡ many_needed name.now }
     ensures local { result.global ≡ false }
 {
@@ -38,7 +33,8 @@ fn make_init_of_ports<'a>(alloc: Global) -> Result<Command<'a>, AllocError>
     ensures app { IfOk result (λ command. app_of command ≡ init_of_ports) }
     ensures local { IfOk result (λ command. (out-Command command).has_globals ≡ false) }
 {
-    let help = "A port: its address and its subnet; given for each, the first is port 1 on network 1";
+    let help =
+        "A port: its address and its subnet; given for each, the first is port 1 on network 1";
     let port = make_many_needed(alloc, "port", "ADDRESS/PREFIX", help);
     let help = "Another broadcast manager, with its subnet, that shares broadcasts with a port";
     let peer = make_many(alloc, "peer", "PORT=ADDRESS/PREFIX", help);

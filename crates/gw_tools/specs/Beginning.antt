@@ -21,12 +21,6 @@ text_of words = record {
   managers = map string_bytes words.managers.items;
 }
 
--- what is reported of a wrong word, unless there is no memory for its line
-abbrev pub IsReported : SiteText → WrongWord → (said : List ℕ) → Fault → Type 0
-IsReported words w said fault.CommandLine = said ≡ wrong_line words w
-IsReported words w said fault.Memory = said ≡ []
-IsReported words w said _ = ⊥
-
 -- What `init` leaves of some words: a configuration to begin with, of which a failed write may leave a front; if a word is wrong
 -- nothing, but a line on standard error that names it; and nothing at any other fault.
 abbrev pub LeavesBegun : SiteText → Option (List ℕ) → Option (List ℕ) → (said : List ℕ) → Result (Unit {0}) Fault → Type 0

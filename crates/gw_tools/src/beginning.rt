@@ -4,12 +4,12 @@ ghost use Rattle.std.specs.Prelude.{◌≡◌, ℕ, List, [], OnOk};
 ghost use Rattle.std.specs.Io.Buffered.{writer_buffer, writer_contents};
 ghost use Rattle.std.specs.Io.KnownBytes.{Appends};
 ghost use Rattle.gw_policy_drafts.specs.beginning.Site.{site_text};
-ghost use Rattle.gw_tools.specs.Beginning.{IsReported, LeavesBegun, text_of};
+ghost use Rattle.gw_tools.specs.Beginning.{LeavesBegun, text_of};
 
 use gw_ending::Fault;
 use gw_ending::reading::print;
 use gw_notices::write_note;
-use gw_policy_drafts::beginning::{BeginFault, Words, WrongWord, begin, wrong_line};
+use gw_policy_drafts::beginning::{BeginFault, Words, begin, wrong_line};
 use gw_script::OctetSink;
 use gw_tool_line::SiteWords;
 use std::alloc::Global;
@@ -25,26 +25,6 @@ fn words_of(site: &SiteWords) -> Words<'_>
         routers: site.routers.as_slice(),
         operators: site.operators.as_slice(),
         managers: site.managers.as_slice(),
-    }
-}
-
-/// Reports which word is wrong.
-fn report_wrong<E: OctetSink>(
-    alloc: Global,
-    words: &Words<'_>,
-    wrong: WrongWord,
-    errors: &mut E,
-) -> Fault
-    ensures reports { (said : List ℕ) × IsReported (site_text words.now) wrong said result
-        × (E.NeverFails errors.old → Appends (E.held errors.old) (E.held errors.new) said) }
-    ensures lasting { E.NeverFails errors.old → E.NeverFails errors.new }
-{
-    match wrong_line(alloc, words, wrong) {
-        Ok(line) => {
-            write_note(&line, errors);
-            Fault::CommandLine
-        }
-        Err(_) => Fault::Memory,
     }
 }
 
@@ -64,7 +44,11 @@ pub fn begin_site<W: Write + Drop, E: OctetSink>(
     let words = words_of(site);
     match begin(alloc, &words) {
         Ok(text) => print(&text, output),
-        Err(BeginFault::Word(wrong)) => Err(report_wrong(alloc, &words, wrong, errors)),
+        Err(BeginFault::Word(wrong)) => {
+            let line = wrong_line(alloc, &words, wrong)?;
+            write_note(&line, errors);
+            Err(Fault::CommandLine)
+        }
         Err(BeginFault::Unlike) => Err(Fault::Unlisted),
         Err(BeginFault::Memory) => Err(Fault::Memory),
     }

@@ -25,7 +25,6 @@ use Rattle.gw_policy_drafts.specs.declared.beginning.fault.BeginFault.TheVariant
 use Rattle.gw_policy_drafts.specs.declared.beginning.fault.Flaw.TheVariants as flaw
 use Rattle.gw_policy_drafts.specs.declared.beginning.fault.WrongWord.{WrongWord}
 use Rattle.gw_policy_drafts.specs.declared.beginning.part.Part.{Part}
-use Rattle.gw_policy_drafts.specs.declared.beginning.part.SiteOption.{SiteOption}
 
 -- ---- the configuration
 
@@ -84,12 +83,7 @@ Begins s text = (c : Configuration) × (configuration text ≡ Ok c) × IsBegun 
 abbrev pub BeginsAs : SiteText → List ℕ → Type 0
 BeginsAs words text = (s : Site) × Says words s × (wrong_in s ≡ None) × Begins s text
 
--- a word of an option isn't of its form
-abbrev pub IsForm : SiteOption → (count : ℕ) → BeginFault → Type 0
-IsForm option count (fault.Word w) = (w.option ≡ option) × (w.flaw ≡ flaw.Form) × (w.place < count)
-IsForm option count fault.Unlike = ⊥
-IsForm option count fault.Memory = ⊤
-
+-- a word isn't of the form of its option
 abbrev pub IsUnread : SiteText → BeginFault → Type 0
 IsUnread words (fault.Word w) = (w.flaw ≡ flaw.Form) × (w.place < length (words_in words w.option))
 IsUnread words fault.Unlike = ⊥

@@ -1,7 +1,7 @@
 //! Who isn't an operator: what is asserted of writes.
 
-use crate::beginning::ports::address_of;
 use crate::beginning::part::Part;
+use crate::beginning::ports::address_of;
 use gw_rules::Range;
 use std::alloc::{AllocError, Global};
 

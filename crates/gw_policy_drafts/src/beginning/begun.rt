@@ -1,9 +1,12 @@
 //! A configuration to begin with, from the words of a call.
 
-ghost use Rattle.std.specs.Prelude.{◌≡◌, IfErr, IfOk, IsTrue};
+ghost use Rattle.std.specs.Prelude.{◌≡◌, false, IfErr, IfOk, IsTrue};
+ghost use Rattle.std.specs.List.{list_all};
+ghost use Rattle.gw_rules.specs.declared.format.Format.TheVariants.{Three};
+ghost use Rattle.gw_rules.specs.declared.operation.TheConstants.Operation.{ALL};
 ghost use Rattle.gw_ask_sets.specs.assertions.Judging.{AreJudged};
 ghost use Rattle.gw_ask_sets.specs.declared.assertions.judging.TheConstants.{JUDGING_STEPS as MOST};
-ghost use Rattle.gw_policy_drafts.specs.beginning.Begun.{Begins, BeginsAs, IsBegun, IsUnwritten, IsWrong, do_hold, is_closed, is_operator};
+ghost use Rattle.gw_policy_drafts.specs.beginning.Begun.{Begins, BeginsAs, IsBegun, IsUnwritten, IsWrong, do_hold, holds, is_closed, is_operator};
 ghost use Rattle.gw_policy_drafts.specs.beginning.Ports.{ports_of, routes_of};
 ghost use Rattle.gw_policy_drafts.specs.beginning.Site.{Site as SpecSite, site_of, site_text};
 ghost use Rattle.gw_policy_drafts.specs.internal.Safe.{are_safe, is_one, is_safe, is_safe_for, may_allow, names_operators, spares};
@@ -37,12 +40,18 @@ fn is_one(operators: &[Part], range: Range) -> bool
     range.low == range.high && is_operator(operators, range.low)
 }
 
+fn are_each_one(operators: &[Part], ranges: &[Range]) -> bool
+    ensures { result ≡ list_all (is_one operators.now) ranges.now }
+{
+    ranges.iter().all(|range| is_one(operators, *range))
+}
+
 /// Whether a rule names operators alone as senders.
 fn names_operators(operators: &[Part], rule: &Rule) -> bool
     ensures { result ≡ names_operators operators.now rule.now }
 {
     let senders = rule.ranges(FieldName::Sender).as_slice();
-    !senders.is_empty() && senders.iter().all(|range| is_one(operators, *range))
+    !senders.is_empty() && are_each_one(operators, senders)
 }
 
 /// Whether it names services that change no device.
@@ -89,13 +98,18 @@ fn is_safe_for(operators: &[Part], rule: &Rule, operation: Operation) -> bool
     !admit(operations, Some(operation.number())) || may_allow(operators, rule, operation)
 }
 
+fn is_safe_for_each(operators: &[Part], rule: &Rule) -> bool
+    ensures { result ≡ list_all (is_safe_for operators.now rule.now) ALL }
+{
+    Operation::ALL
+        .iter()
+        .all(|operation| is_safe_for(operators, rule, *operation))
+}
+
 fn is_safe(operators: &[Part], rule: &Rule) -> bool
     ensures { result ≡ is_safe operators.now rule.now }
 {
-    !rule.allow
-        || Operation::ALL
-            .iter()
-            .all(|operation| is_safe_for(operators, rule, *operation))
+    !rule.allow || is_safe_for_each(operators, rule)
 }
 
 fn are_safe(operators: &[Part], rules: &[Rule]) -> bool
@@ -104,14 +118,32 @@ fn are_safe(operators: &[Part], rules: &[Rule]) -> bool
     rules.iter().all(|rule| is_safe(operators, rule))
 }
 
+fn does_each_hold(judged: &[Judged]) -> bool
+    ensures { result ≡ list_all holds judged.now }
+{
+    judged.iter().all(|one| matches!(one, Judged::Holds))
+}
+
 fn do_hold(judged: &[Judged]) -> bool
     ensures { result ≡ do_hold judged.now }
 {
-    !judged.is_empty() && judged.iter().all(|one| matches!(one, Judged::Holds))
+    !judged.is_empty() && does_each_hold(judged)
+}
+
+/// Whether a configuration of format 3 announces nothing, and has these ports and routes.
+fn has_parts(config: &Config, ports: &[Port], routes: &[Route]) -> bool
+    ensures format { IsTrue result → config.now.format ≡ Three }
+    ensures announce { IsTrue result → config.now.announce ≡ false }
+    ensures ports { IsTrue result → config.now.ports ≡ ports.now }
+    ensures routes { IsTrue result → config.now.routes ≡ routes.now }
+{
+    config.format().names_stations()
+        && !config.announces()
+        && are_same(config.ports(), ports)
+        && are_same(config.routes(), routes)
 }
 
 /// Whether a configuration that was judged so is one to begin with, of these ports and routes.
-#[tactic(auto, using(crate::proofs::BegunLaw::begins))]
 fn is_begun(
     site: &Site,
     ports: &[Port],
@@ -124,12 +156,13 @@ fn is_begun(
     requires judged { AreJudged config.now MOST judged.now }
     ensures { IsTrue result → IsBegun (site_of site.now) config.now }
 {
-    config.format().names_stations()
-        && !config.announces()
-        && are_same(config.ports(), ports)
-        && are_same(config.routes(), routes)
-        && are_safe(&site.operators, config.rules().rules())
-        && do_hold(judged)
+    if !has_parts(config, ports, routes) {
+        return false;
+    }
+    if !are_safe(&site.operators, config.rules().rules()) {
+        return false;
+    }
+    do_hold(judged)
 }
 
 /// The text of a site, which was read again.

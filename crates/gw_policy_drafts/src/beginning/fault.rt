@@ -111,11 +111,7 @@ fn word_at(words: &[String], place: usize) -> &str
 
 /// The line that says which word is wrong, and why: `--port 10.1.0.2/33: a prefix has 8 to 30 bits`.
 #[tactic(auto, unfolding(crate::specs::beginning::Flaws::wrong_line))]
-pub fn wrong_line(
-    alloc: Global,
-    words: &Words<'_>,
-    wrong: WrongWord,
-) -> Result<Vec<u8>, AllocError>
+pub fn wrong_line(alloc: Global, words: &Words<'_>, wrong: WrongWord) -> Result<Vec<u8>, AllocError>
     ensures { IfOk result (λ line. line.items ≡ wrong_line (site_text words.now) wrong) }
 {
     let WrongWord {

@@ -1,6 +1,6 @@
 //! What is wrong with what words say.
 
-ghost use Rattle.std.specs.Prelude.{◌≡◌, ◌==◌, ◌≤◌, [], length, take, drop};
+ghost use Rattle.std.specs.Prelude.{◌≡◌, ◌==◌, ◌≤◌, [], find, length, take, drop};
 ghost use Rattle.std.specs.List.{list_any};
 ghost use Rattle.gw_policy_drafts.specs.beginning.Flaws.{first_flaw, flaw_of, is_at_port, is_beside, is_given, is_named, is_port, is_station, is_subnet, is_taken};
 ghost use Rattle.gw_policy_drafts.specs.beginning.Flaws.{manager_flaw, of_number, operator_flaw, or_else, overlaps_one, peer_flaw, port_flaw, router_flaw, wrong_from, wrong_in, wrong_of};
@@ -25,12 +25,18 @@ const DEVICE_NETWORK: u16 = 100;
 /// The number of all networks.
 const ALL_NETWORKS: u16 = 65535;
 
+fn first_there(flaws: &[(bool, Flaw)]) -> Option<(bool, Flaw)>
+    ensures { result ≡ find (λ f. f.0) flaws.now }
+{
+    flaws.iter().copied().find(|flaw| flaw.0)
+}
+
 /// The first of these flaws that is there.
 fn first_flaw(flaws: &[(bool, Flaw)]) -> Option<Flaw>
     ensures { result ≡ first_flaw flaws.now }
 {
-    match flaws.iter().copied().find(|flaw| flaw.0) {
-        Some(flaw) => Some(flaw.1),
+    match first_there(flaws) {
+        Some((_, flaw)) => Some(flaw),
         None => None,
     }
 }
@@ -121,7 +127,10 @@ fn peer_flaw(site: &Site, before: &[Part], part: Part) -> Option<Flaw>
         (!part.has_station(part.host()), Flaw::End),
         (!is_port(site, part.number), Flaw::NoPort),
         (overlaps, Flaw::Overlap),
-        (MAX_PORT_PEERS <= count_of(part.number, before), Flaw::TooMany),
+        (
+            MAX_PORT_PEERS <= count_of(part.number, before),
+            Flaw::TooMany,
+        ),
     ])
 }
 

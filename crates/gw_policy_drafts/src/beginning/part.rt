@@ -124,8 +124,9 @@ fn put_prefix(out: &mut Vec<u8>, has_prefix: bool, prefix: u8) -> Result<(), All
 fn put_part(out: &mut Vec<u8>, option: SiteOption, part: Part) -> Result<(), AllocError>
     ensures { IsAppended (word_of option part) out.old out.new result }
 {
+    let octets = part.ip;
     put_number(out, option.is_numbered(), part.number)?;
-    Mask { octets: part.ip }.put_text(out)?;
+    Mask { octets }.put_text(out)?;
     put_prefix(out, option.has_prefix(), part.prefix)
 }
 

@@ -1,6 +1,6 @@
 //! The ports and the routes of a site.
 
-ghost use Rattle.std.specs.Prelude.{◌≡◌, ◌+◌, ◌==◌, ◌++◌, ◌∷◌, [], find, map, position, IfOk, OnOk};
+ghost use Rattle.std.specs.Prelude.{◌≡◌, ◌+◌, ◌==◌, ◌++◌, ◌∷◌, ◌<◌, [], find, length, map, position, IfOk, IfSome, OnOk};
 ghost use Rattle.std.specs.Option.{option_map, option_map_or};
 ghost use Rattle.gw_policy_drafts.specs.beginning.Part.{has_station, host_of};
 ghost use Rattle.gw_policy_drafts.specs.beginning.Flaws.{of_number};
@@ -10,7 +10,7 @@ ghost use Rattle.gw_policy_drafts.specs.beginning.Site.{site_of};
 use crate::beginning::part::Part;
 use crate::beginning::site::Site;
 use crate::listing::ListingFault;
-use gw_addr::{BdtEntry, BipAddr, NetNum, Sequence};
+use gw_addr::{BdtEntry, BipAddr, MAX_PORTS, NetNum, Sequence};
 use gw_configuration::{Peers, Port, Route, Stations, Subnet};
 use std::alloc::{AllocError, Global};
 
@@ -96,17 +96,54 @@ fn entry_of(part: Part) -> BdtEntry
     }
 }
 
+fn first_manager(number: u16, managers: &[Part]) -> Option<Part>
+    ensures { result ≡ find (λ manager. manager.number == number) managers.now }
+{
+    managers
+        .iter()
+        .copied()
+        .find(|manager| manager.number == number)
+}
+
 /// The broadcast manager beside the port of a number.
 fn manager_of(number: u16, managers: &[Part]) -> Option<BipAddr>
     ensures { result ≡ option_map address_of (find (λ manager. manager.number == number) managers.now) }
 {
-    match managers
-        .iter()
-        .copied()
-        .find(|manager| manager.number == number)
-    {
+    match first_manager(number, managers) {
         Some(manager) => Some(address_of(manager)),
         None => None,
+    }
+}
+
+/// The network of a number. `Unlike` if there is none.
+fn network_of(number: u16) -> Result<NetNum, ListingFault>
+    ensures { IfOk result (λ network. network ≡ number) }
+{
+    match NetNum::new(number) {
+        Some(network) => Ok(network),
+        None => Err(ListingFault::Unlike),
+    }
+}
+
+/// The stations of a port with these peers. `Unlike` if they are too many subnets.
+fn stations_of(alloc: Global, part: Part, peers: &[Part]) -> Result<Stations, ListingFault>
+    ensures { IfOk result (λ stations. stations ≡ map subnet_at (part ∷ peers.now)) }
+{
+    let subnets = subnets_of(alloc, part, peers)?;
+    match Stations::new(subnets) {
+        Some(stations) => Ok(stations),
+        None => Err(ListingFault::Unlike),
+    }
+}
+
+/// The peers of a port. `Unlike` if they are too many.
+fn peers_of(alloc: Global, peers: &[Part]) -> Result<Peers, ListingFault>
+    ensures { IfOk result (λ list. list ≡ map entry_of peers.now) }
+{
+    let entries = entries_of(alloc, peers)?;
+    match Peers::new(entries) {
+        Some(list) => Ok(list),
+        None => Err(ListingFault::Unlike),
     }
 }
 
@@ -114,16 +151,10 @@ fn manager_of(number: u16, managers: &[Part]) -> Option<BipAddr>
 fn port_of(alloc: Global, site: &Site, number: u16, part: Part) -> Result<Port, ListingFault>
     ensures { IfOk result (λ port. port ≡ port_of (site_of site.now) number part) }
 {
-    let peers = of_number(alloc, number, &site.peers)?;
-    let subnets = subnets_of(alloc, part, &peers)?;
-    let entries = entries_of(alloc, &peers)?;
-    let (Some(network), Some(stations), Some(peers)) = (
-        NetNum::new(number),
-        Stations::new(subnets),
-        Peers::new(entries),
-    ) else {
-        return Err(ListingFault::Unlike);
-    };
+    let others = of_number(alloc, number, &site.peers)?;
+    let network = network_of(number)?;
+    let stations = stations_of(alloc, part, &others)?;
+    let peers = peers_of(alloc, &others)?;
     Ok(Port {
         network,
         address: address_of(part),
@@ -134,15 +165,23 @@ fn port_of(alloc: Global, site: &Site, number: u16, part: Part) -> Result<Port, 
     })
 }
 
+/// The number of the port at a place. `Unlike` if there is none.
+fn number_at(place: usize) -> Result<u16, ListingFault>
+    ensures { IfOk result (λ number. number ≡ place + 1) }
+{
+    if place >= MAX_PORTS {
+        return Err(ListingFault::Unlike);
+    }
+    Ok(place as u16 + 1)
+}
+
 /// The ports.
 pub(crate) fn ports_of(alloc: Global, site: &Site) -> Result<Vec<Port>, ListingFault>
     ensures { IfOk result (λ ports. ports.items ≡ ports_of (site_of site.now)) }
 {
     let mut ports = Vec::new(alloc);
     for place in 0..site.ports.len() {
-        let Ok(number) = u16::try_from(place + 1) else {
-            return Err(ListingFault::Unlike);
-        };
+        let number = number_at(place)?;
         let port = port_of(alloc, site, number, site.ports[place])?;
         add_port(&mut ports, port)?;
     }
@@ -156,27 +195,40 @@ fn add_port(ports: &mut Vec<Port>, port: Port) -> Result<(), AllocError>
     Ok(())
 }
 
+fn place_with(part: Part, ports: &[Part]) -> Option<usize>
+    ensures place { result ≡ position (has_station (host_of part)) ports.now }
+    ensures within { IfSome result (λ place. place < length ports.now) }
+{
+    let host = part.host();
+    ports.iter().position(|port| port.has_station(host))
+}
+
 /// The number of the port whose subnet has a router, or 0.
 fn port_with(part: Part, ports: &[Part]) -> usize
     ensures { result ≡ option_map_or (λ place. place + 1) (position (has_station (host_of part)) ports.now) 0 }
 {
-    let host = part.host();
-    match ports.iter().position(|port| port.has_station(host)) {
+    match place_with(part, ports) {
         Some(place) => place + 1,
         None => 0,
     }
+}
+
+/// A port's number. `Unlike` if there is no such port.
+fn port_number(number: usize) -> Result<u8, ListingFault>
+    ensures { IfOk result (λ port. port ≡ number) }
+{
+    if number > MAX_PORTS {
+        return Err(ListingFault::Unlike);
+    }
+    Ok(number as u8)
 }
 
 /// A network behind a router. `Unlike` if a configuration can't have it.
 fn route_of(site: &Site, part: Part) -> Result<Route, ListingFault>
     ensures { IfOk result (λ route. route ≡ route_of (site_of site.now) part) }
 {
-    let (Some(network), Ok(port)) = (
-        NetNum::new(part.number),
-        u8::try_from(port_with(part, &site.ports)),
-    ) else {
-        return Err(ListingFault::Unlike);
-    };
+    let network = network_of(part.number)?;
+    let port = port_number(port_with(part, &site.ports))?;
     Ok(Route {
         network,
         port,

@@ -1,12 +1,12 @@
 //! What a site has, read from the words of a call.
 
-ghost use Rattle.std.specs.Prelude.{◌≡◌, ◌++◌, ◌∷◌, [], length, map, string_bytes, IfErr, IfOk, OnOk};
+ghost use Rattle.std.specs.Prelude.{◌≡◌, ◌++◌, ◌∷◌, [], map, string_bytes, IfErr, IfOk, OnOk};
 ghost use Rattle.gw_policy_drafts.specs.beginning.Part.{word_of};
 ghost use Rattle.gw_policy_drafts.specs.beginning.Site.{Says, parts_in, site_of, site_text, words_in};
 ghost use Rattle.gw_policy_drafts.specs.beginning.Flaws.{wrong};
 ghost use Rattle.gw_policy_drafts.specs.declared.beginning.fault.BeginFault.TheVariants.{Word};
 ghost use Rattle.gw_policy_drafts.specs.declared.beginning.fault.Flaw.TheVariants.{Form};
-ghost use Rattle.gw_policy_drafts.specs.beginning.Begun.{IsForm, IsUnread};
+ghost use Rattle.gw_policy_drafts.specs.beginning.Begun.{IsUnread};
 
 use crate::beginning::fault::{BeginFault, Flaw, WrongWord};
 use crate::beginning::part::{Part, SiteOption, part_in};
@@ -86,16 +86,13 @@ fn unread(option: SiteOption, place: usize) -> BeginFault
 }
 
 /// What the words of an option say.
-fn parts_in(
-    alloc: Global,
-    option: SiteOption,
-    words: &[String],
-) -> Result<Vec<Part>, BeginFault>
-    ensures says { IfOk result (λ parts. map (word_of option) parts.items ≡ map string_bytes words.now) }
-    ensures form { IfErr result (λ fault. IsForm option (length words.now) fault) }
+fn parts_in(alloc: Global, words: &Words<'_>, option: SiteOption) -> Result<Vec<Part>, BeginFault>
+    ensures says { IfOk result (λ parts. map (word_of option) parts.items ≡ words_in (site_text words.now) option) }
+    ensures form { IfErr result (λ fault. IsUnread (site_text words.now) fault) }
 {
+    let list = words.of(option);
     let mut parts = Vec::new(alloc);
-    for word in words {
+    for word in list {
         let Some(part) = part_in(alloc, option, word)? else {
             return Err(unread(option, parts.len()));
         };
@@ -109,11 +106,11 @@ pub(crate) fn site_in(alloc: Global, words: &Words<'_>) -> Result<Site, BeginFau
     ensures says { IfOk result (λ site. Says (site_text words.now) (site_of site)) }
     ensures form { IfErr result (λ fault. IsUnread (site_text words.now) fault) }
 {
-    let ports = parts_in(alloc, SiteOption::Port, words.ports)?;
-    let peers = parts_in(alloc, SiteOption::Peer, words.peers)?;
-    let routers = parts_in(alloc, SiteOption::Router, words.routers)?;
-    let operators = parts_in(alloc, SiteOption::Operator, words.operators)?;
-    let managers = parts_in(alloc, SiteOption::Manager, words.managers)?;
+    let ports = parts_in(alloc, words, SiteOption::Port)?;
+    let peers = parts_in(alloc, words, SiteOption::Peer)?;
+    let routers = parts_in(alloc, words, SiteOption::Router)?;
+    let operators = parts_in(alloc, words, SiteOption::Operator)?;
+    let managers = parts_in(alloc, words, SiteOption::Manager)?;
     Ok(Site {
         ports,
         peers,

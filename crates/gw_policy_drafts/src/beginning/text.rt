@@ -285,18 +285,32 @@ fn put_port(alloc: Global, out: &mut Vec<u8>, port: &Port) -> Result<(), AllocEr
 }
 
 /// Appends the rules and the assertions of the operators, if there are any.
-fn put_writers(alloc: Global, out: &mut Vec<u8>, site: &Site, ports: &[u8], networks: &[u8]) -> Result<(), AllocError> {
+fn put_writers(
+    alloc: Global,
+    out: &mut Vec<u8>,
+    site: &Site,
+    ports: &[u8],
+    networks: &[u8],
+) -> Result<(), AllocError> {
     if site.operators.is_empty() {
         return put_all(out, &[ASSERTIONS, NOBODY_WRITES]);
     }
     put_all(out, &[OPERATOR_WRITES, ports, DESTINATION, networks, b"\n"])?;
     put_all(out, &[ASSERTIONS, ONLY_OPERATORS])?;
     put_field_items(out, FieldName::Sender, &gaps_of(alloc, &site.operators)?)?;
-    put_all(out, &[b"\n", WRITES_ALONE, ports, DESTINATION, networks, b"\n"])
+    put_all(
+        out,
+        &[b"\n", WRITES_ALONE, ports, DESTINATION, networks, b"\n"],
+    )
 }
 
 /// The text of a configuration of these ports and routes.
-pub(crate) fn text_of(alloc: Global, site: &Site, ports: &[Port], routes: &[Route]) -> Result<Vec<u8>, AllocError> {
+pub(crate) fn text_of(
+    alloc: Global,
+    site: &Site,
+    ports: &[Port],
+    routes: &[Route],
+) -> Result<Vec<u8>, AllocError> {
     let near = port_list(alloc, site)?;
     let all = network_list(alloc, site)?;
     let mut out = Vec::new(alloc);
@@ -309,9 +323,50 @@ pub(crate) fn text_of(alloc: Global, site: &Site, ports: &[Port], routes: &[Rout
     if !site.operators.is_empty() {
         put_operators(&mut out, site)?;
     }
-    put_all(&mut out, &[FIND, &all, b"\n", FIND_NETWORKS, &all, b"\n", READ, &all, b"\n"])?;
-    put_all(&mut out, &[PASS_ON, &all, DESTINATION, &all, b"\n", CHANGES, &all, DESTINATION, &all, b"\n"])?;
+    put_all(
+        &mut out,
+        &[
+            FIND,
+            &all,
+            b"\n",
+            FIND_NETWORKS,
+            &all,
+            b"\n",
+            READ,
+            &all,
+            b"\n",
+        ],
+    )?;
+    put_all(
+        &mut out,
+        &[
+            PASS_ON,
+            &all,
+            DESTINATION,
+            &all,
+            b"\n",
+            CHANGES,
+            &all,
+            DESTINATION,
+            &all,
+            b"\n",
+        ],
+    )?;
     put_writers(alloc, &mut out, site, &near, &all)?;
-    put_all(&mut out, &[READS_PASS, &all, DESTINATION, &all, b"\n", ANSWERS_PASS, &all, DESTINATION, &all, b"\n"])?;
+    put_all(
+        &mut out,
+        &[
+            READS_PASS,
+            &all,
+            DESTINATION,
+            &all,
+            b"\n",
+            ANSWERS_PASS,
+            &all,
+            DESTINATION,
+            &all,
+            b"\n",
+        ],
+    )?;
     Ok(out)
 }

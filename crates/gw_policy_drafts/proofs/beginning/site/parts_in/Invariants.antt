@@ -5,5 +5,5 @@ use Rattle.gw_policy_drafts.proofs.beginning.site.parts_in.Given as goal
 abbrev pub invariant-loop-word : goal.invariant-loop-word
 invariant-loop-word l = record {
   count : length l.parts.items ≡ l.word-index;
-  says : map (word_of l.option) l.parts.items ≡ take l.word-index (map string_bytes l.words);
+  says : map (word_of l.option) l.parts.items ≡ map string_bytes (take l.word-index l.list);
 }
