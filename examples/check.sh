@@ -49,7 +49,7 @@ same() {
     fi
 }
 
-for script in "$here"/*.script "$here"/format2/*.script; do
+for script in "$here"/*.script "$here"/format2/*.script "$here"/sites/*.script; do
     name=${script%.script}
     words=(replay)
     [ -e "$name.toml" ] && words+=(--config "$name.toml")
@@ -745,7 +745,7 @@ unsuspected() {
     agrees "the lint of $1" 0 "$work/plain" /dev/null
     same "the warnings of $1" "$("$tool" explain --config "$1" | grep '^warning: ')" ''
 }
-for file in "$here"/*.toml "$here"/format2/*.toml "$here/site/site.toml" "$here/../dist/site.toml"; do
+for file in "$here"/*.toml "$here"/format2/*.toml "$here"/sites/*.toml "$here/site/site.toml" "$here/../dist/site.toml"; do
     case ${file##*/} in
         base.toml | recipes.toml) # they have no rules
             same "the warnings of $file" "$("$tool" explain --config "$file" | grep '^warning: ')" \
@@ -754,6 +754,11 @@ for file in "$here"/*.toml "$here"/format2/*.toml "$here/site/site.toml" "$here/
         *) unsuspected "$file" ;;
     esac
 done
+
+# The configuration to begin with is the site of two subnets.
+"$tool" init --port 10.1.0.2/24 --port 10.2.0.2/24 --operator 10.1.0.10 < /dev/null > "$work/out" 2> "$work/err"
+status=$?
+agrees 'a configuration to begin with' 0 "$here/sites/two_subnets.toml" /dev/null
 
 # judges PROGRAM COMMAND NAME: the command tells this fault of a text, and says where it is
 judges() {

@@ -14,11 +14,12 @@ _bacgwctl() {
         return
     fi
     if [ "$COMP_CWORD" = 1 ]; then
-        options='check explain lint migrate rules why compare log state reload stop suggest report objects ask help --help --version'
+        options='check explain lint migrate rules why compare log state reload stop suggest report objects ask init help --help --version'
     else
         case $before in
             --config | --with | --log | --state | --reload | --was) compopt -o default; return ;;
             --start | --most | --from | --to | --read | --write | --priority) return ;;
+            --port | --peer | --router | --operator | --bbmd) return ;;
         esac
         if [ "$equals" ]; then return; fi
         case ${COMP_WORDS[1]} in
@@ -38,7 +39,8 @@ _bacgwctl() {
                 ;;
             objects) options='--config --csv --help' ;;
             ask) options='--config --from --to --read --write --priority --help' ;;
-            help) options='check explain lint migrate rules why compare log state reload stop suggest report objects ask' ;;
+            init) options='--port --peer --router --operator --bbmd --help' ;;
+            help) options='check explain lint migrate rules why compare log state reload stop suggest report objects ask init' ;;
             *) return ;;
         esac
     fi

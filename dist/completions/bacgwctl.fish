@@ -1,5 +1,5 @@
 # Completions of bacgwctl for fish.
-set -l commands check explain lint migrate rules why compare log state reload stop suggest report objects ask help
+set -l commands check explain lint migrate rules why compare log state reload stop suggest report objects ask init help
 
 complete -c bacgwctl -f
 complete -c bacgwctl -n "not __fish_seen_subcommand_from $commands" -a check -d 'Says what a configuration has, or its first fault'
@@ -17,6 +17,7 @@ complete -c bacgwctl -n "not __fish_seen_subcommand_from $commands" -a suggest -
 complete -c bacgwctl -n "not __fish_seen_subcommand_from $commands" -a report -d 'Writes a page of HTML on a configuration and a log'
 complete -c bacgwctl -n "not __fish_seen_subcommand_from $commands" -a objects -d 'Lists the objects of a configuration'
 complete -c bacgwctl -n "not __fish_seen_subcommand_from $commands" -a ask -d 'Says whether a station may read or write something'
+complete -c bacgwctl -n "not __fish_seen_subcommand_from $commands" -a init -d 'Writes a configuration to begin with'
 complete -c bacgwctl -n "not __fish_seen_subcommand_from $commands" -a help -d 'Prints help'
 complete -c bacgwctl -n "not __fish_seen_subcommand_from $commands" -l version -d 'Prints the version'
 complete -c bacgwctl -l help -d 'Prints help'
@@ -42,6 +43,11 @@ complete -c bacgwctl -n '__fish_seen_subcommand_from ask' -l to -x -a device -d 
 complete -c bacgwctl -n '__fish_seen_subcommand_from ask' -l read -x -d 'What it reads'
 complete -c bacgwctl -n '__fish_seen_subcommand_from ask' -l write -x -d 'What it writes'
 complete -c bacgwctl -n '__fish_seen_subcommand_from ask' -l priority -x -d 'The priority of a write'
+complete -c bacgwctl -n '__fish_seen_subcommand_from init' -l port -x -d 'A port, the first is port 1'
+complete -c bacgwctl -n '__fish_seen_subcommand_from init' -l peer -x -d 'Another broadcast manager'
+complete -c bacgwctl -n '__fish_seen_subcommand_from init' -l router -x -d 'A network behind another router'
+complete -c bacgwctl -n '__fish_seen_subcommand_from init' -l operator -x -d 'A station that may write'
+complete -c bacgwctl -n '__fish_seen_subcommand_from init' -l bbmd -x -d 'The broadcast manager that a subnet has already'
 complete -c bacgwctl -n '__fish_seen_subcommand_from log' -F
 complete -c bacgwctl -n '__fish_seen_subcommand_from log' -l start -x -d 'Also shows when each denial was, if the log began then'
-complete -c bacgwctl -n '__fish_seen_subcommand_from help' -a 'check explain lint migrate rules why compare log state reload stop suggest report objects ask'
+complete -c bacgwctl -n '__fish_seen_subcommand_from help' -a 'check explain lint migrate rules why compare log state reload stop suggest report objects ask init'

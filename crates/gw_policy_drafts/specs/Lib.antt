@@ -1,3 +1,4 @@
+pub mod beginning
 pub mod suggestion
 pub mod migration
 pub mod Lines

@@ -91,7 +91,7 @@ fn front_of(alloc: Global, config: &Config) -> Result<Vec<u8>, AllocError> {
 }
 
 /// The configuration of a text. `Unlike` if it is that of none, or `Memory`.
-fn read(alloc: Global, text: &[u8]) -> Result<Config, ListingFault>
+pub(crate) fn read(alloc: Global, text: &[u8]) -> Result<Config, ListingFault>
     ensures { IfOk result (λ config. configuration text.now ≡ Ok config) }
 {
     match read_config(alloc, text) {

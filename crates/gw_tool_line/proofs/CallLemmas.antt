@@ -34,6 +34,8 @@ calls_are_taken = record {
   ask_to_read = λ program. record { taken = refl; asked = refl; sound = λ void. void };
   ask_to_write = λ program. record { taken = refl; asked = refl; sound = λ void. void };
   ask_to_write_at = λ program. record { taken = refl; asked = refl; sound = λ void. void };
+  init = λ program. record { taken = refl; asked = refl; sound = λ void. void };
+  init_whole = λ program. record { taken = refl; asked = refl; sound = λ void. void };
   log = λ program. record { taken = refl; asked = refl; sound = λ void. void None refl };
   log_of_file = λ program. record { taken = refl; asked = refl; sound = λ void. void None refl };
   log_json = λ program. record { taken = refl; asked = refl; sound = λ void. void };
@@ -57,6 +59,7 @@ calls_are_refused = record {
   compare_most = λ program. refl;
   reload_none = λ program. refl;
   logs = λ program. refl;
+  init_nowhere = λ program. refl;
   stop_nobody = λ program. refl;
   points = λ program. refl;
   ask_both = λ program. (refl, refl);

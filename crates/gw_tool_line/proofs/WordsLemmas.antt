@@ -43,6 +43,7 @@ refusal_answers words k (Ok (choice.Report file log)) among is = absurd is
 refusal_answers words k (Ok (choice.Points file)) among is = absurd is
 refusal_answers words k (Ok (choice.Rules file)) among is = absurd is
 refusal_answers words k (Ok (choice.Stop file waits)) among is = absurd is
+refusal_answers words k (Ok (choice.Init site)) among is = absurd is
 refusal_answers words k (Ok (choice.Ask file from to deed)) among is = absurd is
 refusal_answers words k (Ok (choice.State config state)) among is = absurd is
 refusal_answers words k (Ok (choice.Reload config file was)) among is = absurd is
@@ -74,6 +75,7 @@ taken_answers words (Ok (choice.Report file log)) none is = (none, is)
 taken_answers words (Ok (choice.Points file)) none is = (none, is)
 taken_answers words (Ok (choice.Rules file)) none is = (none, is)
 taken_answers words (Ok (choice.Stop file waits)) none is = (none, is)
+taken_answers words (Ok (choice.Init site)) none is = (none, is)
 taken_answers words (Ok (choice.Ask file from to deed)) none is = (none, is)
 taken_answers words (Ok (choice.State config state)) none is = (none, is)
 taken_answers words (Ok (choice.Reload config file was)) none is = (none, is)
@@ -119,6 +121,8 @@ chooses words request (Ok (choice.Rules file)) asks is =
     chosen words request (Ok (choice.Rules file)) asks.asked is.1
 chooses words request (Ok (choice.Stop file waits)) asks is =
     chosen words request (Ok (choice.Stop file waits)) asks.asked is.1
+chooses words request (Ok (choice.Init site)) asks is =
+    chosen words request (Ok (choice.Init site)) asks.asked is.1
 chooses words request (Ok (choice.Ask file from to deed)) asks is =
     chosen words request (Ok (choice.Ask file from to deed)) asks.asked is.1
 chooses words request (Ok (choice.State config state)) asks is =

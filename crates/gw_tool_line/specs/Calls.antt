@@ -4,7 +4,7 @@ use Rattle.clap.specs.Words.{Text, fault_of}
 use Rattle.clap.specs.declared.error.kind.ErrorKind.TheVariants as parse
 use Rattle.gw_tool_line.specs.CommandLine.{AskFor}
 use Rattle.gw_tool_line.specs.Commands.{commands}
-use Rattle.gw_tool_line.specs.Requests.{Asks, Reads, Writes}
+use Rattle.gw_tool_line.specs.Requests.{Asks, Begins, Reads, Writes}
 use Rattle.gw_tool_line.specs.Requests.{Checks, ChecksJson, Compares, ComparesJson, Explains, Judges, ListsLog, ListsPoints, ListsRules, Migrates}
 use Rattle.gw_tool_line.specs.Requests.{Reloads, Reports, Request, Shows, Stops, Suggests, TranslatesLog, asked_in}
 use Rattle.gw_command_line.specs.options.Options.{most_count}
@@ -72,6 +72,14 @@ pub record CallsAreTaken : Type 0 where
       (codes "ask" ∷ on_site (codes "--from" ∷ codes "10.1.0.10" ∷ codes "--to" ∷ codes "300:20" ∷ codes "--write" ∷ codes "2,1"
       ∷ codes "--priority" ∷ codes "8" ∷ []))
       (Asks site (codes "10.1.0.10") (codes "300:20") (Writes (codes "2,1") (Some (codes "8"))))
+  pub init : Calls (codes "init" ∷ codes "--port" ∷ codes "10.1.0.2/24" ∷ codes "--port" ∷ codes "10.2.0.2/24" ∷ [])
+      (Begins (codes "10.1.0.2/24" ∷ codes "10.2.0.2/24" ∷ []) [] [] [] [])
+  pub init_whole : Calls
+      (codes "init" ∷ codes "--port" ∷ codes "10.1.0.2/24" ∷ codes "--operator" ∷ codes "10.1.0.10" ∷ codes "--router" ∷ codes "300=10.2.0.254"
+      ∷ codes "--peer" ∷ codes "2=203.0.113.2/24" ∷ codes "--port" ∷ codes "10.2.0.2/24" ∷ codes "--bbmd" ∷ codes "1=10.1.0.3"
+      ∷ codes "--operator" ∷ codes "10.1.0.11" ∷ [])
+      (Begins (codes "10.1.0.2/24" ∷ codes "10.2.0.2/24" ∷ []) (codes "2=203.0.113.2/24" ∷ []) (codes "300=10.2.0.254" ∷ [])
+      (codes "10.1.0.10" ∷ codes "10.1.0.11" ∷ []) (codes "1=10.1.0.3" ∷ []))
   pub log : Calls (codes "log" ∷ []) (TranslatesLog None None)
   pub log_of_file : Calls (codes "log" ∷ codes "denials.log" ∷ []) (TranslatesLog (Some (codes "denials.log")) None)
   pub log_json : Calls (codes "log" ∷ codes "--json" ∷ []) (ListsLog None)
@@ -111,6 +119,7 @@ pub record CallsAreRefused : Type 0 where
       (codes "--priority needs --write\n")
   pub ask_nobody : (program : Text)
       → fault_of commands (program ∷ codes "ask" ∷ on_site (codes "--to" ∷ codes "b" ∷ codes "--read" ∷ codes "5,1" ∷ [])) ≡ parse.MissingRequiredArgument ∷ []
+  pub init_nowhere : (program : Text) → fault_of commands (program ∷ codes "init" ∷ []) ≡ parse.MissingRequiredArgument ∷ []
   pub stop_nobody : (program : Text) → fault_of commands (program ∷ codes "stop" ∷ []) ≡ parse.MissingRequiredArgument ∷ []
   pub points : (program : Text)
       → fault_of commands (program ∷ codes "objects" ∷ on_site []) ≡ parse.MissingRequiredArgument ∷ []

@@ -1,13 +1,14 @@
 -- Which words the program takes, and what it makes of them. `fault_of` of the crate `clap` lists the kinds of fault
 -- that a parser finds at some words, and is empty if it takes them.
-use Rattle.std.specs.Prelude.{◌≡◌, ◌⊎◌, ⊤, ℕ, List, [], Option, Some, None, Result, Ok, Err, codes, option_map, string_bytes}
-use Rattle.clap.specs.Words.{IsAmong, Text, fault_of}
+use Rattle.std.specs.Prelude.{◌≡◌, ◌⊎◌, ⊤, ℕ, List, [], Option, Some, None, Result, Ok, Err, codes, map, option_map, string_bytes}
+use Rattle.clap.specs.Words.{IsAmong, Text, fault_of, matched_of, raw_values}
+use Rattle.clap.specs.declared.parser.matches.Found.{Found}
 use Rattle.clap.specs.declared.error.kind.ErrorKind.{ErrorKind}
 use Rattle.clap.specs.declared.error.kind.ErrorKind.TheVariants as parse
 use Rattle.gw_log_words.specs.Moment.{IsTextOf}
 use Rattle.gw_log_words.specs.declared.moment.Moment.{Moment}
 use Rattle.gw_tool_line.specs.Commands.{commands}
-use Rattle.gw_tool_line.specs.Requests.{Asks, Deed, Reads, Writes}
+use Rattle.gw_tool_line.specs.Requests.{AllValues, Asks, Begins, Deed, Reads, Writes, listed}
 use Rattle.gw_command_line.specs.options.Values.{Values}
 use Rattle.gw_tool_line.specs.declared.ask_choice.DeedWords.{DeedWords}
 use Rattle.gw_tool_line.specs.declared.ask_choice.Given.{Given}
@@ -34,6 +35,10 @@ IsNoStart given f = (f ≡ fault.CommandLine) × ((start : Option Moment) → ¬
 -- what is compared before a reload: the file of the old configuration, and the most lines
 abbrev pub was_of : Shown → Text × ℕ
 was_of shown = (string_bytes shown.old, shown.most)
+
+-- the values of each option, of all its uses
+abbrev pub values_of : Found → AllValues
+values_of found id = listed (option_map raw_values (matched_of found id))
 
 -- what of a deed is given by the values of the options
 pub record IsGiven (value : Values) (given : Given) : Type 0 where
@@ -67,6 +72,9 @@ IsFor request (choice.Rules file) = request ≡ ListsRules (string_bytes file)
 IsFor request (choice.Stop file waits) = request ≡ Stops (string_bytes file) waits
 IsFor request (choice.Ask file from to deed) =
     request ≡ Asks (string_bytes file) (string_bytes from) (string_bytes to) (deed_of deed)
+IsFor request (choice.Init words) =
+    request ≡ Begins (map string_bytes words.ports.items) (map string_bytes words.peers.items) (map string_bytes words.routers.items)
+    (map string_bytes words.operators.items) (map string_bytes words.managers.items)
 IsFor request (choice.Help text) = ⊥
 IsFor request (choice.Usage text) = ⊥
 

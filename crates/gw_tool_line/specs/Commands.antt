@@ -3,6 +3,7 @@ use Rattle.std.specs.Prelude.{true, codes}
 use Rattle.clap.specs.Words.{App, new_app, with_rule, with_subcommand}
 use Rattle.clap.specs.Simple.{on_top}
 use Rattle.gw_tool_line.specs.AskCommand.{ask}
+use Rattle.gw_tool_line.specs.InitCommand.{init}
 use Rattle.gw_command_line.specs.options.Options.{flag, most_count, needed, needed_flag, number, of_file, option, positional}
 
 -- `check --config FILE [--json]`
@@ -113,6 +114,8 @@ unfoldable pub commands : App
 commands =
     with_subcommand
     (with_subcommand
+    (with_subcommand
     (with_subcommand later_commands ask.top)
     rules.top)
-    stop.top
+    stop.top)
+    init.top

@@ -2,7 +2,7 @@
 use Rattle.std.specs.Prelude.{ℕ, Bool, true, false, List, [], ◌++◌, nat_eq, if◌then◌else◌, Option, Some, None, Result, Ok, Err, codes}
 use Rattle.std.specs.Cmp.Lexicographic.{pointwise}
 use Rattle.std.specs.Option.{option_map}
-use Rattle.clap.specs.Words.{Row, Text, first_of, subcommand_of}
+use Rattle.clap.specs.Words.{Row, Text, all_of, first_of, subcommand_of}
 use Rattle.gw_tool_line.specs.Commands.{commands}
 use Rattle.gw_command_line.specs.declared.options.files.FileOption.TheVariants as option
 use Rattle.gw_command_line.specs.options.Files.{FileUse, clash_of, reads, requests, unless}
@@ -32,6 +32,7 @@ pub data Request : Type 0 where
   ListsRules : (file : Text) → Request
   Stops : (request : Text) (waits : Bool) → Request
   Asks : (file from to : Text) (deed : Deed) → Request
+  Begins : (ports peers routers operators managers : List Text) → Request
 
 -- Below, what a command asks for, or why it asks for nothing, as a line. It is empty where the parser takes no such words.
 
@@ -131,6 +132,15 @@ ask_between file value _ _ = Err []
 abbrev pub ask_asked : Text → Values → Result Request Text
 ask_asked file value = ask_between file value (value (codes "from")) (value (codes "to"))
 
+-- the values of each option by its name, of all its uses
+abbrev pub AllValues : Type 0
+AllValues = Text → List Text
+
+-- `init`: the words that say what a site has
+abbrev pub init_asked : AllValues → Result Request Text
+init_asked values =
+    Ok (Begins (values (codes "port")) (values (codes "peer")) (values (codes "router")) (values (codes "operator")) (values (codes "bbmd")))
+
 -- a command's name is this one
 abbrev pub is_named : Text → Text → Bool
 is_named name other = pointwise nat_eq name other
@@ -159,15 +169,21 @@ asked_of_config name value (Some file) = asked_of_file name value file
 asked_of_config name value None = Err []
 
 -- what a call of the command of this name asks for, whose options have these values
-abbrev pub asked : Text → Values → Result Request Text
-asked name value =
-    if is_named name (codes "log") then log_asked value
+abbrev pub asked : Text → Values → AllValues → Result Request Text
+asked name value values =
+    if is_named name (codes "init") then init_asked values
+    else if is_named name (codes "log") then log_asked value
     else if is_named name (codes "stop") then stop_asked value
     else asked_of_config name value (value (codes "config"))
 
+-- texts, if there are any
+abbrev pub listed : Option (List Text) → List Text
+listed None = []
+listed (Some texts) = texts
+
 -- what a call asks for: its command, and the rows of its options
 abbrev pub asked_by : Option (Text × List Row) → Result Request Text
-asked_by (Some call) = asked call.0 (λ id. first_of id call.1)
+asked_by (Some call) = asked call.0 (λ id. first_of id call.1) (λ id. listed (all_of id call.1))
 asked_by None = Err []
 
 -- what the words ask for

@@ -2,13 +2,14 @@
 
 ghost use Rattle.std.specs.Prelude.{◌≡◌, Err, Ok, Some, codes, map, option_map, string_bytes, IfOk};
 ghost use Rattle.clap.specs.Words.{first_value, found_of, kind_of, subcommand_rows_of};
-ghost use Rattle.gw_tool_line.specs.CommandLine.{AskFor, Chooses, IsAnswer, IsChosen, IsRefusal, was_of};
+ghost use Rattle.gw_tool_line.specs.CommandLine.{AskFor, Chooses, IsAnswer, IsChosen, IsRefusal, values_of, was_of};
 ghost use Rattle.gw_tool_line.specs.Requests.{Reports, Request, TranslatesLog, asked, asked_by, asked_of_file};
 ghost use Rattle.gw_tool_line.specs.Requests.{check_asked, compare_asked, comparison_in, files_of, list_asked, log_asked, reload_asked};
 ghost use Rattle.gw_tool_line.specs.Requests.{request_asked, state_asked, stop_asked, why_asked};
 
 use crate::ask_choice::{DeedWords, ask_choice};
 use crate::commands::make_commands;
+use crate::init_choice::{SiteWords, init_choice};
 use crate::moments::start_of;
 use crate::options::Shown;
 use clap::error::ErrorKind;
@@ -114,6 +115,8 @@ pub enum Choice {
         to: String,
         deed: DeedWords,
     },
+    /// Write a configuration to begin with, of what these words say.
+    Init(SiteWords),
     /// Print this text, which is help or the version.
     Help(String),
     /// Report that the words are no command line, and after it this text, which says how the program is
@@ -447,8 +450,11 @@ fn choice_of_file(
 
 /// What the command of this name asks for, by what its words match.
 fn choice_for(alloc: Global, name: &str, matches: &ArgMatches<'_>) -> Result<Choice, WordsFault>
-    ensures { IsChosen (asked name.now (first_value (found_of matches.now))) result }
+    ensures { IsChosen (asked name.now (first_value (found_of matches.now)) (values_of (found_of matches.now))) result }
 {
+    if name == "init" {
+        return init_choice(alloc, matches);
+    }
     if name == "log" {
         return log_choice(alloc, matches);
     }

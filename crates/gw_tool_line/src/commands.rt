@@ -8,6 +8,7 @@ ghost use Rattle.gw_tool_line.specs.Commands.{middle_commands, migrate, objects,
 ghost use Rattle.gw_tool_line.specs.Commands.{rules, stop, suggest, why, why_of_form};
 
 use crate::ask_command::make_ask;
+use crate::init_command::make_init;
 use clap::Command;
 use gw_command_line::options::{
     FILE, MAX_COUNT, NUMBER, VERSION, make_flag, make_needed, make_needed_flag, make_number,
@@ -320,8 +321,10 @@ pub fn make_commands<'a>(alloc: Global) -> Result<Command<'a>, AllocError>
     let ask = make_ask(alloc)?;
     let rules = make_rules(alloc)?;
     let stop = make_stop(alloc)?;
+    let init = make_init(alloc)?;
     make_later_commands(alloc)?
         .subcommand(ask)?
         .subcommand(rules)?
-        .subcommand(stop)
+        .subcommand(stop)?
+        .subcommand(init)
 }

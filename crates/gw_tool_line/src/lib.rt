@@ -8,10 +8,13 @@ mod ask_choice;
 mod ask_command;
 mod command_line;
 mod commands;
+mod init_choice;
+mod init_command;
 pub mod laws;
 mod moments;
 mod options;
 
 pub use ask_choice::DeedWords;
 pub use command_line::{Choice, choice_of};
+pub use init_choice::SiteWords;
 pub use options::Shown;

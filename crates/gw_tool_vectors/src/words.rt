@@ -3,7 +3,7 @@
 use gw_ending::MigrationFlaw;
 use gw_log_words::Moment;
 use gw_program_cases::{call, put, put_faults, put_file, put_flag};
-use gw_tools::{Choice, DeedWords, Fault, Obstacle, Shown, WordsFault, choice_of};
+use gw_tools::{Choice, DeedWords, Fault, Obstacle, Shown, SiteWords, WordsFault, choice_of};
 use gw_wire::StoreFault;
 use itoa::Buffer;
 use std::alloc::{AllocError, Global};
@@ -107,6 +107,7 @@ fn put_choice(
             put(out, &["stop ", request.as_str()])?;
             put_flag(out, " wait", *waits)
         }
+        Ok(Choice::Init(site)) => put_site(site, out),
         Ok(Choice::Help(_)) => put(out, &["help"]),
         Ok(Choice::Usage(_)) | Err(WordsFault::CommandLine) => put(out, &["refused"]),
         Err(WordsFault::Memory) => put(out, &["out of memory"]),
@@ -138,6 +139,23 @@ fn put_shown(was: &Option<Shown>, out: &mut Vec<u8>) -> Result<(), AllocError> {
         }
         None => Ok(()),
     }
+}
+
+/// What a site has.
+fn put_site(site: &SiteWords, out: &mut Vec<u8>) -> Result<(), AllocError> {
+    put(out, &["init"])?;
+    put_each(" port=", &site.ports, out)?;
+    put_each(" peer=", &site.peers, out)?;
+    put_each(" router=", &site.routers, out)?;
+    put_each(" operator=", &site.operators, out)?;
+    put_each(" bbmd=", &site.managers, out)
+}
+
+fn put_each(name: &str, words: &[String], out: &mut Vec<u8>) -> Result<(), AllocError> {
+    for word in words {
+        put(out, &[name, word.as_str()])?;
+    }
+    Ok(())
 }
 
 /// What a station is asked to do.

@@ -1,4 +1,5 @@
 mod AssertingLemmas
+mod BeginningLemmas
 mod ChoiceLemmas
 mod ComparingLemmas
 mod CountLemmas

@@ -1,5 +1,6 @@
 pub mod Asking
 pub mod Asserting
+pub mod Beginning
 pub mod Checked
 pub mod Comparing
 pub mod Ending

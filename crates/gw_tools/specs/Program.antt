@@ -30,6 +30,7 @@ use Rattle.gw_tools.specs.declared.comparing.Lines.{Lines}
 use Rattle.gw_ending.specs.declared.fault.Fault.{Fault}
 use Rattle.gw_ending.specs.declared.fault.Fault.TheVariants as fault
 use Rattle.gw_tools.specs.Asking.{Answers, Counts, ReportsUnread, asks_in}
+use Rattle.gw_tools.specs.Beginning.{LeavesBegun, text_of}
 use Rattle.gw_tools.specs.Comparing.{AreProgress, IsCompared}
 use Rattle.gw_ask_sets.specs.assertions.Judging.{AreJudged}
 use Rattle.gw_ask_sets.specs.declared.assertions.judging.Judged.{Judged}
@@ -432,6 +433,8 @@ LeavesOutput Reads ReadsState ReadsLog Answers input held holds said (Ok (choice
     LeavesReportIn Reads ReadsLog (string_bytes file) (option_map string_bytes log) held holds outcome
 LeavesOutput Reads ReadsState ReadsLog Answers input held holds said (Ok (choice.Ask file from to deed)) outcome =
     LeavesQuestionIn Reads (string_bytes file) (asked_text (string_bytes from) (string_bytes to) deed) held holds outcome
+LeavesOutput Reads ReadsState ReadsLog Answers input held holds said (Ok (choice.Init words)) outcome =
+    LeavesBegun (text_of words) held holds said outcome
 LeavesOutput Reads ReadsState ReadsLog Answers input held holds said (Ok (choice.Help text)) (Ok done) =
     Appends held holds (string_bytes text)
 LeavesOutput Reads ReadsState ReadsLog Answers input held holds said (Ok (choice.Help text)) (Err f) =
@@ -440,13 +443,14 @@ LeavesOutput Reads ReadsState ReadsLog Answers input held holds said (Ok (choice
     (outcome ≡ Err fault.CommandLine) × (holds ≡ held)
 LeavesOutput Reads ReadsState ReadsLog Answers input held holds said (Err f) outcome = (outcome ≡ Err f) × (holds ≡ held)
 
--- Only `why`, `suggest`, `compare` and `reload` report something before a fault's line.
+-- Only `why`, `suggest`, `compare`, `reload` and `init` report something before a fault's line.
 abbrev pub IsQuiet : Result Choice Fault → List ℕ → Type 0
 IsQuiet (Ok (choice.Why file counts strict)) said = ⊤
 IsQuiet (Ok (choice.Judge file strict)) said = ⊤
 IsQuiet (Ok (choice.Suggest file fills exact)) said = ⊤
 IsQuiet (Ok (choice.Compare old new most steps)) said = ⊤
 IsQuiet (Ok (choice.Reload config request was)) said = ⊤
+IsQuiet (Ok (choice.Init words)) said = ⊤
 IsQuiet _ said = said ≡ []
 
 -- What was done by a choice. `Leaves` is what is on standard output, with what was reported at the start, and `Adds`

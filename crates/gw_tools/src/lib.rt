@@ -7,6 +7,7 @@
 
 mod asking;
 mod asserting;
+mod beginning;
 mod checked;
 mod comparing;
 mod ending;
@@ -28,6 +29,6 @@ pub use gw_command_line::options::WordsFault;
 pub use gw_ending::reading::{ConfigFiles, SystemFiles};
 pub use gw_ending::{Fault, end};
 pub use gw_system::{Obstacle, SystemHost};
-pub use gw_tool_line::{Choice, DeedWords, Shown, choice_of};
+pub use gw_tool_line::{Choice, DeedWords, Shown, SiteWords, choice_of};
 pub use machine::{HostMachine, Machine};
 pub use program::run;

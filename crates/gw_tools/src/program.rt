@@ -14,6 +14,7 @@ ghost use Rattle.gw_tools.specs.Program.{LeavesListed, LeavesOfText, LeavesOutpu
 ghost use Rattle.gw_tools.specs.Reloading.{answers_by};
 
 use crate::asking::{Answering, answer_in};
+use crate::beginning::begin_site;
 use crate::checked::{Checking, checked_text};
 use crate::comparing::{Both, Limits, Seconds, compare};
 use crate::ending::{end_by, report_place_by, usage_of};
@@ -387,6 +388,7 @@ fn follow<F: ConfigFiles, M: Machine, R: OctetSource, W: Write + Drop, E: OctetS
             };
             answer_question_in(alloc, files, &asked, output)
         }
+        Ok(Choice::Init(site)) => begin_site(alloc, site, output, errors),
         Ok(Choice::Help(text)) => print(text.as_bytes(), output),
         Ok(Choice::Usage(_)) => Err(Fault::CommandLine),
         Err(fault) => Err(*fault),

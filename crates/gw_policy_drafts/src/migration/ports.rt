@@ -23,14 +23,14 @@ pub(crate) fn put_ports(out: &mut Vec<u8>, ports: &[Port]) -> Result<(), AllocEr
 fn put_port(out: &mut Vec<u8>, port: &Port) -> Result<(), AllocError>
     ensures { OnOk result (out.new.items ≡ out.old.items ++ port_table port.now) }
 {
-    put_head(out, port)?;
+    put_port_head(out, port)?;
     put_stations_note(out, port)?;
     put_peers(out, port.peers.as_slice())
 }
 
 /// Appends the head of the table of a port.
 #[tactic(auto, unfolding(crate::specs::migration::Ports::port_head))]
-fn put_head(out: &mut Vec<u8>, port: &Port) -> Result<(), AllocError>
+pub(crate) fn put_port_head(out: &mut Vec<u8>, port: &Port) -> Result<(), AllocError>
     ensures { OnOk result (out.new.items ≡ out.old.items ++ port_head port.now) }
 {
     out.extend_from_slice(b"\n[[port]]\n")?;
@@ -40,7 +40,7 @@ fn put_head(out: &mut Vec<u8>, port: &Port) -> Result<(), AllocError>
 }
 
 /// Appends the tables of the peers of a port.
-fn put_peers(out: &mut Vec<u8>, peers: &[BdtEntry]) -> Result<(), AllocError>
+pub(crate) fn put_peers(out: &mut Vec<u8>, peers: &[BdtEntry]) -> Result<(), AllocError>
     ensures { OnOk result (out.new.items ≡ out.old.items ++ flat_map peer_table peers.now) }
 {
     for peer in peers {

@@ -209,3 +209,10 @@ returns-in-Ok-Ask-clause-followed g c =
     (asked_text (string_bytes c.in-Ok-Ask.from) name deed) held holds c.answer_question_in.result) to.ensures second in
     followed _ _ c.args.choice.now (Ok chosen) c.answer_question_in.result is refl third
     (λ never. appends_nothing (g.E.OctetSink.held c.args.errors.now))
+
+pub returns-in-Ok-Init-clause-followed : goal.returns-in-Ok-Init-clause-followed
+returns-in-Ok-Init-clause-followed g c =
+    let chosen = choice.Init c.in-Ok-Init.site in
+    let is : c.args.choice.now ≡ Ok chosen = search rules in
+    let done = c.begin_site.ensures.begun in
+    reported _ _ c.args.choice.now (Ok chosen) c.begin_site.result done.0 is tt done.1 done.2

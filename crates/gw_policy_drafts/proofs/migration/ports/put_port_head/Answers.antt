@@ -1,6 +1,6 @@
 use Rattle.gw_policy_drafts.specs.migration.Ports.{port_head}
 use Rattle.gw_policy_drafts.proofs.Putting.{four_tried}
-use Rattle.gw_policy_drafts.proofs.migration.ports.put_head.Goals as goal
+use Rattle.gw_policy_drafts.proofs.migration.ports.put_port_head.Goals as goal
 
 pub returns : goal.returns
 unfolding port_head

@@ -1,0 +1,5 @@
+pub mod Part
+pub mod Site
+pub mod Flaws
+pub mod Ports
+pub mod Begun

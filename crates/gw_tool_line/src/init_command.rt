@@ -1,0 +1,67 @@
+//! The command `init` and its options, made for `clap`.
+
+ghost use Rattle.std.specs.Prelude.{◌≡◌, false, codes, IfOk};
+ghost use Rattle.clap.specs.Words.{app_of, rule_of};
+ghost use Rattle.clap.specs.declared.builder.command.Command.TheViews.{out-Command};
+ghost use Rattle.gw_tool_line.specs.InitCommand.{init, init_of_ports, init_of_stations, many, many_needed};
+
+use clap::{Arg, ArgAction, Command};
+use gw_command_line::options::make_option;
+use std::alloc::{AllocError, Global};
+
+/// What is below its help.
+const EXAMPLE: &str = "Example:
+  bacgwctl init --port 10.1.0.2/24 --port 10.2.0.2/24 --operator 10.1.0.10 > site.toml";
+
+/// An option of this name that may be given many times, each time with a value that help calls so.
+fn make_many<'a>(alloc: Global, name: &'a str, value_name: &'a str, help: &'a str) -> Arg<'a>
+    ensures rule { rule_of result ≡ many name.now }
+    ensures local { result.global ≡ false }
+{
+    make_option(alloc, name, value_name, help).action(ArgAction::Append)
+}
+
+/// One that has to be given.
+fn make_many_needed<'a>(alloc: Global, name: &'a str, value_name: &'a str, help: &'a str) -> Arg<'a>
+    ensures rule { rule_of result ≡ many_needed name.now }
+    ensures local { result.global ≡ false }
+{
+    make_many(alloc, name, value_name, help).required(true)
+}
+
+fn make_init_of_ports<'a>(alloc: Global) -> Result<Command<'a>, AllocError>
+    ensures app { IfOk result (λ command. app_of command ≡ init_of_ports) }
+    ensures local { IfOk result (λ command. (out-Command command).has_globals ≡ false) }
+{
+    let help =
+        "A port: its address and its subnet; given for each, the first is port 1 on network 1";
+    let port = make_many_needed(alloc, "port", "ADDRESS/PREFIX", help);
+    let help = "Another broadcast manager, with its subnet, that shares broadcasts with a port";
+    let peer = make_many(alloc, "peer", "PORT=ADDRESS/PREFIX", help);
+    Command::new(alloc, "init")
+        .about("Writes a configuration to begin with")
+        .after_help(EXAMPLE)
+        .arg(port)?
+        .arg(peer)
+}
+
+fn make_init_of_stations<'a>(alloc: Global) -> Result<Command<'a>, AllocError>
+    ensures app { IfOk result (λ command. app_of command ≡ init_of_stations) }
+    ensures local { IfOk result (λ command. (out-Command command).has_globals ≡ false) }
+{
+    let help = "A network behind another router, and the router's address";
+    let router = make_many(alloc, "router", "NETWORK=ADDRESS", help);
+    let help = "A station that may write; without one nobody may";
+    let operator = make_many(alloc, "operator", "ADDRESS", help);
+    make_init_of_ports(alloc)?.arg(router)?.arg(operator)
+}
+
+/// The command.
+pub fn make_init<'a>(alloc: Global) -> Result<Command<'a>, AllocError>
+    ensures app { IfOk result (λ command. app_of command ≡ init) }
+    ensures local { IfOk result (λ command. (out-Command command).has_globals ≡ false) }
+{
+    let help = "The broadcast manager that the subnet of a port has already";
+    let manager = make_many(alloc, "bbmd", "PORT=ADDRESS", help);
+    make_init_of_stations(alloc)?.arg(manager)
+}
