@@ -310,8 +310,13 @@ ran_unsynced manner count left o p q first now last edge Never Then held middle 
         tries = out.tries;
         goes = out.goes;
         is = refl;
-        most = omega (arith, most c before.0, out.fewer, length-append out.turns tick,
-            went_turns manner.Passes (now before.0).now (last after.0).now turns out.goes.went);
+        most = omega (
+          arith,
+          most c before.0,
+          out.fewer,
+          length-append out.turns tick,
+          went_turns manner.Passes (now before.0).now (last after.0).now turns out.goes.went,
+        );
       },
       λ never. subst (λ (t : List ℕ). Appends held holds t)
           (ap (λ (t : List ℕ). chain_text before.1 ++ t) out.silent ∙ text_more before.1 link)

@@ -314,8 +314,14 @@ run_serves held how count c before after s t (Ok end.Unsynced) failing links run
       gateway = t.now.scene.gateway;
       served = counts_of all;
       count = length all;
-      most = omega (arith, runs.most, counted, turns_counted s.now.served led.turns, length-append led.turns turns,
-          went_turns (IsPassed held) runs.then.now t.now turns runs.goes.went);
+      most = omega (
+        arith,
+        runs.most,
+        counted,
+        turns_counted s.now.served led.turns,
+        length-append led.turns turns,
+        went_turns (IsPassed held) runs.then.now t.now turns runs.goes.went,
+      );
       serves = record { turns = all; all = refl; went = subst (λ (x : Scene). LeadTo first all x) same went; counts = refl };
       earlier = led.turns ++ runs.turns;
       tries = runs.tries;
