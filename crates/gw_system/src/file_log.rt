@@ -1,6 +1,6 @@
 //! The file of a log.
 
-ghost use Rattle.std.specs.Prelude.{None, ⊤};
+ghost use Rattle.std.specs.Prelude.{None, ⊤, ◌≤◌, length, IfOk};
 
 use crate::host::{MODE, is_link};
 use crate::opening::LogFailure;
@@ -50,12 +50,37 @@ impl<R: Files> OctetSink for LogFile<R> {
     ghost NeverFails = { λ _. ⊥ };
 
     fn write_octets(&mut self, text: &[u8]) -> Result<usize, WriteFailed> {
-        match self.file.write(text) {
+        match self.write_again(text) {
             Ok(0) if !text.is_empty() => Err(WriteFailed),
             Ok(count) => Ok(count),
             Err(_) => Err(WriteFailed),
         }
     }
+}
+
+impl<R: Files> LogFile<R> {
+    /// Writes some octets of a text, again if a signal interrupts it.
+    fn write_again(&mut self, text: &[u8]) -> io::Result<usize>
+        ensures { IfOk result (λ n. n ≤ length text.now) }
+    {
+        for _ in 0..u64::MAX {
+            match self.file.write(text) {
+                Err(error) if is_interrupted(&error) => {}
+                outcome => return outcome,
+            }
+        }
+        Err(ErrorKind::Interrupted.into())
+    }
+}
+
+/// Whether a signal interrupted a call.
+fn is_interrupted(error: &io::Error) -> bool {
+    matches!(error.kind(), ErrorKind::Interrupted)
+}
+
+/// Whether what was to be synced is nothing that can be, as a pipe or a terminal.
+fn is_unsyncable(error: &io::Error) -> bool {
+    matches!(error.kind(), ErrorKind::InvalidInput)
 }
 
 impl<R: Files> Lasting for LogFile<R> {
@@ -66,6 +91,7 @@ impl<R: Files> Lasting for LogFile<R> {
     fn sync(&mut self) -> Result<(), WriteFailed> {
         match self.file.sync_data() {
             Ok(()) => Ok(()),
+            Err(error) if is_unsyncable(&error) => Ok(()),
             Err(_) => Err(WriteFailed),
         }
     }

@@ -242,7 +242,7 @@ impl<'a, R: Net + Clock> SystemHost<'a, R> {
         &self,
         alloc: Global,
         mut pairs: Vec<SockPair<Watch<UdpSock>>>,
-    ) -> io::Result<TimedPorts<UdpSock, SystemClock<'a, R>, PollWaiter>>
+    ) -> io::Result<TimedPorts<UdpSock, SystemClock<'a, R>, PollWaiter<'a, R>>>
         requires { length pairs.items ≤ MAX_PORTS }
         ensures ports { IfOk result
             (λ timed. length timed.ports.pairs ≡ length pairs.items) }
@@ -256,7 +256,7 @@ impl<'a, R: Net + Clock> SystemHost<'a, R> {
 impl<'a, R: Files + Net + Clock> Host for SystemHost<'a, R> {
     type Log = FileLog<'a, R>;
 
-    type Sockets = TimedPorts<UdpSock, SystemClock<'a, R>, PollWaiter>;
+    type Sockets = TimedPorts<UdpSock, SystemClock<'a, R>, PollWaiter<'a, R>>;
 
     type StateStore = FileStore<SystemDisk<'a, R>>;
 
@@ -311,7 +311,7 @@ impl<'a, R: Files + Net + Clock> Host for SystemHost<'a, R> {
         &self,
         alloc: Global,
         ports: &[Port],
-    ) -> Result<TimedPorts<UdpSock, SystemClock<'a, R>, PollWaiter>, SocketFailure> {
+    ) -> Result<TimedPorts<UdpSock, SystemClock<'a, R>, PollWaiter<'a, R>>, SocketFailure> {
         let pairs = open_pairs(alloc, self.rt, ports)?;
         match self.start(alloc, pairs) {
             Ok(timed) => Ok(timed),
@@ -382,7 +382,7 @@ impl<'a, R: Files + Net + Clock> Host for SystemHost<'a, R> {
 
     fn close(
         &mut self,
-        _sockets: TimedPorts<UdpSock, SystemClock<'a, R>, PollWaiter>,
+        _sockets: TimedPorts<UdpSock, SystemClock<'a, R>, PollWaiter<'a, R>>,
         _log: Option<FileLog<'a, R>>,
     )
         ensures { self.new ≡ self.old }

@@ -3,6 +3,7 @@
 ghost use Rattle.std.specs.Prelude.{◌≡◌, ◌≤◌, ◌<◌, false, length, ⊤};
 ghost use Rattle.gw_system.specs.Waiting.{has_event_of};
 
+use crate::system_clock::slowed;
 use crate::udp::UdpSock;
 use gw_addr::MAX_PORTS;
 use gw_wire::{SockPair, Waiter, Watch, socket_number};
@@ -10,32 +11,33 @@ use mio::{Events, Poll, Registry};
 use std::alloc::Global;
 use std::io;
 use std::net::Net;
-use std::time::Duration;
+use std::time::{Clock, Duration};
 
 /// How many sockets may be reported at once: two of each port.
 const MOST_SOCKETS: usize = 2 * MAX_PORTS;
 
-/// What waits for datagrams at the sockets of the system.
+/// What waits for datagrams at the sockets of the system. A wait that fails takes a tenth of a second more.
 #[derive(Drop)]
-pub struct PollWaiter {
+pub struct PollWaiter<'a, R> {
+    rt: &'a R,
     poll: Poll,
     events: Events,
 }
 
-impl PollWaiter {
+impl<'a, R: Net + Clock> PollWaiter<'a, R> {
     /// What waits at the sockets of these ports, from 1 to 8, each of which is named by its
     /// number. An `Err` where the system can't wait, or not at one of them, or memory was refused.
     pub fn open(
         alloc: Global,
-        net: &impl Net,
+        rt: &'a R,
         pairs: &mut [SockPair<Watch<UdpSock>>],
     ) -> io::Result<Self>
         requires { length pairs.old ≤ MAX_PORTS }
     {
-        let poll = Poll::new(net)?;
+        let poll = Poll::new(rt)?;
         let events = Events::with_capacity(alloc, MOST_SOCKETS)?;
         register_all(poll.registry(), pairs)?;
-        Ok(PollWaiter { poll, events })
+        Ok(PollWaiter { rt, poll, events })
     }
 }
 
@@ -72,13 +74,13 @@ fn names_socket(events: &Events, number: usize) -> bool
     events.iter().any(|event| event.token().0 == number)
 }
 
-impl Waiter for PollWaiter {
+impl<R: Clock> Waiter for PollWaiter<'_, R> {
     ghost Waited = { λ _ _. ⊤ };
 
     ghost Quiet = { λ waiter number. has_event_of number waiter.events ≡ false };
 
     fn wait(&mut self, most: Duration) -> io::Result<()> {
-        self.poll.poll(&mut self.events, Some(most))
+        slowed(self.rt, self.poll.poll(&mut self.events, Some(most)))
     }
 
     fn has_come(&self, number: usize) -> bool {

@@ -4,6 +4,7 @@ pub mod ServedLemmas
 pub mod StretchLemmas
 pub mod BothLemmas
 pub mod GuardLemmas
+pub mod LoggedLemmas
 pub mod AlikeLemmas
 pub mod KeepingLemmas
 pub mod PaceLemmas

@@ -271,7 +271,7 @@ kept_events turns =
 
 -- ---- what was sent
 
-abbrev sends_in : List Effects → List Sending
+abbrev pub sends_in : List Effects → List Sending
 sends_in run = flat_map (λ (x : Effects). x.sends) run
 
 sent_one : (w : State) (turn : Turn) → IsTurn w turn → tried (turn_calls turn) ≡ sends_in (run_from w (turn_events turn))
@@ -283,7 +283,7 @@ sent_one w (taken_event event tries) is =
     sent_in (taken_event event tries) ∙ is.1
     ∙ sym (flat_map-cons (λ (x : Effects). x.sends) (effects_at w event) [] ∙ append-nil (effects_at w event).sends)
 
-sent_run : (w : State) (turns : List Turn) → AreTurns w turns → tried (calls_of turns) ≡ sends_in (run_from w (events_of turns))
+pub sent_run : (w : State) (turns : List Turn) → AreTurns w turns → tried (calls_of turns) ≡ sends_in (run_from w (events_of turns))
 unfolding AreTurns run_from
 sent_run w [] are = refl
 sent_run w (turn ∷ turns) are =
@@ -324,7 +324,7 @@ turns_are_served count before served after p = record {
 -- ---- the last event of a stop
 
 -- the calls with one arrival more
-abbrev with_arrival : List Turn → Event → List Call
+abbrev pub with_arrival : List Turn → Event → List Call
 with_arrival turns event = calls_of turns ++ arrival event ∷ []
 
 handed_more : (turns : List Turn) (event : Event) → handed_in (with_arrival turns event) ≡ handed_in (calls_of turns) ++ event ∷ []
@@ -332,7 +332,7 @@ handed_more turns event =
     flat_map-append event_in (calls_of turns) (arrival event ∷ [])
     ∙ ap (λ (l : List Event). handed_in (calls_of turns) ++ l) (flat_map-cons event_in (arrival event) [])
 
-tried_no_more : (turns : List Turn) (event : Event) → tried (with_arrival turns event) ≡ tried (calls_of turns)
+pub tried_no_more : (turns : List Turn) (event : Event) → tried (with_arrival turns event) ≡ tried (calls_of turns)
 tried_no_more turns event =
     flat_map-append tried_by (calls_of turns) (arrival event ∷ [])
     ∙ ap (λ (l : List Sending). tried (calls_of turns) ++ l) (flat_map-cons tried_by (arrival event) [])

@@ -5,6 +5,7 @@ pub mod Pace
 pub mod Reports
 pub mod Served
 pub mod Stretch
+pub mod Logged
 pub mod Both
 pub mod Keeping
 pub mod Announcing

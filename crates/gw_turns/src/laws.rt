@@ -4,6 +4,7 @@ ghost use Rattle.std.specs.Prelude.{◌≡◌};
 ghost use Rattle.gw_turns.specs.Announcing.{NothingDueNothingDone, PortsAreAll, UnannouncedIsSilent};
 ghost use Rattle.gw_turns.specs.Both.{GoOnUnderSecond, IsUnderFirst};
 ghost use Rattle.gw_turns.specs.Keeping.{AlikeButTicksIsEqual, AlikeIsEqual, EqualIsAlike, EventsTryFew, FailingIsSpared, RestsAtTicks, RestsEnd, TicksBeginAnew, TicksKeepRecent};
+ghost use Rattle.gw_turns.specs.Logged.{ServingLogsFirst, StopsLogFirst, StretchesLogFirst};
 ghost use Rattle.gw_turns.specs.Pace.{PausesGrow};
 ghost use Rattle.gw_turns.specs.Served.{StopsAreServed, TurnsAreServed};
 
@@ -23,6 +24,14 @@ pub fn limits()
 pub fn served()
     ensures turns { TurnsAreServed }
     ensures stops { StopsAreServed }
+{}
+
+/// Nothing of an event is sent before the lines of its denials are in the log: wherever a stretch ends under a guard, and wherever
+/// `serve` ends, what was tried to be sent is that of events whose lines the log has.
+pub fn logged_first<G: Guard>()
+    ensures stretches { StretchesLogFirst G.Passes }
+    ensures serving { ServingLogsFirst }
+    ensures stops { StopsLogFirst }
 {}
 
 /// When a keeper doesn't write: of two saved states that it takes for alike the same lasts, and it takes all such for
