@@ -19,5 +19,7 @@ returns c =
     c.extend_from_slice.new.self.items c.put_text.new.out.items c.put_slice.new.out.items (codes "warning: port " ++ number)
     (codes ": peer " ++ item) (codes ": address: ") address last first second c.in_ok-extend_from_slice.ensures.items
     c.in_ok-put_text.ensures.ok c.put_slice.ensures.ok in
-    rw (append_assoc (codes "warning: port ") number ((codes ": peer " ++ item) ++ (codes ": address: " ++ (address ++ last))),
-        append_assoc (codes ": peer ") item (codes ": address: " ++ (address ++ last))) at whole
+    rw (
+      append_assoc (codes "warning: port ") number ((codes ": peer " ++ item) ++ (codes ": address: " ++ (address ++ last))),
+      append_assoc (codes ": peer ") item (codes ": address: " ++ (address ++ last)),
+    ) at whole
