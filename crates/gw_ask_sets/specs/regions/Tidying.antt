@@ -85,6 +85,11 @@ TidyHasTheSame = (xs : List Range) (number : ℕ) → list_any (holds number) (t
 abbrev pub TidyIsTidy : Type 0
 TidyIsTidy = (xs : List Range) → list_all is_ordered xs ≡ true → AreTidy (tidy xs)
 
+-- Two lists in order that hold the same numbers are one.
+abbrev pub TidyIsOne : Type 0
+TidyIsOne = (xs ys : List Range) → AreTidy xs → AreTidy ys
+    → ((number : ℕ) → list_any (holds number) xs ≡ list_any (holds number) ys) → xs ≡ ys
+
 -- A rule matches the same asks.
 abbrev pub TidiedMatchesTheSame : Type 0
 TidiedMatchesTheSame = (rule : Rule) (ask : Ask) → matches (tidied rule) ask ≡ matches rule ask

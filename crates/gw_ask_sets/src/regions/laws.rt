@@ -6,7 +6,7 @@ ghost use Rattle.gw_rules.specs.RuleList.{allows};
 ghost use Rattle.gw_rules.specs.declared.rule.Rule.{Rule};
 ghost use Rattle.gw_ask_sets.specs.regions.Comparing.{IsComparison, IsSummary, WasDecided, differs, is_found};
 ghost use Rattle.gw_ask_sets.specs.regions.Regions.{Region, lies_in_one};
-ghost use Rattle.gw_ask_sets.specs.regions.Tidying.{TidiedMatchesTheSame, TidyHasTheSame, TidyIsTidy};
+ghost use Rattle.gw_ask_sets.specs.regions.Tidying.{TidiedMatchesTheSame, TidyHasTheSame, TidyIsOne, TidyIsTidy};
 ghost use Rattle.gw_ask_sets.specs.regions.Values.{has, is_any};
 ghost use Rattle.gw_ask_sets.specs.declared.regions.comparison.Found.{Found};
 ghost use Rattle.gw_ask_sets.specs.declared.regions.values.Values.{Values};
@@ -68,11 +68,12 @@ pub fn summary()
         has values (Some number) ≡ true }
 {}
 
-/// Ranges that are put in order hold the same numbers; if each has numbers, none overlaps or touches another then. A
-/// rule whose ranges are put in order matches the same asks.
+/// Ranges that are put in order hold the same numbers; if each has numbers, none overlaps or touches another then, and
+/// no other list of this kind holds the same numbers. A rule whose ranges are put in order matches the same asks.
 pub fn tidying()
     ensures numbers { TidyHasTheSame }
     ensures order { TidyIsTidy }
+    ensures one { TidyIsOne }
     ensures matching { TidiedMatchesTheSame }
 {}
 
