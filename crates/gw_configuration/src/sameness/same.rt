@@ -1,5 +1,5 @@
 //! Whether two values are the same.
-ghost use Rattle.std.specs.Prelude.{◌≡◌, IsTrue};
+ghost use Rattle.std.specs.Prelude.{◌≡◌, ◌↔◌, IsTrue};
 
 use crate::{Assertion, Device, Object, ObjectValue, Port, Route, Subnet, Text, laws};
 use gw_addr::{BdtEntry, BipAddr};
@@ -9,12 +9,12 @@ use gw_rules::{FieldName, Fields, Format, Range, Ranges, Rule};
 pub trait Same {
     /// Whether it is the same as another.
     fn is_same(&self, other: &Self) -> bool
-        ensures { IsTrue result → self.now ≡ other.now };
+        ensures { IsTrue result ↔ (self.now ≡ other.now) };
 }
 
 /// Whether two lists have the same elements in the same order.
 pub fn are_same<T: Same>(some: &[T], others: &[T]) -> bool
-    ensures { IsTrue result → some.now ≡ others.now }
+    ensures { IsTrue result ↔ (some.now ≡ others.now) }
 {
     if some.len() != others.len() {
         return false;
@@ -74,7 +74,7 @@ impl Same for Subnet {
 
 /// Whether two subnets have the same keys: then they are one.
 fn have_same_keys(subnet: Subnet, other: Subnet) -> bool
-    ensures { IsTrue result → subnet ≡ other }
+    ensures { IsTrue result ↔ (subnet ≡ other) }
 {
     laws::fits(subnet);
     laws::fits(other);
@@ -96,7 +96,7 @@ impl Same for Port {
 
 /// Whether two ports have the same broadcast manager beside them, or neither has one.
 fn is_same_manager(manager: Option<BipAddr>, other: Option<BipAddr>) -> bool
-    ensures { IsTrue result → manager ≡ other }
+    ensures { IsTrue result ↔ (manager ≡ other) }
 {
     match (manager, other) {
         (Some(address), Some(other)) => address.is_same(other),
@@ -208,7 +208,7 @@ impl Same for Assertion {
 
 /// Whether two have the same ranges for each field.
 fn have_same_ranges(ranges: &Fields<Ranges>, other: &Fields<Ranges>) -> bool
-    ensures { IsTrue result → ranges.now ≡ other.now }
+    ensures { IsTrue result ↔ (ranges.now ≡ other.now) }
 {
     for field in FieldName::ALL.iter() {
         if !are_same(ranges.get(*field).as_slice(), other.get(*field).as_slice()) {

@@ -1,17 +1,19 @@
--- What isn't among the parts that differ is the same.
+-- The parts that differ are named, and no other.
 use Rattle.std.proofs.Common.{◌≡◌, ◌∙◌, ap, append_assoc, arith, refl, subst, sym, ℕ, ◌+◌, ◌<◌, Bool, true, false, List, [], ◌∷◌, ◌++◌, length, map, Some, slice_get, suc, zero}
 use Rattle.std.proofs.lemmas.List.{append-nil, length-append}
-use Rattle.std.specs.Prelude.{◌==◌, ◌||◌, IsTrue, if◌then◌else◌}
-use Rattle.std.proofs.lemmas.Bool.{both_ways, eqb-true}
-use Rattle.std.specs.List.{list_any}
+use Rattle.std.specs.Prelude.{◌-◌, ◌*◌, ◌&&◌, ◌==◌, ◌||◌, IsTrue, if◌then◌else◌}
+use Rattle.std.proofs.lemmas.Bool.{both_ways, eqb-true, le-leb}
+use Rattle.std.proofs.lemmas.Nat.{pow_pos}
+use Rattle.std.specs.List.{list_all, list_any}
 use Rattle.gw_ask_sets.specs.regions.Tidying.{tidy}
-use Rattle.gw_ask_sets.proofs.regions_lemmas.TidyLaw.{tidy_has_the_same}
-use Rattle.gw_configuration.specs.Subnet.{Subnet, keys_of}
+use Rattle.gw_ask_sets.proofs.regions_lemmas.OneTidyLaw.{tidy_is_one}
+use Rattle.gw_ask_sets.proofs.regions_lemmas.TidyLaw.{tidy_has_the_same, tidy_is_tidy}
+use Rattle.gw_configuration.specs.Subnet.{Subnet, keys_of, size_of}
 use Rattle.gw_configuration.specs.declared.port.Port.{Port}
-use Rattle.gw_rules.specs.Range.{holds}
+use Rattle.gw_rules.specs.Range.{holds, is_ordered}
 use Rattle.gw_rules.specs.declared.range.Range.{Range}
 use Rattle.gw_policy_review.specs.comparison.Comparison.{compared_by}
-use Rattle.gw_policy_review.specs.comparison.Laws.{AlikeIsLike, NoneDiffers}
+use Rattle.gw_policy_review.specs.comparison.Laws.{AlikeIsLike, LikeHasNone, NoneDiffers}
 use Rattle.gw_policy_review.specs.comparison.Parts.{AreDifferences, AreLikePorts, ArePortParts, HaveSameStations, IsPortSameness, frame_parts, has_key, parts_of_port, port_parts, rest_parts, unless}
 use Rattle.gw_policy_review.specs.declared.comparison.parts.Part.{Part}
 use Rattle.gw_policy_review.specs.declared.comparison.parts.Part.TheVariants as parts
@@ -36,6 +38,23 @@ same_stations stations others named e = record {
       ∙ ap (λ (ranges : List Range). list_any (holds key) ranges) e
       ∙ tidy_has_the_same (map keys_of others) key ∙ sym (keyed others key);
 }
+
+ordered : (s : Subnet) → is_ordered (keys_of s) ≡ true
+ordered s =
+    let some = pow_pos (32 - s.prefix) in
+    le-leb (s.network * 65536) ((s.network + size_of s.prefix) * 65536 - 1) (omega (arith, some))
+
+all_ordered : (stations : List Subnet) → list_all is_ordered (map keys_of stations) ≡ true
+all_ordered [] = refl
+all_ordered (s ∷ stations) = ap (λ b. b && list_all is_ordered (map keys_of stations)) (ordered s) ∙ all_ordered stations
+
+-- ports that have the same stations have the same keys in order
+pub same_keys : (stations others : List Subnet) → HaveSameStations stations others → tidy (map keys_of stations) ≡ tidy (map keys_of others)
+same_keys stations others same =
+    tidy_is_one (tidy (map keys_of stations)) (tidy (map keys_of others))
+    (tidy_is_tidy (map keys_of stations) (all_ordered stations)) (tidy_is_tidy (map keys_of others) (all_ordered others))
+    (λ key. tidy_has_the_same (map keys_of stations) key ∙ sym (keyed stations key) ∙ same.addresses key ∙ keyed others key
+    ∙ sym (tidy_has_the_same (map keys_of others) key))
 
 -- ---- no part
 
@@ -118,12 +137,12 @@ like_ports number a b same e is =
     let after_network = rest_none network (address ++ broadcast) links in
     let after_stations = rest_none stations (manager ++ peers) others in
     record {
-      network = is.network (is_same same.network _ (front_none network (address ++ broadcast) links));
-      address = is.address (is_same same.address _ (front_none address broadcast after_network));
-      broadcast = is.broadcast (is_same same.broadcast _ (rest_none address broadcast after_network));
-      stations = is.stations (is_same same.stations _ (front_none stations (manager ++ peers) others));
-      manager = is.manager (is_same same.manager _ (front_none manager peers after_stations));
-      peers = is.peers (is_same same.peers _ (rest_none manager peers after_stations));
+      network = is.network.0 (is_same same.network _ (front_none network (address ++ broadcast) links));
+      address = is.address.0 (is_same same.address _ (front_none address broadcast after_network));
+      broadcast = is.broadcast.0 (is_same same.broadcast _ (rest_none address broadcast after_network));
+      stations = is.stations.0 (is_same same.stations _ (front_none stations (manager ++ peers) others));
+      manager = is.manager.0 (is_same same.manager _ (front_none manager peers after_stations));
+      peers = is.peers.0 (is_same same.peers _ (rest_none manager peers after_stations));
     }
 
 -- the number of a port whose parts are none
@@ -170,19 +189,71 @@ none_differs old new are =
     let frame = frame_same are.same (front_none (frame_parts are.same) (port_parts 1 are.ports.sames) ports) in
     let rest = rest_same are.same (rest_none are.ahead (rest_parts are.same) both) in
     record {
-      format = are.is_so.format frame.format;
-      announce = are.is_so.announce frame.announce;
-      device = are.is_so.device frame.device;
-      count = are.is_so.count frame.count;
+      format = are.is_so.format.0 frame.format;
+      announce = are.is_so.announce.0 frame.announce;
+      device = are.is_so.device.0 frame.device;
+      count = are.is_so.count.0 frame.count;
       ports = each_like old.ports new.ports (frame_parts are.same) are.ahead are.ports
           (rest_none (frame_parts are.same) (port_parts 1 are.ports.sames) ports);
-      routes = are.is_so.routes rest.routes;
-      objects = are.is_so.objects rest.objects;
-      audits = are.is_so.audits rest.names rest.audits;
-      notes = are.is_so.notes rest.names rest.notes;
-      names = are.is_so.names rest.names;
-      quiets = are.is_so.quiets rest.quiets;
+      routes = are.is_so.routes.0 rest.routes;
+      objects = are.is_so.objects.0 rest.objects;
+      audits = (are.is_so.audits rest.names).0 rest.audits;
+      notes = (are.is_so.notes rest.names).0 rest.notes;
+      names = are.is_so.names.0 rest.names;
+      quiets = are.is_so.quiets.0 rest.quiets;
     }
+
+-- ---- a part that is named differs
+
+both_none : {A : Type 0} (xs ys : List A) → xs ≡ [] → ys ≡ [] → xs ++ ys ≡ []
+both_none [] ys e f = f
+both_none (x ∷ xs) ys e f = absurd cc
+
+not_named : (same : Bool) (part : Part) → IsTrue same → unless same part ≡ []
+not_named true part e = refl
+not_named false part e = absurd cc
+
+no_port_part : (number : ℕ) (a b : Port) (same : PortSameness) → AreLikePorts a b → IsPortSameness a b same → parts_of_port number same ≡ []
+no_port_part number a b same like is =
+    let network = not_named same.network (parts.OfPort number of_port.Network) (is.network.1 like.network) in
+    let address = not_named same.address (parts.OfPort number of_port.Address) (is.address.1 like.address) in
+    let broadcast = not_named same.broadcast (parts.OfPort number of_port.Broadcast) (is.broadcast.1 like.broadcast) in
+    let stations = not_named same.stations (parts.OfPort number of_port.Stations) (is.stations.1 like.stations) in
+    let manager = not_named same.manager (parts.OfPort number of_port.Manager) (is.manager.1 like.manager) in
+    let peers = not_named same.peers (parts.OfPort number of_port.Peers) (is.peers.1 like.peers) in
+    both_none _ _ (both_none _ _ network (both_none _ _ address broadcast)) (both_none _ _ stations (both_none _ _ manager peers))
+
+no_port_parts : (number : ℕ) (sames : List PortSameness)
+    → ((place : ℕ) (same : PortSameness) → slice_get sames place ≡ Some same → (n : ℕ) → parts_of_port n same ≡ [])
+    → port_parts number sames ≡ []
+no_port_parts number [] each = refl
+no_port_parts number (same ∷ sames) each =
+    both_none (parts_of_port number same) (port_parts (number + 1) sames) (each zero same refl number)
+    (no_port_parts (number + 1) sames (λ place s e. each (suc place) s e))
+
+pub like_has_none : LikeHasNone
+like_has_none old new differ like are =
+    let same = are.same in
+    let is = are.is_so in
+    let names = is.names.1 like.names in
+    let format = not_named same.format parts.Format (is.format.1 like.format) in
+    let announce = not_named same.announce parts.Announce (is.announce.1 like.announce) in
+    let device = not_named same.device parts.Device (is.device.1 like.device) in
+    let count = not_named same.count parts.Ports (is.count.1 like.count) in
+    let frame = both_none _ _ format (both_none _ _ announce (both_none _ _ device count)) in
+    let of_ports = no_port_parts 1 are.ports.sames (λ place s e n.
+    let within = within_at are.ports.sames place s e in
+    let here = some_at old.ports place (omega (arith, within, are.ports.count, like.count)) in
+    let there = some_at new.ports place (omega (arith, within, are.ports.count, like.count)) in
+    no_port_part n here.0 there.0 s (like.ports place here.0 there.0 here.1 there.1) (are.ports.each place here.0 there.0 s here.1 there.1 e)) in
+    let routes = not_named same.routes parts.Routes (is.routes.1 like.routes) in
+    let objects = not_named same.objects parts.Objects (is.objects.1 like.objects) in
+    let audits = not_named same.audits parts.Audits ((is.audits names).1 like.audits) in
+    let notes = not_named same.notes parts.Notes ((is.notes names).1 like.notes) in
+    let no_names = not_named same.names parts.RuleNames names in
+    let quiets = not_named same.quiets parts.Quiets (is.quiets.1 like.quiets) in
+    let rest = both_none _ _ routes (both_none _ _ objects (both_none _ _ audits (both_none _ _ notes (both_none _ _ no_names quiets)))) in
+    are.listed ∙ both_none are.ahead (rest_parts same) (are.ports.listed ∙ both_none (frame_parts same) (port_parts 1 are.ports.sames) frame of_ports) rest
 
 none_by_length : {A : Type 0} (xs : List A) → length xs ≡ 0 → xs ≡ []
 none_by_length [] e = refl

@@ -44,6 +44,10 @@ AlikeIsAlike = (old new : Configuration) (most : ℕ) (made : Compared) (text : 
 abbrev pub NoneDiffers : Type 0
 NoneDiffers = (old new : Configuration) → AreDifferences old new [] → AreLike old new
 
+-- And a part is named only if it differs: of two that are so alike none is.
+abbrev pub LikeHasNone : Type 0
+LikeHasNone = (old new : Configuration) (differ : List Part) → AreLike old new → AreDifferences old new differ → differ ≡ []
+
 -- So it is if the text says that no ask is decided otherwise.
 abbrev pub AlikeIsLike : Type 0
 AlikeIsLike = (old new : Configuration) (most : ℕ) (text : List ℕ) → IsComparisonText old new most compared.Alike text → AreLike old new

@@ -1,5 +1,5 @@
 -- The parts of two configurations beside what their rules decide, and which of them differ.
-use Rattle.std.specs.Prelude.{◌≡◌, ℕ, ◌+◌, Bool, false, ◌&&◌, ◌==◌, IsFalse, IsTrue, if◌then◌else◌, List, [], ◌∷◌, ◌++◌, length, map, min, slice_get, codes, decimal, Some}
+use Rattle.std.specs.Prelude.{◌≡◌, ◌↔◌, ℕ, ◌+◌, Bool, false, ◌&&◌, ◌==◌, IsFalse, IsTrue, if◌then◌else◌, List, [], ◌∷◌, ◌++◌, length, map, min, slice_get, codes, decimal, Some}
 use Rattle.std.specs.List.{list_any}
 use Rattle.gw_configuration.specs.Configuration.{Configuration}
 use Rattle.gw_configuration.specs.Subnet.{Subnet, keys_of}
@@ -59,29 +59,29 @@ pub record AreLike (old new : Configuration) : Type 0 where
 
 -- ---- what is said to be the same
 
--- what is said to be the same of two ports is the same
+-- exactly what is the same of two ports is said to be the same
 pub record IsPortSameness (old new : Port) (same : PortSameness) : Type 0 where
-  pub network : IsTrue same.network → old.network ≡ new.network
-  pub address : IsTrue same.address → old.address ≡ new.address
-  pub broadcast : IsTrue same.broadcast → old.broadcast ≡ new.broadcast
-  pub stations : IsTrue same.stations → HaveSameStations old.stations new.stations
-  pub manager : IsTrue same.manager → old.bbmd ≡ new.bbmd
-  pub peers : IsTrue same.peers → old.peers ≡ new.peers
+  pub network : IsTrue same.network ↔ (old.network ≡ new.network)
+  pub address : IsTrue same.address ↔ (old.address ≡ new.address)
+  pub broadcast : IsTrue same.broadcast ↔ (old.broadcast ≡ new.broadcast)
+  pub stations : IsTrue same.stations ↔ HaveSameStations old.stations new.stations
+  pub manager : IsTrue same.manager ↔ (old.bbmd ≡ new.bbmd)
+  pub peers : IsTrue same.peers ↔ (old.peers ≡ new.peers)
 
 -- the same of two configurations: with other names of rules, audits and notes have no line
 pub record IsSameness (old new : Configuration) (same : Sameness) : Type 0 where
-  pub format : IsTrue same.format → old.format ≡ new.format
-  pub announce : IsTrue same.announce → old.announce ≡ new.announce
-  pub device : IsTrue same.device → old.device ≡ new.device
-  pub count : IsTrue same.count → length old.ports ≡ length new.ports
-  pub routes : IsTrue same.routes → old.routes ≡ new.routes
-  pub objects : IsTrue same.objects → old.objects ≡ new.objects
-  pub audits : IsTrue same.names → IsTrue same.audits → old.audits ≡ new.audits
-  pub audits_named : IsFalse same.names → IsTrue same.audits → audit_lines old new ≡ []
-  pub notes : IsTrue same.names → IsTrue same.notes → old.notes ≡ new.notes
-  pub notes_named : IsFalse same.names → IsTrue same.notes → note_lines old new ≡ []
-  pub names : IsTrue same.names → HaveSameNames old.rules new.rules
-  pub quiets : IsTrue same.quiets → HaveSameQuiets old.rules new.rules
+  pub format : IsTrue same.format ↔ (old.format ≡ new.format)
+  pub announce : IsTrue same.announce ↔ (old.announce ≡ new.announce)
+  pub device : IsTrue same.device ↔ (old.device ≡ new.device)
+  pub count : IsTrue same.count ↔ (length old.ports ≡ length new.ports)
+  pub routes : IsTrue same.routes ↔ (old.routes ≡ new.routes)
+  pub objects : IsTrue same.objects ↔ (old.objects ≡ new.objects)
+  pub audits : IsTrue same.names → IsTrue same.audits ↔ (old.audits ≡ new.audits)
+  pub audits_named : IsFalse same.names → IsTrue same.audits ↔ (audit_lines old new ≡ [])
+  pub notes : IsTrue same.names → IsTrue same.notes ↔ (old.notes ≡ new.notes)
+  pub notes_named : IsFalse same.names → IsTrue same.notes ↔ (note_lines old new ≡ [])
+  pub names : IsTrue same.names ↔ HaveSameNames old.rules new.rules
+  pub quiets : IsTrue same.quiets ↔ HaveSameQuiets old.rules new.rules
 
 -- ---- the parts that differ
 
@@ -129,7 +129,7 @@ pub record ArePortParts (old new : List Port) (before after : List Part) : Type 
       → slice_get sames place ≡ Some same → IsPortSameness a b same
   pub listed : after ≡ before ++ port_parts 1 sames
 
--- the parts in which two configurations differ: what isn't among them is the same
+-- the parts in which two configurations differ, and no other: what isn't among them is the same
 pub record AreDifferences (old new : Configuration) (differ : List Part) : Type 0 where
   pub same : Sameness
   pub is_so : IsSameness old new same

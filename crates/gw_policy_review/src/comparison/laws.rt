@@ -1,7 +1,7 @@
 //! What the text of a comparison says of the asks of two configurations. The functions do nothing: their
 //! contracts are the laws.
 ghost use Rattle.std.specs.Prelude.{◌≡◌};
-ghost use Rattle.gw_policy_review.specs.comparison.Laws.{AlikeIsAlike, AlikeIsLike, AlikeIsLogged, EachHasOneGroup, FoundIsAll, LinesAreTrue, LinesHaveAsks, NoneDiffers, NoneHasAsk};
+ghost use Rattle.gw_policy_review.specs.comparison.Laws.{AlikeIsAlike, AlikeIsLike, AlikeIsLogged, EachHasOneGroup, FoundIsAll, LikeHasNone, LinesAreTrue, LinesHaveAsks, NoneDiffers, NoneHasAsk};
 
 use crate::comparison::MOST_UNGROUPED;
 
@@ -16,10 +16,12 @@ pub fn comparisons()
     ensures or_none { NoneHasAsk }
 {}
 
-/// What isn't among the parts that differ is the same: if there is none, all that has an effect is, but for what the rules
-/// decide; and so it is if a text says that no ask is decided otherwise, and then the logs have the same denials.
+/// The parts that differ are named, and no other: if none is, all that has an effect is the same, but for what the rules
+/// decide, and if all that is the same, none is. It is the same, too, if a text says that no ask is decided otherwise, and
+/// then the logs have the same denials.
 pub fn parts()
     ensures none { NoneDiffers }
+    ensures like { LikeHasNone }
     ensures alike { AlikeIsLike }
     ensures logged { AlikeIsLogged }
 {}

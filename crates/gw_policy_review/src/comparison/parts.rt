@@ -1,5 +1,5 @@
 //! Which parts of two configurations differ, beside what their rules decide.
-ghost use Rattle.std.specs.Prelude.{◌≡◌, ◌++◌, ◌≤◌, [], length, map, IfOk, IsFalse, IsTrue, OnOk};
+ghost use Rattle.std.specs.Prelude.{◌≡◌, ◌↔◌, ◌++◌, ◌≤◌, [], length, map, IfOk, IsFalse, IsTrue, OnOk};
 ghost use Rattle.std.specs.List.{flat_map};
 ghost use Rattle.gw_addr.specs.declared.TheConstants.{MAX_PORTS};
 ghost use Rattle.gw_ask_sets.specs.regions.Tidying.{tidy};
@@ -63,7 +63,7 @@ pub enum PortPart {
     Peers,
 }
 
-/// Which parts of two ports are the same. A false says nothing.
+/// Which parts of two ports are the same.
 #[derive(Clone, Copy)]
 pub(crate) struct PortSameness {
     pub network: bool,
@@ -74,7 +74,7 @@ pub(crate) struct PortSameness {
     pub peers: bool,
 }
 
-/// Which other parts of two configurations are the same. A false says nothing. Audits and notes are compared for the
+/// Which other parts of two configurations are the same. Audits and notes are compared for the
 /// rules whose names both have.
 #[derive(Clone, Copy)]
 pub(crate) struct Sameness {
@@ -104,13 +104,13 @@ fn keys_of_all(alloc: Global, stations: &Stations) -> Result<Sequence<Range>, Al
 }
 
 /// Whether two ports have the same stations, however these are written.
-#[tactic(auto, using(crate::proofs::comparison_lemmas::PartsLaw::same_stations))]
+#[tactic(auto, using(crate::proofs::comparison_lemmas::PartsLaw::same_stations, crate::proofs::comparison_lemmas::PartsLaw::same_keys))]
 fn have_same_stations(
     alloc: Global,
     stations: &Stations,
     others: &Stations,
 ) -> Result<bool, AllocError>
-    ensures { IfOk result (λ same. IsTrue same → HaveSameStations stations.now others.now) }
+    ensures { IfOk result (λ same. IsTrue same ↔ HaveSameStations stations.now others.now) }
 {
     if stations.as_slice().is_empty() != others.as_slice().is_empty() {
         return Ok(false);
@@ -122,7 +122,7 @@ fn have_same_stations(
 
 /// Whether two ports have the same broadcast manager beside them, or neither has one.
 fn have_same_manager(port: &Port, other: &Port) -> bool
-    ensures { IsTrue result → port.now.bbmd ≡ other.now.bbmd }
+    ensures { IsTrue result ↔ (port.now.bbmd ≡ other.now.bbmd) }
 {
     match (port.bbmd, other.bbmd) {
         (Some(manager), Some(other)) => manager.is_same(other),
@@ -145,14 +145,14 @@ fn find_same_of_port(alloc: Global, old: &Port, new: &Port) -> Result<PortSamene
 }
 
 fn have_same_name(rule: &Rule, other: &Rule) -> bool
-    ensures { IsTrue result → rule.now.name ≡ other.now.name }
+    ensures { IsTrue result ↔ (rule.now.name ≡ other.now.name) }
 {
     rule.name.as_str() == other.name.as_str()
 }
 
 /// Whether two policies have rules of the same names in the same order.
 fn have_same_names(rules: &[Rule], others: &[Rule]) -> bool
-    ensures { IsTrue result → HaveSameNames rules.now others.now }
+    ensures { IsTrue result ↔ HaveSameNames rules.now others.now }
 {
     if rules.len() != others.len() {
         return false;
@@ -172,8 +172,8 @@ fn have_same_audits(
     new: &Config,
     names: bool,
 ) -> Result<bool, AllocError>
-    ensures places { IfOk result (λ same. IsTrue names → IsTrue same → old.now.audits ≡ new.now.audits) }
-    ensures named { IfOk result (λ same. IsFalse names → IsTrue same → audit_lines old.now new.now ≡ []) }
+    ensures places { IfOk result (λ same. IsTrue names → IsTrue same ↔ (old.now.audits ≡ new.now.audits)) }
+    ensures named { IfOk result (λ same. IsFalse names → IsTrue same ↔ (audit_lines old.now new.now ≡ [])) }
 {
     if names {
         return Ok(are_same(old.audits(), new.audits()));
@@ -190,8 +190,8 @@ fn have_same_notes(
     new: &Config,
     names: bool,
 ) -> Result<bool, AllocError>
-    ensures places { IfOk result (λ same. IsTrue names → IsTrue same → old.now.notes ≡ new.now.notes) }
-    ensures named { IfOk result (λ same. IsFalse names → IsTrue same → note_lines old.now new.now ≡ []) }
+    ensures places { IfOk result (λ same. IsTrue names → IsTrue same ↔ (old.now.notes ≡ new.now.notes)) }
+    ensures named { IfOk result (λ same. IsFalse names → IsTrue same ↔ (note_lines old.now new.now ≡ [])) }
 {
     if names {
         return Ok(are_same(old.notes(), new.notes()));
@@ -203,7 +203,7 @@ fn have_same_notes(
 
 /// Whether the logs of two policies lack the same denials, since no rule of either is quiet, or their rules are the same.
 fn have_same_quiets(rules: &[Rule], others: &[Rule]) -> bool
-    ensures { IsTrue result → HaveSameQuiets rules.now others.now }
+    ensures { IsTrue result ↔ HaveSameQuiets rules.now others.now }
 {
     (have_no_quiet(rules) && have_no_quiet(others)) || are_same(rules, others)
 }
@@ -236,7 +236,7 @@ fn find_same(alloc: Global, old: &Config, new: &Config) -> Result<Sameness, Allo
 
 // ---- the parts that differ
 
-/// The parts that aren't the same in two configurations: what isn't among them is the same. In this order: the format,
+/// The parts that aren't the same in two configurations, and no other. In this order: the format,
 /// whether networks are announced, the device, how many ports there are, what of each port that both have, the routes,
 /// the objects, which rules are audited, the notes and the names of rules, and what quiet rules keep out of the log. An
 /// `Err` if there is no memory.
