@@ -12,9 +12,10 @@ use Rattle.gw_configuration.specs.Subnet.{Subnet, keys_of, size_of}
 use Rattle.gw_configuration.specs.declared.port.Port.{Port}
 use Rattle.gw_rules.specs.Range.{holds, is_ordered}
 use Rattle.gw_rules.specs.declared.range.Range.{Range}
+use Rattle.gw_rules.specs.declared.rule.Rule.{Rule}
 use Rattle.gw_policy_review.specs.comparison.Comparison.{compared_by}
 use Rattle.gw_policy_review.specs.comparison.Laws.{AlikeIsLike, LikeHasNone, NoneDiffers}
-use Rattle.gw_policy_review.specs.comparison.Parts.{AreDifferences, AreLikePorts, ArePortParts, HaveSameStations, IsPortSameness, frame_parts, has_key, parts_of_port, port_parts, rest_parts, unless}
+use Rattle.gw_policy_review.specs.comparison.Parts.{AreDifferences, AreLikePorts, ArePortParts, HaveSameNames, HaveSameStations, IsPortSameness, frame_parts, has_key, parts_of_port, port_parts, rest_parts, unless}
 use Rattle.gw_policy_review.specs.declared.comparison.parts.Part.{Part}
 use Rattle.gw_policy_review.specs.declared.comparison.parts.Part.TheVariants as parts
 use Rattle.gw_policy_review.specs.declared.comparison.parts.PortPart.TheVariants as of_port
@@ -55,6 +56,22 @@ same_keys stations others same =
     (tidy_is_tidy (map keys_of stations) (all_ordered stations)) (tidy_is_tidy (map keys_of others) (all_ordered others))
     (λ key. tidy_has_the_same (map keys_of stations) key ∙ sym (keyed stations key) ∙ same.addresses key ∙ keyed others key
     ∙ sym (tidy_has_the_same (map keys_of others) key))
+
+-- ---- names
+
+-- where two policies have the same names, two rules at one place do
+pub same_name : (rules others : List Rule) (place : ℕ) (a b : Rule) → HaveSameNames rules others
+    → slice_get rules place ≡ Some a → slice_get others place ≡ Some b → a.name ≡ b.name
+same_name [] others place a b same here there = absurd cc
+same_name (r ∷ rules) [] place a b same here there = absurd cc
+same_name (r ∷ rules) (o ∷ others) zero a b same here there =
+    let one : r ≡ a = cc in
+    let two : o ≡ b = cc in
+    let head : r.name ≡ o.name = cc in
+    ap (λ (rule : Rule). rule.name) (sym one) ∙ head ∙ ap (λ (rule : Rule). rule.name) two
+same_name (r ∷ rules) (o ∷ others) (suc place) a b same here there =
+    let rest : map (λ (rule : Rule). rule.name) rules ≡ map (λ (rule : Rule). rule.name) others = cc in
+    same_name rules others place a b rest here there
 
 -- ---- no part
 

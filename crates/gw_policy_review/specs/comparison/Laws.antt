@@ -15,6 +15,7 @@ use Rattle.gw_ask_sets.specs.shapes.Shapes.{shapes}
 use Rattle.gw_policy_review.specs.comparison.Comparison.{IsComparisonText}
 use Rattle.gw_policy_review.specs.comparison.Groups.{firsts, is_like}
 use Rattle.gw_policy_review.specs.comparison.Parts.{AreDifferences, AreLike}
+use Rattle.gw_policy_review.specs.declared.comparison.parts.Part.{Part}
 use Rattle.gw_policy_review.specs.declared.comparison.comparison.Compared.{Compared}
 use Rattle.gw_policy_review.specs.declared.comparison.comparison.Compared.TheVariants as compared
 
