@@ -6,7 +6,7 @@ use Rattle.gw_addr.specs.declared.bip.BipAddr.{BipAddr}
 use Rattle.gw_configuration.specs.Configuration.{is_same_address}
 use Rattle.gw_relay.specs.Sends.{Batch, Sending, sending, sendings_of}
 use Rattle.gw_verdicts.specs.declared.questions.place.Station.{Station}
-use Rattle.gw_verdicts.specs.questions.Answers.{batch_lines, batch_reaches, batch_refuses, reaches, refuses, refuses_to, sent_line, way_line}
+use Rattle.gw_verdicts.specs.questions.Answers.{batch_lines, batch_reaches, batch_refuses, reaches, refuses, is_to_some, sent_line, way_line}
 use Rattle.gw_verdicts.specs.questions.Refusals.{is_refusal}
 
 -- the lines of a message are those of its datagrams
@@ -62,7 +62,7 @@ reaches_by station batches =
     batches
 
 -- a refusal
-alike : (is : Bool) (targets : List BipAddr) → list_any (λ (to : BipAddr). is) targets ≡ refuses_to targets is
+alike : (is : Bool) (targets : List BipAddr) → list_any (λ (to : BipAddr). is) targets ≡ is_to_some targets is
 alike is [] = refl
 alike true (to ∷ targets) = refl
 alike false (to ∷ []) = refl
