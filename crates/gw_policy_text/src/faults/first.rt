@@ -133,7 +133,7 @@ fn first_of(located: &Located<'_>, kind: Option<&Value>, top: &Table) -> Option<
 }
 
 /// Puts which table has first what is named twice, if one has it in the same words. `AllocError` where memory was refused.
-pub(crate) fn put_first(
+pub(crate) fn put_first_place(
     line: &mut Vec<u8>,
     located: &Located<'_>,
     kind: Option<&Value>,
