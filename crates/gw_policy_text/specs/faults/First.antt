@@ -19,8 +19,8 @@ is_same (string one) (string other) = pointwise nat_eq one other
 is_same _ _ = false
 
 -- a table has this value at a key
-abbrev pub has : (table : Data) → (key : List ℕ) → Data → Bool
-has table key value = option_map_or (λ own. is_same own value) (option_and_then (get_member key) (as_table table)) false
+abbrev pub has : (holder : Data) → (key : List ℕ) → Data → Bool
+has holder key value = option_map_or (λ own. is_same own value) (option_and_then (get_member key) (as_table holder)) false
 
 -- a port's own address and its broadcast address share their values
 abbrev pub other_key : List ℕ → List ℕ
@@ -30,17 +30,14 @@ other_key key =
     else key
 
 -- a table has this value where it may be only once, an instance with its type
-abbrev pub names_it : (key : List ℕ) → Data → (kind : Option Data) → (table : Data) → Bool
-names_it key value kind table =
-    let is_here = has table key value || has table (other_key key) value in
-    option_map_or (λ k. is_here && has table (codes "type") k) kind is_here
+abbrev pub names_it : (key : List ℕ) → Data → (kind : Option Data) → (holder : Data) → Bool
+names_it key value kind holder =
+    let is_here = has holder key value || has holder (other_key key) value in
+    option_map_or (λ k. is_here && has holder (codes "type") k) kind is_here
 
 -- the first table of a list that has it
-abbrev pub position_in : List Data → (key : List ℕ) → Data → (kind : Option Data) → Option ℕ
-position_in tables key value kind = position (names_it key value kind) tables
-
 abbrev pub position_by : Result (List Data) ConfigFault → (key : List ℕ) → Data → (kind : Option Data) → Option ℕ
-position_by (Ok tables) key value kind = position_in tables key value kind
+position_by (Ok tables) key value kind = position (names_it key value kind) tables
 position_by (Err fault) key value kind = None
 
 abbrev pub position_of : Option Data → (key : List ℕ) → Data → (kind : Option Data) → Option ℕ

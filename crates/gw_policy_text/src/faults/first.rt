@@ -1,5 +1,5 @@
 //! Where a value is first that is named twice.
-ghost use Rattle.std.specs.Prelude.{◌≡◌, ◌++◌, option_map, OnOk};
+ghost use Rattle.std.specs.Prelude.{◌≡◌, ◌++◌, option_map, position, OnOk};
 ghost use Rattle.toml.specs.View.{table_view, view};
 ghost use Rattle.gw_configuration.specs.Located.{located_view};
 ghost use Rattle.gw_policy_text.specs.faults.First.{first_of, first_place, first_words, has, in_site, is_same, names_it, other_key, position_of};
@@ -56,6 +56,21 @@ fn names_it(table: &Value, key: &str, value: &Value, kind: Option<&Value>) -> bo
     }
 }
 
+/// The first of these tables that has it.
+fn first_with(
+    tables: &[Value],
+    key: &str,
+    value: &Value,
+    kind: Option<&Value>,
+) -> Option<usize>
+    ensures { let of = option_map (λ v. view v.now) kind.entry in
+        result ≡ position (λ t. names_it key.now (view value.now) of (view t)) tables.now }
+{
+    tables
+        .iter()
+        .position(|table| names_it(table, key, value, kind))
+}
+
 /// The first table of a list that has it.
 #[tactic(auto, using(crate::proofs::keys_lemmas::Values::position_view))]
 fn position_of(
@@ -67,12 +82,10 @@ fn position_of(
     ensures { let tables = option_map (λ v. view v.now) list.entry in
         result ≡ position_of tables key.now (view value.now) (option_map (λ v. view v.now) kind.entry) }
 {
-    let Ok(tables) = value::list(list?) else {
-        return None;
-    };
-    tables
-        .iter()
-        .position(|table| names_it(table, key, value, kind))
+    match value::list(list?) {
+        Ok(tables) => first_with(tables, key, value, kind),
+        Err(_) => None,
+    }
 }
 
 /// The first table among the ports, the device, the routes and the objects that has it.

@@ -1,6 +1,6 @@
 //! Questions of one datagram, to which no station has to answer: a Who-Is, and a registration of a foreign device.
 
-ghost use Rattle.std.specs.Prelude.{◌≡◌, ◌++◌, option_map, IfOk, OnOk};
+ghost use Rattle.std.specs.Prelude.{◌≡◌, ◌<◌, ◌++◌, option_map, IfOk, OnOk};
 ghost use Rattle.std.specs.List.{list_any};
 ghost use Rattle.gw_frames.specs.npdu.Npdu as npdus;
 ghost use Rattle.gw_verdicts.specs.questions.Calls.{accepts, batch_accepts, batch_hears, hears};
@@ -74,6 +74,7 @@ fn hears(port: u8, sends: &Sends) -> bool
 }
 
 /// Whether one is sent by each port up to this one, but that of who asks.
+#[tactic(auto, using(crate::proofs::questions_lemmas::Heard::one_more, crate::proofs::questions_lemmas::Heard::none_left))]
 fn all_hear(port: u8, asker: u8, sends: &Sends) -> bool
     ensures { result ≡ all_hear port asker sends.now }
 {
@@ -148,6 +149,7 @@ fn asker_of(call: &Call) -> &Station
 
 /// The Who-Is of a station to all stations of a network, or of each.
 fn who_is_from(asker: &Station, network: u16) -> Npdu<'_>
+    requires { 0 < network }
     ensures { npdus.view result ≡ who_is_from asker.now network }
 {
     Npdu {

@@ -162,7 +162,8 @@ pub fn datagram_of(alloc: Global, message: &Npdu<'_>) -> Result<Vec<u8>, AllocEr
     ensures read { IfOk result (λ octets. IsDatagram (npdus.view message.now) octets.items) }
 {
     let octets = carried(alloc, message)?;
-    framed(alloc, &Bvll::OriginalUnicast(&octets))
+    let datagram = framed(alloc, &Bvll::OriginalUnicast(&octets))?;
+    Ok(datagram)
 }
 
 /// The datagram by which a station asks: its octets are read as this request.

@@ -14,9 +14,9 @@ returns-clause-text c =
     let text = c.args.text.now.items in
     let event = event_view c.event_of.result in
     let is : event ≡ call_event q =
-    c.event_of.ensures ∙ ap₂ (λ (s : Station) (o : List ℕ). event_of s o) c.asker_of.ensures (c.deref.ensures.value ∙ c.in_ok-octets.ensures) in
+    c.event_of.ensures ∙ ap₂ (λ (s : Station) (o : List ℕ). event_of s o) c.asker_of-asker.ensures (c.deref.ensures.value ∙ c.in_ok-octets.ensures) in
     let way : c.put_way.new.text.items ≡ text ++ way_line (codes "the request comes from ") (asker_of q).link (asker_of q).port =
-    c.in_ok-put_way.ensures.ok ∙ ap (λ (s : Station). text ++ way_line (codes "the request comes from ") s.link s.port) c.asker_of.ensures in
+    c.in_ok-put_way.ensures.ok ∙ ap (λ (s : Station). text ++ way_line (codes "the request comes from ") s.link s.port) c.asker_of-asker.ensures in
     let rules = c.rules.ensures ∙ ap (λ (s : State). s.rules) c.in_ok-request.ensures.moved in
     called c.args.gateway.now q c.put_end.result text c.put_way.new.text.items
     c.take.new.text.items c.put_end.new.text.items event c.rules.result.now c.in_ok-request.request.asked c.in_ok-request.request.taken.effects

@@ -20,5 +20,5 @@ returns-in-Write c =
 
 pub returns-in-Serve : goal.returns-in-Serve
 returns-in-Serve c =
-    let is : c.args.deed.now ≡ deed.Serve c.in-Serve.service = search rules in
+    let is : c.args.deed.now ≡ deed.Serve c.in-Serve.field-0 = search rules in
     subst (λ (d : Deed). IsAsked d) (sym is) (record { body = []; read = refl; says = refl })
