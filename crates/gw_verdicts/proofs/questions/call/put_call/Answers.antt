@@ -3,7 +3,7 @@ use Rattle.gw_core.specs.State.{State}
 use Rattle.gw_script.specs.Event.{event_view}
 use Rattle.gw_verdicts.specs.declared.questions.place.Station.{Station}
 use Rattle.gw_verdicts.specs.questions.Answers.{way_line}
-use Rattle.gw_verdicts.specs.questions.Calls.{asker_of, call_event, call_octets}
+use Rattle.gw_verdicts.specs.questions.Calls.{asker_of, call_event}
 use Rattle.gw_verdicts.specs.questions.Datagrams.{event_of}
 use Rattle.gw_verdicts.proofs.questions_lemmas.Texts.{called}
 use Rattle.gw_verdicts.proofs.questions.call.put_call.Goals as goal
