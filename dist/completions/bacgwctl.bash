@@ -18,7 +18,7 @@ _bacgwctl() {
     else
         case $before in
             --config | --with | --log | --state | --reload | --was) compopt -o default; return ;;
-            --start | --most | --from | --to | --read | --write | --priority) return ;;
+            --start | --most | --from | --to | --read | --write | --priority | --service) return ;;
             --port | --peer | --router | --operator | --bbmd) return ;;
         esac
         if [ "$equals" ]; then return; fi
@@ -38,7 +38,7 @@ _bacgwctl() {
                 options='--start --json --help'
                 ;;
             objects) options='--config --csv --help' ;;
-            ask) options='--config --from --to --read --write --priority --help' ;;
+            ask) options='--config --from --to --read --write --priority --service --who-is --register --help' ;;
             init) options='--port --peer --router --operator --bbmd --help' ;;
             help) options='check explain lint migrate rules why compare log state reload stop suggest report objects ask init' ;;
             *) return ;;

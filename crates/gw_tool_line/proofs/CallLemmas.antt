@@ -34,6 +34,9 @@ calls_are_taken = record {
   ask_to_read = λ program. record { taken = refl; asked = refl; sound = λ void. void };
   ask_to_write = λ program. record { taken = refl; asked = refl; sound = λ void. void };
   ask_to_write_at = λ program. record { taken = refl; asked = refl; sound = λ void. void };
+  ask_for_service = λ program. record { taken = refl; asked = refl; sound = λ void. void };
+  ask_who_is = λ program. record { taken = refl; asked = refl; sound = λ void. void };
+  ask_to_register = λ program. record { taken = refl; asked = refl; sound = λ void. void };
   init = λ program. record { taken = refl; asked = refl; sound = λ void. void };
   init_whole = λ program. record { taken = refl; asked = refl; sound = λ void. void };
   log = λ program. record { taken = refl; asked = refl; sound = λ void. void None refl };
@@ -64,6 +67,7 @@ calls_are_refused = record {
   points = λ program. refl;
   ask_both = λ program. (refl, refl);
   ask_neither = λ program. (refl, refl);
+  ask_twice = λ program. (refl, refl);
   ask_priority = λ program. (refl, refl);
   ask_nobody = λ program. refl;
 }

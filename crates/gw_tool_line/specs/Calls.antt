@@ -4,7 +4,7 @@ use Rattle.clap.specs.Words.{Text, fault_of}
 use Rattle.clap.specs.declared.error.kind.ErrorKind.TheVariants as parse
 use Rattle.gw_tool_line.specs.CommandLine.{AskFor}
 use Rattle.gw_tool_line.specs.Commands.{commands}
-use Rattle.gw_tool_line.specs.Requests.{Asks, Begins, Reads, Writes}
+use Rattle.gw_tool_line.specs.Requests.{Asks, Begins, Calls as Serves, Looks, Reads, Registers, Writes}
 use Rattle.gw_tool_line.specs.Requests.{Checks, ChecksJson, Compares, ComparesJson, Explains, Judges, ListsLog, ListsPoints, ListsRules, Migrates}
 use Rattle.gw_tool_line.specs.Requests.{Reloads, Reports, Request, Shows, Stops, Suggests, TranslatesLog, asked_in}
 use Rattle.gw_command_line.specs.options.Options.{most_count}
@@ -64,14 +64,21 @@ pub record CallsAreTaken : Type 0 where
   pub stop_waiting : Calls (codes "stop" ∷ codes "--reload" ∷ codes "again" ∷ codes "--wait" ∷ []) (Stops (codes "again") true)
   pub ask_to_read : Calls
       (codes "ask" ∷ on_site (codes "--from" ∷ codes "10.1.0.10" ∷ codes "--to" ∷ codes "device" ∷ codes "--read" ∷ codes "5,1" ∷ []))
-      (Asks site (codes "10.1.0.10") (codes "device") (Reads (codes "5,1")))
+      (Asks site (codes "10.1.0.10") (Some (codes "device")) (Reads (codes "5,1")))
   pub ask_to_write : Calls
       (codes "ask" ∷ on_site (codes "--from" ∷ codes "10.1.0.10" ∷ codes "--to" ∷ codes "300:20" ∷ codes "--write" ∷ codes "2,1,85" ∷ []))
-      (Asks site (codes "10.1.0.10") (codes "300:20") (Writes (codes "2,1,85") None))
+      (Asks site (codes "10.1.0.10") (Some (codes "300:20")) (Writes (codes "2,1,85") None))
   pub ask_to_write_at : Calls
       (codes "ask" ∷ on_site (codes "--from" ∷ codes "10.1.0.10" ∷ codes "--to" ∷ codes "300:20" ∷ codes "--write" ∷ codes "2,1"
       ∷ codes "--priority" ∷ codes "8" ∷ []))
-      (Asks site (codes "10.1.0.10") (codes "300:20") (Writes (codes "2,1") (Some (codes "8"))))
+      (Asks site (codes "10.1.0.10") (Some (codes "300:20")) (Writes (codes "2,1") (Some (codes "8"))))
+  pub ask_for_service : Calls
+      (codes "ask" ∷ on_site (codes "--from" ∷ codes "300:0x0714" ∷ codes "--to" ∷ codes "10.1.0.10" ∷ codes "--service" ∷ codes "SubscribeCOV" ∷ []))
+      (Asks site (codes "300:0x0714") (Some (codes "10.1.0.10")) (Serves (codes "SubscribeCOV")))
+  pub ask_who_is : Calls (codes "ask" ∷ on_site (codes "--from" ∷ codes "10.1.0.10" ∷ codes "--who-is" ∷ []))
+      (Asks site (codes "10.1.0.10") None Looks)
+  pub ask_to_register : Calls (codes "ask" ∷ on_site (codes "--from" ∷ codes "10.1.0.10" ∷ codes "--register" ∷ []))
+      (Asks site (codes "10.1.0.10") None Registers)
   pub init : Calls (codes "init" ∷ codes "--port" ∷ codes "10.1.0.2/24" ∷ codes "--port" ∷ codes "10.2.0.2/24" ∷ [])
       (Begins (codes "10.1.0.2/24" ∷ codes "10.2.0.2/24" ∷ []) [] [] [] [])
   pub init_whole : Calls
@@ -113,7 +120,10 @@ pub record CallsAreRefused : Type 0 where
       (codes "ask" ∷ on_site (codes "--from" ∷ codes "a" ∷ codes "--to" ∷ codes "b" ∷ codes "--read" ∷ codes "5,1" ∷ codes "--write" ∷ codes "5,1" ∷ []))
       (codes "--read and --write exclude each other\n")
   pub ask_neither : Mistakes (codes "ask" ∷ on_site (codes "--from" ∷ codes "a" ∷ codes "--to" ∷ codes "b" ∷ []))
-      (codes "--read or --write has to be given\n")
+      (codes "give one of --read, --write, --service, --who-is and --register\n")
+  pub ask_twice : Mistakes
+      (codes "ask" ∷ on_site (codes "--from" ∷ codes "a" ∷ codes "--who-is" ∷ codes "--register" ∷ []))
+      (codes "give one of --read, --write, --service, --who-is and --register\n")
   pub ask_priority : Mistakes
       (codes "ask" ∷ on_site (codes "--from" ∷ codes "a" ∷ codes "--to" ∷ codes "b" ∷ codes "--read" ∷ codes "5,1" ∷ codes "--priority" ∷ codes "8" ∷ []))
       (codes "--priority needs --write\n")

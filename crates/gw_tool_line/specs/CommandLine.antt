@@ -8,10 +8,10 @@ use Rattle.clap.specs.declared.error.kind.ErrorKind.TheVariants as parse
 use Rattle.gw_log_words.specs.Moment.{IsTextOf}
 use Rattle.gw_log_words.specs.declared.moment.Moment.{Moment}
 use Rattle.gw_tool_line.specs.Commands.{commands}
-use Rattle.gw_tool_line.specs.Requests.{AllValues, Asks, Begins, Deed, Reads, Writes, listed}
+use Rattle.gw_tool_line.specs.Requests.{AllValues, Asks, Begins, Calls, Deed, Looks, Reads, Registers, Writes, listed}
 use Rattle.gw_command_line.specs.options.Values.{Values}
 use Rattle.gw_tool_line.specs.declared.ask_choice.DeedWords.{DeedWords}
-use Rattle.gw_tool_line.specs.declared.ask_choice.Given.{Given}
+use Rattle.gw_tool_line.specs.declared.ask_choice.Unclear.{Unclear}
 use Rattle.gw_tool_line.specs.declared.ask_choice.DeedWords.TheVariants as said
 use Rattle.gw_tool_line.specs.Requests.{Checks, ChecksJson, Compares, ComparesJson, Explains, Judges, ListsLog, ListsPoints, ListsRules, Migrates}
 use Rattle.gw_tool_line.specs.Requests.{Reloads, Reports, Request, Shows, Stops, Suggests, TranslatesLog, asked_in}
@@ -40,16 +40,22 @@ was_of shown = (string_bytes shown.old, shown.most)
 abbrev pub values_of : Found → AllValues
 values_of found id = listed (option_map raw_values (matched_of found id))
 
--- what of a deed is given by the values of the options
-pub record IsGiven (value : Values) (given : Given) : Type 0 where
-  pub read : option_map string_bytes given.read ≡ value (codes "read")
-  pub write : option_map string_bytes given.write ≡ value (codes "write")
-  pub priority : option_map string_bytes given.priority ≡ value (codes "priority")
-
--- what a station is asked to do
+-- what a station asks for
 abbrev pub deed_of : DeedWords → Deed
 deed_of (said.Read object) = Reads (string_bytes object)
 deed_of (said.Write object priority) = Writes (string_bytes object) (option_map string_bytes priority)
+deed_of (said.Serve service) = Calls (string_bytes service)
+deed_of said.WhoIs = Looks
+deed_of said.Register = Registers
+
+-- the same where it is perhaps unclear, and where there is perhaps none
+abbrev pub deed_view : Result DeedWords Unclear → Result Deed Unclear
+deed_view (Ok deed) = Ok (deed_of deed)
+deed_view (Err u) = Err u
+
+abbrev pub one_view : Result (Option DeedWords) Unclear → Result (Option Deed) Unclear
+one_view (Ok one) = Ok (option_map deed_of one)
+one_view (Err u) = Err u
 
 -- a choice is what was asked for
 abbrev pub IsFor : Request → Choice → Type 0
@@ -71,7 +77,7 @@ IsFor request (choice.Points file) = request ≡ ListsPoints (string_bytes file)
 IsFor request (choice.Rules file) = request ≡ ListsRules (string_bytes file)
 IsFor request (choice.Stop file waits) = request ≡ Stops (string_bytes file) waits
 IsFor request (choice.Ask file from to deed) =
-    request ≡ Asks (string_bytes file) (string_bytes from) (string_bytes to) (deed_of deed)
+    request ≡ Asks (string_bytes file) (string_bytes from) (option_map string_bytes to) (deed_of deed)
 IsFor request (choice.Init words) =
     request ≡ Begins (map string_bytes words.ports.items) (map string_bytes words.peers.items) (map string_bytes words.routers.items)
     (map string_bytes words.operators.items) (map string_bytes words.managers.items)

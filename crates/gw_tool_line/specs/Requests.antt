@@ -4,14 +4,20 @@ use Rattle.std.specs.Cmp.Lexicographic.{pointwise}
 use Rattle.std.specs.Option.{option_map}
 use Rattle.clap.specs.Words.{Row, Text, all_of, first_of, subcommand_of}
 use Rattle.gw_tool_line.specs.Commands.{commands}
+use Rattle.gw_tool_line.specs.declared.ask_choice.Unclear.{Unclear}
+use Rattle.gw_tool_line.specs.declared.ask_choice.Unclear.TheVariants as unclear
 use Rattle.gw_command_line.specs.declared.options.files.FileOption.TheVariants as option
 use Rattle.gw_command_line.specs.options.Files.{FileUse, clash_of, reads, requests, unless}
 use Rattle.gw_command_line.specs.options.Values.{Values, count_in, is_true}
 
--- what a station is asked to do, in the words that name it: to read this, or to write it, at a priority if one is given
+-- what a station asks for, in the words that name it: to read this; to write it, at a priority if one is given; this service;
+-- to be heard by a Who-Is; to register as a foreign device
 pub data Deed : Type 0 where
   Reads : (object : Text) → Deed
   Writes : (object : Text) (priority : Option Text) → Deed
+  Calls : (service : Text) → Deed
+  Looks : Deed
+  Registers : Deed
 
 -- what a call asks for: the files that it names, and what is to be done with them
 pub data Request : Type 0 where
@@ -31,7 +37,7 @@ pub data Request : Type 0 where
   ListsPoints : (file : Text) → Request
   ListsRules : (file : Text) → Request
   Stops : (request : Text) (waits : Bool) → Request
-  Asks : (file from to : Text) (deed : Deed) → Request
+  Asks : (file from : Text) (to : Option Text) (deed : Deed) → Request
   Begins : (ports peers routers operators managers : List Text) → Request
 
 -- Below, what a command asks for, or why it asks for nothing, as a line. It is empty where the parser takes no such words.
@@ -115,22 +121,59 @@ stop_by None waits = Err []
 abbrev pub stop_asked : Values → Result Request Text
 stop_asked value = stop_by (value (codes "reload")) (is_true (value (codes "wait")))
 
--- `ask`: what is read, or what is written and perhaps at which priority
-abbrev pub deed_asked : (file from to : Text) → (read write priority : Option Text) → Result Request Text
-deed_asked file from to (Some read) None None = Ok (Asks file from to (Reads read))
-deed_asked file from to None (Some write) priority = Ok (Asks file from to (Writes write priority))
-deed_asked file from to (Some read) (Some write) priority = Err (codes "--read and --write exclude each other\n")
-deed_asked file from to (Some read) None (Some priority) = Err (codes "--priority needs --write\n")
-deed_asked file from to None None priority = Err (codes "--read or --write has to be given\n")
+-- `ask`: what is read, or what is written and perhaps at which priority, or another of these, and no two
 
--- of two stations, both of which have to be named
-abbrev pub ask_between : Text → Values → (from to : Option Text) → Result Request Text
-ask_between file value (Some from) (Some to) =
-    deed_asked file from to (value (codes "read")) (value (codes "write")) (value (codes "priority"))
-ask_between file value _ _ = Err []
+-- what is said where that is unclear
+abbrev pub line_of : Unclear → Text
+line_of unclear.Both = codes "--read and --write exclude each other\n"
+line_of unclear.NotOne = codes "give one of --read, --write, --service, --who-is and --register\n"
+line_of unclear.Priority = codes "--priority needs --write\n"
+
+-- the one of two that is given, or why that is unclear if both are
+abbrev pub either : (one other : Option Deed) → Unclear → Result (Option Deed) Unclear
+either None other u = Ok other
+either (Some one) None u = Ok (Some one)
+either (Some one) (Some other) u = Err u
+
+-- the same where the first is perhaps unclear
+abbrev pub added : Result (Option Deed) Unclear → Option Deed → Result (Option Deed) Unclear
+added (Ok one) other = either one other unclear.NotOne
+added (Err u) other = Err u
+
+abbrev pub last_deed : Result (Option Deed) Unclear → Result Deed Unclear
+last_deed (Ok (Some deed)) = Ok deed
+last_deed (Ok None) = Err unclear.NotOne
+last_deed (Err u) = Err u
+
+abbrev pub write_deed : (write priority : Option Text) → Option Deed
+write_deed write priority = option_map (λ object. Writes object priority) write
+
+-- a priority is of a write
+abbrev pub property_deed : (read write priority : Option Text) → Result (Option Deed) Unclear
+property_deed read None (Some priority) = Err unclear.Priority
+property_deed read write priority = either (option_map Reads read) (write_deed write priority) unclear.Both
+
+abbrev pub deed_if : Bool → Deed → Option Deed
+deed_if is deed = if is then Some deed else None
+
+abbrev pub deed_given : Values → Result Deed Unclear
+deed_given value =
+    let property = property_deed (value (codes "read")) (value (codes "write")) (value (codes "priority")) in
+    let service = added property (option_map Calls (value (codes "service"))) in
+    let who_is = added service (deed_if (is_true (value (codes "who-is"))) Looks) in
+    last_deed (added who_is (deed_if (is_true (value (codes "register"))) Registers))
+
+abbrev pub deed_asked : (file from : Text) → (to : Option Text) → Result Deed Unclear → Result Request Text
+deed_asked file from to (Ok deed) = Ok (Asks file from to deed)
+deed_asked file from to (Err u) = Err (line_of u)
+
+-- of which stations, and under the configuration in this file
+abbrev pub ask_from : Text → Values → (from : Option Text) → Result Request Text
+ask_from file value (Some from) = deed_asked file from (value (codes "to")) (deed_given value)
+ask_from file value None = Err []
 
 abbrev pub ask_asked : Text → Values → Result Request Text
-ask_asked file value = ask_between file value (value (codes "from")) (value (codes "to"))
+ask_asked file value = ask_from file value (value (codes "from"))
 
 -- the values of each option by its name, of all its uses
 abbrev pub AllValues : Type 0

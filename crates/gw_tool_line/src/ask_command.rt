@@ -4,38 +4,45 @@ ghost use Rattle.std.specs.Prelude.{◌≡◌, false, codes, IfOk};
 ghost use Rattle.clap.specs.Words.{app_of, rule_of};
 ghost use Rattle.clap.specs.declared.builder.command.Command.TheViews.{out-Command};
 ghost use Rattle.gw_command_line.specs.options.Options.{needed};
-ghost use Rattle.gw_tool_line.specs.AskCommand.{ask, ask_of_stations, ask_to_read};
+ghost use Rattle.gw_tool_line.specs.AskCommand.{ask, ask_of_stations, ask_to_read, ask_to_serve, ask_to_write};
 
 use clap::{Arg, Command};
-use gw_command_line::options::{NUMBER, make_of_file, make_option};
+use gw_command_line::options::{NUMBER, make_flag, make_of_file, make_option};
 use std::alloc::{AllocError, Global};
 
 /// What is below its help.
 const EXAMPLE: &str = "Example:
-  bacgwctl ask --config site.toml --from 10.1.0.10 --to 10.2.0.11 --write analog-value,1 --priority 8";
+  bacgwctl ask --config site.toml --from 10.1.0.10 --to 10.2.0.11 --write analog-value,1 --priority 8
+  bacgwctl ask --config site.toml --from 300:20 --to 10.2.0.11 --service SubscribeCOV
+  bacgwctl ask --config site.toml --from 10.1.0.10 --who-is";
 
 /// What help calls a station, and a property of an object.
 const STATION: &str = "STATION";
 
 const OBJECT: &str = "OBJECT";
 
-/// An option of this name that names a station, which has to be given.
-fn make_station<'a>(alloc: Global, name: &'a str, help: &'a str) -> Arg<'a>
-    ensures rule { rule_of result ≡ needed name.now }
+/// What it calls a service.
+const SERVICE: &str = "NAME";
+
+/// The option that names who asks, which has to be given.
+fn make_from<'a>(alloc: Global) -> Arg<'a>
+    ensures rule { rule_of result ≡ needed (codes "from") }
     ensures local { result.global ≡ false }
 {
-    make_option(alloc, name, STATION, help).required(true)
+    let help =
+        "Who asks: ADDRESS, of the stations of a port, or NETWORK:ADDRESS, :OCTET or :0xOCTETS";
+    make_option(alloc, "from", STATION, help).required(true)
 }
 
 fn make_ask_of_stations<'a>(alloc: Global) -> Result<Command<'a>, AllocError>
     ensures app { IfOk result (λ command. app_of command ≡ ask_of_stations) }
     ensures local { IfOk result (λ command. (out-Command command).has_globals ≡ false) }
 {
-    let help = "Who asks: ADDRESS, of the stations of a port, or NETWORK:ADDRESS, or NETWORK:OCTET";
-    let from = make_station(alloc, "from", help);
-    let help = "Who is asked: the same, or device, which is the gateway's own";
-    let to = make_station(alloc, "to", help);
-    let about = "Says whether a station may read or write something, and by which rules";
+    let from = make_from(alloc);
+    let help =
+        "Who is asked: the same, or device, which is the gateway's own; of --who-is a network";
+    let to = make_option(alloc, "to", STATION, help);
+    let about = "Says whether a station may do something, and by which rules";
     make_of_file(alloc, "ask", about)?.arg(from)?.arg(to)
 }
 
@@ -48,9 +55,8 @@ fn make_ask_to_read<'a>(alloc: Global) -> Result<Command<'a>, AllocError>
     make_ask_of_stations(alloc)?.after_help(EXAMPLE).arg(read)
 }
 
-/// The command.
-pub fn make_ask<'a>(alloc: Global) -> Result<Command<'a>, AllocError>
-    ensures app { IfOk result (λ command. app_of command ≡ ask) }
+fn make_ask_to_write<'a>(alloc: Global) -> Result<Command<'a>, AllocError>
+    ensures app { IfOk result (λ command. app_of command ≡ ask_to_write) }
     ensures local { IfOk result (λ command. (out-Command command).has_globals ≡ false) }
 {
     let help = "What it writes: TYPE,INSTANCE or TYPE,INSTANCE,PROPERTY";
@@ -58,4 +64,25 @@ pub fn make_ask<'a>(alloc: Global) -> Result<Command<'a>, AllocError>
     let help = "The priority of a write, from 1 to 16";
     let priority = make_option(alloc, "priority", NUMBER, help);
     make_ask_to_read(alloc)?.arg(write)?.arg(priority)
+}
+
+fn make_ask_to_serve<'a>(alloc: Global) -> Result<Command<'a>, AllocError>
+    ensures app { IfOk result (λ command. app_of command ≡ ask_to_serve) }
+    ensures local { IfOk result (λ command. (out-Command command).has_globals ≡ false) }
+{
+    let help = "Which confirmed service it asks for, as SubscribeCOV";
+    let service = make_option(alloc, "service", SERVICE, help);
+    let help = "Whether its Who-Is is heard, on each network without --to";
+    let who_is = make_flag(alloc, "who-is", help);
+    make_ask_to_write(alloc)?.arg(service)?.arg(who_is)
+}
+
+/// The command.
+pub fn make_ask<'a>(alloc: Global) -> Result<Command<'a>, AllocError>
+    ensures app { IfOk result (λ command. app_of command ≡ ask) }
+    ensures local { IfOk result (λ command. (out-Command command).has_globals ≡ false) }
+{
+    let help = "Whether it may register as a foreign device; without --to";
+    let register = make_flag(alloc, "register", help);
+    make_ask_to_serve(alloc)?.arg(register)
 }

@@ -108,11 +108,11 @@ pub enum Choice {
         request: String,
         waits: bool,
     },
-    /// Say whether a station may do this with another one under the configuration in this file.
+    /// Say whether a station may do this, with another one if one is named, under the configuration in this file.
     Ask {
         file: String,
         from: String,
-        to: String,
+        to: Option<String>,
         deed: DeedWords,
     },
     /// Write a configuration to begin with, of what these words say.

@@ -99,7 +99,7 @@ fn put_choice(
             },
         ) => {
             put(out, &["ask ", file.as_str(), " from=", from.as_str()])?;
-            put(out, &[" to=", to.as_str()])?;
+            put_file(out, " to=", to)?;
             put_deed(deed, out)
         }
         Ok(Choice::Rules(file)) => put(out, &["rules ", file.as_str()]),
@@ -166,6 +166,9 @@ fn put_deed(deed: &DeedWords, out: &mut Vec<u8>) -> Result<(), AllocError> {
             put(out, &[" write=", object.as_str()])?;
             put_file(out, " priority=", priority)
         }
+        DeedWords::Serve(service) => put(out, &[" service=", service.as_str()]),
+        DeedWords::WhoIs => put(out, &[" who-is"]),
+        DeedWords::Register => put(out, &[" register"]),
     }
 }
 

@@ -432,7 +432,7 @@ LeavesOutput Reads ReadsState ReadsLog Answers input held holds said (Ok (choice
 LeavesOutput Reads ReadsState ReadsLog Answers input held holds said (Ok (choice.Report file log)) outcome =
     LeavesReportIn Reads ReadsLog (string_bytes file) (option_map string_bytes log) held holds outcome
 LeavesOutput Reads ReadsState ReadsLog Answers input held holds said (Ok (choice.Ask file from to deed)) outcome =
-    LeavesQuestionIn Reads (string_bytes file) (asked_text (string_bytes from) (string_bytes to) deed) held holds outcome
+    LeavesQuestionIn Reads (string_bytes file) (asked_text (string_bytes from) (option_map string_bytes to) deed) held holds outcome
 LeavesOutput Reads ReadsState ReadsLog Answers input held holds said (Ok (choice.Init words)) outcome =
     LeavesBegun (text_of words) held holds said outcome
 LeavesOutput Reads ReadsState ReadsLog Answers input held holds said (Ok (choice.Help text)) (Ok done) =

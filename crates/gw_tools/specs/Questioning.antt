@@ -12,17 +12,20 @@ use Rattle.gw_tool_line.specs.declared.ask_choice.DeedWords.TheVariants as said
 use Rattle.gw_verdicts.specs.declared.questions.answer.Answer.{Answer}
 use Rattle.gw_verdicts.specs.declared.questions.answer.Outcome.{Outcome}
 use Rattle.gw_verdicts.specs.declared.questions.answer.Outcome.TheVariants as answer
-use Rattle.gw_verdicts.specs.questions.Deeds.{DeedText, to_read, to_write}
-use Rattle.gw_verdicts.specs.questions.Words.{IsAnswerTo, QuestionText}
+use Rattle.gw_verdicts.specs.questions.Deeds.{to_read, to_serve, to_write}
+use Rattle.gw_verdicts.specs.questions.Words.{IsAnswerTo, QuestionText, SubjectText, of_deed, of_registration, of_who_is}
 
--- what a station is asked to do
-abbrev pub deed_text : DeedWords → DeedText
-deed_text (said.Read object) = to_read (string_bytes object)
-deed_text (said.Write object priority) = to_write (string_bytes object) (option_map string_bytes priority)
+-- what a station asks for
+abbrev pub subject_text : DeedWords → SubjectText
+subject_text (said.Read object) = of_deed (to_read (string_bytes object))
+subject_text (said.Write object priority) = of_deed (to_write (string_bytes object) (option_map string_bytes priority))
+subject_text (said.Serve service) = of_deed (to_serve (string_bytes service))
+subject_text said.WhoIs = of_who_is
+subject_text said.Register = of_registration
 
 -- a question in the words of a call
-abbrev pub asked_text : (from to : List ℕ) → DeedWords → QuestionText
-asked_text from to deed = record { from = from; to = to; deed = deed_text deed }
+abbrev pub asked_text : (from : List ℕ) → (to : Option (List ℕ)) → DeedWords → QuestionText
+asked_text from to deed = record { from = from; to = to; subject = subject_text deed }
 
 -- how the program ends after an answer: no is what `NotAllowed` says, and words that ask no question are no command line
 abbrev pub outcome_of_answer : Outcome → Result (Unit {0}) Fault

@@ -2,15 +2,14 @@
 
 ghost use Rattle.std.specs.Prelude.{◌≡◌, [], option_map, string_bytes, OnOk};
 ghost use Rattle.std.specs.Io.Buffered.{writer_buffer, writer_contents};
-ghost use Rattle.gw_tools.specs.Questioning.{LeavesAnswerOf, LeavesQuestion, LeavesQuestionIn, LeavesSomeAnswer, asked_text, deed_text, outcome_of_answer};
-ghost use Rattle.gw_verdicts.specs.questions.Deeds.{deed_text as deed_said};
-ghost use Rattle.gw_verdicts.specs.questions.Words.{IsAnswerTo, question_text};
+ghost use Rattle.gw_tools.specs.Questioning.{LeavesAnswerOf, LeavesQuestion, LeavesQuestionIn, LeavesSomeAnswer, asked_text, outcome_of_answer, subject_text};
+ghost use Rattle.gw_verdicts.specs.questions.Words.{IsAnswerTo, question_text, subject_text as subject_said};
 
 use gw_configuration::Config;
 use gw_ending::Fault;
 use gw_ending::reading::{ConfigFiles, configuration_in, print};
 use gw_tool_line::DeedWords;
-use gw_verdicts::questions::{self, Answer, Outcome, Words, answer_words};
+use gw_verdicts::questions::{self, Answer, Outcome, Subject, Words, answer_words};
 use std::alloc::{AllocError, Global};
 use std::io::{BufWriter, Write};
 
@@ -21,8 +20,8 @@ pub struct Questioned<'a> {
     pub file: &'a str,
     /// Who asks.
     pub from: &'a str,
-    /// Who is asked.
-    pub to: &'a str,
+    /// Who is asked, if that is said.
+    pub to: &'a Option<String>,
     /// What for.
     pub deed: &'a DeedWords,
 }
@@ -38,25 +37,29 @@ fn text_if(text: &Option<String>) -> Option<&str>
 }
 
 /// What is asked for.
-fn deed_of(deed: &DeedWords) -> questions::DeedWords<'_>
-    ensures { deed_said result ≡ deed_text deed.now }
+fn subject_of(deed: &DeedWords) -> Subject<'_>
+    ensures { subject_said result ≡ subject_text deed.now }
 {
     match deed {
-        DeedWords::Read(object) => questions::DeedWords::Read(object.as_str()),
+        DeedWords::Read(object) => Subject::Deed(questions::DeedWords::Read(object.as_str())),
         DeedWords::Write { object, priority } => {
-            questions::DeedWords::Write(object.as_str(), text_if(priority))
+            let priority = text_if(priority);
+            Subject::Deed(questions::DeedWords::Write(object.as_str(), priority))
         }
+        DeedWords::Serve(service) => Subject::Deed(questions::DeedWords::Serve(service.as_str())),
+        DeedWords::WhoIs => Subject::WhoIs,
+        DeedWords::Register => Subject::Registration,
     }
 }
 
 /// The question.
 fn words_of<'a>(asked: &Questioned<'a>) -> Words<'a>
-    ensures { question_text result ≡ asked_text asked.now.from.now asked.now.to.now asked.now.deed.now }
+    ensures { question_text result ≡ asked_text asked.now.from.now (option_map string_bytes asked.now.to.now) asked.now.deed.now }
 {
     Words {
         from: asked.from,
-        to: asked.to,
-        deed: deed_of(asked.deed),
+        to: text_if(asked.to),
+        subject: subject_of(asked.deed),
     }
 }
 
@@ -92,7 +95,7 @@ fn answer<W: Write + Drop>(
     asked: &Questioned<'_>,
     output: &mut BufWriter<W>,
 ) -> Result<(), Fault>
-    ensures output { let words = asked_text asked.now.from.now asked.now.to.now asked.now.deed.now in
+    ensures output { let words = asked_text asked.now.from.now (option_map string_bytes asked.now.to.now) asked.now.deed.now in
         LeavesSomeAnswer (IsAnswerTo config words) (writer_contents W.contents output.old)
         (writer_contents W.contents output.new) result }
     ensures flush { OnOk result (writer_buffer output.new ≡ []) }
@@ -108,7 +111,7 @@ fn answer_by<W: Write + Drop>(
     asked: &Questioned<'_>,
     output: &mut BufWriter<W>,
 ) -> Result<(), Fault>
-    ensures output { let words = asked_text asked.now.from.now asked.now.to.now asked.now.deed.now in
+    ensures output { let words = asked_text asked.now.from.now (option_map string_bytes asked.now.to.now) asked.now.deed.now in
         LeavesQuestion words (writer_contents W.contents output.old) (writer_contents W.contents output.new) config result }
     ensures flush { OnOk result (writer_buffer output.new ≡ []) }
 {
@@ -123,7 +126,7 @@ pub fn answer_question_in<F: ConfigFiles, W: Write + Drop>(
     asked: &Questioned<'_>,
     output: &mut BufWriter<W>,
 ) -> Result<(), Fault>
-    ensures output { let words = asked_text asked.now.from.now asked.now.to.now asked.now.deed.now in
+    ensures output { let words = asked_text asked.now.from.now (option_map string_bytes asked.now.to.now) asked.now.deed.now in
         LeavesQuestionIn (F.Reads files.now) asked.now.file.now words (writer_contents W.contents output.old)
         (writer_contents W.contents output.new) result }
     ensures flush { OnOk result (writer_buffer output.new ≡ []) }

@@ -1,4 +1,5 @@
 pub mod Answers
+pub mod Calls
 pub mod Datagrams
 pub mod Deeds
 pub mod Laws

@@ -1,6 +1,6 @@
 -- What is wrong with what the words of a call say, and which word is the first that is wrong.
 use Rattle.std.specs.Prelude.{◌≡◌, ◌⊎◌, ⊤, ℕ, ◌+◌, ◌-◌, ◌==◌, Bool, true, false, ◌&&◌, ◌||◌, not, nat_le, if◌then◌else◌, List, [], ◌∷◌, ◌++◌, length}
-use Rattle.std.specs.Prelude.{codes, filter, find, Option, Some, None, Result, Ok, Err, slice_get}
+use Rattle.std.specs.Prelude.{codes, filter, find, is_none, is_some, Option, Some, None, Result, Ok, Err, slice_get}
 use Rattle.std.specs.List.{list_any}
 use Rattle.std.specs.Option.{option_map, option_map_or}
 use Rattle.gw_addr.specs.declared.TheConstants.{MAX_PORTS}
@@ -47,6 +47,13 @@ is_at part port = has_station (host_of part) port && not (host_of port == host_o
 abbrev pub is_at_port : Site → Part → Bool
 is_at_port s part = option_map_or (is_at part) (slice_get s.ports (part.number - 1)) false
 
+-- it names no UDP port, while the port does whose subnet has its address; or, of a peer, whose number it has
+abbrev pub lacks_udp : Part → List Part → Bool
+lacks_udp part ports = is_none part.udp && list_any (λ port. is_some port.udp && has_station (host_of part) port) ports
+
+abbrev pub lacks_udp_of : Site → Part → Bool
+lacks_udp_of s part = option_map_or (λ port. is_none part.udp && is_some port.udp) (slice_get s.ports (part.number - 1)) false
+
 -- those of a number
 abbrev pub of_number : ℕ → List Part → List Part
 of_number number parts = filter (λ part. part.number == number) parts
@@ -71,6 +78,7 @@ peer_flaw s before part = first_flaw (
     ∷ (not (has_station (host_of part) part), flaw.End)
     ∷ (not (is_port s part.number), flaw.NoPort)
     ∷ (overlaps_one part s.ports || overlaps_one part before, flaw.Overlap)
+    ∷ (lacks_udp_of s part, flaw.Udp)
     ∷ (nat_le 15 (length (of_number part.number before)), flaw.TooMany) ∷ [])
 
 -- a number is no network's, or that of the gateway's device, a port or another network behind a router
@@ -82,11 +90,13 @@ unfoldable pub router_flaw : Site → (before : List Part) → Part → Option F
 router_flaw s before part = first_flaw (
     (is_taken s before part.number, flaw.Taken)
     ∷ (not (is_beside part s.ports), flaw.NoPort)
+    ∷ (lacks_udp part s.ports, flaw.Udp)
     ∷ (nat_le 32 (length before), flaw.TooMany) ∷ [])
 
 unfoldable pub operator_flaw : Site → (before : List Part) → Part → Option Flaw
 operator_flaw s before part = first_flaw (
     (not (is_station part s.ports) && not (is_station part s.peers), flaw.NoPort)
+    ∷ (lacks_udp part s.ports, flaw.Udp)
     ∷ (is_named part before, flaw.Taken)
     ∷ (nat_le 32 (length before), flaw.TooMany) ∷ [])
 
@@ -94,6 +104,7 @@ unfoldable pub manager_flaw : Site → (before : List Part) → Part → Option 
 manager_flaw s before part = first_flaw (
     (not (is_port s part.number), flaw.NoPort)
     ∷ (not (is_at_port s part), flaw.NoPort)
+    ∷ (lacks_udp part s.ports, flaw.Udp)
     ∷ (is_given part.number before, flaw.Taken)
     ∷ (is_given part.number s.peers, flaw.HasPeers) ∷ [])
 
@@ -134,7 +145,7 @@ wrong_in s =
     (or_else (wrong_of s option.Router)
     (or_else (wrong_of s option.Operator) (wrong_of s option.Manager))))
 
--- ---- the line that names it
+-- ---- the line that names it, and one below it that says what to write
 
 abbrev pub form_of : SiteOption → List ℕ
 form_of option.Port = codes "it takes ADDRESS/PREFIX, as 10.1.0.2/24"
@@ -153,6 +164,32 @@ flaw_words option flaw.Taken = codes "it is taken, or no network's"
 flaw_words option flaw.HasPeers = codes "its port has peers"
 flaw_words option flaw.TooMany = codes "there are too many"
 flaw_words option flaw.Alone = codes "a gateway joins two ports or more"
+flaw_words option flaw.Udp = codes "its port has another UDP port than 47808, and it names none"
+
+-- what to write
+abbrev pub port_advice : SiteOption → List ℕ
+port_advice option.Peer = codes "write the number of its port first, from 1 in the order of --port"
+port_advice option.Router = codes "write the router's address on the subnet of a port, which isn't the port's own"
+port_advice option.Operator = codes "write a station on the subnet of a port or of a peer"
+port_advice _ = codes "write the number of its port first, and an address on its subnet, which isn't the port's own"
+
+abbrev pub taken_advice : SiteOption → List ℕ
+taken_advice option.Router =
+    codes "write a number from 1 to 65534 that no other network has: the ports have 1, 2, .., and the gateway's device 100"
+taken_advice option.Operator = codes "name each operator once"
+taken_advice _ = codes "name one manager for a port"
+
+abbrev pub advice_words : SiteOption → Flaw → List ℕ
+advice_words option flaw.Form = codes "write numbers without leading zeros, and a UDP port other than 47808 last, as :47809"
+advice_words option flaw.Prefix = codes "write how many bits of the address name its subnet, as 24 for the mask 255.255.255.0"
+advice_words option flaw.End = codes "write the address of the machine itself, not its subnet's"
+advice_words option flaw.Overlap = codes "give each port and each peer a subnet of its own"
+advice_words option flaw.NoPort = port_advice option
+advice_words option flaw.Taken = taken_advice option
+advice_words option flaw.HasPeers = codes "give the peers to that manager, or leave out --bbmd"
+advice_words option flaw.TooMany = codes "leave it out here, and write it into the configuration"
+advice_words option flaw.Alone = codes "write another --port, for the subnet that it is joined with"
+advice_words option flaw.Udp = codes "write its UDP port last, as :47808 or :47809"
 
 abbrev pub word_at : List (List ℕ) → ℕ → List ℕ
 word_at words place = option_map_or (λ word. word) (slice_get words place) []
@@ -160,4 +197,4 @@ word_at words place = option_map_or (λ word. word) (slice_get words place) []
 unfoldable pub wrong_line : SiteText → WrongWord → List ℕ
 wrong_line text w =
     codes "--" ++ (option_name w.option ++ (codes " " ++ (word_at (words_in text w.option) w.place
-    ++ (codes ": " ++ (flaw_words w.option w.flaw ++ codes "\n")))))
+    ++ (codes ": " ++ (flaw_words w.option w.flaw ++ (codes "\n  " ++ (advice_words w.option w.flaw ++ codes "\n")))))))

@@ -1,5 +1,5 @@
 -- What a word of a call says of a site, and how it is written.
-use Rattle.std.specs.Prelude.{ℕ, ◌+◌, ◌-◌, ◌%◌, ◌^◌, ◌==◌, Bool, true, false, ◌&&◌, nat_le, nat_lt, if◌then◌else◌, List, [], ◌∷◌, ◌++◌, codes, decimal}
+use Rattle.std.specs.Prelude.{ℕ, ◌+◌, ◌-◌, ◌%◌, ◌^◌, ◌==◌, Bool, true, false, ◌&&◌, nat_le, nat_lt, if◌then◌else◌, List, [], ◌∷◌, ◌++◌, codes, decimal, Option, Some, None}
 use Rattle.std.specs.Int.{from_be_bytes, w32}
 use Rattle.gw_addr.specs.Text.{four_text}
 use Rattle.gw_policy_drafts.specs.declared.beginning.part.Part.{Part}
@@ -28,7 +28,7 @@ has_prefix option.Port = true
 has_prefix option.Peer = true
 has_prefix _ = false
 
--- ---- the words: `10.1.0.2/24`, `2=203.0.113.2/24`, `300=10.2.0.254`, `10.1.0.10`, `1=10.1.0.3`
+-- ---- the words: `10.1.0.2/24`, `2=203.0.113.2/24`, `300=10.2.0.254`, `10.1.0.10`, `1=10.1.0.3`, each perhaps with a UDP port, `:47809`
 
 abbrev pub number_text : Bool → ℕ → List ℕ
 number_text numbered number = if numbered then decimal number ++ codes "=" else []
@@ -36,9 +36,13 @@ number_text numbered number = if numbered then decimal number ++ codes "=" else 
 abbrev pub prefix_text : Bool → ℕ → List ℕ
 prefix_text prefixed prefix = if prefixed then codes "/" ++ decimal prefix else []
 
+abbrev pub udp_text : Option ℕ → List ℕ
+udp_text (Some udp) = codes ":" ++ decimal udp
+udp_text None = []
+
 unfoldable pub word_of : SiteOption → Part → List ℕ
 word_of option part =
-    number_text (is_numbered option) part.number ++ (four_text part.ip ++ prefix_text (has_prefix option) part.prefix)
+    number_text (is_numbered option) part.number ++ (four_text part.ip ++ (prefix_text (has_prefix option) part.prefix ++ udp_text part.udp))
 
 -- ---- the subnet
 

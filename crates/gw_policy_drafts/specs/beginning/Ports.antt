@@ -16,16 +16,16 @@ use Rattle.gw_policy_drafts.specs.declared.beginning.part.Part.{Part}
 abbrev pub octets_of : ℕ → List ℕ
 octets_of host = drop 4 (to_be_bytes w64 host)
 
--- at the UDP port 47808 (Annex J.1.2)
-abbrev pub at_usual : List ℕ → BipAddr
-at_usual ip = record { ip = ip; udp = 47808 }
+-- the UDP port, 47808 if none is named (Annex J.1.2)
+abbrev pub udp_of : Part → ℕ
+udp_of part = option_map_or (λ udp. udp) part.udp 47808
 
 abbrev pub address_of : Part → BipAddr
-address_of part = at_usual part.ip
+address_of part = record { ip = part.ip; udp = udp_of part }
 
 -- where its broadcasts go: to the last address of its subnet
 abbrev pub broadcast_of : Part → BipAddr
-broadcast_of part = at_usual (octets_of (last_of part))
+broadcast_of part = record { ip = octets_of (last_of part); udp = udp_of part }
 
 -- its subnet
 abbrev pub subnet_at : Part → Subnet

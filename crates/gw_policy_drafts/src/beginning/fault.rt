@@ -1,7 +1,7 @@
 //! Why no configuration is written, and which word is wrong.
 
 ghost use Rattle.std.specs.Prelude.{◌≡◌, map, string_bytes, IfOk};
-ghost use Rattle.gw_policy_drafts.specs.beginning.Flaws.{flaw_words, form_of, word_at, wrong_line};
+ghost use Rattle.gw_policy_drafts.specs.beginning.Flaws.{advice_words, flaw_words, form_of, port_advice, taken_advice, word_at, wrong_line};
 ghost use Rattle.gw_policy_drafts.specs.beginning.Site.{site_text};
 ghost use Rattle.gw_policy_drafts.specs.declared.beginning.fault.BeginFault.TheVariants.{Memory};
 
@@ -32,6 +32,8 @@ pub enum Flaw {
     TooMany,
     /// It is the only port.
     Alone,
+    /// It names no UDP port, while its port does.
+    Udp,
 }
 
 impl Flaw {
@@ -49,7 +51,54 @@ impl Flaw {
             Flaw::HasPeers => "its port has peers",
             Flaw::TooMany => "there are too many",
             Flaw::Alone => "a gateway joins two ports or more",
+            Flaw::Udp => "its port has another UDP port than 47808, and it names none",
         }
+    }
+
+    /// What to write.
+    fn advice(self, option: SiteOption) -> &'static str
+        ensures { result.now ≡ advice_words option self }
+    {
+        match self {
+            Flaw::Form =>
+                "write numbers without leading zeros, and a UDP port other than 47808 last, as :47809",
+            Flaw::Prefix =>
+                "write how many bits of the address name its subnet, as 24 for the mask 255.255.255.0",
+            Flaw::End => "write the address of the machine itself, not its subnet's",
+            Flaw::Overlap => "give each port and each peer a subnet of its own",
+            Flaw::NoPort => port_advice(option),
+            Flaw::Taken => taken_advice(option),
+            Flaw::HasPeers => "give the peers to that manager, or leave out --bbmd",
+            Flaw::TooMany => "leave it out here, and write it into the configuration",
+            Flaw::Alone => "write another --port, for the subnet that it is joined with",
+            Flaw::Udp => "write its UDP port last, as :47808 or :47809",
+        }
+    }
+}
+
+/// What to write for an address or a number that no port has.
+fn port_advice(option: SiteOption) -> &'static str
+    ensures { result.now ≡ port_advice option }
+{
+    match option {
+        SiteOption::Peer => "write the number of its port first, from 1 in the order of --port",
+        SiteOption::Router =>
+            "write the router's address on the subnet of a port, which isn't the port's own",
+        SiteOption::Operator => "write a station on the subnet of a port or of a peer",
+        SiteOption::Port | SiteOption::Manager =>
+            "write the number of its port first, and an address on its subnet, which isn't the port's own",
+    }
+}
+
+/// What to write for a number or an address that is taken.
+fn taken_advice(option: SiteOption) -> &'static str
+    ensures { result.now ≡ taken_advice option }
+{
+    match option {
+        SiteOption::Router =>
+            "write a number from 1 to 65534 that no other network has: the ports have 1, 2, .., and the gateway's device 100",
+        SiteOption::Operator => "name each operator once",
+        SiteOption::Port | SiteOption::Peer | SiteOption::Manager => "name one manager for a port",
     }
 }
 
@@ -109,7 +158,8 @@ fn word_at(words: &[String], place: usize) -> &str
     }
 }
 
-/// The line that says which word is wrong, and why: `--port 10.1.0.2/33: a prefix has 8 to 30 bits`.
+/// The line that says which word is wrong, and why: `--port 10.1.0.2/33: a prefix has 8 to 30 bits`; and one that says what to
+/// write.
 #[tactic(auto, unfolding(crate::specs::beginning::Flaws::wrong_line))]
 pub fn wrong_line(alloc: Global, words: &Words<'_>, wrong: WrongWord) -> Result<Vec<u8>, AllocError>
     ensures { IfOk result (λ line. line.items ≡ wrong_line (site_text words.now) wrong) }
@@ -126,6 +176,8 @@ pub fn wrong_line(alloc: Global, words: &Words<'_>, wrong: WrongWord) -> Result<
     put_slice(&mut line, word_at(words.of(option), place).as_bytes())?;
     put_slice(&mut line, b": ")?;
     put_slice(&mut line, flaw.words(option).as_bytes())?;
+    put_slice(&mut line, b"\n  ")?;
+    put_slice(&mut line, flaw.advice(option).as_bytes())?;
     put_slice(&mut line, b"\n")?;
     Ok(line)
 }

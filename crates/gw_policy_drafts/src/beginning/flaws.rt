@@ -2,7 +2,7 @@
 
 ghost use Rattle.std.specs.Prelude.{◌≡◌, ◌==◌, ◌≤◌, [], find, length, take, drop};
 ghost use Rattle.std.specs.List.{list_any};
-ghost use Rattle.gw_policy_drafts.specs.beginning.Flaws.{first_flaw, flaw_of, is_at_port, is_beside, is_given, is_named, is_port, is_station, is_subnet, is_taken};
+ghost use Rattle.gw_policy_drafts.specs.beginning.Flaws.{first_flaw, flaw_of, is_at_port, is_beside, is_given, is_named, is_port, is_station, is_subnet, is_taken, lacks_udp, lacks_udp_of};
 ghost use Rattle.gw_policy_drafts.specs.beginning.Flaws.{manager_flaw, of_number, operator_flaw, or_else, overlaps_one, peer_flaw, port_flaw, router_flaw, wrong_from, wrong_in, wrong_of};
 ghost use Rattle.gw_policy_drafts.specs.beginning.Site.{site_of};
 
@@ -97,6 +97,28 @@ fn is_at_port(site: &Site, part: Part) -> bool
     }
 }
 
+/// Whether a part names no UDP port, while the port of these does whose subnet has its address.
+fn lacks_udp(part: Part, ports: &[Part]) -> bool
+    ensures { result ≡ lacks_udp part ports.now }
+{
+    let host = part.host();
+    let has_one = ports
+        .iter()
+        .any(|port| port.udp.is_some() && port.has_station(host));
+    part.udp.is_none() && has_one
+}
+
+/// Whether a peer names no UDP port, while its port does.
+fn lacks_udp_of(site: &Site, part: Part) -> bool
+    ensures { result ≡ lacks_udp_of (site_of site.now) part }
+{
+    let place = usize::from(part.number.saturating_sub(1));
+    match site.ports.get(place) {
+        Some(port) => part.udp.is_none() && port.udp.is_some(),
+        None => false,
+    }
+}
+
 /// How many of these have a number.
 fn count_of(number: u16, parts: &[Part]) -> usize
     ensures { result ≡ length (of_number number parts.now) }
@@ -127,6 +149,7 @@ fn peer_flaw(site: &Site, before: &[Part], part: Part) -> Option<Flaw>
         (!part.has_station(part.host()), Flaw::End),
         (!is_port(site, part.number), Flaw::NoPort),
         (overlaps, Flaw::Overlap),
+        (lacks_udp_of(site, part), Flaw::Udp),
         (
             MAX_PORT_PEERS <= count_of(part.number, before),
             Flaw::TooMany,
@@ -152,6 +175,7 @@ fn router_flaw(site: &Site, before: &[Part], part: Part) -> Option<Flaw>
     first_flaw(&[
         (is_taken(site, before, part.number), Flaw::Taken),
         (!is_beside(part, &site.ports), Flaw::NoPort),
+        (lacks_udp(part, &site.ports), Flaw::Udp),
         (MAX_ROUTERS <= before.len(), Flaw::TooMany),
     ])
 }
@@ -163,6 +187,7 @@ fn operator_flaw(site: &Site, before: &[Part], part: Part) -> Option<Flaw>
     let is_stranger = !is_station(part, &site.ports) && !is_station(part, &site.peers);
     first_flaw(&[
         (is_stranger, Flaw::NoPort),
+        (lacks_udp(part, &site.ports), Flaw::Udp),
         (is_named(part, before), Flaw::Taken),
         (MAX_OPERATORS <= before.len(), Flaw::TooMany),
     ])
@@ -175,6 +200,7 @@ fn manager_flaw(site: &Site, before: &[Part], part: Part) -> Option<Flaw>
     first_flaw(&[
         (!is_port(site, part.number), Flaw::NoPort),
         (!is_at_port(site, part), Flaw::NoPort),
+        (lacks_udp(part, &site.ports), Flaw::Udp),
         (is_given(part.number, before), Flaw::Taken),
         (is_given(part.number, &site.peers), Flaw::HasPeers),
     ])

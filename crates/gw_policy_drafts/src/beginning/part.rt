@@ -2,7 +2,7 @@
 
 ghost use Rattle.std.specs.Prelude.{◌≡◌, ◌≤◌, ◌<◌, ◌^◌, IfOk, IfSome};
 ghost use Rattle.gw_addr.specs.Appending.{IsAppended};
-ghost use Rattle.gw_policy_drafts.specs.beginning.Part.{first_of, has_prefix, has_station, host_of, is_numbered, last_of, number_text, option_name, overlaps, prefix_text, size_of, word_of};
+ghost use Rattle.gw_policy_drafts.specs.beginning.Part.{first_of, has_prefix, has_station, host_of, is_numbered, last_of, number_text, option_name, overlaps, prefix_text, size_of, udp_text, word_of};
 
 use gw_addr::{Mask, put_decimal, put_octet};
 use std::alloc::{AllocError, Global};
@@ -10,7 +10,7 @@ use std::alloc::{AllocError, Global};
 /// An option that says what a site has.
 #[derive(Clone, Copy, Debug)]
 pub enum SiteOption {
-    /// A port: `10.1.0.2/24`.
+    /// A port: `10.1.0.2/24`, or `10.1.0.2/24:47809` at another UDP port than 47808, which any address may name.
     Port,
     /// Another broadcast manager that shares broadcasts with a port: `2=203.0.113.2/24`.
     Peer,
@@ -63,6 +63,8 @@ pub struct Part {
     pub ip: [u8; 4],
     /// How many bits of it are those of its subnet, or 32 if its option doesn't say.
     pub prefix: u8,
+    /// The UDP port, if the word names one.
+    pub udp: Option<u16>,
 }
 
 /// What comes before a sign, as a number, and what comes after it; or 0 if no number is to come.
@@ -89,12 +91,29 @@ fn prefix_after(has_prefix: bool, text: &str) -> Option<(&str, u8)> {
     }
 }
 
+/// What comes before a colon, and what comes after it, as a UDP port; or none if there is no colon.
+fn udp_after(text: &str) -> Option<(&str, Option<u16>)> {
+    let Some((front, udp)) = text.split_once(':') else {
+        return Some((text, None));
+    };
+    match udp.parse::<u16>() {
+        Ok(udp) if udp > 0 => Some((front, Some(udp))),
+        Ok(_) | Err(_) => None,
+    }
+}
+
 /// What a word may say.
 fn read(option: SiteOption, text: &str) -> Option<Part> {
     let (number, rest) = number_before(option.is_numbered(), text)?;
+    let (rest, udp) = udp_after(rest)?;
     let (front, prefix) = prefix_after(option.has_prefix(), rest)?;
     let ip = Mask::parse(front)?.octets;
-    Some(Part { number, ip, prefix })
+    Some(Part {
+        number,
+        ip,
+        prefix,
+        udp,
+    })
 }
 
 /// Appends the number of a part, and the sign after it.
@@ -119,6 +138,19 @@ fn put_prefix(out: &mut Vec<u8>, has_prefix: bool, prefix: u8) -> Result<(), All
     put_decimal(out, prefix)
 }
 
+/// Appends a UDP port, after a colon.
+fn put_udp(out: &mut Vec<u8>, udp: Option<u16>) -> Result<(), AllocError>
+    ensures { IsAppended (udp_text udp) out.old out.new result }
+{
+    match udp {
+        Some(udp) => {
+            put_octet(out, b':')?;
+            put_decimal(out, udp)
+        }
+        None => Ok(()),
+    }
+}
+
 /// Appends the word that says a part.
 #[tactic(auto, unfolding(crate::specs::beginning::Part::word_of))]
 fn put_part(out: &mut Vec<u8>, option: SiteOption, part: Part) -> Result<(), AllocError>
@@ -127,7 +159,8 @@ fn put_part(out: &mut Vec<u8>, option: SiteOption, part: Part) -> Result<(), All
     let octets = part.ip;
     put_number(out, option.is_numbered(), part.number)?;
     Mask { octets }.put_text(out)?;
-    put_prefix(out, option.has_prefix(), part.prefix)
+    put_prefix(out, option.has_prefix(), part.prefix)?;
+    put_udp(out, part.udp)
 }
 
 /// The word that says a part.

@@ -4,7 +4,7 @@ ghost use Rattle.std.specs.Prelude.{◌≡◌, ◌+◌, ◌==◌, ◌++◌, ◌�
 ghost use Rattle.std.specs.Option.{option_map, option_map_or};
 ghost use Rattle.gw_policy_drafts.specs.beginning.Part.{has_station, host_of};
 ghost use Rattle.gw_policy_drafts.specs.beginning.Flaws.{of_number};
-ghost use Rattle.gw_policy_drafts.specs.beginning.Ports.{address_of, broadcast_of, entry_of, port_of, ports_of, route_of, routes_of, subnet_at};
+ghost use Rattle.gw_policy_drafts.specs.beginning.Ports.{address_of, broadcast_of, entry_of, port_of, ports_of, route_of, routes_of, subnet_at, udp_of};
 ghost use Rattle.gw_policy_drafts.specs.beginning.Site.{site_of};
 
 use crate::beginning::part::Part;
@@ -17,6 +17,16 @@ use std::alloc::{AllocError, Global};
 /// The UDP port of an address that names none (Annex J.1.2).
 const USUAL_PORT: u16 = 0xBAC0;
 
+/// The UDP port of a part.
+fn udp_of(part: Part) -> u16
+    ensures { result ≡ udp_of part }
+{
+    match part.udp {
+        Some(udp) => udp,
+        None => USUAL_PORT,
+    }
+}
+
 /// The address of a part.
 pub(crate) fn address_of(part: Part) -> BipAddr
     ensures { result ≡ address_of part }
@@ -24,7 +34,7 @@ pub(crate) fn address_of(part: Part) -> BipAddr
     let ip = part.ip;
     BipAddr {
         ip,
-        udp: USUAL_PORT,
+        udp: udp_of(part),
     }
 }
 
@@ -35,7 +45,7 @@ fn broadcast_of(part: Part) -> BipAddr
     let [_, _, _, _, a, b, c, d] = part.last().to_be_bytes();
     BipAddr {
         ip: [a, b, c, d],
-        udp: USUAL_PORT,
+        udp: udp_of(part),
     }
 }
 

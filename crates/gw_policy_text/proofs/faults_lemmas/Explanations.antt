@@ -1,5 +1,5 @@
 -- What a line shows.
-use Rattle.std.proofs.Common.{◌≡◌, ◌≤◌, ◌+◌, Bool, true, false, ℕ, take, if◌then◌else◌, List, [], ◌∷◌, ◌++◌, map, length, nat_lt, codes, Result, Ok, Err, OnOk, rules, refl, ap, subst, sym, ◌∙◌}
+use Rattle.std.proofs.Common.{◌≡◌, ◌≤◌, ◌+◌, Bool, true, false, ℕ, take, if◌then◌else◌, List, [], ◌∷◌, ◌++◌, map, length, nat_lt, codes, Result, Ok, Err, OnOk, rules, refl, ap, ap₂, drop, subst, sym, ◌∙◌}
 use Rattle.std.specs.Prelude.{Float, IfOk, Option, vec_items}
 use Rattle.std.specs.Global.{Vec}
 use Rattle.std.specs.List.{list_all}
@@ -13,7 +13,7 @@ use Rattle.gw_configuration.specs.declared.fault.ConfigFault.{ConfigFault}
 use Rattle.gw_configuration.specs.declared.fault.ConfigFault.TheVariants.{TooMany}
 use Rattle.gw_configuration.specs.Configuration.{Configuration}
 use Rattle.gw_policy_text.specs.Document.{configuration_of, document, located_configuration}
-use Rattle.gw_policy_text.specs.faults.Explanation.{Explains, IsNoDocument, IsTextWanted, IsWanted, IsExplanation, position_words, tables_in, tables_or}
+use Rattle.gw_policy_text.specs.faults.Explanation.{Explains, IsNoDocument, IsTextWanted, IsWanted, IsExplanation, help_words, position_words, tables_in, tables_or}
 use Rattle.gw_policy_text.specs.faults.Wanted.{wanted_words}
 use Rattle.gw_policy_text.specs.faults.Place.{place_words, value_at}
 use Rattle.gw_policy_text.specs.faults.FaultWords.{fault_words, single_words}
@@ -79,14 +79,16 @@ of_tables text top fault result short is line =
     (sym (of_document text (Ok top) short is)) line)
 
 -- the words of a text that is read up to this place
-pub no_document_at : {E : Type 0} (text : List ℕ) (place : ℕ) (front reason : List ℕ) (result : Result (Vec ℕ) E) → place ≤ length text
-    → front ≡ take place text
-    → IfOk result (λ words. vec_items words ≡ codes "is no TOML document" ++ position_words front ++ codes ": " ++ reason)
+pub no_document_at : {E : Type 0} (text : List ℕ) (place : ℕ) (front rest reason : List ℕ) (result : Result (Vec ℕ) E) → place ≤ length text
+    → front ≡ take place text → rest ≡ drop place text
+    → IfOk result (λ words. vec_items words
+    ≡ codes "is no TOML document" ++ position_words front ++ codes ": " ++ reason ++ help_words reason rest)
     → IfOk result (λ words. IsNoDocument text (vec_items words))
-no_document_at text place front reason (Ok words) within same fault_named = record {
+no_document_at text place front rest reason (Ok words) within same other fault_named = record {
   place = place;
   within = within;
   reason = reason;
-  fault_named = fault_named ∙ ap (λ (f : List ℕ). codes "is no TOML document" ++ position_words f ++ codes ": " ++ reason) same;
+  fault_named = fault_named
+      ∙ ap₂ (λ (f r : List ℕ). codes "is no TOML document" ++ position_words f ++ codes ": " ++ reason ++ help_words reason r) same other;
 }
-no_document_at text place front reason (Err failed) within same fault_named = tt
+no_document_at text place front rest reason (Err failed) within same other fault_named = tt

@@ -1,5 +1,7 @@
 -- The line that says where a fault of a configuration is.
 use Rattle.std.specs.Prelude.{◌≡◌, ◌≢◌, ℕ, ◌<◌, ◌≤◌, ◌==◌, not, nat_lt, if◌then◌else◌, List, ◌++◌}
+use Rattle.std.specs.Prelude.{[], ◌∷◌, Bool, false, drop, nat_eq}
+use Rattle.std.specs.Cmp.Lexicographic.{pointwise}
 use Rattle.std.specs.Prelude.{length, map, codes, count_by, reverse, take, Option, Some, None, Ok, Err}
 use Rattle.std.specs.List.{take_while}
 use Rattle.std.specs.Str.{IsUtf8}
@@ -22,12 +24,25 @@ position_words front =
     numbered (codes ", line ") (count_by (λ c. c == 10) front)
     ++ numbered (codes ", column ") (length (take_while (λ c. not (c == 10)) (reverse front)))
 
--- no document: the place up to which it was read, and a reason in words of the reader
+-- what to write in the place of what is there twice: a table, which begins with a bracket, or a key
+abbrev pub is_bracket : List ℕ → Bool
+is_bracket (c ∷ rest) = c == 91
+is_bracket [] = false
+
+abbrev pub help_words : (reason rest : List ℕ) → List ℕ
+help_words reason rest =
+    if not (pointwise nat_eq reason (codes "duplicate key")) then []
+    else if is_bracket rest
+    then codes "; of several tables each is in double brackets, as [[rule]], and what is of a port, as [[port.peer]], comes after its [[port]]"
+    else codes "; each key is given once in a table"
+
+-- no document: the place up to which it was read, a reason in words of the reader, and what to write if a key is there twice
 pub record IsNoDocument (text words : List ℕ) : Type 0 where
   pub place : ℕ
   pub within : place ≤ length text
   pub reason : List ℕ
-  pub fault_named : words ≡ codes "is no TOML document" ++ position_words (take place text) ++ codes ": " ++ reason
+  pub fault_named :
+      words ≡ codes "is no TOML document" ++ position_words (take place text) ++ codes ": " ++ reason ++ help_words reason (drop place text)
 
 -- it is too long, isn't UTF-8, or is no document
 pub record IsTextWanted (text words : List ℕ) : Type 0 where

@@ -34,6 +34,7 @@ use Rattle.gw_policy_text.specs.keys.Value.{list_in}
 use Rattle.gw_policy_text.specs.keys.Written.{mask_written}
 use Rattle.gw_policy_text.specs.faults.Keys.{fields_at, keys_words}
 use Rattle.gw_policy_text.specs.faults.Near.{near_words, noun_of}
+use Rattle.gw_policy_text.specs.faults.First.{first_of, first_words}
 use Rattle.gw_policy_text.specs.faults.Place.{table_at, value_at}
 use Rattle.gw_policy_text.specs.faults.FaultWords.{value_words}
 
@@ -372,7 +373,7 @@ shape_words top fault None item value = unshaped_words fault
 -- by the fault, the shape of its field, and the value there; of an unknown key the known ones
 abbrev pub last_words : Members → Located → Option Data → Option Data → ConfigFault → List ℕ
 last_words top located kind value UnknownKey = keys_words (fields_at located.place top)
-last_words top located kind value Duplicate = twice_words kind
+last_words top located kind value Duplicate = twice_words kind ++ first_words (first_of located kind top)
 last_words top located kind value fault = shape_words top fault located.wanted located.item value
 
 -- the words that end the line of a fault of these tables

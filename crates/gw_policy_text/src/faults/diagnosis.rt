@@ -5,7 +5,7 @@ ghost use Rattle.toml.specs.Data.{Members};
 ghost use Rattle.toml.specs.View.{table_view};
 ghost use Rattle.gw_configuration.specs.Configuration.{Configuration};
 ghost use Rattle.gw_policy_text.specs.Document.{configuration_of};
-ghost use Rattle.gw_policy_text.specs.faults.Explanation.{Explains, ExplainsText, IsNoDocument, IsTextWanted, position_words};
+ghost use Rattle.gw_policy_text.specs.faults.Explanation.{Explains, ExplainsText, IsNoDocument, IsTextWanted, help_words, is_bracket, position_words};
 ghost use Rattle.gw_policy_text.specs.faults.Wanted.{wanted_words};
 ghost use Rattle.gw_configuration.specs.Located.{Find, Located as PlainLocated, located_view, of_text};
 ghost use Rattle.gw_configuration.specs.declared.fault.ConfigFault.TheVariants.{Memory};
@@ -91,18 +91,49 @@ fn no_document_words(alloc: Global, document: &str) -> Result<Vec<u8>, AllocErro
     let Some(span) = error.span() else {
         return Err(AllocError);
     };
-    error_words(alloc, &document.as_bytes()[..span.start], error.message())
+    let (front, rest) = document.as_bytes().split_at(span.start);
+    error_words(alloc, front, error.message(), rest)
+}
+
+/// Whether it begins with a bracket, as a table does.
+fn is_bracket(rest: &[u8]) -> bool
+    ensures { result ≡ is_bracket rest.now }
+{
+    match rest {
+        [first, ..] => *first == b'[',
+        [] => false,
+    }
+}
+
+/// What to write in the place of what is there twice.
+fn help_words(reason: &str, rest: &[u8]) -> &'static [u8]
+    ensures { result.now ≡ help_words reason.now rest.now }
+{
+    if reason != "duplicate key" {
+        return b"";
+    }
+    if is_bracket(rest) {
+        b"; of several tables each is in double brackets, as [[rule]], and what is of a port, as [[port.peer]], comes after its [[port]]"
+    } else {
+        b"; each key is given once in a table"
+    }
 }
 
 /// That a text is no document after this front of it, and why.
-fn error_words(alloc: Global, front: &[u8], reason: &str) -> Result<Vec<u8>, AllocError>
+fn error_words(
+    alloc: Global,
+    front: &[u8],
+    reason: &str,
+    rest: &[u8],
+) -> Result<Vec<u8>, AllocError>
     ensures { IfOk result (λ words. words.items ≡
-        codes "is no TOML document" ++ position_words front.now ++ codes ": " ++ reason.now) }
+        codes "is no TOML document" ++ position_words front.now ++ codes ": " ++ reason.now ++ help_words reason.now rest.now) }
 {
     let mut words = Vec::from_slice(alloc, b"is no TOML document")?;
     put_position(&mut words, front)?;
     words.extend_from_slice(b": ")?;
     words.extend_from_slice(reason.as_bytes())?;
+    words.extend_from_slice(help_words(reason, rest))?;
     Ok(words)
 }
 

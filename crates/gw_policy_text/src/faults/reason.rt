@@ -9,6 +9,7 @@ ghost use Rattle.gw_policy_text.specs.keys.Items.{set_name_in};
 ghost use Rattle.gw_policy_text.specs.keys.Value.{list_in};
 ghost use Rattle.gw_policy_text.specs.faults.Wanted.{address_text, addresses_words, bits_in, bounds_words, due_words, end_of, every_port_words, first_address, first_octet, fixed_words, host_bits, is_reversed, is_slash, is_known, is_known_in, item_words, kind_at, kind_words, last_address, last_octet, length_range_words, length_words, list_kind_words, list_noun, list_words, long_item_words, long_length_words, mention_words, missing_words, must_words, name_words, named_text, named_words, number_words, other_front, other_words, range_words, reversed_ends, scalar_words, shape_words, single_words, straight_words, subnet_in, subnet_words, twice_words, two_front, two_words, type_words, unshaped_words, wanted_words, within_32};
 
+use crate::faults::first::put_first_place;
 use crate::faults::keys::put_keys;
 use crate::faults::near::{noun_of, put_near};
 use crate::faults::value::{put_value, value_at};
@@ -66,7 +67,10 @@ pub(crate) fn put_wanted(
     let value = value_at(located, top);
     match located.fault {
         ConfigFault::UnknownKey => put_keys(line, located.place, top),
-        ConfigFault::Duplicate => put_twice(line, kind),
+        ConfigFault::Duplicate => {
+            put_twice(line, kind)?;
+            put_first_place(line, located, kind, top)
+        }
         _ => put_shape(line, located, top, value),
     }
 }

@@ -38,7 +38,8 @@ fn put_table(line: &mut Vec<u8>, place: Place, name: Option<&str>) -> Result<(),
     line.extend_from_slice(b": ")
 }
 
-fn put_part(line: &mut Vec<u8>, place: Place) -> Result<(), AllocError>
+/// Puts a table, by its number where there are several.
+pub(crate) fn put_part(line: &mut Vec<u8>, place: Place) -> Result<(), AllocError>
     ensures { OnOk result (line.new.items ≡ line.old.items ++ table_words place) }
 {
     match place {

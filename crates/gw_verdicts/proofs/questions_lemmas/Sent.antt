@@ -1,12 +1,15 @@
 -- What is sent, message by message.
 use Rattle.std.proofs.Common.{◌≡◌, ◌∙◌, ◌++◌, ◌&&◌, ◌||◌, ◌==◌, ℕ, Bool, true, false, List, [], ◌∷◌, map, refl, sym, ap, ap₂, codes}
+use Rattle.std.specs.Prelude.{nat_eq}
+use Rattle.std.specs.Cmp.Lexicographic.{pointwise}
 use Rattle.std.specs.List.{flat_map, list_any}
 use Rattle.std.proofs.lemmas.Grind.{flat_map-append}
 use Rattle.gw_addr.specs.declared.bip.BipAddr.{BipAddr}
 use Rattle.gw_configuration.specs.Configuration.{is_same_address}
 use Rattle.gw_relay.specs.Sends.{Batch, Sending, sending, sendings_of}
 use Rattle.gw_verdicts.specs.declared.questions.place.Station.{Station}
-use Rattle.gw_verdicts.specs.questions.Answers.{batch_lines, batch_reaches, batch_refuses, reaches, refuses, refuses_to, sent_line, way_line}
+use Rattle.gw_verdicts.specs.questions.Answers.{batch_lines, batch_reaches, batch_refuses, reaches, refuses, is_to_some, sent_line, way_line}
+use Rattle.gw_verdicts.specs.questions.Calls.{accepts, batch_accepts, batch_hears, hears, success}
 use Rattle.gw_verdicts.specs.questions.Refusals.{is_refusal}
 
 -- the lines of a message are those of its datagrams
@@ -62,7 +65,7 @@ reaches_by station batches =
     batches
 
 -- a refusal
-alike : (is : Bool) (targets : List BipAddr) → list_any (λ (to : BipAddr). is) targets ≡ refuses_to targets is
+alike : (is : Bool) (targets : List BipAddr) → list_any (λ (to : BipAddr). is) targets ≡ is_to_some targets is
 alike is [] = refl
 alike true (to ∷ targets) = refl
 alike false (to ∷ []) = refl
@@ -72,4 +75,18 @@ pub refuses_by : (batches : List Batch) → refuses (flat_map sendings_of batche
 refuses_by batches =
     any_of (λ (sent : Sending). is_refusal sent.octets) batch_refuses
     (λ b. any_map (λ (sent : Sending). is_refusal sent.octets) b.port b.octets b.targets ∙ alike (is_refusal b.octets) b.targets)
+    batches
+
+-- a datagram by a port, and a Result that says that it is done
+pub hears_by : (port : ℕ) (batches : List Batch) → hears port (flat_map sendings_of batches) ≡ list_any (batch_hears port) batches
+hears_by port batches =
+    any_of (λ (sent : Sending). sent.port == port) (batch_hears port)
+    (λ b. any_map (λ (sent : Sending). sent.port == port) b.port b.octets b.targets ∙ alike (b.port == port) b.targets)
+    batches
+
+pub accepts_by : (batches : List Batch) → accepts (flat_map sendings_of batches) ≡ list_any batch_accepts batches
+accepts_by batches =
+    any_of (λ (sent : Sending). pointwise nat_eq sent.octets success) batch_accepts
+    (λ b. any_map (λ (sent : Sending). pointwise nat_eq sent.octets success) b.port b.octets b.targets
+    ∙ alike (pointwise nat_eq b.octets success) b.targets)
     batches

@@ -13,6 +13,8 @@ use Rattle.gw_script.specs.Event.{Event}
 use Rattle.gw_verdicts.specs.declared.questions.place.Question.{Question}
 use Rattle.gw_verdicts.specs.declared.questions.place.Station.{Station}
 use Rattle.gw_verdicts.specs.questions.Answers.{answer_text, answered_text, back_text, rest_text, step_text, way_line}
+use Rattle.gw_verdicts.specs.declared.questions.call.Call.{Call}
+use Rattle.gw_verdicts.specs.questions.Calls.{asker_of, call_event, call_text, end_text}
 use Rattle.gw_verdicts.specs.questions.Datagrams.{answer_event, request_event}
 
 joined : (text way step rest : List ℕ) → text ++ way ++ step ++ rest ≡ text ++ (way ++ step ++ rest)
@@ -56,4 +58,21 @@ questioned w moved q r text before middle after event asked done is first second
     ap (λ (v : State). rest_text v q asked done.sends q.target) (moves ∙ ap (next w) is)
     ∙ ap (λ (l : List Asked). rest_text (next w e) q l done.sends q.target) (asks ∙ ap (asked_at w) is)
     ∙ ap (λ (d : Effects). rest_text (next w e) q (asked_at w e) d.sends q.target) (does ∙ ap (effects_at w) is) in
+    subst (λ (t : List ℕ). OnOk r (after ≡ t)) (parts (step_text w) text before middle way _ _ event e is first second due) ends
+
+pub called : {E : Type 0} (w : State) (q : Call) (r : Result Bool E) (text before middle after : List ℕ) (event : Event)
+    (rules : List Rule) (asked : List Asked) (done : Effects)
+    → event ≡ call_event q
+    → before ≡ text ++ way_line (codes "the request comes from ") (asker_of q).link (asker_of q).port
+    → middle ≡ before ++ step_text w event
+    → rules ≡ (next w event).rules → asked ≡ asked_at w event → done ≡ effects_at w event
+    → OnOk r (after ≡ middle ++ end_text rules q asked done.sends)
+    → OnOk r (after ≡ text ++ call_text w q)
+called w q r text before middle after event rules asked done is first second ruled asks does ends =
+    let e = call_event q in
+    let way = way_line (codes "the request comes from ") (asker_of q).link (asker_of q).port in
+    let due : end_text rules q asked done.sends ≡ end_text (next w e).rules q (asked_at w e) (effects_at w e).sends =
+    ap (λ (l : List Rule). end_text l q asked done.sends) (ruled ∙ ap (λ (v : Event). (next w v).rules) is)
+    ∙ ap (λ (l : List Asked). end_text (next w e).rules q l done.sends) (asks ∙ ap (asked_at w) is)
+    ∙ ap (λ (d : Effects). end_text (next w e).rules q (asked_at w e) d.sends) (does ∙ ap (effects_at w) is) in
     subst (λ (t : List ℕ). OnOk r (after ≡ t)) (parts (step_text w) text before middle way _ _ event e is first second due) ends

@@ -18,6 +18,8 @@ use Rattle.gw_log_words.specs.Words.{words}
 use Rattle.gw_relay.specs.Sends.{Batch, Sending}
 use Rattle.gw_rules.specs.declared.rule.Rule.{Rule}
 use Rattle.gw_script.specs.Event.{Event}
+use Rattle.gw_verdicts.specs.declared.questions.answer.Outcome.{Outcome}
+use Rattle.gw_verdicts.specs.declared.questions.answer.Outcome.TheVariants as outcome
 use Rattle.gw_verdicts.specs.declared.questions.place.Question.{Question}
 use Rattle.gw_verdicts.specs.declared.questions.place.Station.{Station}
 use Rattle.gw_verdicts.specs.declared.questions.place.Target.{Target}
@@ -73,13 +75,14 @@ batch_reaches station batch = (batch.port == station.port) && list_any (λ to. i
 abbrev pub reaches : Station → List Sending → Bool
 reaches station sends = list_any (λ sent. (sent.port == station.port) && is_same_address sent.to station.link) sends
 
--- a message to somebody says that access is denied
-abbrev pub refuses_to : List BipAddr → (is_refusal : Bool) → Bool
-refuses_to [] is = false
-refuses_to (to ∷ targets) is = is
+-- a message goes to somebody, and this is so of it
+abbrev pub is_to_some : List BipAddr → Bool → Bool
+is_to_some [] is = false
+is_to_some (to ∷ targets) is = is
 
+-- a message to somebody says that access is denied
 abbrev pub batch_refuses : Batch → Bool
-batch_refuses batch = refuses_to batch.targets (is_refusal batch.octets)
+batch_refuses batch = is_to_some batch.targets (is_refusal batch.octets)
 
 -- a datagram that is sent says so
 abbrev pub refuses : List Sending → Bool
@@ -102,6 +105,9 @@ may_after w q sends (target.Device network) = serves q.asker sends
 -- a station may do it
 abbrev pub may : State → Question → Bool
 may w q = let e = request_event q in may_after (next w e) q (effects_at w e).sends q.target
+
+abbrev pub outcome_of : Bool → Outcome
+outcome_of is_yes = if is_yes then outcome.Yes else outcome.No
 
 -- ---- the last line
 

@@ -1,5 +1,6 @@
 -- The datagrams of a question: the request by which a station asks, and the answer to a request that is done.
-use Rattle.std.specs.Prelude.{◌≡◌, ℕ, Bool, true, false, List, [], ◌∷◌, ◌++◌, Option, Some, None, Ok, if◌then◌else◌}
+use Rattle.std.specs.Prelude.{◌≡◌, ◌==◌, ℕ, Bool, true, false, List, [], ◌∷◌, ◌++◌, Option, Some, None, Ok, if◌then◌else◌}
+use Rattle.std.specs.List.{list_any}
 use Rattle.gw_addr.specs.declared.station.Source.{Source}
 use Rattle.gw_codecs.specs.apdu.Answers.{complex_ack, simple_ack}
 use Rattle.gw_codecs.specs.services.Read.{Read, read_encoding, read_view}
@@ -28,6 +29,18 @@ confirmed service body = (0x00 ∷ 0x05 ∷ 1 ∷ service ∷ []) ++ body
 abbrev pub request_apdu : Deed → List ℕ
 request_apdu (deed.Read read) = confirmed 12 (read_encoding (read_view read))
 request_apdu (deed.Write write) = confirmed 15 (write_encoding (write_view write))
+request_apdu (deed.Serve service) = confirmed service []
+
+-- a service that is done says more than that: GetAlarmSummary 3, GetEnrollmentSummary 4, AtomicReadFile 6, AtomicWriteFile 7,
+-- CreateObject 10, three that read 12 to 14, ConfirmedPrivateTransfer 18, VT-Open 21, VT-Data 23, ReadRange 26,
+-- GetEventInformation 29, AuditLogQuery 33 (clauses 13 to 17)
+abbrev pub has_result : (service : ℕ) → Bool
+has_result service =
+    list_any (λ other. other == service)
+    (3 ∷ 4 ∷ 6 ∷ 7 ∷ 10 ∷ 12 ∷ 13 ∷ 14 ∷ 18 ∷ 21 ∷ 23 ∷ 26 ∷ 29 ∷ 33 ∷ [])
+
+abbrev pub served_answer : (service : ℕ) → List ℕ
+served_answer service = if has_result service then complex_ack 1 service else simple_ack 1 service
 
 -- the answer to a read has the value Null (clause 20.2.2), and that to a write has none
 abbrev pub read_answer : Read → List ℕ
@@ -36,6 +49,7 @@ read_answer read = complex_ack 1 12 ++ read_answer_head read ++ 0x00 ∷ [] ++ r
 abbrev pub answer_apdu : Deed → List ℕ
 answer_apdu (deed.Read read) = read_answer (read_view read)
 answer_apdu (deed.Write write) = simple_ack 1 15
+answer_apdu (deed.Serve service) = served_answer service
 
 -- ---- how they are sent
 

@@ -2,7 +2,7 @@
 use Rattle.std.specs.Prelude.{◌≡◌, ℕ, ◌≤◌, ◌&&◌, [], ◌∷◌, nat_lt, Option, Some, None, Result, Ok, Err, if◌then◌else◌}
 use Rattle.std.specs.Option.{option_map}
 use Rattle.std.specs.Str.Parse.{IsNumeral, digits_value, without_leading_plus}
-use Rattle.gw_codecs.specs.names.Names.{object_type_number, property_number}
+use Rattle.gw_codecs.specs.names.Names.{object_type_number, property_number, service_number}
 use Rattle.gw_codecs.specs.services.Read.{Read, read_view}
 use Rattle.gw_codecs.specs.services.Write.{Write, write_view}
 use Rattle.gw_verdicts.specs.declared.questions.deed.Deed.{Deed}
@@ -13,23 +13,27 @@ use Rattle.gw_verdicts.specs.declared.questions.fault.Unasked.{Unasked}
 use Rattle.gw_verdicts.specs.declared.questions.fault.Unasked.TheVariants as unasked
 use Rattle.gw_verdicts.specs.questions.Read.{IsNumberIn, Text, parted}
 
--- what a station asks for, in words: to read this, or to write it, at a priority if one is given
+-- what a station asks for, in words: to read this; to write it, at a priority if one is given; a confirmed service
 pub data DeedText : Type 0 where
   to_read : (object : Text) → DeedText
   to_write : (object : Text) (priority : Option Text) → DeedText
+  to_serve : (service : Text) → DeedText
 
 abbrev pub deed_text : DeedWords → DeedText
 deed_text (said.Read object) = to_read object.now
 deed_text (said.Write object priority) = to_write object.now (option_map (λ text. text.now) priority)
+deed_text (said.Serve service) = to_serve service.now
 
 -- a deed without the proof that its numbers fit
 pub data Done : Type 0 where
   reads : Read → Done
   writes : Write → Done
+  is_served : (service : ℕ) → Done
 
 abbrev pub deed_view : Deed → Done
 deed_view (deed.Read read) = reads (read_view read)
 deed_view (deed.Write write) = writes (write_view write)
+deed_view (deed.Serve service) = is_served service
 
 -- the same where there may be none
 abbrev pub result_of : {A B E : Type 0} → (A → B) → Result A E → Result B E
@@ -102,8 +106,15 @@ IsDeedToWrite None priority done = done ≡ Err unasked.Write
 IsDeedToWrite (Some read) None done = done ≡ Ok (written read None)
 IsDeedToWrite (Some read) (Some text) done = (priority : Option ℕ) × IsPriorityIn text priority × (done ≡ written_at read priority)
 
+-- a confirmed service has a number of 8 bits (clause 20.1.2)
+abbrev pub deed_of_service : Option ℕ → Result Done Unasked
+deed_of_service (Some number) = if nat_lt number 256 then Ok (is_served number) else Err unasked.Service
+deed_of_service None = Err unasked.Service
+
 -- what words ask for
 abbrev pub IsDeedOf : DeedText → Result Done Unasked → Type 0
 IsDeedOf (to_read object) done = (read : Option Read) × IsReadIn (parted 44 object) read × (done ≡ deed_to_read read)
 IsDeedOf (to_write object priority) done =
     (read : Option Read) × IsReadIn (parted 44 object) read × IsDeedToWrite read priority done
+IsDeedOf (to_serve service) done =
+    (number : Option ℕ) × IsNumberOr (service_number service) service number × (done ≡ deed_of_service number)

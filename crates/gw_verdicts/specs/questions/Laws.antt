@@ -1,5 +1,5 @@
 -- What the answer to a question has to do with the gateway's log, and what its datagrams say.
-use Rattle.std.specs.Prelude.{◌≡◌, ◌&&◌, ℕ, false, not, List, filter, map, None, Ok}
+use Rattle.std.specs.Prelude.{◌≡◌, ◌&&◌, ℕ, false, not, List, [], filter, map, None, Ok}
 use Rattle.gw_codecs.specs.apdu.Reading.{apdu_at}
 use Rattle.gw_codecs.specs.declared.apdu.header.Header.{Header}
 use Rattle.gw_codecs.specs.declared.apdu.header.Header.TheVariants as header
@@ -30,10 +30,12 @@ DeniedIsLogged =
 
 -- ---- what a request says
 
--- the body of this deed (clauses 15.5 and 15.9); that of a write if the tags of its value are balanced
+-- the body of this deed (clauses 15.5 and 15.9); that of a write if the tags of its value are balanced; that of another
+-- service is empty
 abbrev pub SaysDeed : Deed → List ℕ → Type 0
 SaysDeed (deed.Read read) body = IsRead body (read_view read)
 SaysDeed (deed.Write write) body = IsBalanced deepest write.value.now → IsWrite body (write_view write)
+SaysDeed (deed.Serve service) body = body ≡ []
 
 -- a confirmed request that is whole, of the invoke id 1
 abbrev pub confirmed_by : (service : ℕ) → Header
@@ -46,10 +48,11 @@ confirmed_by service = header.ConfirmedRequest (record {
   service = service;
 })
 
--- ReadProperty or WriteProperty
+-- ReadProperty, WriteProperty or another
 abbrev pub service_of : Deed → ℕ
 service_of (deed.Read read) = 12
 service_of (deed.Write write) = 15
+service_of (deed.Serve service) = service
 
 -- the APDU of a request is read as a confirmed request of its service, whose body is the deed's
 pub record IsAsked (wanted : Deed) : Type 0 where

@@ -32,10 +32,10 @@ local place network address = record {
   is_routed = false;
 }
 
--- the address of a station on its network: that of BACnet/IP, or one octet
+-- the address of a station on its network: that of BACnet/IP, or its octets
 abbrev pub mac_of : Spelled → List ℕ
 mac_of (spelled.Address address) = octets_of address
-mac_of (spelled.Octet octet) = octet ∷ []
+mac_of (spelled.Octets mac) = mac
 
 -- a station by a route: its datagrams come from the router
 abbrev pub routed : Route → Spelled → Station
@@ -76,7 +76,7 @@ station_at ports address = station_by ports address (only_from ports address (fi
 -- on a port's network a station has an address of BACnet/IP
 abbrev pub local_station : (place network : ℕ) → Spelled → Result Station PlaceFault
 local_station place network (spelled.Address address) = Ok (local place network address)
-local_station place network (spelled.Octet octet) = Err fault.NoAddress
+local_station place network (spelled.Octets mac) = Err fault.NoAddress
 
 abbrev pub routed_station : List Route → ℕ → Spelled → Result Station PlaceFault
 routed_station routes network written =

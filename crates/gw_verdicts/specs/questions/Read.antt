@@ -1,13 +1,16 @@
 -- What the words of a question mean under a configuration.
 use Rattle.std.specs.Prelude.{◌≡◌, ◌⊎◌, ℕ, ◌^◌, ◌<◌, ◌==◌, Bool, true, false, nat_eq, List, length}
 use Rattle.std.specs.Prelude.{Option, Some, None, IfSome, IsNone, Result, Ok, Err, codes, if◌then◌else◌}
+use Rattle.std.specs.Prelude.{[], ◌∷◌, ◌||◌, drop, nat_lt, not, take}
 use Rattle.std.specs.List.{after_first, before_first, position_or_len}
 use Rattle.std.specs.Cmp.Lexicographic.{pointwise}
 use Rattle.std.specs.Option.{option_and_then, option_map, option_map_or}
 use Rattle.std.specs.Str.Parse.{IsNumeral, digits_value, without_leading_plus}
 use Rattle.gw_addr.specs.Address.{IsAddress, text_of}
 use Rattle.gw_addr.specs.Mask.{IsMask, mask_text}
-use Rattle.gw_addr.specs.Station.{network_of}
+use Rattle.gw_addr.specs.Station.{network_of, station_of}
+use Rattle.hex.specs.Hex.{decode_of}
+use Rattle.hex.specs.declared.error.FromHexError.{FromHexError}
 use Rattle.gw_addr.specs.declared.bip.BipAddr.{BipAddr}
 use Rattle.gw_addr.specs.declared.mask.Mask.{Mask}
 use Rattle.gw_configuration.specs.Configuration.{Configuration}
@@ -51,10 +54,25 @@ pub record IsAddressIn (text : Text) (found : Option BipAddr) : Type 0 where
   pub is : IfSome found (IsWritten text)
   pub without : IsNone found → (address : BipAddr) → IsAddress address → ¬ (IsWritten text address)
 
--- a station on its network: an address, or an octet in decimal
+-- what follows `0x`
+abbrev pub after_hex : Text → Option Text
+after_hex text =
+    if nat_lt (length text) 2 || not (pointwise nat_eq (take 2 text) (codes "0x")) then None else Some (drop 2 text)
+
+-- the octets that pairs of hexadecimal digits write, if they are a station's
+abbrev pub mac_in : Result (List ℕ) FromHexError → Option (List ℕ)
+mac_in (Ok octets) = station_of octets
+mac_in (Err fault) = None
+
+-- one octet, or the octets that a text writes after `0x`
+abbrev pub spelled_by : (octet : Option ℕ) → Text → Option Spelled
+spelled_by (Some octet) text = Some (spelled.Octets (octet ∷ []))
+spelled_by None text = option_map spelled.Octets (option_and_then (λ digits. mac_in (decode_of digits)) (after_hex text))
+
+-- a station on its network: an address, an octet in decimal, or octets in hexadecimal
 abbrev pub IsSpelledBy : Text → Option BipAddr → Option Spelled → Type 0
 IsSpelledBy text (Some address) written = written ≡ Some (spelled.Address address)
-IsSpelledBy text None written = (octet : Option ℕ) × IsNumberIn 8 text octet × (written ≡ option_map spelled.Octet octet)
+IsSpelledBy text None written = (octet : Option ℕ) × IsNumberIn 8 text octet × (written ≡ spelled_by octet text)
 
 abbrev pub IsSpelledIn : Text → Option Spelled → Type 0
 IsSpelledIn text written = (address : Option BipAddr) × IsAddressIn text address × IsSpelledBy text address written
@@ -102,3 +120,8 @@ IsTargetBy c text false whom =
 
 abbrev pub IsTargetOf : Configuration → Text → Result Target PlaceFault → Type 0
 IsTargetOf c text whom = IsTargetBy c text (pointwise nat_eq text (codes "device")) whom
+
+-- whom a text names, if there is one
+abbrev pub IsTargetIn : Configuration → Option Text → Result Target PlaceFault → Type 0
+IsTargetIn c (Some text) whom = IsTargetOf c text whom
+IsTargetIn c None whom = whom ≡ Err fault.Nobody

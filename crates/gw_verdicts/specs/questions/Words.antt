@@ -1,10 +1,13 @@
 -- A question in words, and the answer to it.
-use Rattle.std.specs.Prelude.{◌≡◌, ℕ, ◌==◌, Bool, false, List, [], Result, Ok, Err, if◌then◌else◌}
+use Rattle.std.specs.Prelude.{◌≡◌, ℕ, ◌==◌, Bool, true, false, List, [], Option, Result, Ok, Err, if◌then◌else◌}
+use Rattle.std.specs.Option.{option_map}
 use Rattle.gw_configuration.specs.Configuration.{Configuration}
 use Rattle.gw_core.specs.History.{no_counts, state_after}
 use Rattle.gw_verdicts.specs.declared.questions.answer.Outcome.{Outcome}
 use Rattle.gw_verdicts.specs.declared.questions.answer.Outcome.TheVariants as outcome
+use Rattle.gw_verdicts.specs.declared.questions.call.Call.{Call}
 use Rattle.gw_verdicts.specs.declared.questions.deed.Deed.{Deed}
+use Rattle.gw_verdicts.specs.declared.questions.deed.Deed.TheVariants as deeds
 use Rattle.gw_verdicts.specs.declared.questions.fault.PlaceFault.{PlaceFault}
 use Rattle.gw_verdicts.specs.declared.questions.fault.Unasked.{Unasked}
 use Rattle.gw_verdicts.specs.declared.questions.fault.Unasked.TheVariants as unasked
@@ -12,29 +15,58 @@ use Rattle.gw_verdicts.specs.declared.questions.place.Question.{Question}
 use Rattle.gw_verdicts.specs.declared.questions.place.Station.{Station}
 use Rattle.gw_verdicts.specs.declared.questions.place.Target.{Target}
 use Rattle.gw_verdicts.specs.declared.questions.place.Target.TheVariants as target
+use Rattle.gw_verdicts.specs.declared.questions.words.Subject.{Subject}
+use Rattle.gw_verdicts.specs.declared.questions.words.Subject.TheVariants as said
 use Rattle.gw_verdicts.specs.declared.questions.words.Words.{Words}
-use Rattle.gw_verdicts.specs.questions.Answers.{answer_text, may}
+use Rattle.gw_verdicts.specs.questions.Answers.{answer_text, may, outcome_of}
+use Rattle.gw_verdicts.specs.questions.Calls.{IsCallAnswer, IsRegistrationOf, IsWhoIsOf}
 use Rattle.gw_verdicts.specs.questions.Deeds.{DeedText, IsDeedOf, deed_text, deed_view, result_of}
-use Rattle.gw_verdicts.specs.questions.Read.{IsStationOf, IsTargetOf, Text}
+use Rattle.gw_verdicts.specs.questions.Read.{IsStationOf, IsTargetIn, Text}
 use Rattle.gw_verdicts.specs.questions.Unasked.{unasked_text}
 
--- a question in words: who asks, whom, and what for
+-- what a question is about: whether a station may do this with another, who hears its Who-Is, whether it may register
+pub data SubjectText : Type 0 where
+  of_deed : DeedText → SubjectText
+  of_who_is : SubjectText
+  of_registration : SubjectText
+
+abbrev pub subject_text : Subject → SubjectText
+subject_text (said.Deed deed) = of_deed (deed_text deed)
+subject_text said.WhoIs = of_who_is
+subject_text said.Registration = of_registration
+
+-- a question in words: who asks, whom if that is said, and what about
 pub record QuestionText : Type 0 where
   pub from : Text
-  pub to : Text
-  pub deed : DeedText
+  pub to : Option Text
+  pub subject : SubjectText
 
 abbrev pub question_text : Words → QuestionText
-question_text words = record { from = words.from.now; to = words.to.now; deed = deed_text words.deed }
+question_text words = record {
+  from = words.from.now;
+  to = option_map (λ text. text.now) words.to;
+  subject = subject_text words.subject;
+}
 
 -- both lie by one port, so that the gateway isn't between them
 abbrev pub are_by_one_port : Station → Target → Bool
 are_by_one_port asker (target.Station station) = station.port == asker.port
 are_by_one_port asker (target.Device network) = false
 
+-- the gateway's own device is asked for a service
+abbrev pub is_service : Deed → Bool
+is_service (deeds.Serve service) = true
+is_service _ = false
+
+abbrev pub is_service_of_device : Target → Deed → Bool
+is_service_of_device (target.Device network) deed = is_service deed
+is_service_of_device (target.Station station) deed = false
+
 abbrev pub question_by : Station → Target → Deed → Result Question Unasked
 question_by asker whom deed =
-    if are_by_one_port asker whom then Err unasked.OnePort else Ok (record { asker = asker; target = whom; deed = deed })
+    if are_by_one_port asker whom then Err unasked.OnePort
+    else if is_service_of_device whom deed then Err unasked.OfDevice
+    else Ok (record { asker = asker; target = whom; deed = deed })
 
 -- the question of these parts, or what the first fault among them says
 abbrev pub joined : Result Station PlaceFault → Result Target PlaceFault → Result Deed Unasked → Result Question Unasked
@@ -44,13 +76,14 @@ joined (Ok asker) (Ok whom) (Err u) = Err u
 joined (Ok asker) (Ok whom) (Ok deed) = question_by asker whom deed
 
 -- the question that words ask, or why they ask none
-pub record IsQuestionOf (c : Configuration) (words : QuestionText) (question : Result Question Unasked) : Type 0 where
+pub record IsQuestionOf (c : Configuration) (who : Text) (goal : Option Text) (words : DeedText) (question : Result Question Unasked)
+    : Type 0 where
   pub asker : Result Station PlaceFault
-  pub from : IsStationOf c words.from asker
+  pub from : IsStationOf c who asker
   pub whom : Result Target PlaceFault
-  pub to : IsTargetOf c words.to whom
+  pub to : IsTargetIn c goal whom
   pub wanted : Result Deed Unasked
-  pub deed : IsDeedOf words.deed (result_of deed_view wanted)
+  pub deed : IsDeedOf words (result_of deed_view wanted)
   pub joined : question ≡ joined asker whom wanted
 
 -- ---- the answer
@@ -59,9 +92,6 @@ pub record IsQuestionOf (c : Configuration) (words : QuestionText) (question : R
 pub record IsUnasked (u : Unasked) (text : List ℕ) (end : Outcome) : Type 0 where
   pub reason : text ≡ unasked_text u
   pub outcome : end ≡ outcome.Unasked
-
-abbrev pub outcome_of : Bool → Outcome
-outcome_of is_yes = if is_yes then outcome.Yes else outcome.No
 
 -- the answer to a question by a gateway of a configuration that has taken nothing yet
 pub record IsAnswer (c : Configuration) (q : Question) (text : List ℕ) (end : Outcome) : Type 0 where
@@ -72,6 +102,20 @@ abbrev pub IsAnswered : Configuration → Result Question Unasked → List ℕ �
 IsAnswered c (Ok q) text end = IsAnswer c q text end
 IsAnswered c (Err u) text end = IsUnasked u text end
 
+abbrev pub IsDeedAnswered : Configuration → (from : Text) → (to : Option Text) → DeedText → List ℕ → Outcome → Type 0
+IsDeedAnswered c from to deed text end =
+    (question : Result Question Unasked) × IsQuestionOf c from to deed question × IsAnswered c question text end
+
+abbrev pub IsCallAnswered : Configuration → Result Call Unasked → List ℕ → Outcome → Type 0
+IsCallAnswered c (Ok q) text end = IsCallAnswer c q text end
+IsCallAnswered c (Err u) text end = IsUnasked u text end
+
+abbrev pub IsAnswerAbout : Configuration → (from : Text) → (to : Option Text) → SubjectText → List ℕ → Outcome → Type 0
+IsAnswerAbout c from to (of_deed deed) text end = IsDeedAnswered c from to deed text end
+IsAnswerAbout c from to of_who_is text end = (q : Result Call Unasked) × IsWhoIsOf c from to q × IsCallAnswered c q text end
+IsAnswerAbout c from to of_registration text end =
+    (q : Result Call Unasked) × IsRegistrationOf c from to q × IsCallAnswered c q text end
+
 -- the answer to words: to the question that they ask, or why they ask none
 abbrev pub IsAnswerTo : Configuration → QuestionText → List ℕ → Outcome → Type 0
-IsAnswerTo c words text end = (question : Result Question Unasked) × IsQuestionOf c words question × IsAnswered c question text end
+IsAnswerTo c words text end = IsAnswerAbout c words.from words.to words.subject text end

@@ -7,10 +7,10 @@ ghost use Rattle.gw_codecs.specs.apdu.Reading.{apdu_at};
 ghost use Rattle.gw_frames.specs.npdu.Reading.{npdu_at};
 ghost use Rattle.gw_configuration.specs.Configuration.{is_same_address};
 ghost use Rattle.gw_script.specs.Event.{event_view};
-ghost use Rattle.gw_verdicts.specs.questions.Answers.{answer_text, answered_text, back_text, batch_reaches, batch_refuses, is_answered, may, may_after, no_line, reaches, refuses, rest_text, served_text, serves, why_text};
+ghost use Rattle.gw_verdicts.specs.questions.Answers.{answer_text, answered_text, back_text, batch_reaches, batch_refuses, is_answered, may, may_after, no_line, outcome_of, reaches, refuses, rest_text, served_text, serves, why_text};
 ghost use Rattle.gw_verdicts.specs.questions.Datagrams.{event_of};
 ghost use Rattle.gw_verdicts.specs.questions.Refusals.{denies, is_refusal, message_denies, says_denied};
-ghost use Rattle.gw_verdicts.specs.questions.Words.{IsAnswer, outcome_of};
+ghost use Rattle.gw_verdicts.specs.questions.Words.{IsAnswer};
 
 use crate::questions::datagram::{make_answer, make_request};
 use crate::questions::place::{Question, Station, Target};
@@ -50,7 +50,7 @@ pub enum Outcome {
 }
 
 /// That a station's datagram comes.
-fn event_of<'a>(station: &Station, octets: &'a [u8]) -> Event<'a>
+pub fn event_of<'a>(station: &Station, octets: &'a [u8]) -> Event<'a>
     ensures { event_view result ≡ event_of station.now octets.now }
 {
     Event::Datagram {
@@ -82,7 +82,7 @@ fn any_reaches(station: &Station, batches: &[Batch]) -> bool
 }
 
 /// Whether a datagram is sent to a station, or to the router before it.
-fn reaches(station: &Station, sends: &Sends) -> bool
+pub fn reaches(station: &Station, sends: &Sends) -> bool
     ensures { result ≡ reaches station.now sends.now }
 {
     any_reaches(station, sends.batches())
@@ -177,7 +177,7 @@ fn put_why(
 }
 
 /// Appends that the answer is no, and why.
-fn put_no(
+pub fn put_no(
     text: &mut Vec<u8>,
     word: &[u8],
     rules: &RuleList,
@@ -306,7 +306,7 @@ fn put_question(
 }
 
 /// Which answer it is.
-fn outcome_of(is_yes: bool) -> Outcome
+pub fn outcome_of(is_yes: bool) -> Outcome
     ensures { result ≡ outcome_of is_yes }
 {
     if is_yes { Outcome::Yes } else { Outcome::No }

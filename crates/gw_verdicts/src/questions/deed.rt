@@ -2,12 +2,12 @@
 
 ghost use Rattle.std.specs.Prelude.{◌≡◌, ◌≤◌, IfSome, option_map};
 ghost use Rattle.gw_codecs.specs.services.Read.{read_view};
-ghost use Rattle.gw_verdicts.specs.questions.Deeds.{IsDeedOf, IsDeedToWrite, IsNumberOr, IsPriorityIn, IsPropertyOf, IsReadIn, deed_text, deed_to_read, deed_view, read_by, read_named, result_of, written};
+ghost use Rattle.gw_verdicts.specs.questions.Deeds.{IsDeedOf, IsDeedToWrite, IsNumberOr, IsPriorityIn, IsPropertyOf, IsReadIn, deed_of_service, deed_text, deed_to_read, deed_view, read_by, read_named, result_of, written};
 ghost use Rattle.gw_verdicts.specs.questions.Read.{IsNumberIn, parted};
 
 use crate::questions::fault::Unasked;
 use crate::questions::text::parted;
-use gw_codecs::names::{object_type_number, property_number};
+use gw_codecs::names::{object_type_number, property_number, service_number};
 use gw_codecs::services::{ReadReq, WriteReq};
 use gw_codecs::tags::ObjectId;
 
@@ -23,6 +23,9 @@ const TYPES: u64 = 1 << 10;
 /// How many instances of a type there are, and how many properties.
 const INSTANCES: u64 = 1 << 22;
 
+/// How many confirmed services there may be (clause 21).
+const SERVICES: u64 = 1 << 8;
+
 /// The lowest priority (clause 19.2).
 const LAST_PRIORITY: u8 = 16;
 
@@ -33,6 +36,8 @@ pub enum Deed<'a> {
     Read(ReadReq),
     /// To write a property (clause 15.9).
     Write(WriteReq<'a>),
+    /// To be served by the confirmed service of this number, by a request that names nothing (clause 21).
+    Serve(u8),
 }
 
 /// What a station asks for, in words.
@@ -42,6 +47,8 @@ pub enum DeedWords<'a> {
     Read(&'a str),
     /// To write this, at this priority if one is given.
     Write(&'a str, Option<&'a str>),
+    /// To be served by this confirmed service.
+    Serve(&'a str),
 }
 
 /// The number that a text is in decimal.
@@ -167,13 +174,24 @@ fn deed_to_write(read: Option<ReadReq>, priority: Option<&str>) -> Result<Deed<'
     }
 }
 
+/// The confirmed service of this number.
+fn deed_of_service(number: Option<u64>) -> Result<Deed<'static>, Unasked>
+    ensures { result_of deed_view result ≡ deed_of_service number }
+{
+    match number {
+        Some(number) if number < SERVICES => Ok(Deed::Serve(number as u8)),
+        Some(_) | None => Err(Unasked::Service),
+    }
+}
+
 /// What words ask for: the type of an object, its instance and a property, with commas between; without a property it is
-/// present-value. A type or a property is a name or a number.
+/// present-value. A type, a property or a service is a name or a number.
 pub fn deed_of(words: &DeedWords<'_>) -> Result<Deed<'static>, Unasked>
     ensures { IsDeedOf (deed_text words.now) (result_of deed_view result) }
 {
     match words {
         DeedWords::Read(object) => deed_to_read(read_in(object)),
         DeedWords::Write(object, priority) => deed_to_write(read_in(object), *priority),
+        DeedWords::Serve(service) => deed_of_service(number_or(service_number(service), service)),
     }
 }

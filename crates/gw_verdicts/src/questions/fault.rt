@@ -16,6 +16,10 @@ pub enum PlaceFault {
     NoWay,
     /// A station of a port's network has an address.
     NoAddress,
+    /// Nobody is named.
+    Nobody,
+    /// No network is written so.
+    NoNetwork,
 }
 
 impl PlaceFault {
@@ -30,6 +34,8 @@ impl PlaceFault {
                 "several ports have it among their stations: write NETWORK:ADDRESS",
             PlaceFault::NoWay => "no port and no route leads to its network",
             PlaceFault::NoAddress => "a station of that network has an address",
+            PlaceFault::Nobody => "nobody is named: write a station or device",
+            PlaceFault::NoNetwork => "a Who-Is goes to a network: write its number",
         }
     }
 }
@@ -45,6 +51,14 @@ pub enum Unasked {
     Read,
     /// They name nothing to write, or no priority.
     Write,
+    /// They name no confirmed service.
+    Service,
+    /// They ask the gateway's own device for a service, whose answer to it depends on the object.
+    OfDevice,
     /// Both stations lie by one port, so the gateway isn't between them.
     OnePort,
+    /// Who registers is behind a router.
+    Routed,
+    /// Who registers names whom.
+    Registrar,
 }

@@ -18,5 +18,6 @@ pub fn requests(deed: &Deed<'_>)
     match deed {
         Deed::Read(request) => read_encoded(request),
         Deed::Write(request) => write_encoded(request),
+        Deed::Serve(_) => {}
     }
 }

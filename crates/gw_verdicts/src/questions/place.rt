@@ -3,8 +3,9 @@
 ghost use Rattle.std.specs.Prelude.{◌≡◌, ◌+◌, ◌==◌, ◌<◌, [], ◌∷◌, drop, length, position, option_copied, option_map, IfOk, IfSome, IsNone};
 ghost use Rattle.std.specs.List.{find};
 ghost use Rattle.gw_addr.specs.Address.{IsAddress};
+ghost use Rattle.hex.specs.Hex.{decode_of};
 ghost use Rattle.gw_verdicts.specs.questions.Places.{first_with, has_station, local, local_station, mac_of, only_from, place_of, routed, routed_station, station_at, station_by, station_on};
-ghost use Rattle.gw_verdicts.specs.questions.Read.{IsAddressIn, IsAddressStation, IsNetworkBefore, IsNetworkIn, IsNumberIn, IsSpelledIn, IsSpelledStation, IsStationOf, IsTargetOf, IsWritten, parted};
+ghost use Rattle.gw_verdicts.specs.questions.Read.{IsAddressIn, IsAddressStation, IsNetworkBefore, IsNetworkIn, IsNumberIn, IsSpelledIn, IsSpelledStation, IsStationOf, IsTargetIn, IsTargetOf, IsWritten, after_hex, mac_in, parted, spelled_by};
 
 use crate::questions::deed::Deed;
 use crate::questions::fault::PlaceFault;
@@ -17,6 +18,9 @@ const USUAL_PORT: u16 = 0xBAC0;
 
 /// The address of the gateway's own device on its network.
 const DEVICE_STATION: [u8; 1] = [1];
+
+/// How many octets a station has at most.
+const MAX_STATION: usize = 255;
 
 /// What names the gateway's own device.
 const DEVICE: &str = "device";
@@ -59,8 +63,8 @@ pub struct Question<'a> {
 pub enum Spelled {
     /// By its address of BACnet/IP.
     Address(BipAddr),
-    /// By one octet.
-    Octet(u8),
+    /// By its octets.
+    Octets(Mac),
 }
 
 /// The address that a text writes, perhaps without its UDP port.
@@ -90,6 +94,46 @@ fn octet_in(text: &str) -> Option<u8>
     }
 }
 
+/// What follows `0x`.
+fn after_hex(text: &[u8]) -> Option<&[u8]>
+    ensures { option_map (λ t. t.now) result ≡ after_hex text.now }
+{
+    if text.len() < 2 || &text[..2] != b"0x".as_slice() {
+        return None;
+    }
+    Some(&text[2..])
+}
+
+/// The octets that pairs of hexadecimal digits write.
+fn mac_in(digits: &[u8]) -> Option<Mac>
+    ensures { result ≡ mac_in (decode_of digits.now) }
+{
+    let len = digits.len() / 2;
+    if len > MAX_STATION {
+        return None;
+    }
+    let mut octets = [0; MAX_STATION];
+    let octets = &mut octets[..len];
+    match hex::decode_to_slice(digits, octets) {
+        Ok(()) => Mac::new(octets),
+        Err(_) => None,
+    }
+}
+
+/// The station of one octet, or of the octets that a text writes.
+fn spelled_by(octet: Option<u8>, text: &[u8]) -> Option<Spelled>
+    ensures { result ≡ spelled_by octet text.now }
+{
+    if let Some(octet) = octet {
+        return Some(Spelled::Octets(Mac::new(&[octet]).unwrap()));
+    }
+    let digits = after_hex(text)?;
+    match mac_in(digits) {
+        Some(mac) => Some(Spelled::Octets(mac)),
+        None => None,
+    }
+}
+
 /// The station that a text writes on its network.
 fn spelled_in(text: &str) -> Option<Spelled>
     ensures { IsSpelledIn text.now result }
@@ -97,14 +141,11 @@ fn spelled_in(text: &str) -> Option<Spelled>
     if let Some(address) = address_in(text) {
         return Some(Spelled::Address(address));
     }
-    match octet_in(text) {
-        Some(octet) => Some(Spelled::Octet(octet)),
-        None => None,
-    }
+    spelled_by(octet_in(text), text.as_bytes())
 }
 
 /// The network of a number that a text is in decimal.
-fn network_in(text: &str) -> Option<NetNum>
+pub fn network_in(text: &str) -> Option<NetNum>
     ensures { IsNetworkIn text.now result }
 {
     match text.parse::<u16>() {
@@ -157,7 +198,7 @@ fn only_with(ports: &[Port], address: BipAddr) -> Result<usize, PlaceFault>
 }
 
 /// The place of the port whose network it is.
-fn place_on(ports: &[Port], network: NetNum) -> Option<usize>
+pub fn place_on(ports: &[Port], network: NetNum) -> Option<usize>
     ensures place { result ≡ position (λ port. port.network == network) ports.now }
     ensures within { IfSome result (λ place. place < length ports.now) }
 {
@@ -167,7 +208,7 @@ fn place_on(ports: &[Port], network: NetNum) -> Option<usize>
 }
 
 /// The route to a network.
-fn route_to(routes: &[Route], network: NetNum) -> Option<&Route>
+pub fn route_to(routes: &[Route], network: NetNum) -> Option<&Route>
     ensures { option_copied result ≡ find (λ route. route.network == network) routes.now }
 {
     routes
@@ -197,7 +238,7 @@ fn mac_of(spelled: Spelled) -> Mac
 {
     match spelled {
         Spelled::Address(address) => address.mac(),
-        Spelled::Octet(octet) => Mac::new(&[octet]).unwrap(),
+        Spelled::Octets(mac) => mac,
     }
 }
 
@@ -223,7 +264,7 @@ fn local_station(place: usize, network: NetNum, spelled: Spelled) -> Result<Stat
 {
     match spelled {
         Spelled::Address(address) => Ok(local(place, network, address)),
-        Spelled::Octet(_) => Err(PlaceFault::NoAddress),
+        Spelled::Octets(_) => Err(PlaceFault::NoAddress),
     }
 }
 
@@ -286,8 +327,8 @@ fn address_station(config: &Config, text: &str) -> Result<Station, PlaceFault>
     }
 }
 
-/// The station that a text names: `NETWORK:ADDRESS`, `NETWORK:OCTET`, or the `ADDRESS` alone of a station that one port
-/// alone has. An address may lack its UDP port, which is then 47808.
+/// The station that a text names: `NETWORK:ADDRESS`, `NETWORK:OCTET`, `NETWORK:0xOCTETS`, or the `ADDRESS` alone of a station
+/// that one port alone has. An address may lack its UDP port, which is then 47808.
 pub fn station_of(config: &Config, text: &str) -> Result<Station, PlaceFault>
     ensures { IsStationOf config.now text.now result }
 {
@@ -307,6 +348,16 @@ pub fn target_of(config: &Config, text: &str) -> Result<Target, PlaceFault>
     match station_of(config, text) {
         Ok(station) => Ok(Target::Station(station)),
         Err(fault) => Err(fault),
+    }
+}
+
+/// Whom a text names, if there is one.
+pub fn target_in(config: &Config, text: Option<&str>) -> Result<Target, PlaceFault>
+    ensures { IsTargetIn config.now (option_map (λ t. t.now) text.entry) result }
+{
+    match text {
+        Some(text) => target_of(config, text),
+        None => Err(PlaceFault::Nobody),
     }
 }
 

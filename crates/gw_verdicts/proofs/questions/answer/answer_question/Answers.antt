@@ -2,8 +2,7 @@ use Rattle.std.proofs.Common.{◌≡◌, ◌∙◌, ◌++◌, [], ℕ, List, ap,
 use Rattle.gw_core.specs.History.{no_counts, state_after}
 use Rattle.gw_core.specs.State.{State}
 use Rattle.gw_core.specs.declared.event.Counts.{Counts}
-use Rattle.gw_verdicts.specs.questions.Answers.{answer_text, may}
-use Rattle.gw_verdicts.specs.questions.Words.{outcome_of}
+use Rattle.gw_verdicts.specs.questions.Answers.{answer_text, may, outcome_of}
 use Rattle.gw_verdicts.proofs.questions.answer.answer_question.Goals as goal
 
 pub returns : goal.returns
