@@ -1,3 +1,4 @@
+pub mod Allowances
 pub mod Laws
 pub mod Passing
 pub mod Permissions

@@ -1,4 +1,5 @@
 //! Who may do what under a configuration: the lines that `bacgwctl explain` has of it.
+mod allowances;
 mod grants;
 pub mod laws;
 mod networks;

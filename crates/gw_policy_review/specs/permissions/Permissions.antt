@@ -20,6 +20,7 @@ use Rattle.gw_rules.specs.Range.{holds}
 use Rattle.gw_rules.specs.declared.rule.Rule.{Rule}
 use Rattle.gw_script.specs.Order.{in_order}
 use Rattle.gw_ask_sets.specs.shapes.Shape.{Shape}
+use Rattle.gw_policy_review.specs.permissions.Allowances.{AreAllowances}
 use Rattle.gw_policy_review.specs.permissions.Passing.{decides_all, finding_at, lets, may_pass}
 use Rattle.gw_policy_review.specs.permissions.Questions.{claiming, entering, reading}
 use Rattle.gw_policy_review.specs.permissions.Words.{rule_words}
@@ -289,7 +290,7 @@ plain_lines rules ports number object = flat_map (hidden_line rules number objec
 
 -- ---- the whole
 
--- the lines after those of who may enter and speak for a network
+-- the lines after those of what rules let others do
 abbrev pub later_lines : Configuration → (lines : List ℕ) → List ℕ
 later_lines c lines =
     in_order (reach_lines c lines) 1 c.rules
@@ -305,7 +306,9 @@ pub record AreFull (c : Configuration) (lines text : List ℕ) : Type 0 where
   pub are_ports : ArePorts c lines 1 c.ports ports
   pub claims : List ℕ
   pub are_claims : AreGrants c lines Claim (claiming (length c.ports)) claims
-  pub shown : text ≡ ports ++ (network_lines c ++ (claims ++ later_lines c lines))
+  pub allowances : List ℕ
+  pub are_allowances : AreAllowances c lines allowances
+  pub shown : text ≡ ports ++ (network_lines c ++ (claims ++ (allowances ++ later_lines c lines)))
 
 abbrev pub AppendsFull : Configuration → (lines : List ℕ) → List ℕ → List ℕ → Type 0
 AppendsFull c lines old new = (text : List ℕ) × AreFull c lines text × (new ≡ old ++ text)
