@@ -9,7 +9,7 @@ use gw_rules::{FieldName, Rule};
 
 /// Whether the rule matches each ask of the shape: in each field that it names one of its ranges holds
 /// all that the shape has there.
-fn matches_all(shape: &Shape, rule: &Rule) -> bool
+pub(crate) fn matches_all(shape: &Shape, rule: &Rule) -> bool
     ensures { result ≡ matches_all shape.now rule.now }
 {
     FieldName::ALL.iter().all(|field| takes_side(
