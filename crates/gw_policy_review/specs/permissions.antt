@@ -3,4 +3,5 @@ pub mod Laws
 pub mod Passing
 pub mod Permissions
 pub mod Questions
+pub mod Texts
 pub mod Words

@@ -103,9 +103,9 @@ before : (rules : List Rule) (ask : Ask) (lower number : ℕ) (rule : Rule) (dec
 before rules ask lower number rule deciding denies has allow matching =
     elim (cases_order lower number) [
       | inl same ↦
-        let there : Some deciding.rule ≡ Some rule = sym deciding.numbered.there ∙ (ap (λ (n : ℕ). slice_get rules (n - 1)) same ∙ has.there) in
-        let one : deciding.rule ≡ rule = cc in
-        absurd (both_ways rule.allow (sym (ap (λ (r : Rule). r.allow) one) ∙ denies) allow)
+          let there : Some deciding.rule ≡ Some rule = sym deciding.numbered.there ∙ (ap (λ (n : ℕ). slice_get rules (n - 1)) same ∙ has.there) in
+          let one : deciding.rule ≡ rule = cc in
+          absurd (both_ways rule.allow (sym (ap (λ (r : Rule). r.allow) one) ∙ denies) allow)
       | inr apart ↦ elim apart [
         | inl below ↦ below
         | inr above ↦ absurd (deciding.least number rule above has matching)
@@ -120,7 +120,12 @@ only_exceptions_deny shapes rules findings number rule ask are has allow lies ma
     let denies = denying rules ask lower deciding denied in
     let below = before rules ask lower number rule deciding denies has allow matching in
     let tells = finds_at shapes rules findings lower deciding.rule are deciding.numbered in
-    let may = deciding_found shapes rules ask lower (finding_at findings lower) deciding lies by.1 tells in
-    (lower, deciding.rule, below, deciding.numbered, by.1,
-    and_from (stops deciding.rule (finding_at findings lower)) (meet rule deciding.rule)
-    (stopping deciding.rule (finding_at findings lower) denies may) (meeting rule deciding.rule ask matching deciding.matching))
+    let may = deciding_found shapes rules ask lower (finding_at findings lower) deciding lies by.1 tells in (
+      lower,
+      deciding.rule,
+      below,
+      deciding.numbered,
+      by.1,
+      and_from (stops deciding.rule (finding_at findings lower)) (meet rule deciding.rule)
+          (stopping deciding.rule (finding_at findings lower) denies may) (meeting rule deciding.rule ask matching deciding.matching),
+    )

@@ -1,5 +1,6 @@
 -- An ask of a shape is allowed only by a rule that lets somebody, by what is found of the rules over the asks of the shape.
-use Rattle.std.proofs.Common.{◌≡◌, ◌∙◌, inl, ⊤, tt, ℕ, ◌+◌, ◌-◌, ◌<◌, Bool, true, false, List, [], ◌∷◌, ◌++◌, Some, ap, arith, get_or, length, refl, slice_get, subst, sym, take}
+use Rattle.std.proofs.Common.{◌≡◌, ◌∙◌, inl, ℕ, ◌+◌, ◌-◌, ◌<◌, Bool, true, false, List, [], ◌∷◌, ◌++◌, Some, ap, arith, get_or, length, refl, slice_get, subst, sym, take}
+use Rattle.std.specs.Bool.{⊤}
 use Rattle.std.specs.Prelude.{unwrap_or}
 use Rattle.std.proofs.lemmas.Bool.{both_ways}
 use Rattle.std.proofs.lemmas.Option.{slice_get-get_or, slice_get_within}

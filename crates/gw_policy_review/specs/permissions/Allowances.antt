@@ -1,7 +1,7 @@
 -- What each rule that allows lets whom ask for: a line for each rule that decides an ask of the gateway.
 use Rattle.std.specs.Prelude.{◌≡◌, ℕ, ◌-◌, ◌==◌, Bool, false, not, ◌&&◌, if◌then◌else◌, List, [], ◌∷◌, ◌++◌, length, take, codes}
 use Rattle.std.specs.List.{flat_map}
-use Rattle.gw_ask_sets.specs.regions.Ranges.{tidy}
+use Rattle.gw_ask_sets.specs.regions.Tidying.{tidy}
 use Rattle.gw_ask_sets.specs.shapes.Shapes.{shapes}
 use Rattle.gw_configuration.specs.Configuration.{Configuration}
 use Rattle.gw_rules.specs.Rule.{each_field, ranges_of}

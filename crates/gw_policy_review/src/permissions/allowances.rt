@@ -81,11 +81,12 @@ impl Found<'_> {
             self.now.placed.now.lines.now self.now.findings.now number rule.now) }
     {
         let found = finding_at(self.findings, number);
-        if !lets(rule, &found) {
-            return Ok(());
+        if lets(rule, &found) {
+            put_asks(alloc, out, rule, &found)?;
+            self.put_by(out, number, rule)
+        } else {
+            Ok(())
         }
-        put_asks(alloc, out, rule, &found)?;
-        self.put_by(out, number, rule)
     }
 
     /// Appends which rule it is, and which rules deny some of what it matches.
@@ -106,10 +107,9 @@ impl Found<'_> {
         ensures { OnOk result (out.new.items ≡ out.old.items ++ exceptions_text self.now.placed.now.config.now
             self.now.placed.now.lines.now self.now.findings.now number rule.now) }
     {
-        let count = usize::from(number).saturating_sub(1);
-        let others = &self.placed.config.rules().rules()[..count];
-        for place in 0..others.len() {
-            self.put_exception(out, rule, place as u16 + 1, &others[place])?;
+        let rules = self.placed.config.rules().rules();
+        for place in 0..usize::from(number).saturating_sub(1) {
+            self.put_exception(out, rule, place as u16 + 1, &rules[place])?;
         }
         Ok(())
     }
@@ -125,13 +125,28 @@ impl Found<'_> {
         ensures { OnOk result (out.new.items ≡ out.old.items ++ exception_text self.now.placed.now.config.now
             self.now.placed.now.lines.now self.now.findings.now rule.now number other.now) }
     {
-        if !is_exception(rule, other, &finding_at(self.findings, number)) {
-            return Ok(());
+        let found = finding_at(self.findings, number);
+        if is_exception(rule, other, &found) {
+            put_denier(out, self.placed, number, other)
+        } else {
+            Ok(())
         }
-        out.extend_from_slice(b", unless ")?;
-        self.placed.put_rule(out, number, other)?;
-        out.extend_from_slice(b" denies it")
     }
+}
+
+/// Appends that the rule of this number denies some of it.
+fn put_denier(
+    out: &mut Vec<u8>,
+    placed: &Placed<'_>,
+    number: u16,
+    rule: &Rule,
+) -> Result<(), AllocError>
+    ensures { OnOk result (out.new.items ≡ out.old.items
+        ++ exception_words placed.now.config.now placed.now.lines.now number rule.now) }
+{
+    out.extend_from_slice(b", unless ")?;
+    placed.put_rule(out, number, rule)?;
+    out.extend_from_slice(b" denies it")
 }
 
 /// Whether the other rule may deny asks that the first matches.

@@ -1,6 +1,7 @@
 //! Who may do what under a configuration.
 ghost use Rattle.std.specs.Prelude.{◌≡◌, ◌++◌, length, IfOk, OnErr, OnOk};
-ghost use Rattle.gw_policy_review.specs.permissions.Permissions.{AppendsFull, AppendsGrants, AppendsPermissions, ArePermissions, later_lines};
+ghost use Rattle.gw_policy_review.specs.permissions.Permissions.{AppendsFull, AppendsGrants, AppendsPermissions, AreLater, ArePermissions};
+ghost use Rattle.gw_policy_review.specs.permissions.Texts.{Appends};
 ghost use Rattle.gw_policy_review.specs.permissions.Questions.{claiming};
 
 use crate::permissions::allowances::put_allowances;
@@ -33,7 +34,7 @@ use std::alloc::{AllocError, Global};
 /// from network 1, sender 192.168.1.20:47808: write, type 5 binary-value, to network 2, by rule 3 "operators", unless rule 1 "lock" denies it
 /// rule 3 "operators" reaches 10.8.0.0/24 too, by network 2
 /// object 2 (5,2) "door" is hidden from network 1: from whoever claims to be of it
-/// object 2 (5,2) "door": network 1 may read Object_List, which names it
+/// object 2 (5,2) "door": network 1 can read Object_List, which names it
 /// rule 5 "plant": the controllers behind the old router
 /// ```
 ///
@@ -72,7 +73,7 @@ fn put_full(alloc: Global, out: &mut Vec<u8>, placed: &Placed<'_>) -> Result<(),
     put_networks(out, placed.config)?;
     put_claims(alloc, out, placed)?;
     put_allowances(alloc, out, placed)?;
-    put_later(out, placed)
+    put_later(alloc, out, placed)
 }
 
 fn put_claims(alloc: Global, out: &mut Vec<u8>, placed: &Placed<'_>) -> Result<(), AllocError>
@@ -88,10 +89,10 @@ fn put_claims(alloc: Global, out: &mut Vec<u8>, placed: &Placed<'_>) -> Result<(
 }
 
 /// Appends what follows the lines of who may enter and speak for a network.
-fn put_later(out: &mut Vec<u8>, placed: &Placed<'_>) -> Result<(), AllocError>
-    ensures { OnOk result (out.new.items ≡ out.old.items ++ later_lines placed.now.config.now placed.now.lines.now) }
+fn put_later(alloc: Global, out: &mut Vec<u8>, placed: &Placed<'_>) -> Result<(), AllocError>
+    ensures { OnOk result (Appends (AreLater placed.now.config.now placed.now.lines.now) out.old.items out.new.items) }
 {
     put_reaches(out, placed)?;
-    put_objects(out, placed.config)?;
+    put_objects(alloc, out, placed.config)?;
     put_notes(out, placed)
 }

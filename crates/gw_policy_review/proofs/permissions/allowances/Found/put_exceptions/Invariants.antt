@@ -6,4 +6,4 @@ use Rattle.gw_policy_review.proofs.permissions.allowances.Found.put_exceptions.G
 abbrev pub invariant-loop-place : goal.invariant-loop-place
 invariant-loop-place l =
     l.out.items ≡ l.fn.out.items ++ in_order (exception_text l.self.placed.now.config.now l.self.placed.now.lines.now l.self.findings.now l.rule)
-    1 (take l.place l.others)
+    1 (take l.place l.rules)
