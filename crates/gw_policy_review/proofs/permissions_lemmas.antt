@@ -5,4 +5,5 @@ pub mod Full
 pub mod InOrder
 pub mod Letting
 pub mod Passage
+pub mod Reading
 pub mod Truth

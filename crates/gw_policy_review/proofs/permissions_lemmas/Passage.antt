@@ -68,7 +68,7 @@ none_passes shapes rules tidy count is all none ask lies = by (allows rules ask)
         let deciding = found.1 in
         let counted = deciding.numbered.counted in
         let within = slice_get_within tidy (found.0 - 1) deciding.rule deciding.numbered.there in
-        let same : length tidy ≡ length rules = ap length is ∙ length-map tidied rules in
+        let same : length tidy ≡ length rules = ap length is ∙ length-map rules tidied in
         absurd (both_ways (allows tidy ask) (none ask found.0 lies ((first_iff tidy ask found.0).1 deciding) (omega (arith, counted, within, same, all))) passes)
 
 pub one_passes : (shapes : List Shape) (rules tidy : List Rule) (number : ℕ) (found : Outcome) → tidy ≡ all_tidied rules
