@@ -2,6 +2,7 @@ pub mod Allowing
 pub mod Appending
 pub mod Excepting
 pub mod Full
+pub mod Hidden
 pub mod InOrder
 pub mod Letting
 pub mod Passage

@@ -2,14 +2,17 @@
 use Rattle.std.specs.Prelude.{◌≡◌, ℕ, ◌<◌, ◌≤◌, true, false, List, [], ◌∷◌, Some}
 use Rattle.gw_configuration.specs.Configuration.{Configuration}
 use Rattle.gw_rules.specs.Ask.{Ask}
+use Rattle.gw_rules.specs.Hides.{hides_from_network}
 use Rattle.gw_rules.specs.Rule.{Matches}
 use Rattle.gw_rules.specs.RuleList.{HasNumber, allows, first}
 use Rattle.gw_rules.specs.declared.rule.Rule.{Rule}
 use Rattle.gw_ask_sets.specs.shapes.Shape.{LiesIn, LiesInOne, Shape}
+use Rattle.gw_ask_sets.specs.declared.shapes.search.Outcome.TheVariants as outcome
+use Rattle.gw_ask_sets.specs.declared.shapes.side.Side.{Side}
 use Rattle.gw_policy_review.specs.lint.Finding.{AreTrue}
 use Rattle.gw_policy_review.specs.permissions.Allowances.{is_exception}
 use Rattle.gw_policy_review.specs.permissions.Passing.{decides_all, finding_at, lets, may_allow, may_pass, reached}
-use Rattle.gw_policy_review.specs.permissions.Permissions.{grants_text}
+use Rattle.gw_policy_review.specs.permissions.Permissions.{IsRead, grants_text}
 use Rattle.gw_policy_review.specs.declared.lint.finding.Finding.{Finding}
 use Rattle.gw_policy_review.specs.declared.lint.finding.Finding.TheVariants as finding
 use Rattle.gw_policy_review.specs.declared.permissions.grants.Deed.{Deed}
@@ -72,3 +75,12 @@ OnlyExceptionsDeny =
     allows rules ask ≡ false →
     (lower : ℕ) × (other : Rule) × (lower < number) × HasNumber rules lower other × (first rules ask ≡ Some lower)
     × (is_exception rule other (finding_at findings lower) ≡ true)
+
+-- ---- objects
+
+-- Of an object that the policy hides from every source of a network no read is found: it has its line, unless the search used up its
+-- steps.
+abbrev pub HiddenIsNotRead : Type 0
+HiddenIsNotRead =
+    (c : Configuration) (network kind instance : ℕ) (property : Side) (ask : Ask) → hides_from_network c.rules network kind instance ≡ true →
+    IsRead c network (record { kind = kind; instance = instance; property = property }) (outcome.Decides ask) → ⊥

@@ -1,5 +1,5 @@
 //! What the lines on rules say of asks. The functions do nothing: their contracts are the laws.
-ghost use Rattle.gw_policy_review.specs.permissions.Laws.{EachAskIsAllowed, NoAskIsAllowed, NoneIsLet, OnlyExceptionsDeny, OnlyLettingAllow, OnlyListedAllow, SomeAreAllowed};
+ghost use Rattle.gw_policy_review.specs.permissions.Laws.{EachAskIsAllowed, HiddenIsNotRead, NoAskIsAllowed, NoneIsLet, OnlyExceptionsDeny, OnlyLettingAllow, OnlyListedAllow, SomeAreAllowed};
 
 /// An ask that is looked at by ranges alone is allowed only by a rule that may allow some: if there is none, no such ask is allowed.
 pub fn others()
@@ -26,4 +26,9 @@ pub fn everyone()
 /// An ask that the rule of a line matches is allowed, unless a rule that the line names denies it.
 pub fn exceptions()
     ensures { OnlyExceptionsDeny }
+{}
+
+/// An object that the policy hides from every source of a network has its line, unless the search used up its steps.
+pub fn hidden()
+    ensures { HiddenIsNotRead }
 {}
