@@ -119,7 +119,16 @@ fn page_of(
     let parts = parts_of(alloc, config, lines, denials)?;
     let mut page = Page::new(alloc);
     put_first(alloc, &mut page, config, &parts)?;
-    put_last(alloc, &mut page, &Sources { config, lines, times }, &parts)?;
+    put_last(
+        alloc,
+        &mut page,
+        &Sources {
+            config,
+            lines,
+            times,
+        },
+        &parts,
+    )?;
     Ok(page)
 }
 

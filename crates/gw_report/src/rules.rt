@@ -3,7 +3,8 @@ ghost use Rattle.std.specs.Prelude.{◌≡◌, ◌-◌, ◌++◌, [], false, OnO
 ghost use Rattle.std.specs.List.{flat_map};
 ghost use Rattle.gw_script.specs.Order.{in_order};
 ghost use Rattle.gw_rules.specs.declared.field.TheConstants.FieldName.{ALL as all_fields};
-ghost use Rattle.gw_report.specs.Report.{count_cell, counted_head, decision_cell, default_cells, default_row, each_text, field_code, fields_cell, is_bare, note_at, note_text, placed_name};
+ghost use Rattle.gw_report.specs.Report.{count_cell, counted_head, decision_cell, default_cells, default_row, each_text, field_code};
+ghost use Rattle.gw_report.specs.Report.{fields_cell, is_bare, note_at, note_text, placed_name};
 ghost use Rattle.gw_report.specs.Report.{rule_cells, rule_row, rules_columns, rules_head, rules_table, rules_text, times_cell};
 ghost use Rattle.gw_report.specs.page.Elements.{element_text};
 

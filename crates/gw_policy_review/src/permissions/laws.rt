@@ -1,5 +1,6 @@
 //! What the lines on rules say of asks. The functions do nothing: their contracts are the laws.
-ghost use Rattle.gw_policy_review.specs.permissions.Laws.{EachAskIsAllowed, HiddenIsNotRead, NoAskIsAllowed, NoneIsLet, OnlyExceptionsDeny, OnlyLettingAllow, OnlyListedAllow, SomeAreAllowed};
+ghost use Rattle.gw_policy_review.specs.permissions.Laws.{EachAskIsAllowed, HiddenIsNotRead, NoAskIsAllowed, NoneIsLet};
+ghost use Rattle.gw_policy_review.specs.permissions.Laws.{OnlyExceptionsDeny, OnlyLettingAllow, OnlyListedAllow, SomeAreAllowed};
 
 /// An ask that is looked at by ranges alone is allowed only by a rule that may allow some: if there is none, no such ask is allowed.
 pub fn others()

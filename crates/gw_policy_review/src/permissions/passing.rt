@@ -111,8 +111,8 @@ pub(crate) fn is_never(found: &Outcome) -> bool
     matches!(found, Outcome::Never)
 }
 
-/// Searches for an ask of these shapes that a policy allows: `Decides` with one, `Never` if it denies each, `Unknown` only if all steps of
-/// a search for one that a rule decides were used. An `Err` only if a growth of memory was refused.
+/// Searches for an ask of these shapes that a policy allows: `Decides` with one, `Never` if it denies each, `Unknown` only if all steps
+/// of a search for one that a rule decides were used. An `Err` only if a growth of memory was refused.
 pub fn search_allowed(
     alloc: Global,
     policy: &RuleList,

@@ -17,10 +17,10 @@ use gw_addr::{keep_whole, put_slice};
 use gw_configuration::Config;
 use std::alloc::{AllocError, Global};
 
-/// Appends who may do what under a configuration. In format 3 it has lines of each port, each network,
-/// the rules that let others enter or speak for a network, what each rule lets whom ask for, the subnets that a rule reaches beside a
-/// port's own, each object, and each note, in this order; in formats 1 and 2 only from which networks each object is hidden. `lines` are those of the text on which the
-/// tables of the rules begin, or none if they aren't known.
+/// Appends who may do what under a configuration. In format 3 it has lines of each port, each network, the rules that let others enter or
+/// speak for a network, what each rule lets whom ask for, the subnets that a rule reaches beside a port's own, each object, and each note,
+/// in this order; in formats 1 and 2 only from which networks each object is hidden. `lines` are those of the text on which the tables of
+/// the rules begin, or none if they aren't known.
 ///
 /// ```text
 /// port 1: stations are 192.168.1.0/24, and registered foreign devices
@@ -31,7 +31,7 @@ use std::alloc::{AllocError, Global};
 /// network 100: no router speaks for it, since the device has it
 /// network 300: the router 192.168.2.20:47808 on port 2 speaks for it
 /// rule 5 "plant" (table 4, line 61) lets some others speak for a network behind a router
-/// from network 1, sender 192.168.1.20:47808: write, type 5 binary-value, to network 2, by rule 3 "operators", unless rule 1 "lock" denies it
+/// from network 1, sender 192.168.1.20:47808: write, to network 2, by rule 3 "operators", unless rule 1 "lock" denies it
 /// rule 3 "operators" reaches 10.8.0.0/24 too, by network 2
 /// object 2 (5,2) "door" is hidden from network 1: from whoever claims to be of it
 /// object 2 (5,2) "door": network 1 can read Object_List, which names it
