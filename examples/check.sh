@@ -192,6 +192,10 @@ cat "$work/marked.log" "$work/long" > "$work/marked.and.long.log"
 "$tool" report --config "$work/marked.toml" --log "$work/marked.and.long.log" > "$work/out" 2> "$work/err"
 status=$?
 same 'a page of hostile texts' "$status $(python3 "$here/page.py" "$work/out")" "$(cat "$here/page.out")"
+"$tool" report --config "$here/sites/tenant.toml" > "$work/out" 2> "$work/err"
+status=$?
+same 'the rules of a page, and their tables' "$status $(python3 "$here/page.py" "$work/out" | sed -n 's/^td: \(tenant-reads.*\)$/\1/p' | tr '\n' '|')" \
+    '0 tenant-reads|tenant-reads-way (table 1, line 55)|tenant-reads-back (table 1, line 55)|'
 "$tool" report --config "$work/marked.toml" --log "$work/nowhere" > "$work/out" 2> "$work/err"
 status=$?
 echo "bacgwctl: cannot read log $work/nowhere: no such file" > "$work/line"

@@ -1,6 +1,10 @@
 pub mod Allowing
 pub mod Appending
+pub mod Excepting
 pub mod Full
+pub mod Hidden
+pub mod InOrder
 pub mod Letting
-pub mod Ports
+pub mod Passage
+pub mod Reading
 pub mod Truth

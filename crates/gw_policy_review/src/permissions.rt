@@ -1,4 +1,5 @@
 //! Who may do what under a configuration: the lines that `bacgwctl explain` has of it.
+mod allowances;
 mod grants;
 pub mod laws;
 mod networks;
@@ -11,6 +12,7 @@ mod questions;
 mod reach;
 mod words;
 
-pub use passing::{decides_all, may_allow, may_pass, place_of_all};
+pub(crate) use passing::matches_all;
+pub use passing::{decides_all, may_allow, may_pass, place_of_all, search_allowed};
 pub use permissions::put_permissions;
 pub(crate) use words::Placed;

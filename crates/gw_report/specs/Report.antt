@@ -1,5 +1,5 @@
 -- The page that shows a configuration.
-use Rattle.std.specs.Prelude.{◌≡◌, ℕ, ◌+◌, ◌-◌, ◌==◌, ◌&&◌, Bool, true, false, if◌then◌else◌, nat_lt, List, [], ◌∷◌, ◌++◌, length, codes, decimal}
+use Rattle.std.specs.Prelude.{◌≡◌, ℕ, ◌+◌, ◌-◌, ◌==◌, ◌&&◌, Bool, true, false, if◌then◌else◌, List, [], ◌∷◌, ◌++◌, length, codes, decimal}
 use Rattle.std.specs.Prelude.{Option, Some, None, slice_get, unwrap_or}
 use Rattle.std.specs.List.{flat_map, list_all}
 use Rattle.std.specs.Option.{option_and_then, option_map_or}
@@ -23,6 +23,7 @@ use Rattle.gw_ask_sets.specs.declared.assertions.judging.Judged.TheVariants.{Hol
 use Rattle.gw_ask_sets.specs.shapes.Shape.{Shape}
 use Rattle.gw_ask_sets.specs.shapes.Shapes.{shapes}
 use Rattle.gw_policy_drafts.specs.migration.Items.{field_text}
+use Rattle.gw_policy_review.specs.Places.{is_derived, place_words}
 use Rattle.gw_report.specs.Access.{extent_among}
 use Rattle.gw_report.specs.declared.access.Whence.{Whence}
 use Rattle.gw_report.specs.declared.access.Whence.TheVariants.{Port, Beyond}
@@ -154,33 +155,24 @@ fields_cell rule =
 abbrev pub note_at : List (List ℕ) → ℕ → List ℕ
 note_at notes place = option_map_or (λ note. note) (slice_get notes place) []
 
--- the position of the table of the text that the rule at a place comes from, 0 if there is none
-abbrev pub table_at : List ℕ → ℕ → ℕ
-table_at tables place = option_map_or (λ table. table) (slice_get tables place) 0
+-- the note of the rule of this number, or that it is for the way or for the answers of the one before it
+abbrev pub note_text : Configuration → ℕ → List ℕ
+note_text c number = if is_derived c.tables number then codes "by both_ways" else note_at c.notes (number - 1)
 
--- The rule at a place comes from the same table as the one before it: it is for the way or for the answers.
-abbrev pub is_of_both_ways : List ℕ → ℕ → Bool
-is_of_both_ways tables place = nat_lt 0 place && (table_at tables (place - 1) == table_at tables place)
+-- its name, with the place of its table, where that has another number; the tables begin on these lines of the text
+abbrev pub placed_name : Configuration → (lines : List ℕ) → ℕ → Rule → List ℕ
+placed_name c lines number rule = rule.name ++ place_words c.tables lines number
 
--- a cell that says of such a rule which table it comes from, counted from 1
-unfoldable pub origin_cell : ℕ → List ℕ
-origin_cell table =
-    open_text element.Cell ++ (escaped (codes "by both_ways of rule table ") ++ (decimal (table + 1) ++ close_text element.Cell))
-
--- a cell with the note of the rule at a place, or with where it comes from
-abbrev pub note_cell : List (List ℕ) → List ℕ → ℕ → List ℕ
-note_cell notes tables place =
-    if is_of_both_ways tables place then origin_cell (table_at tables place) else element_text element.Cell (note_at notes place)
-
-unfoldable pub rule_cells : Rule → List ℕ
-rule_cells rule =
-    element_text element.Cell rule.name ++ (decision_cell rule.allow rule.quiet ++ fields_cell rule)
+unfoldable pub rule_cells : Configuration → (lines : List ℕ) → ℕ → Rule → List ℕ
+rule_cells c lines number rule =
+    element_text element.Cell (placed_name c lines number rule) ++ (decision_cell rule.allow rule.quiet
+    ++ (fields_cell rule ++ element_text element.Cell (note_text c number)))
 
 -- the row of the rule of this number
-unfoldable pub rule_row : List (List ℕ) → List ℕ → (shows : Bool) → (times : List ℕ) → ℕ → Rule → List ℕ
-rule_row notes tables shows times number rule =
-    open_text element.Row ++ (number_cell number ++ (rule_cells rule ++ (note_cell notes tables (number - 1)
-    ++ (times_cell shows rule.quiet times (number - 1) ++ close_text element.Row))))
+unfoldable pub rule_row : Configuration → (lines : List ℕ) → (shows : Bool) → (times : List ℕ) → ℕ → Rule → List ℕ
+rule_row c lines shows times number rule =
+    open_text element.Row ++ (number_cell number ++ (rule_cells c lines number rule
+    ++ (times_cell shows rule.quiet times (number - 1) ++ close_text element.Row)))
 
 unfoldable pub counted_head : Bool → List ℕ
 counted_head shows = if shows then element_text element.Head (codes "denials") else []
@@ -202,17 +194,17 @@ default_cells =
 unfoldable pub default_row : (shows : Bool) → (times : List ℕ) → ℕ → List ℕ
 default_row shows times count = open_text element.Row ++ (default_cells ++ (times_cell shows false times count ++ close_text element.Row))
 
-unfoldable pub rules_table : Configuration → (shows : Bool) → (times : List ℕ) → List ℕ
-rules_table c shows times =
-    open_text element.Table ++ (rules_head shows ++ (in_order (rule_row c.notes c.tables shows times) 1 c.rules
+unfoldable pub rules_table : Configuration → (lines : List ℕ) → (shows : Bool) → (times : List ℕ) → List ℕ
+rules_table c lines shows times =
+    open_text element.Table ++ (rules_head shows ++ (in_order (rule_row c lines shows times) 1 c.rules
     ++ (default_row shows times (length c.rules) ++ close_text element.Table)))
 
--- the rules in their order, each with what it says and its note
-unfoldable pub rules_text : Configuration → (shows : Bool) → (times : List ℕ) → List ℕ
-rules_text c shows times =
+-- the rules in their order, each with the place of its table, what it says and its note
+unfoldable pub rules_text : Configuration → (lines : List ℕ) → (shows : Bool) → (times : List ℕ) → List ℕ
+rules_text c lines shows times =
     element_text element.Heading (codes "Rules")
     ++ (element_text element.Aside (codes "The first rule that matches an ask decides it. If none matches, it is denied.")
-    ++ rules_table c shows times)
+    ++ rules_table c lines shows times)
 
 -- ---- the assertions
 
@@ -297,15 +289,15 @@ objects_text objects = if length objects == 0 then [] else objects_table objects
 unfoldable pub first_text : Configuration → (picture lines : List ℕ) → List ℕ
 first_text c picture lines = head_text c ++ (picture ++ (access_text c ++ lines))
 
-unfoldable pub last_text : Configuration → (shows : Bool) → (times : List ℕ) → List Judged → (plots : List ℕ) → List ℕ
-last_text c shows times judged plots =
-    rules_text c shows times ++ (assertions_text c judged ++ (objects_text c.objects ++ (plots ++ mark_text mark.End)))
+unfoldable pub last_text : Configuration → (lines : List ℕ) → (shows : Bool) → (times : List ℕ) → List Judged → (plots : List ℕ) → List ℕ
+last_text c lines shows times judged plots =
+    rules_text c lines shows times ++ (assertions_text c judged ++ (objects_text c.objects ++ (plots ++ mark_text mark.End)))
 
--- The page is about this configuration: it has its title and description, who may do what under it, its rules, its assertions
--- with what is found of each, and its objects.
+-- The page is about this configuration, of whose text the tables of the rules begin on these lines: it has its title and description,
+-- who may do what under it, its rules, its assertions with what is found of each, and its objects.
 -- The picture of the site, the lines of `explain`, and what a log denied are pages, of which no more is said; nor is it of how
 -- often each rule denied.
-pub record IsReport (c : Configuration) (shows : Bool) (times octets : List ℕ) : Type 0 where
+pub record IsReport (c : Configuration) (tables : List ℕ) (shows : Bool) (times octets : List ℕ) : Type 0 where
   pub picture : List ℕ
   pub is_picture : IsPage picture
   pub lines : List ℕ
@@ -314,4 +306,4 @@ pub record IsReport (c : Configuration) (shows : Bool) (times octets : List ℕ)
   pub are_plots : IsPage plots
   pub judged : List Judged
   pub are_judged : AreJudged c 4096 judged
-  pub whole : octets ≡ first_text c picture lines ++ last_text c shows times judged plots
+  pub whole : octets ≡ first_text c picture lines ++ last_text c tables shows times judged plots

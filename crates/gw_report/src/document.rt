@@ -30,7 +30,7 @@ use std::alloc::{AllocError, Global};
 /// An `Err` only if a growth of memory was refused.
 pub fn report(alloc: Global, config: &Config, lines: &[u32]) -> Result<Vec<u8>, AllocError>
     ensures page { IfOk result (λ octets. IsPage octets.items) }
-    ensures shows { IfOk result (λ octets. IsReport config.now false [] octets.items) }
+    ensures shows { IfOk result (λ octets. IsReport config.now lines.now false [] octets.items) }
 {
     let times = Times::none(alloc);
     let page = page_of(alloc, config, lines, &times, None)?;
@@ -48,7 +48,7 @@ pub fn report_with_log<R: OctetSource>(
     log: &mut R,
 ) -> Result<Vec<u8>, ReportFault>
     ensures page { IfOk result (λ octets. IsPage octets.items) }
-    ensures shows { IfOk result (λ octets. (times : List ℕ) × IsReport config.now true times octets.items) }
+    ensures shows { IfOk result (λ octets. (times : List ℕ) × IsReport config.now lines.now true times octets.items) }
 {
     let denials = read_log(alloc, log)?;
     let times = times_of(alloc, config, &denials)?;
@@ -114,12 +114,21 @@ fn page_of(
     times: &Times,
     denials: Option<&Denials>,
 ) -> Result<Page, AllocError>
-    ensures { IfOk result (λ page. IsReport config.now times.now.are_shown times.now.counts.items page) }
+    ensures { IfOk result (λ page. IsReport config.now lines.now times.now.are_shown times.now.counts.items page) }
 {
     let parts = parts_of(alloc, config, lines, denials)?;
     let mut page = Page::new(alloc);
     put_first(alloc, &mut page, config, &parts)?;
-    put_last(alloc, &mut page, config, times, &parts)?;
+    put_last(
+        alloc,
+        &mut page,
+        &Sources {
+            config,
+            lines,
+            times,
+        },
+        &parts,
+    )?;
     Ok(page)
 }
 
@@ -138,18 +147,29 @@ fn put_first(
     page.append(&parts.lines)
 }
 
+/// What the rules of the page are made of.
+#[derive(Clone, Copy)]
+struct Sources<'a> {
+    /// The configuration.
+    config: &'a Config,
+    /// The lines of its text on which the tables of its rules begin, or none if they aren't known.
+    lines: &'a [u32],
+    /// How often each rule denied.
+    times: &'a Times,
+}
+
 #[tactic(auto, unfolding(crate::specs::Report::last_text))]
 fn put_last(
     alloc: Global,
     page: &mut Page,
-    config: &Config,
-    times: &Times,
+    sources: &Sources<'_>,
     parts: &Parts,
 ) -> Result<(), AllocError>
-    ensures { OnOk result (page.new ≡ page.old
-        ++ last_text config.now times.now.are_shown times.now.counts.items parts.now.judged.items parts.now.plots) }
+    ensures { OnOk result (page.new ≡ page.old ++ last_text sources.now.config.now sources.now.lines.now
+        sources.now.times.now.are_shown sources.now.times.now.counts.items parts.now.judged.items parts.now.plots) }
 {
-    put_rules(alloc, page, config, times)?;
+    let config = sources.config;
+    put_rules(alloc, page, config, sources.lines, sources.times)?;
     put_assertions(page, config, &parts.judged)?;
     put_objects(page, config.objects())?;
     page.append(&parts.plots)?;

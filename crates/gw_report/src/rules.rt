@@ -1,14 +1,17 @@
 //! The rules of a policy, with their notes.
-ghost use Rattle.std.specs.Prelude.{◌≡◌, ◌+◌, ◌-◌, ◌<◌, ◌^◌, ◌++◌, [], false, OnOk};
+ghost use Rattle.std.specs.Prelude.{◌≡◌, ◌-◌, ◌++◌, [], false, OnOk};
 ghost use Rattle.std.specs.List.{flat_map};
 ghost use Rattle.gw_script.specs.Order.{in_order};
 ghost use Rattle.gw_rules.specs.declared.field.TheConstants.FieldName.{ALL as all_fields};
-ghost use Rattle.gw_report.specs.Report.{count_cell, counted_head, decision_cell, default_cells, default_row, each_text, field_code, fields_cell, is_bare, is_of_both_ways, note_at, note_cell, origin_cell, table_at};
+ghost use Rattle.gw_report.specs.Report.{count_cell, counted_head, decision_cell, default_cells, default_row, each_text, field_code};
+ghost use Rattle.gw_report.specs.Report.{fields_cell, is_bare, note_at, note_text, placed_name};
 ghost use Rattle.gw_report.specs.Report.{rule_cells, rule_row, rules_columns, rules_head, rules_table, rules_text, times_cell};
+ghost use Rattle.gw_report.specs.page.Elements.{element_text};
 
 use crate::page::{Element, Page};
 use gw_configuration::{Config, Text};
 use gw_policy_drafts::migration::put_field_items;
+use gw_policy_review::places::{is_derived, put_place};
 use gw_rules::{FieldName, NO_RULE, Rule};
 use std::alloc::{AllocError, Global};
 
@@ -59,22 +62,24 @@ impl Times {
     }
 }
 
-/// Appends a table of the rules in their order, with how many denials of a log each has.
+/// Appends a table of the rules in their order, with how many denials of a log each has. `lines` are those of the text on which the
+/// tables of the rules begin, or none if they aren't known.
 #[tactic(auto, unfolding(crate::specs::Report::rules_text))]
 pub(crate) fn put_rules(
     alloc: Global,
     page: &mut Page,
     config: &Config,
+    lines: &[u32],
     times: &Times,
 ) -> Result<(), AllocError>
-    ensures { OnOk result (page.new ≡ page.old ++ rules_text config.now times.now.are_shown times.now.counts.items) }
+    ensures { OnOk result (page.new ≡ page.old ++ rules_text config.now lines.now times.now.are_shown times.now.counts.items) }
 {
     page.element(Element::Heading, "Rules")?;
     page.element(
         Element::Aside,
         "The first rule that matches an ask decides it. If none matches, it is denied.",
     )?;
-    put_table(alloc, page, config, times)
+    put_table(alloc, page, config, lines, times)
 }
 
 #[tactic(auto, unfolding(crate::specs::Report::rules_table))]
@@ -82,113 +87,102 @@ fn put_table(
     alloc: Global,
     page: &mut Page,
     config: &Config,
+    lines: &[u32],
     times: &Times,
 ) -> Result<(), AllocError>
-    ensures { OnOk result (page.new ≡ page.old ++ rules_table config.now times.now.are_shown times.now.counts.items) }
+    ensures { OnOk result (page.new ≡ page.old ++ rules_table config.now lines.now times.now.are_shown times.now.counts.items) }
 {
-    let rules = config.rules().rules();
-    let origins = Origins {
-        notes: config.notes(),
-        tables: config.tables(),
-    };
     page.open(Element::Table)?;
     put_head(page, times.are_shown)?;
-    put_rows(alloc, page, rules, &origins, times)?;
-    put_default(page, times, rules.len())?;
+    put_rows(alloc, page, config, lines, times)?;
+    put_default(page, times, config.rules().rules().len())?;
     page.close(Element::Table)
-}
-
-/// Whence the rules of a list come, in their order.
-#[derive(Clone, Copy)]
-struct Origins<'a> {
-    /// The note of each.
-    notes: &'a [Text],
-    /// The position of the table of each, from 0.
-    tables: &'a [u16],
-}
-
-impl Origins<'_> {
-    /// The position of the table of the rule at a place, 0 if there is no rule.
-    fn table_at(&self, place: usize) -> u16
-        ensures { result ≡ table_at self.now.tables.now place }
-    {
-        match self.tables.get(place) {
-            Some(table) => *table,
-            None => 0,
-        }
-    }
-
-    /// Whether the rule at a place comes from the same table as the one before it.
-    fn is_of_both_ways(&self, place: usize) -> bool
-        ensures { result ≡ is_of_both_ways self.now.tables.now place }
-    {
-        place > 0 && self.table_at(place - 1) == self.table_at(place)
-    }
-
-    /// Appends a cell with the note of the rule at a place, or with the table of a rule that is for the way or for the answers.
-    fn put(&self, page: &mut Page, place: usize) -> Result<(), AllocError>
-        ensures { OnOk result (page.new ≡ page.old ++ note_cell self.now.notes.now self.now.tables.now place) }
-    {
-        if self.is_of_both_ways(place) {
-            put_origin(page, self.table_at(place))
-        } else {
-            page.element(Element::Cell, note_at(self.notes, place))
-        }
-    }
-}
-
-/// Appends a cell that says from which table a rule comes.
-#[tactic(auto, unfolding(crate::specs::Report::origin_cell))]
-fn put_origin(page: &mut Page, table: u16) -> Result<(), AllocError>
-    ensures { OnOk result (page.new ≡ page.old ++ origin_cell table) }
-{
-    page.open(Element::Cell)?;
-    page.text("by both_ways of rule table ")?;
-    page.number(u64::from(table) + 1)?;
-    page.close(Element::Cell)
 }
 
 fn put_rows(
     alloc: Global,
     page: &mut Page,
-    rules: &[Rule],
-    origins: &Origins<'_>,
+    config: &Config,
+    lines: &[u32],
     times: &Times,
 ) -> Result<(), AllocError>
     ensures { OnOk result (page.new ≡ page.old
-        ++ in_order (rule_row origins.now.notes.now origins.now.tables.now times.now.are_shown times.now.counts.items) 1 rules.now) }
+        ++ in_order (rule_row config.now lines.now times.now.are_shown times.now.counts.items) 1 config.now.rules) }
 {
-    for (place, rule) in rules.iter().enumerate() {
-        put_row(alloc, page, &Row { place, rule }, origins, times)?;
+    let rules = config.rules().rules();
+    for place in 0..rules.len() {
+        let row = Row {
+            config,
+            lines,
+            number: place as u16 + 1,
+            rule: &rules[place],
+        };
+        row.put(alloc, page, times)?;
     }
     Ok(())
 }
 
-/// A rule, and its place from 0.
+/// A rule of a configuration by its number, from 1, and the lines of the text on which the tables of the rules begin.
 #[derive(Clone, Copy)]
 struct Row<'a> {
-    place: usize,
+    config: &'a Config,
+    lines: &'a [u32],
+    number: u16,
     rule: &'a Rule,
 }
 
-#[tactic(auto, unfolding(crate::specs::Report::rule_row))]
-fn put_row(
-    alloc: Global,
-    page: &mut Page,
-    row: &Row<'_>,
-    origins: &Origins<'_>,
-    times: &Times,
-) -> Result<(), AllocError>
-    requires { row.now.place < 2 ^ 64 - 1 }
-    ensures { OnOk result (page.new ≡ page.old
-        ++ rule_row origins.now.notes.now origins.now.tables.now times.now.are_shown times.now.counts.items (row.now.place + 1) row.now.rule.now) }
-{
-    page.open(Element::Row)?;
-    page.number_cell(row.place as u64 + 1)?;
-    put_cells(alloc, page, row.rule)?;
-    origins.put(page, row.place)?;
-    times.put(page, row.place, row.rule.quiet)?;
-    page.close(Element::Row)
+impl Row<'_> {
+    #[tactic(auto, unfolding(crate::specs::Report::rule_row))]
+    fn put(&self, alloc: Global, page: &mut Page, times: &Times) -> Result<(), AllocError>
+        ensures { OnOk result (page.new ≡ page.old ++ rule_row self.now.config.now self.now.lines.now times.now.are_shown
+            times.now.counts.items self.now.number self.now.rule.now) }
+    {
+        page.open(Element::Row)?;
+        page.number_cell(u64::from(self.number))?;
+        self.put_cells(alloc, page)?;
+        times.put(page, self.place(), self.rule.quiet)?;
+        page.close(Element::Row)
+    }
+
+    /// Its place, from 0.
+    fn place(&self) -> usize
+        ensures { result ≡ self.now.number - 1 }
+    {
+        usize::from(self.number).saturating_sub(1)
+    }
+
+    #[tactic(auto, unfolding(crate::specs::Report::rule_cells))]
+    fn put_cells(&self, alloc: Global, page: &mut Page) -> Result<(), AllocError>
+        ensures { OnOk result (page.new ≡ page.old
+            ++ rule_cells self.now.config.now self.now.lines.now self.now.number self.now.rule.now) }
+    {
+        self.put_name(alloc, page)?;
+        put_decision(page, self.rule.allow, self.rule.quiet)?;
+        put_fields(alloc, page, self.rule)?;
+        page.element(Element::Cell, self.note())
+    }
+
+    /// Appends a cell with its name, and the place of its table, if that has another number.
+    fn put_name(&self, alloc: Global, page: &mut Page) -> Result<(), AllocError>
+        ensures { OnOk result (page.new ≡ page.old
+            ++ element_text Element.Cell (placed_name self.now.config.now self.now.lines.now self.now.number self.now.rule.now)) }
+    {
+        let mut name = Vec::new(alloc);
+        name.extend_from_slice(self.rule.name.as_str().as_bytes())?;
+        put_place(&mut name, self.config.tables(), self.lines, self.number)?;
+        page.octets_element(Element::Cell, &name)
+    }
+
+    /// Its note, or that it is for the way or for the answers of the rule before it.
+    fn note(&self) -> &str
+        ensures { result.now ≡ note_text self.now.config.now self.now.number }
+    {
+        if is_derived(self.config.tables(), self.number) {
+            "by both_ways"
+        } else {
+            note_at(self.config.notes(), self.place())
+        }
+    }
 }
 
 /// The note at a place, or nothing.
@@ -231,15 +225,6 @@ fn put_counted(page: &mut Page, are_shown: bool) -> Result<(), AllocError>
     } else {
         Ok(())
     }
-}
-
-#[tactic(auto, unfolding(crate::specs::Report::rule_cells))]
-fn put_cells(alloc: Global, page: &mut Page, rule: &Rule) -> Result<(), AllocError>
-    ensures { OnOk result (page.new ≡ page.old ++ rule_cells rule.now) }
-{
-    page.element(Element::Cell, rule.name.as_str())?;
-    put_decision(page, rule.allow, rule.quiet)?;
-    put_fields(alloc, page, rule)
 }
 
 #[tactic(auto, unfolding(crate::specs::Report::decision_cell, crate::specs::Report::denied_cell))]

@@ -22,7 +22,7 @@ fn make_page<F: ConfigFiles>(
     placed: &Placed,
     log: &Option<String>,
 ) -> Result<Vec<u8>, Fault>
-    ensures { IsPageOf (F.ReadsLog files.now) (option_map string_bytes log.now) placed.now.config
+    ensures { IsPageOf (F.ReadsLog files.now) (option_map string_bytes log.now) placed.now
         (result_map (λ octets. octets.items) result) }
 {
     match log {
@@ -32,7 +32,7 @@ fn make_page<F: ConfigFiles>(
 }
 
 fn make_page_alone(alloc: Global, placed: &Placed) -> Result<Vec<u8>, Fault>
-    ensures { IsPageAlone placed.now.config (result_map (λ octets. octets.items) result) }
+    ensures { IsPageAlone placed.now (result_map (λ octets. octets.items) result) }
 {
     match report(alloc, &placed.config, &placed.lines) {
         Ok(page) => Ok(page),
@@ -46,7 +46,7 @@ fn make_page_with<L: OctetSource + Drop>(
     placed: &Placed,
     opened: Result<L, Fault>,
 ) -> Result<Vec<u8>, Fault>
-    ensures { IsPageWith placed.now.config (result_map L.left opened) (result_map (λ octets. octets.items) result) }
+    ensures { IsPageWith placed.now (result_map L.left opened) (result_map (λ octets. octets.items) result) }
 {
     let mut log = opened?;
     match report_with_log(alloc, &placed.config, &placed.lines, &mut log) {

@@ -27,7 +27,9 @@ use Rattle.gw_ask_sets.proofs.shapes_lemmas.Narrowing.{met}
 use Rattle.gw_ask_sets.proofs.shapes_lemmas.Lying.{in_range}
 use Rattle.gw_policy_review.specs.lint.Laws.{NoBroadcastIsAllowed}
 use Rattle.gw_policy_review.specs.lint.Notes.{lets_broadcasts}
-use Rattle.gw_policy_review.specs.lint.Passage.{holds_shape, is_cast, opener, settles}
+use Rattle.gw_policy_review.specs.permissions.Passing.{matches_all}
+use Rattle.gw_policy_review.proofs.permissions_lemmas.Allowing.{matching_all}
+use Rattle.gw_policy_review.specs.lint.Passage.{is_cast, opener, settles}
 
 -- ---- the first rule that settles
 
@@ -47,17 +49,11 @@ first_place test rules place rule there holding =
         absurd (both_ways (test rule) (sym (ap test at) ∙ fails) holding)
     not_after false e = ltb-false place (position_or_len test rules) e
 
--- a rule of which each range holds all of a shape matches each ask of it
-holding : (shape : Shape) (rule : Rule) (ask : Ask) → holds_shape shape rule ≡ true → LiesIn shape ask → Matches rule ask
-holding shape rule ask t lies field =
-    let test : FieldName → Bool = λ f. takes_side (value_of f shape) (ranges_of f rule) [] in
-    sided (value_of field shape) (ranges_of field rule) [] (value_of field ask) (each_field_at test t field) (lies field) (λ named. absurd (omega (arith, named)))
-
 -- an allow rule that may match settles, and so does a deny rule that must
 settles_by : (shape : Shape) (rule : Rule) → rule.allow ≡ true → meets shape rule ≡ true → settles shape rule ≡ true
 settles_by shape rule allow t = rw allow t
 
-settled_by : (shape : Shape) (rule : Rule) → rule.allow ≡ false → settles shape rule ≡ true → holds_shape shape rule ≡ true
+settled_by : (shape : Shape) (rule : Rule) → rule.allow ≡ false → settles shape rule ≡ true → matches_all shape rule ≡ true
 settled_by shape rule deny t = rw deny at t
 
 -- the rule at the place of the first that settles says deny, where none opens
@@ -91,7 +87,7 @@ opened_by_none rules shape ask none lies (number, deciding, allow) =
     let earlier : Rule = get_or rules place rule in
     let there_too : slice_get rules place ≡ Some earlier = slice_get-get_or rules place rule at.0 in
     let deny = denies rules shape place earlier none found.1 there_too in
-    let matching = holding shape earlier ask (settled_by shape earlier deny at.1) lies in
+    let matching = matching_all shape earlier ask (settled_by shape earlier deny at.1) lies in
     let before = found.2 in
     elim (cases_order place (number - 1)) [
       | inl same ↦

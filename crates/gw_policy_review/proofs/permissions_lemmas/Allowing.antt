@@ -33,7 +33,7 @@ any_taken test (x ∷ xs) (suc place) (suc count) item there inside holds =
     or_right (test x) (list_any test (take count xs)) (any_taken test xs place count item there (omega (arith, inside)) holds)
 
 -- a rule of which each range holds all of a shape matches each ask of it
-matching_all : (shape : Shape) (rule : Rule) (ask : Ask) → matches_all shape rule ≡ true → LiesIn shape ask → Matches rule ask
+pub matching_all : (shape : Shape) (rule : Rule) (ask : Ask) → matches_all shape rule ≡ true → LiesIn shape ask → Matches rule ask
 matching_all shape rule ask t lies field =
     let test : FieldName → Bool = λ f. takes_side (value_of f shape) (ranges_of f rule) [] in
     sided (value_of field shape) (ranges_of field rule) [] (value_of field ask) (each_field_at test t field) (lies field) (λ named. absurd (omega (arith, named)))

@@ -1,5 +1,6 @@
 -- An ask of a shape is allowed only by a rule that lets somebody, by what is found of the rules over the asks of the shape.
-use Rattle.std.proofs.Common.{◌≡◌, ◌∙◌, inl, inr, ℕ, ◌+◌, ◌-◌, ◌<◌, Bool, true, false, List, [], ◌∷◌, ◌++◌, Some, ap, arith, get_or, length, refl, slice_get, subst, sym, take}
+use Rattle.std.proofs.Common.{◌≡◌, ◌∙◌, inl, ℕ, ◌+◌, ◌-◌, ◌<◌, Bool, true, false, List, [], ◌∷◌, ◌++◌, Some, ap, arith, get_or, length, refl, slice_get, subst, sym, take}
+use Rattle.std.specs.Bool.{⊤}
 use Rattle.std.specs.Prelude.{unwrap_or}
 use Rattle.std.proofs.lemmas.Bool.{both_ways}
 use Rattle.std.proofs.lemmas.Option.{slice_get-get_or, slice_get_within}
@@ -28,7 +29,7 @@ found_there shapes rules findings number rule are has =
     let within : number - 1 < length rules = slice_get_within rules (number - 1) rule has.there in
     slice_get-get_or findings (number - 1) finding.MatchesNothing (omega (arith, count, within))
 
-finds_at : (shapes : List Shape) (rules : List Rule) (findings : List Finding) (number : ℕ) (rule : Rule) → AreTrue shapes rules findings
+pub finds_at : (shapes : List Shape) (rules : List Rule) (findings : List Finding) (number : ℕ) (rule : Rule) → AreTrue shapes rules findings
     → HasNumber rules number rule → Finds shapes rules number rule (finding_at findings number)
 finds_at shapes rules findings number rule are has =
     let there = found_there shapes rules findings number rule are has in
@@ -36,39 +37,48 @@ finds_at shapes rules findings number rule are has =
     let same : found ≡ finding_at findings number = sym (ap (λ o. unwrap_or o finding.MatchesNothing) there) in
     subst (λ (f : Finding). Finds shapes rules number rule f) same (are.each number rule found has there)
 
--- a rule that is the first to match an ask of the shape, and allows it, lets somebody, whatever is found of it
-letting : (shape : Shape) (rules : List Rule) (ask : Ask) (number : ℕ) (found : Finding) (deciding : IsFirst rules ask number) → LiesIn shape ask
-    → first rules ask ≡ Some number → deciding.rule.allow ≡ true → Finds (shape ∷ []) rules number deciding.rule found
-    → lets deciding.rule found ≡ true
-letting shape rules ask number finding.MatchesNothing deciding lies is allow tells = absurd (tells ask (inl lies) deciding.matching)
-letting shape rules ask number (finding.TakenBy by) deciding lies is allow tells =
+-- what is found of a rule that is the first to match an ask of the shapes: it decides one, or that isn't known
+abbrev pub MayDecide : Finding → Type 0
+MayDecide (finding.Decides ask) = ⊤
+MayDecide finding.Unknown = ⊤
+MayDecide _ = ⊥
+
+pub deciding_found : (shapes : List Shape) (rules : List Rule) (ask : Ask) (number : ℕ) (found : Finding) (deciding : IsFirst rules ask number) → LiesInOne shapes ask
+    → first rules ask ≡ Some number → Finds shapes rules number deciding.rule found → MayDecide found
+deciding_found shapes rules ask number finding.MatchesNothing deciding lies is tells = tells ask lies deciding.matching
+deciding_found shapes rules ask number (finding.TakenBy by) deciding lies is tells =
     let taken = tells.1 in
-    absurd (deciding.least by taken.earlier taken.before taken.numbered (taken.takes ask (inl lies) deciding.matching))
-letting shape rules ask number finding.TakenTogether deciding lies is allow tells = absurd (tells.2 ask (inl lies) is)
-letting shape rules ask number (finding.Decides other) deciding lies is allow tells = allow
-letting shape rules ask number finding.Unknown deciding lies is allow tells = allow
+    deciding.least by taken.earlier taken.before taken.numbered (taken.takes ask lies deciding.matching)
+deciding_found shapes rules ask number finding.TakenTogether deciding lies is tells = tells.2 ask lies is
+deciding_found shapes rules ask number (finding.Decides other) deciding lies is tells = tt
+deciding_found shapes rules ask number finding.Unknown deciding lies is tells = tt
+
+-- if it allows, it lets somebody
+letting : (rule : Rule) (found : Finding) → rule.allow ≡ true → MayDecide found → lets rule found ≡ true
+letting rule finding.MatchesNothing allow may = absurd may
+letting rule (finding.TakenBy by) allow may = absurd may
+letting rule finding.TakenTogether allow may = absurd may
+letting rule (finding.Decides ask) allow may = allow
+letting rule finding.Unknown allow may = allow
 
 pub only_letting_allow : OnlyLettingAllow
-only_letting_allow shape rules findings ask are lies t =
+only_letting_allow shapes rules findings ask are lies t =
     let by = (allows_iff rules ask).0 t in
     let deciding = by.1 in
     let is : first rules ask ≡ Some by.0 = (first_iff rules ask by.0).1 deciding in
-    let tells = finds_at (shape ∷ []) rules findings by.0 deciding.rule are deciding.numbered in
-    (by.0, deciding.rule, deciding.numbered, is, letting shape rules ask by.0 (finding_at findings by.0) deciding lies is by.2 tells)
+    let tells = finds_at shapes rules findings by.0 deciding.rule are deciding.numbered in
+    let may = deciding_found shapes rules ask by.0 (finding_at findings by.0) deciding lies is tells in
+    (by.0, deciding.rule, deciding.numbered, is, letting deciding.rule (finding_at findings by.0) by.2 may)
 
 pub some_are_allowed : SomeAreAllowed
-some_are_allowed shape rules findings number rule ask are has is allow =
-    let tells : Finds (shape ∷ []) rules number rule (finding.Decides ask) =
-    subst (λ (f : Finding). Finds (shape ∷ []) rules number rule f) is (finds_at (shape ∷ []) rules findings number rule are has) in
+some_are_allowed shapes rules findings number rule ask are has is allow =
+    let tells : Finds shapes rules number rule (finding.Decides ask) =
+    subst (λ (f : Finding). Finds shapes rules number rule f) is (finds_at shapes rules findings number rule are has) in
     let firstly = tells.2 in
     let deciding = (first_iff rules ask number).0 firstly.1 in
     let both : Some deciding.rule ≡ Some rule = sym deciding.numbered.there ∙ has.there in
     let same : deciding.rule ≡ rule = cc in
-    (alone firstly.0, firstly.1, (allows_iff rules ask).1 (number, deciding, ap (λ (r : Rule). r.allow) same ∙ allow))
-  where
-    alone : LiesInOne (shape ∷ []) ask → LiesIn shape ask
-    alone (inl lies) = lies
-    alone (inr none) = absurd none
+    (firstly.0, firstly.1, (allows_iff rules ask).1 (number, deciding, ap (λ (r : Rule). r.allow) same ∙ allow))
 
 -- ---- the lines
 
@@ -114,5 +124,5 @@ none_is_let c lines deed shape findings ask are none lies = by (allows c.rules a
     by : (b : Bool) → allows c.rules ask ≡ b → b ≡ false
     by false e = refl
     by true e =
-        let found = only_letting_allow shape c.rules findings ask are lies e in
+        let found = only_letting_allow (shape ∷ []) c.rules findings ask are (inl lies) e in
         absurd (both_ways (lets found.1 (finding_at findings found.0)) (not_let c lines deed shape findings found.0 found.1 found.2 none) found.4)

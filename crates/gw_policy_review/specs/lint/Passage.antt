@@ -3,28 +3,22 @@ use Rattle.std.specs.Prelude.{ℕ, ◌+◌, ◌-◌, Bool, false, not, ◌&&◌,
 use Rattle.std.specs.Prelude.{None, position}
 use Rattle.std.specs.Option.{option_map, option_map_or}
 use Rattle.gw_configuration.specs.declared.port.Port.{Port}
-use Rattle.gw_rules.specs.Fields.{value_of}
 use Rattle.gw_rules.specs.Operation.{operation_number}
 use Rattle.gw_rules.specs.Range.{holds}
-use Rattle.gw_rules.specs.Rule.{each_field, ranges_of}
 use Rattle.gw_rules.specs.RuleList.{allows_at}
 use Rattle.gw_rules.specs.declared.format.Format.{Format}
 use Rattle.gw_rules.specs.declared.operation.Operation.TheVariants as operations
 use Rattle.gw_rules.specs.declared.rule.Rule.{Rule}
-use Rattle.gw_ask_sets.specs.shapes.Cover.{takes_side}
 use Rattle.gw_ask_sets.specs.shapes.Meeting.{has_number, meets}
 use Rattle.gw_ask_sets.specs.shapes.Pieces.{numbers}
 use Rattle.gw_ask_sets.specs.shapes.Shape.{Shape}
 use Rattle.gw_ask_sets.specs.shapes.Shapes.{aimed, bound, is_manager, only, own}
 use Rattle.gw_ask_sets.specs.declared.shapes.side.Side.{Side}
-
--- in each field that the rule names, one of its ranges holds all that the shape has there
-abbrev pub holds_shape : Shape → Rule → Bool
-holds_shape shape rule = each_field (λ field. takes_side (value_of field shape) (ranges_of field rule) [])
+use Rattle.gw_policy_review.specs.permissions.Passing.{matches_all}
 
 -- a rule settles what becomes of a shape's asks: it allows and may match one of them, or denies and matches each
 abbrev pub settles : Shape → Rule → Bool
-settles shape rule = if rule.allow then meets shape rule else holds_shape shape rule
+settles shape rule = if rule.allow then meets shape rule else matches_all shape rule
 
 -- the number of the first rule that settles it
 abbrev pub settler : List Rule → Shape → Option ℕ

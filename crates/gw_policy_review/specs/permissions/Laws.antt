@@ -1,13 +1,18 @@
 -- What the lines on rules say of asks.
-use Rattle.std.specs.Prelude.{◌≡◌, ℕ, ◌≤◌, true, false, List, [], ◌∷◌, Some}
+use Rattle.std.specs.Prelude.{◌≡◌, ℕ, ◌<◌, ◌≤◌, true, false, List, [], ◌∷◌, Some}
 use Rattle.gw_configuration.specs.Configuration.{Configuration}
 use Rattle.gw_rules.specs.Ask.{Ask}
+use Rattle.gw_rules.specs.Hides.{hides_from_network}
+use Rattle.gw_rules.specs.Rule.{Matches}
 use Rattle.gw_rules.specs.RuleList.{HasNumber, allows, first}
 use Rattle.gw_rules.specs.declared.rule.Rule.{Rule}
-use Rattle.gw_ask_sets.specs.shapes.Shape.{LiesIn, Shape}
+use Rattle.gw_ask_sets.specs.shapes.Shape.{LiesIn, LiesInOne, Shape}
+use Rattle.gw_ask_sets.specs.declared.shapes.search.Outcome.TheVariants as outcome
+use Rattle.gw_ask_sets.specs.declared.shapes.side.Side.{Side}
 use Rattle.gw_policy_review.specs.lint.Finding.{AreTrue}
+use Rattle.gw_policy_review.specs.permissions.Allowances.{is_exception}
 use Rattle.gw_policy_review.specs.permissions.Passing.{decides_all, finding_at, lets, may_allow, may_pass, reached}
-use Rattle.gw_policy_review.specs.permissions.Permissions.{grants_text}
+use Rattle.gw_policy_review.specs.permissions.Permissions.{IsRead, grants_text}
 use Rattle.gw_policy_review.specs.declared.lint.finding.Finding.{Finding}
 use Rattle.gw_policy_review.specs.declared.lint.finding.Finding.TheVariants as finding
 use Rattle.gw_policy_review.specs.declared.permissions.grants.Deed.{Deed}
@@ -40,11 +45,10 @@ EachAskIsAllowed =
 
 -- ---- by the exact search
 
--- An ask of the shape that is allowed is allowed by a rule that lets somebody, by what is found of the rules over the asks of the
--- shape.
+-- An ask of the shapes that is allowed is allowed by a rule that lets somebody, by what is found of the rules over these asks.
 abbrev pub OnlyLettingAllow : Type 0
 OnlyLettingAllow =
-    (shape : Shape) (rules : List Rule) (findings : List Finding) (ask : Ask) → AreTrue (shape ∷ []) rules findings → LiesIn shape ask →
+    (shapes : List Shape) (rules : List Rule) (findings : List Finding) (ask : Ask) → AreTrue shapes rules findings → LiesInOne shapes ask →
     allows rules ask ≡ true →
     (number : ℕ) × (rule : Rule) × HasNumber rules number rule × (first rules ask ≡ Some number)
     × (lets rule (finding_at findings number) ≡ true)
@@ -56,9 +60,27 @@ NoneIsLet =
     AreTrue (shape ∷ []) c.rules findings → grants_text c lines deed shape findings ≡ [] → LiesIn shape ask →
     allows c.rules ask ≡ false
 
--- If a line says that a rule lets some, it is the first to match an ask of the shape, and allows it.
+-- If a line says that a rule lets some, it is the first to match an ask of the shapes, and allows it.
 abbrev pub SomeAreAllowed : Type 0
 SomeAreAllowed =
-    (shape : Shape) (rules : List Rule) (findings : List Finding) (number : ℕ) (rule : Rule) (ask : Ask) →
-    AreTrue (shape ∷ []) rules findings → HasNumber rules number rule → finding_at findings number ≡ finding.Decides ask →
-    rule.allow ≡ true → LiesIn shape ask × (first rules ask ≡ Some number) × (allows rules ask ≡ true)
+    (shapes : List Shape) (rules : List Rule) (findings : List Finding) (number : ℕ) (rule : Rule) (ask : Ask) →
+    AreTrue shapes rules findings → HasNumber rules number rule → finding_at findings number ≡ finding.Decides ask →
+    rule.allow ≡ true → LiesInOne shapes ask × (first rules ask ≡ Some number) × (allows rules ask ≡ true)
+
+-- An ask of the shapes that the rule of a line matches is allowed, unless a rule that the line names as an exception denies it.
+abbrev pub OnlyExceptionsDeny : Type 0
+OnlyExceptionsDeny =
+    (shapes : List Shape) (rules : List Rule) (findings : List Finding) (number : ℕ) (rule : Rule) (ask : Ask) →
+    AreTrue shapes rules findings → HasNumber rules number rule → rule.allow ≡ true → LiesInOne shapes ask → Matches rule ask →
+    allows rules ask ≡ false →
+    (lower : ℕ) × (other : Rule) × (lower < number) × HasNumber rules lower other × (first rules ask ≡ Some lower)
+    × (is_exception rule other (finding_at findings lower) ≡ true)
+
+-- ---- objects
+
+-- Of an object that the policy hides from every source of a network no read is found: it has its line, unless the search used up its
+-- steps.
+abbrev pub HiddenIsNotRead : Type 0
+HiddenIsNotRead =
+    (c : Configuration) (network kind instance : ℕ) (property : Side) (ask : Ask) → hides_from_network c.rules network kind instance ≡ true →
+    IsRead c network (record { kind = kind; instance = instance; property = property }) (outcome.Decides ask) → ⊥

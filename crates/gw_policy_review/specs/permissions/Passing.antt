@@ -1,13 +1,20 @@
 -- Which rules may allow asks of a shape.
-use Rattle.std.specs.Prelude.{ℕ, ◌+◌, ◌-◌, Bool, false, not, ◌&&◌, List, [], length, position, slice_get, take, unwrap_or}
+use Rattle.std.specs.Prelude.{◌≡◌, ℕ, ◌+◌, ◌-◌, Bool, true, false, not, ◌&&◌, List, [], Some, length, position, slice_get, take, unwrap_or}
 use Rattle.std.specs.List.{list_any}
 use Rattle.std.specs.Option.{option_map_or}
+use Rattle.gw_rules.specs.Ask.{Ask}
 use Rattle.gw_rules.specs.Fields.{value_of}
 use Rattle.gw_rules.specs.Rule.{each_field, ranges_of}
+use Rattle.gw_rules.specs.RuleList.{allows, first}
 use Rattle.gw_rules.specs.declared.rule.Rule.{Rule}
+use Rattle.gw_ask_sets.specs.regions.Tidying.{all_tidied}
 use Rattle.gw_ask_sets.specs.shapes.Cover.{takes_side}
 use Rattle.gw_ask_sets.specs.shapes.Meeting.{meets}
-use Rattle.gw_ask_sets.specs.shapes.Shape.{Shape}
+use Rattle.gw_ask_sets.specs.shapes.Search.{IsUsedUp}
+use Rattle.gw_ask_sets.specs.shapes.Shape.{LiesInOne, Shape}
+use Rattle.gw_ask_sets.specs.declared.shapes.search.Outcome.{Outcome}
+use Rattle.gw_ask_sets.specs.declared.shapes.search.Outcome.TheVariants as outcome
+use Rattle.gw_policy_review.specs.declared.lint.finding.TheConstants.{MAX_STEPS}
 use Rattle.gw_policy_review.specs.declared.lint.finding.Finding.{Finding}
 use Rattle.gw_policy_review.specs.declared.lint.finding.Finding.TheVariants as finding
 
@@ -43,3 +50,22 @@ abbrev pub lets : Rule → Finding → Bool
 lets rule (finding.Decides ask) = rule.allow
 lets rule finding.Unknown = rule.allow
 lets rule _ = false
+
+-- what a search for an ask of these shapes that the rule of this number decides and allows comes to
+abbrev pub IsAllowedBy : List Shape → List Rule → ℕ → Outcome → Type 0
+IsAllowedBy shapes rules number outcome.Never =
+    (ask : Ask) → LiesInOne shapes ask → first rules ask ≡ Some number → allows rules ask ≡ false
+IsAllowedBy shapes rules number (outcome.Decides ask) = LiesInOne shapes ask × (allows rules ask ≡ true)
+IsAllowedBy shapes rules number outcome.Unknown = IsUsedUp shapes rules number MAX_STEPS
+
+-- what a search for an ask of these shapes that the policy allows comes to: one, or that none is allowed, or that all steps were used, of
+-- the rules with their ranges in order, which match the same asks
+abbrev pub IsPassage : List Shape → List Rule → Outcome → Type 0
+IsPassage shapes rules outcome.Never = (ask : Ask) → LiesInOne shapes ask → allows rules ask ≡ false
+IsPassage shapes rules (outcome.Decides ask) = LiesInOne shapes ask × (allows rules ask ≡ true)
+IsPassage shapes rules outcome.Unknown = (number : ℕ) × IsUsedUp shapes (all_tidied rules) number MAX_STEPS
+
+-- each ask is denied
+abbrev pub is_never : Outcome → Bool
+is_never outcome.Never = true
+is_never _ = false

@@ -17,11 +17,18 @@ use Rattle.gw_configuration.specs.declared.route.Route.{Route}
 use Rattle.gw_rules.specs.Format.{names_stations}
 use Rattle.gw_rules.specs.Hides.{hides_from_network}
 use Rattle.gw_rules.specs.Range.{holds}
+use Rattle.gw_rules.specs.declared.field.FieldName.TheVariants as fields
 use Rattle.gw_rules.specs.declared.rule.Rule.{Rule}
 use Rattle.gw_script.specs.Order.{in_order}
 use Rattle.gw_ask_sets.specs.shapes.Shape.{Shape}
-use Rattle.gw_policy_review.specs.permissions.Passing.{decides_all, finding_at, lets, may_pass}
+use Rattle.gw_ask_sets.specs.shapes.Shapes.{only, some}
+use Rattle.gw_ask_sets.specs.declared.shapes.search.Outcome.{Outcome}
+use Rattle.gw_ask_sets.specs.declared.shapes.search.Outcome.TheVariants as outcome
+use Rattle.gw_ask_sets.specs.declared.shapes.side.Side.{Side}
+use Rattle.gw_policy_review.specs.permissions.Allowances.{AreAllowances}
+use Rattle.gw_policy_review.specs.permissions.Passing.{IsPassage, decides_all, finding_at, is_never, lets}
 use Rattle.gw_policy_review.specs.permissions.Questions.{claiming, entering, reading}
+use Rattle.gw_policy_review.specs.permissions.Texts.{AreInOrder}
 use Rattle.gw_policy_review.specs.permissions.Words.{rule_words}
 use Rattle.gw_policy_review.specs.Places.{is_derived}
 use Rattle.gw_policy_review.specs.lint.Finding.{AreTrue}
@@ -140,11 +147,9 @@ AppendsEntries c lines number port old new = (text : List ℕ) × AreEntries c l
 abbrev pub AppendsPort : Configuration → (lines : List ℕ) → ℕ → Port → List ℕ → List ℕ → Type 0
 AppendsPort c lines number port old new = (text : List ℕ) × IsPort c lines number port text × (new ≡ old ++ text)
 
--- those of all ports, counted on from a number
+-- those of ports, counted on from a number
 abbrev pub ArePorts : Configuration → (lines : List ℕ) → ℕ → List Port → List ℕ → Type 0
-ArePorts c lines number [] text = text ≡ []
-ArePorts c lines number (port ∷ ports) text =
-    (first rest : List ℕ) × IsPort c lines number port first × ArePorts c lines (number + 1) ports rest × (text ≡ first ++ rest)
+ArePorts c lines number ports text = AreInOrder (IsPort c lines) number ports text
 
 -- ---- networks
 
@@ -216,55 +221,80 @@ is_hidden rules object network = hides_from_network rules network (type_number o
 abbrev pub hidden_words : ℕ → Object → ℕ → List ℕ
 hidden_words number object network = object_words number object ++ codes " is hidden from network " ++ decimal network
 
--- a claim of the network may be allowed to read this property of an object of the device
-abbrev pub is_readable : Configuration → ℕ → Point → Bool
-is_readable c network point = may_pass (reading (length c.ports) c.device.network network point) c.rules
+-- what a search for an ask of the network to read these properties of an object of the device finds that is allowed
+abbrev pub IsRead : Configuration → ℕ → Point → Outcome → Type 0
+IsRead c network point found = IsPassage (reading (length c.ports) c.device.network network point ∷ []) c.rules found
 
-abbrev pub point_of : Object → ℕ → Point
+abbrev pub point_of : Object → Side → Point
 point_of object property = record { kind = type_number object.value; instance = object.instance; property = property }
 
 -- Object_List of the device (clauses 12.11 and 21)
 abbrev pub object_list : Device → Point
-object_list device = record { kind = 8; instance = device.instance; property = 76 }
+object_list device = record { kind = 8; instance = device.instance; property = only 76 }
 
-abbrev pub network_may : ℕ → Object → ℕ → List ℕ
-network_may number object network = object_words number object ++ codes ": network " ++ decimal network ++ codes " may read "
+-- that it is read, or that it isn't known
+abbrev pub reads_words : Outcome → List ℕ
+reads_words outcome.Unknown = codes " may read "
+reads_words _ = codes " can read "
+
+abbrev pub network_reads : ℕ → Object → ℕ → Outcome → List ℕ
+network_reads number object network found =
+    object_words number object ++ (codes ": network " ++ decimal network ++ reads_words found)
 
 -- Object_List names an object that is hidden
-abbrev pub list_line : Configuration → ℕ → Object → ℕ → List ℕ
-list_line c number object network =
-    if is_readable c network (object_list c.device)
-    then network_may number object network ++ codes "Object_List, which names it\n" else []
+abbrev pub list_line : ℕ → Object → ℕ → Outcome → List ℕ
+list_line number object network found =
+    if is_never found then [] else network_reads number object network found ++ codes "Object_List, which names it\n"
 
+abbrev pub IsListed : Configuration → ℕ → Object → ℕ → List ℕ → Type 0
+IsListed c number object network text =
+    (found : Outcome) × IsRead c network (object_list c.device) found × (text ≡ list_line number object network found)
+
+-- a property reveals what Present_Value is or may become
 abbrev pub property_words : List ℕ → List ℕ
 property_words name = codes "its " ++ name ++ codes ", though not its Present_Value\n"
 
--- a property that reveals what Present_Value is or may become can be read
-abbrev pub listed_line : Configuration → ℕ → Object → ℕ → ℕ → List ℕ → List ℕ
-listed_line c number object network property name =
-    if is_readable c network (point_of object property)
-    then network_may number object network ++ property_words name else []
+abbrev pub property_line : ℕ → Object → ℕ → List ℕ → Outcome → List ℕ
+property_line number object network name found =
+    if is_never found then [] else network_reads number object network found ++ property_words name
 
-abbrev pub property_lines : Configuration → ℕ → Object → ℕ → List ℕ
-property_lines c number object network =
-    listed_line c number object network 87 (codes "Priority_Array")
-    ++ listed_line c number object network 104 (codes "Relinquish_Default")
+abbrev pub IsProperty : Configuration → ℕ → Object → ℕ → ℕ → List ℕ → List ℕ → Type 0
+IsProperty c number object network property name text =
+    (found : Outcome) × IsRead c network (point_of object (only property)) found × (text ≡ property_line number object network name found)
 
--- and Present_Value (85) can't
-abbrev pub listed_lines : Configuration → ℕ → Object → ℕ → List ℕ
-listed_lines c number object network =
-    if is_readable c network (point_of object 85) then [] else property_lines c number object network
+abbrev pub AreProperties : Configuration → ℕ → Object → ℕ → List ℕ → Type 0
+AreProperties c number object network text =
+    (array default : List ℕ) × IsProperty c number object network 87 (codes "Priority_Array") array
+    × IsProperty c number object network 104 (codes "Relinquish_Default") default × (text ≡ array ++ default)
 
--- what a network, and so whoever claims to be of it, may read of an object that is hidden, or whose Present_Value is
-abbrev pub reading_lines : Configuration → ℕ → Object → Port → List ℕ
-reading_lines c number object port =
-    if is_hidden c.rules object port.network
-    then hidden_words number object port.network ++ codes ": from whoever claims to be of it\n"
-    ++ list_line c number object port.network
-    else listed_lines c number object port.network
+-- if Present_Value (85) can't be read
+abbrev pub AreRevealingOf : Configuration → ℕ → Object → ℕ → Outcome → List ℕ → Type 0
+AreRevealingOf c number object network outcome.Never text = AreProperties c number object network text
+AreRevealingOf c number object network found text = text ≡ []
 
-abbrev pub object_lines : Configuration → ℕ → Object → List ℕ
-object_lines c number object = flat_map (reading_lines c number object) c.ports
+abbrev pub AreRevealing : Configuration → ℕ → Object → ℕ → List ℕ → Type 0
+AreRevealing c number object network text =
+    (found : Outcome) × IsRead c network (point_of object (only 85)) found × AreRevealingOf c number object network found text
+
+-- no property of the object can be read: it is hidden
+abbrev pub IsHiding : Configuration → ℕ → Object → ℕ → List ℕ → Type 0
+IsHiding c number object network text =
+    (list : List ℕ) × IsListed c number object network list
+    × (text ≡ (hidden_words number object network ++ codes ": from whoever claims to be of it\n") ++ list)
+
+abbrev pub AreReadingsOf : Configuration → ℕ → Object → ℕ → Outcome → List ℕ → Type 0
+AreReadingsOf c number object network outcome.Never text = IsHiding c number object network text
+AreReadingsOf c number object network found text = AreRevealing c number object network text
+
+-- what a network, and so whoever claims to be of it, reads of an object that is hidden, or whose Present_Value is
+abbrev pub AreReadings : Configuration → ℕ → Object → ℕ → List ℕ → Type 0
+AreReadings c number object network text =
+    (found : Outcome) × IsRead c network (point_of object (some fields.Property)) found
+    × AreReadingsOf c number object network found text
+
+-- of each port's network
+abbrev pub AreObjectLines : Configuration → ℕ → Object → List ℕ → Type 0
+AreObjectLines c number object text = AreInOrder (λ place port. AreReadings c number object port.network) 1 c.ports text
 
 -- ---- notes
 
@@ -289,11 +319,11 @@ plain_lines rules ports number object = flat_map (hidden_line rules number objec
 
 -- ---- the whole
 
--- the lines after those of who may enter and speak for a network
-abbrev pub later_lines : Configuration → (lines : List ℕ) → List ℕ
-later_lines c lines =
-    in_order (reach_lines c lines) 1 c.rules
-    ++ (in_order (object_lines c) 1 c.objects ++ in_order (note_line c lines) 1 c.notes)
+-- the lines after those of what rules let others do
+pub record AreLater (c : Configuration) (lines text : List ℕ) : Type 0 where
+  pub objects : List ℕ
+  pub are_objects : AreInOrder (AreObjectLines c) 1 c.objects objects
+  pub shown : text ≡ in_order (reach_lines c lines) 1 c.rules ++ (objects ++ in_order (note_line c lines) 1 c.notes)
 
 -- such lines follow what a buffer held
 abbrev pub AppendsPorts : Configuration → (lines : List ℕ) → List Port → List ℕ → List ℕ → Type 0
@@ -305,7 +335,11 @@ pub record AreFull (c : Configuration) (lines text : List ℕ) : Type 0 where
   pub are_ports : ArePorts c lines 1 c.ports ports
   pub claims : List ℕ
   pub are_claims : AreGrants c lines Claim (claiming (length c.ports)) claims
-  pub shown : text ≡ ports ++ (network_lines c ++ (claims ++ later_lines c lines))
+  pub allowances : List ℕ
+  pub are_allowances : AreAllowances c lines allowances
+  pub later : List ℕ
+  pub are_later : AreLater c lines later
+  pub shown : text ≡ ports ++ (network_lines c ++ (claims ++ (allowances ++ later)))
 
 abbrev pub AppendsFull : Configuration → (lines : List ℕ) → List ℕ → List ℕ → Type 0
 AppendsFull c lines old new = (text : List ℕ) × AreFull c lines text × (new ≡ old ++ text)

@@ -21,11 +21,11 @@ entering number network = bound (own Three number network true) operations.Enter
 abbrev pub claiming : ℕ → Shape
 claiming ports = bound (foreign Three (any_of ports) any_network) operations.Claim nothing nothing
 
--- to read a property of an object of the device, which has this network, by claims of another network and any of so many ports
+-- to read properties of an object of the device, which has this network, by claims of another network and any of so many ports
 abbrev pub reading : (ports device network : ℕ) → Point → Shape
 reading ports device network point =
     record (bound (foreign Three (any_of ports) (only network)) operations.Read (numbers 12 14) (only device)) {
       object_type = only point.kind;
       instance = only point.instance;
-      property = only point.property;
+      property = point.property;
     }

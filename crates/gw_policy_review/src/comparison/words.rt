@@ -70,7 +70,11 @@ fn operations_of(alloc: Global, values: &Values) -> Result<Vec<Operation>, Alloc
     Ok(operations)
 }
 
-fn put_operations(alloc: Global, out: &mut Vec<u8>, values: &Values) -> Result<(), AllocError>
+pub(crate) fn put_operations(
+    alloc: Global,
+    out: &mut Vec<u8>,
+    values: &Values,
+) -> Result<(), AllocError>
     ensures { OnOk result (out.new.items ≡ out.old.items ++ operations_text values.now) }
 {
     if values.has_each_operation() {
@@ -213,7 +217,11 @@ fn put_none(out: &mut Vec<u8>, absent: bool) -> Result<(), AllocError>
     Ok(())
 }
 
-fn put_ranges(out: &mut Vec<u8>, field: FieldName, ranges: &[Range]) -> Result<(), AllocError>
+pub(crate) fn put_ranges(
+    out: &mut Vec<u8>,
+    field: FieldName,
+    ranges: &[Range],
+) -> Result<(), AllocError>
     ensures { OnOk result (out.new.items ≡ out.old.items ++ any_of (range_text field) ranges.now) }
 {
     let Some((first, rest)) = ranges.split_first() else {
@@ -307,7 +315,7 @@ fn put_spaced(out: &mut Vec<u8>, name: &str) -> Result<(), AllocError>
 }
 
 /// Appends the words before the values of a field.
-fn put_word(out: &mut Vec<u8>, field: FieldName) -> Result<(), AllocError>
+pub(crate) fn put_word(out: &mut Vec<u8>, field: FieldName) -> Result<(), AllocError>
     ensures { OnOk result (out.new.items ≡ out.old.items ++ word_of field) }
 {
     match field {

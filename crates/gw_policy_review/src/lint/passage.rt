@@ -1,26 +1,16 @@
 //! Whether asks of a shape may pass a policy, as far as the ranges of its rules show.
 ghost use Rattle.std.specs.Prelude.{◌≡◌, position};
-ghost use Rattle.gw_policy_review.specs.lint.Passage.{answers, holds_shape, is_cast, is_routed, is_unnamed, opener, opens};
+ghost use Rattle.gw_policy_review.specs.lint.Passage.{answers, is_cast, is_routed, is_unnamed, opener, opens};
 ghost use Rattle.gw_policy_review.specs.lint.Passage.{opens_beyond, requests, routed, settler, settles, towards};
 
 use crate::lint::text::allows_at;
+use crate::permissions::matches_all;
 use gw_addr::NetNum;
 use gw_ask_sets::shapes::{
-    Origin, Shape, Side, aimed, bound, has_number, is_manager, meets, numbers, only, takes_side,
+    Origin, Shape, Side, aimed, bound, has_number, is_manager, meets, numbers, only,
 };
 use gw_configuration::Port;
-use gw_rules::{FieldName, Format, Operation, Rule, RuleList};
-
-/// Whether in each field that the rule names one of its ranges holds all that the shape has there.
-fn holds_shape(shape: &Shape, rule: &Rule) -> bool
-    ensures { result ≡ holds_shape shape.now rule.now }
-{
-    FieldName::ALL.iter().all(|field| takes_side(
-        shape.get(*field),
-        rule.ranges(*field).as_slice(),
-        &[],
-    ))
-}
+use gw_rules::{Format, Operation, Rule, RuleList};
 
 /// Whether the rule settles what becomes of the shape's asks: it allows and may match one of them, or
 /// denies and matches each.
@@ -30,7 +20,7 @@ fn settles(shape: &Shape, rule: &Rule) -> bool
     if rule.allow {
         meets(shape, rule)
     } else {
-        holds_shape(shape, rule)
+        matches_all(shape, rule)
     }
 }
 

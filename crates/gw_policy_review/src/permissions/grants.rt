@@ -156,7 +156,7 @@ fn grants(alloc: Global, inquiry: &Inquiry<'_>, findings: &[Finding]) -> Result<
 }
 
 /// What is found of the rule of this number.
-fn finding_at(findings: &[Finding], number: u16) -> Finding
+pub(crate) fn finding_at(findings: &[Finding], number: u16) -> Finding
     ensures { result ≡ finding_at findings.now number }
 {
     match findings.get(usize::from(number).saturating_sub(1)) {
@@ -166,7 +166,7 @@ fn finding_at(findings: &[Finding], number: u16) -> Finding
 }
 
 /// Whether the rule lets somebody do it.
-fn lets(rule: &Rule, found: &Finding) -> bool
+pub(crate) fn lets(rule: &Rule, found: &Finding) -> bool
     ensures { result ≡ lets rule.now found.now }
 {
     match found {

@@ -1,5 +1,6 @@
 //! What the lines on rules say of asks. The functions do nothing: their contracts are the laws.
-ghost use Rattle.gw_policy_review.specs.permissions.Laws.{EachAskIsAllowed, NoAskIsAllowed, NoneIsLet, OnlyLettingAllow, OnlyListedAllow, SomeAreAllowed};
+ghost use Rattle.gw_policy_review.specs.permissions.Laws.{EachAskIsAllowed, HiddenIsNotRead, NoAskIsAllowed, NoneIsLet};
+ghost use Rattle.gw_policy_review.specs.permissions.Laws.{OnlyExceptionsDeny, OnlyLettingAllow, OnlyListedAllow, SomeAreAllowed};
 
 /// An ask that is looked at by ranges alone is allowed only by a rule that may allow some: if there is none, no such ask is allowed.
 pub fn others()
@@ -7,7 +8,7 @@ pub fn others()
     ensures none { NoAskIsAllowed }
 {}
 
-/// An ask of a reported shape is allowed only by a rule that has a line: if there is none, no such ask is allowed.
+/// An ask that is reported on is allowed only by a rule that has a line: if there is none, no such ask is allowed.
 pub fn lines()
     ensures letting { OnlyLettingAllow }
     ensures none { NoneIsLet }
@@ -21,4 +22,14 @@ pub fn some()
 /// A rule that is reported to let everyone do it allows each such ask.
 pub fn everyone()
     ensures { EachAskIsAllowed }
+{}
+
+/// An ask that the rule of a line matches is allowed, unless a rule that the line names denies it.
+pub fn exceptions()
+    ensures { OnlyExceptionsDeny }
+{}
+
+/// An object that the policy hides from every source of a network has its line, unless the search used up its steps.
+pub fn hidden()
+    ensures { HiddenIsNotRead }
 {}

@@ -1,15 +1,21 @@
 //! From whom objects are hidden, and what reveals them all the same.
-ghost use Rattle.std.specs.Prelude.{◌≡◌, ◌++◌, ◌≤◌, codes, length, OnOk};
+ghost use Rattle.std.specs.Prelude.{◌≡◌, ◌++◌, ◌≤◌, length, IfOk, OnOk};
 ghost use Rattle.std.specs.List.{flat_map};
 ghost use Rattle.gw_script.specs.Order.{in_order};
-ghost use Rattle.gw_policy_review.specs.permissions.Permissions.{hidden_line, hidden_words, identifier_words, is_hidden, is_readable, list_line, name_words, network_may, object_lines, object_list, object_words, plain_lines, point_of, property_lines, property_words, reading_lines, listed_line, listed_lines};
+ghost use Rattle.gw_ask_sets.specs.shapes.Shapes.{some};
+ghost use Rattle.gw_policy_review.specs.permissions.Permissions.{AreObjectLines, AreProperties, AreReadings, AreRevealing, IsHiding, IsListed, IsProperty};
+ghost use Rattle.gw_policy_review.specs.permissions.Permissions.{IsRead, hidden_line, hidden_words, identifier_words, is_hidden, list_line};
+ghost use Rattle.gw_policy_review.specs.permissions.Permissions.{name_words, network_reads, object_list, object_words, plain_lines, point_of};
+ghost use Rattle.gw_policy_review.specs.permissions.Permissions.{property_line, property_words, reads_words};
+ghost use Rattle.gw_policy_review.specs.permissions.Texts.{Appends, AreInOrder};
 
-use crate::permissions::passing::may_pass;
+use crate::permissions::passing::{is_never, search_allowed};
 use crate::permissions::questions::{Point, reading};
 use gw_addr::put_text_number;
+use gw_ask_sets::shapes::{Outcome, Side, only};
 use gw_configuration::{Config, Device, Object, Port, put_shown};
-use gw_rules::RuleList;
-use std::alloc::AllocError;
+use gw_rules::{FieldName, Format, RuleList};
+use std::alloc::{AllocError, Global};
 
 /// The number of the Device object's type (clause 21).
 const DEVICE: u64 = 8;
@@ -40,151 +46,171 @@ struct Reader<'a> {
 }
 
 /// Appends the lines of the objects in their order.
-pub(crate) fn put_objects(out: &mut Vec<u8>, config: &Config) -> Result<(), AllocError>
-    ensures { OnOk result
-        (out.new.items ≡ out.old.items ++ in_order (object_lines config.now) 1 config.now.objects) }
+pub(crate) fn put_objects(
+    alloc: Global,
+    out: &mut Vec<u8>,
+    config: &Config,
+) -> Result<(), AllocError>
+    ensures { OnOk result (Appends (AreInOrder (AreObjectLines config.now) 1 config.now.objects) out.old.items out.new.items) }
 {
     let objects = config.objects();
     for place in 0..objects.len() {
-        put_object(out, config, place + 1, &objects[place])?;
+        put_object(alloc, out, config, place + 1, &objects[place])?;
     }
     Ok(())
 }
 
 /// Appends the lines of the object of this number, in order of the ports.
 fn put_object(
+    alloc: Global,
     out: &mut Vec<u8>,
     config: &Config,
     number: usize,
     object: &Object,
 ) -> Result<(), AllocError>
-    ensures { OnOk result
-        (out.new.items ≡ out.old.items ++ object_lines config.now number object.now) }
+    ensures { OnOk result (Appends (AreObjectLines config.now number object.now) out.old.items out.new.items) }
 {
-    for port in config.ports() {
-        put_readings(out, config, number, object, port)?;
+    let ports = config.ports();
+    for place in 0..ports.len() {
+        let reader = Reader {
+            config,
+            number,
+            object,
+            network: ports[place].network.get(),
+        };
+        reader.put(alloc, out)?;
     }
     Ok(())
 }
 
-fn put_readings(
-    out: &mut Vec<u8>,
-    config: &Config,
-    number: usize,
-    object: &Object,
-    port: &Port,
-) -> Result<(), AllocError>
-    ensures { OnOk result
-        (out.new.items ≡ out.old.items ++ reading_lines config.now number object.now port.now) }
-{
-    let reader = Reader {
-        config,
-        number,
-        object,
-        network: port.network.get(),
-    };
-    if is_hidden(config.rules(), object, reader.network) {
-        put_hiding(out, &reader)
-    } else {
-        put_listed_lines(out, &reader)
+impl Reader<'_> {
+    /// Searches for an ask of the network to read these properties that is allowed.
+    fn find(&self, alloc: Global, point: Point) -> Result<Outcome, AllocError>
+        ensures { IfOk result (IsRead self.now.config.now self.now.network point) }
+    {
+        let device = u64::from(self.config.device().network.get());
+        let ports = self.config.ports().len() as u64;
+        let shape = reading(ports, device, u64::from(self.network), point);
+        search_allowed(alloc, self.config.rules(), &[shape])
+    }
+
+    /// Appends what is said of the object.
+    fn put(&self, alloc: Global, out: &mut Vec<u8>) -> Result<(), AllocError>
+        ensures { OnOk result (Appends (AreReadings self.now.config.now self.now.number self.now.object.now self.now.network)
+            out.old.items out.new.items) }
+    {
+        match self.find(alloc, point_of(self.object, any_property()))? {
+            Outcome::Never => self.put_hiding(alloc, out),
+            _ => self.put_revealing(alloc, out),
+        }
+    }
+
+    /// Appends that it is hidden from the network, and what names it there.
+    fn put_hiding(&self, alloc: Global, out: &mut Vec<u8>) -> Result<(), AllocError>
+        ensures { OnOk result (Appends (IsHiding self.now.config.now self.now.number self.now.object.now self.now.network)
+            out.old.items out.new.items) }
+    {
+        put_hidden(out, self.number, self.object, self.network)?;
+        out.extend_from_slice(b": from whoever claims to be of it\n")?;
+        self.put_list(alloc, out)
+    }
+
+    /// Appends that the device's Object_List names it to the network, if that is read.
+    fn put_list(&self, alloc: Global, out: &mut Vec<u8>) -> Result<(), AllocError>
+        ensures { OnOk result (Appends (IsListed self.now.config.now self.now.number self.now.object.now self.now.network)
+            out.old.items out.new.items) }
+    {
+        let found = self.find(alloc, object_list(self.config.device()))?;
+        self.put_list_line(out, &found)
+    }
+
+    fn put_list_line(&self, out: &mut Vec<u8>, found: &Outcome) -> Result<(), AllocError>
+        ensures { OnOk result (out.new.items ≡ out.old.items
+            ++ list_line self.now.number self.now.object.now self.now.network found.now) }
+    {
+        if is_never(found) {
+            return Ok(());
+        }
+        self.put_reads(out, found)?;
+        out.extend_from_slice(b"Object_List, which names it\n")
+    }
+
+    /// Appends the properties that reveal its Present_Value, if that is hidden from the network.
+    fn put_revealing(&self, alloc: Global, out: &mut Vec<u8>) -> Result<(), AllocError>
+        ensures { OnOk result (Appends (AreRevealing self.now.config.now self.now.number self.now.object.now self.now.network)
+            out.old.items out.new.items) }
+    {
+        match self.find(alloc, point_of(self.object, only(PRESENT_VALUE)))? {
+            Outcome::Never => self.put_properties(alloc, out),
+            _ => Ok(()),
+        }
+    }
+
+    fn put_properties(&self, alloc: Global, out: &mut Vec<u8>) -> Result<(), AllocError>
+        ensures { OnOk result (Appends (AreProperties self.now.config.now self.now.number self.now.object.now self.now.network)
+            out.old.items out.new.items) }
+    {
+        self.put_property(alloc, out, PRIORITY_ARRAY, "Priority_Array")?;
+        self.put_property(alloc, out, RELINQUISH_DEFAULT, "Relinquish_Default")
+    }
+
+    /// Appends that this property is read, if it is.
+    fn put_property(
+        &self,
+        alloc: Global,
+        out: &mut Vec<u8>,
+        property: u64,
+        name: &str,
+    ) -> Result<(), AllocError>
+        ensures { OnOk result (Appends (IsProperty self.now.config.now self.now.number self.now.object.now self.now.network
+            property name.now) out.old.items out.new.items) }
+    {
+        let found = self.find(alloc, point_of(self.object, only(property)))?;
+        self.put_property_line(out, name, &found)
+    }
+
+    fn put_property_line(
+        &self,
+        out: &mut Vec<u8>,
+        name: &str,
+        found: &Outcome,
+    ) -> Result<(), AllocError>
+        ensures { OnOk result (out.new.items ≡ out.old.items
+            ++ property_line self.now.number self.now.object.now self.now.network name.now found.now) }
+    {
+        if is_never(found) {
+            return Ok(());
+        }
+        self.put_reads(out, found)?;
+        put_property_words(out, name)
+    }
+
+    /// Appends that the network reads something, or that it may.
+    fn put_reads(&self, out: &mut Vec<u8>, found: &Outcome) -> Result<(), AllocError>
+        ensures { OnOk result (out.new.items ≡ out.old.items
+            ++ network_reads self.now.number self.now.object.now self.now.network found.now) }
+    {
+        put_words(out, self.number, self.object)?;
+        put_text_number(out, ": network ", self.network)?;
+        put_reads_words(out, found)
     }
 }
 
-/// Appends that an object is hidden from every source of the network, and what names it there.
-fn put_hiding(out: &mut Vec<u8>, reader: &Reader<'_>) -> Result<(), AllocError>
-    ensures { let object = reader.now.object.now in OnOk result (out.new.items ≡ out.old.items ++
-        (hidden_words reader.now.number object reader.now.network
-        ++ codes ": from whoever claims to be of it\n"
-        ++ list_line reader.now.config.now reader.now.number object reader.now.network)) }
+fn put_reads_words(out: &mut Vec<u8>, found: &Outcome) -> Result<(), AllocError>
+    ensures { OnOk result (out.new.items ≡ out.old.items ++ reads_words found.now) }
 {
-    put_hidden(out, reader.number, reader.object, reader.network)?;
-    out.extend_from_slice(b": from whoever claims to be of it\n")?;
-    put_list(out, reader)
-}
-
-/// Appends the properties that reveal a Present_Value that is hidden from the network.
-fn put_listed_lines(out: &mut Vec<u8>, reader: &Reader<'_>) -> Result<(), AllocError>
-    ensures { OnOk result (out.new.items ≡ out.old.items ++
-        listed_lines reader.now.config.now reader.now.number reader.now.object.now reader.now.network) }
-{
-    if is_readable(
-        reader.config,
-        reader.network,
-        point_of(reader.object, PRESENT_VALUE),
-    ) {
-        return Ok(());
+    match found {
+        Outcome::Unknown => out.extend_from_slice(b" may read "),
+        _ => out.extend_from_slice(b" can read "),
     }
-    put_properties(out, reader)
 }
 
-fn put_properties(out: &mut Vec<u8>, reader: &Reader<'_>) -> Result<(), AllocError>
-    ensures { OnOk result (out.new.items ≡ out.old.items ++ property_lines reader.now.config.now
-        reader.now.number reader.now.object.now reader.now.network) }
-{
-    put_listed(out, reader, PRIORITY_ARRAY, "Priority_Array")?;
-    put_listed(out, reader, RELINQUISH_DEFAULT, "Relinquish_Default")
-}
-
-fn put_listed(
-    out: &mut Vec<u8>,
-    reader: &Reader<'_>,
-    property: u64,
-    name: &str,
-) -> Result<(), AllocError>
-    ensures { OnOk result (out.new.items ≡ out.old.items ++ listed_line reader.now.config.now
-        reader.now.number reader.now.object.now reader.now.network property name.now) }
-{
-    if !is_readable(
-        reader.config,
-        reader.network,
-        point_of(reader.object, property),
-    ) {
-        return Ok(());
-    }
-    put_listed_name(out, reader, name)
-}
-
-/// Appends that this property of the object may be read.
-fn put_listed_name(out: &mut Vec<u8>, reader: &Reader<'_>, name: &str) -> Result<(), AllocError>
-    ensures { OnOk result (out.new.items ≡ out.old.items ++
-        (network_may reader.now.number reader.now.object.now reader.now.network
-        ++ property_words name.now)) }
-{
-    put_may(out, reader)?;
-    put_property(out, name)
-}
-
-fn put_property(out: &mut Vec<u8>, name: &str) -> Result<(), AllocError>
+fn put_property_words(out: &mut Vec<u8>, name: &str) -> Result<(), AllocError>
     ensures { OnOk result (out.new.items ≡ out.old.items ++ property_words name.now) }
 {
     out.extend_from_slice(b"its ")?;
     out.extend_from_slice(name.as_bytes())?;
     out.extend_from_slice(b", though not its Present_Value\n")
-}
-
-/// Appends that the device's Object_List names the object to the network, if it may be read.
-fn put_list(out: &mut Vec<u8>, reader: &Reader<'_>) -> Result<(), AllocError>
-    ensures { OnOk result (out.new.items ≡ out.old.items ++
-        list_line reader.now.config.now reader.now.number reader.now.object.now reader.now.network) }
-{
-    if !is_readable(
-        reader.config,
-        reader.network,
-        object_list(reader.config.device()),
-    ) {
-        return Ok(());
-    }
-    put_may(out, reader)?;
-    out.extend_from_slice(b"Object_List, which names it\n")
-}
-
-fn put_may(out: &mut Vec<u8>, reader: &Reader<'_>) -> Result<(), AllocError>
-    ensures { OnOk result (out.new.items ≡ out.old.items ++
-        network_may reader.now.number reader.now.object.now reader.now.network) }
-{
-    put_words(out, reader.number, reader.object)?;
-    put_text_number(out, ": network ", reader.network)?;
-    out.extend_from_slice(b" may read ")
 }
 
 /// Appends that an object is hidden from the network.
@@ -224,17 +250,18 @@ fn put_name(out: &mut Vec<u8>, object: &Object) -> Result<(), AllocError>
     out.extend_from_slice(b"\"")
 }
 
-/// Whether a claim of the network may be allowed to read this property.
-fn is_readable(config: &Config, network: u16, point: Point) -> bool
-    ensures { result ≡ is_readable config.now network point }
+/// Any property.
+fn any_property() -> Side
+    ensures { result ≡ some FieldName.Property }
 {
-    let device = config.device().network.get();
-    let ports = config.ports().len() as u64;
-    let shape = reading(ports, u64::from(device), u64::from(network), point);
-    may_pass(&shape, config.rules().rules())
+    Side {
+        absent: false,
+        range: FieldName::Property.bounds(Format::Three),
+        keyed: false,
+    }
 }
 
-fn point_of(object: &Object, property: u64) -> Point
+fn point_of(object: &Object, property: Side) -> Point
     ensures { result ≡ point_of object.now property }
 {
     Point {
@@ -251,7 +278,7 @@ fn object_list(device: &Device) -> Point
     Point {
         kind: DEVICE,
         instance: u64::from(device.instance.get()),
-        property: OBJECT_LIST,
+        property: only(OBJECT_LIST),
     }
 }
 
@@ -263,7 +290,6 @@ fn is_hidden(rules: &RuleList, object: &Object, network: u16) -> bool
     rules.hides_from_network(u64::from(network), kind, u64::from(object.instance.get()))
 }
 
-/// The number of an object's type.
 // ---- formats 1 and 2
 
 /// Appends from which of these ports' networks the objects, at most 256, are hidden.

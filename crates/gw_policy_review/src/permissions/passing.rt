@@ -1,15 +1,19 @@
 //! Which rules may allow asks of a shape.
-ghost use Rattle.std.specs.Prelude.{◌≡◌, ◌-◌, ◌≤◌, length, position, take};
+ghost use Rattle.std.specs.Prelude.{◌≡◌, ◌-◌, ◌≤◌, length, position, take, IfOk};
 ghost use Rattle.std.specs.List.{list_any};
 ghost use Rattle.gw_ask_sets.specs.shapes.Meeting.{meets};
-ghost use Rattle.gw_policy_review.specs.permissions.Passing.{decides_all, matches_all, may_allow, may_pass, reached};
+ghost use Rattle.gw_rules.specs.RuleList.{allows_at};
+ghost use Rattle.gw_policy_review.specs.permissions.Passing.{IsAllowedBy, IsPassage, decides_all, is_never, matches_all, may_allow, may_pass, reached};
 
-use gw_ask_sets::shapes::{Shape, meets, takes_side};
-use gw_rules::{FieldName, Rule};
+use crate::lint::MAX_STEPS;
+use gw_ask_sets::regions::all_tidied;
+use gw_ask_sets::shapes::{Outcome, Shape, meets, search_for, takes_side};
+use gw_rules::{FieldName, Rule, RuleList};
+use std::alloc::{AllocError, Global};
 
 /// Whether the rule matches each ask of the shape: in each field that it names one of its ranges holds
 /// all that the shape has there.
-fn matches_all(shape: &Shape, rule: &Rule) -> bool
+pub(crate) fn matches_all(shape: &Shape, rule: &Rule) -> bool
     ensures { result ≡ matches_all shape.now rule.now }
 {
     FieldName::ALL.iter().all(|field| takes_side(
@@ -72,4 +76,57 @@ pub fn decides_all(shape: &Shape, rules: &[Rule], number: usize, rule: &Rule) ->
 {
     let before = number.saturating_sub(1);
     matches_all(shape, rule) && !any_meets(shape, &rules[..before])
+}
+
+/// Whether the rule of this number, from 1, is there and allows.
+fn allows_at(rules: &[Rule], number: u16) -> bool
+    ensures { result ≡ allows_at rules.now number }
+{
+    match rules.get(usize::from(number).saturating_sub(1)) {
+        Some(rule) => rule.allow,
+        None => false,
+    }
+}
+
+/// Searches for an ask of these shapes that the rule of this number decides and allows.
+fn search_rule(
+    alloc: Global,
+    rules: &[Rule],
+    number: u16,
+    shapes: &[Shape],
+) -> Result<Outcome, AllocError>
+    ensures { IfOk result (IsAllowedBy shapes.now rules.now number) }
+{
+    if !allows_at(rules, number) {
+        return Ok(Outcome::Never);
+    }
+    let found = search_for(alloc, rules, number, shapes, MAX_STEPS)?;
+    Ok(found)
+}
+
+/// Whether a search found that each ask is denied.
+pub(crate) fn is_never(found: &Outcome) -> bool
+    ensures { result ≡ is_never found.now }
+{
+    matches!(found, Outcome::Never)
+}
+
+/// Searches for an ask of these shapes that a policy allows: `Decides` with one, `Never` if it denies each, `Unknown` only if all steps
+/// of a search for one that a rule decides were used. An `Err` only if a growth of memory was refused.
+pub fn search_allowed(
+    alloc: Global,
+    policy: &RuleList,
+    shapes: &[Shape],
+) -> Result<Outcome, AllocError>
+    ensures { IfOk result (IsPassage shapes.now policy.now) }
+{
+    let rules = policy.rules();
+    let tidy = all_tidied(alloc, rules)?;
+    for place in 0..rules.len() {
+        let found = search_rule(alloc, &tidy, place as u16 + 1, shapes)?;
+        if !is_never(&found) {
+            return Ok(found);
+        }
+    }
+    Ok(Outcome::Never)
 }

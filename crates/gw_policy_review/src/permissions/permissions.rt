@@ -1,8 +1,10 @@
 //! Who may do what under a configuration.
 ghost use Rattle.std.specs.Prelude.{◌≡◌, ◌++◌, length, IfOk, OnErr, OnOk};
-ghost use Rattle.gw_policy_review.specs.permissions.Permissions.{AppendsFull, AppendsGrants, AppendsPermissions, ArePermissions, later_lines};
+ghost use Rattle.gw_policy_review.specs.permissions.Permissions.{AppendsFull, AppendsGrants, AppendsPermissions, AreLater, ArePermissions};
+ghost use Rattle.gw_policy_review.specs.permissions.Texts.{Appends};
 ghost use Rattle.gw_policy_review.specs.permissions.Questions.{claiming};
 
+use crate::permissions::allowances::put_allowances;
 use crate::permissions::grants::{Deed, Inquiry, put_grants};
 use crate::permissions::networks::put_networks;
 use crate::permissions::notes::put_notes;
@@ -15,10 +17,10 @@ use gw_addr::{keep_whole, put_slice};
 use gw_configuration::Config;
 use std::alloc::{AllocError, Global};
 
-/// Appends who may do what under a configuration. In format 3 it has lines of each port, each network,
-/// the rules that let others enter or speak for a network, the subnets that a rule reaches beside a port's own, each object, and each
-/// note, in this order; in formats 1 and 2 only from which networks each object is hidden. `lines` are those of the text on which the
-/// tables of the rules begin, or none if they aren't known.
+/// Appends who may do what under a configuration. In format 3 it has lines of each port, each network, the rules that let others enter or
+/// speak for a network, what each rule lets whom ask for, the subnets that a rule reaches beside a port's own, each object, and each note,
+/// in this order; in formats 1 and 2 only from which networks each object is hidden. `lines` are those of the text on which the tables of
+/// the rules begin, or none if they aren't known.
 ///
 /// ```text
 /// port 1: stations are 192.168.1.0/24, and registered foreign devices
@@ -29,9 +31,10 @@ use std::alloc::{AllocError, Global};
 /// network 100: no router speaks for it, since the device has it
 /// network 300: the router 192.168.2.20:47808 on port 2 speaks for it
 /// rule 5 "plant" (table 4, line 61) lets some others speak for a network behind a router
+/// from network 1, sender 192.168.1.20:47808: write, to network 2, by rule 3 "operators", unless rule 1 "lock" denies it
 /// rule 3 "operators" reaches 10.8.0.0/24 too, by network 2
 /// object 2 (5,2) "door" is hidden from network 1: from whoever claims to be of it
-/// object 2 (5,2) "door": network 1 may read Object_List, which names it
+/// object 2 (5,2) "door": network 1 can read Object_List, which names it
 /// rule 5 "plant": the controllers behind the old router
 /// ```
 ///
@@ -69,7 +72,8 @@ fn put_full(alloc: Global, out: &mut Vec<u8>, placed: &Placed<'_>) -> Result<(),
     put_ports(alloc, out, placed)?;
     put_networks(out, placed.config)?;
     put_claims(alloc, out, placed)?;
-    put_later(out, placed)
+    put_allowances(alloc, out, placed)?;
+    put_later(alloc, out, placed)
 }
 
 fn put_claims(alloc: Global, out: &mut Vec<u8>, placed: &Placed<'_>) -> Result<(), AllocError>
@@ -85,10 +89,10 @@ fn put_claims(alloc: Global, out: &mut Vec<u8>, placed: &Placed<'_>) -> Result<(
 }
 
 /// Appends what follows the lines of who may enter and speak for a network.
-fn put_later(out: &mut Vec<u8>, placed: &Placed<'_>) -> Result<(), AllocError>
-    ensures { OnOk result (out.new.items ≡ out.old.items ++ later_lines placed.now.config.now placed.now.lines.now) }
+fn put_later(alloc: Global, out: &mut Vec<u8>, placed: &Placed<'_>) -> Result<(), AllocError>
+    ensures { OnOk result (Appends (AreLater placed.now.config.now placed.now.lines.now) out.old.items out.new.items) }
 {
     put_reaches(out, placed)?;
-    put_objects(out, placed.config)?;
+    put_objects(alloc, out, placed.config)?;
     put_notes(out, placed)
 }

@@ -5,15 +5,15 @@ ghost use Rattle.gw_policy_review.specs.permissions.Questions.{any_of, claiming,
 use gw_ask_sets::shapes::{Entrance, Origin, Shape, Side, bound, numbers, only};
 use gw_rules::{Format, Operation, Range};
 
-/// A property of an object, by its type and instance.
+/// Properties of an object, by its type and instance.
 #[derive(Clone, Copy)]
 pub(crate) struct Point {
     /// The number of the object's type (clause 21).
     pub kind: u64,
     /// The object's instance.
     pub instance: u64,
-    /// The number of the property (clause 21).
-    pub property: u64,
+    /// The numbers of the properties (clause 21).
+    pub property: Side,
 }
 
 /// An absent field.
@@ -59,7 +59,7 @@ pub(crate) fn claiming(ports: u64) -> Shape
     bound(&from, Operation::Claim, NOTHING, NOTHING)
 }
 
-/// Asks to read a property of an object of the device, which has this network, by claims of another
+/// Asks to read properties of an object of the device, which has this network, by claims of another
 /// network and any of so many ports.
 pub(crate) fn reading(ports: u64, device: u64, network: u64, point: Point) -> Shape
     ensures { result ≡ reading ports device network point }
@@ -68,7 +68,7 @@ pub(crate) fn reading(ports: u64, device: u64, network: u64, point: Point) -> Sh
     Shape {
         object_type: only(point.kind),
         instance: only(point.instance),
-        property: only(point.property),
+        property: point.property,
         ..bound(&from, Operation::Read, numbers(12, 14), only(device))
     }
 }

@@ -17,6 +17,6 @@ returns c =
       are_judged = c.in_ok-parts.ensures.judged;
       whole =
           c.in_ok-put_last.ensures
-          ∙ ap (λ (t : List ℕ). t ++ last_text config times.are_shown times.counts.items parts.judged.items parts.plots)
+          ∙ ap (λ (t : List ℕ). t ++ last_text config c.args.lines.now times.are_shown times.counts.items parts.judged.items parts.plots)
           (c.in_ok-put_first.ensures ∙ ap (λ (t : List ℕ). t ++ first_text config parts.picture parts.lines) c.new-page.ensures);
     }

@@ -5,4 +5,4 @@ use Rattle.gw_report.proofs.rules.put_rows.Given as goal
 
 abbrev pub invariant-loop-place : goal.invariant-loop-place
 invariant-loop-place l =
-    l.page ≡ l.fn.page ++ in_order (rule_row l.origins.notes.now l.origins.tables.now l.times.are_shown l.times.counts.items) 1 (take l.place l.rules)
+    l.page ≡ l.fn.page ++ in_order (rule_row l.config l.lines l.times.are_shown l.times.counts.items) 1 (take l.place l.rules)

@@ -1,7 +1,8 @@
-use Rattle.std.proofs.Common.{◌≡◌, ◌++◌, take}
-use Rattle.std.specs.List.{flat_map}
-use Rattle.gw_policy_review.specs.permissions.Permissions.{reading_lines}
+use Rattle.gw_configuration.specs.declared.port.Port.{Port}
+use Rattle.gw_policy_review.specs.permissions.Permissions.{AreReadings}
+use Rattle.gw_policy_review.proofs.permissions_lemmas.InOrder.{Appended}
 use Rattle.gw_policy_review.proofs.permissions.objects.put_object.Given as goal
 
-abbrev pub invariant-loop-port : goal.invariant-loop-port
-invariant-loop-port l = l.out.items ≡ l.fn.out.items ++ flat_map (reading_lines l.config l.number l.object) (take l.port-index l.config.ports)
+abbrev pub invariant-loop-place : goal.invariant-loop-place
+invariant-loop-place l =
+    Appended (λ place (port : Port). AreReadings l.config l.number l.object port.network) l.config.ports l.place l.fn.out.items l.out.items

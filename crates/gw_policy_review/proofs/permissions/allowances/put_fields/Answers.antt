@@ -1,0 +1,12 @@
+use Rattle.gw_policy_review.specs.permissions.Allowances.{field_words}
+use Rattle.gw_ask_sets.proofs.shapes_lemmas.Listing.{flat_end, flat_step}
+use Rattle.gw_policy_review.proofs.permissions.allowances.put_fields.Goals as goal
+
+pub loop-field-preserved : goal.loop-field-preserved
+loop-field-preserved c =
+    flat_step (field_words c.args.rule.now) c.args.fields.now c.loop-field.field-index _ c.args.out.now.items c.loop-field.out.items _ c.loop-field-test.true
+    c.loop-field.invariant c.in_ok-put_field.ensures
+
+pub returns : goal.returns
+returns c =
+    flat_end (field_words c.args.rule.now) c.args.fields.now c.loop-field.field-index c.args.out.now.items _ c.loop-field-test.false c.loop-field.invariant

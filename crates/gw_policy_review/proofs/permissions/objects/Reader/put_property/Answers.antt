@@ -1,0 +1,15 @@
+use Rattle.std.proofs.Common.{◌≡◌, ◌∙◌, ap, subst}
+use Rattle.gw_ask_sets.specs.shapes.Shapes.{only}
+use Rattle.gw_policy_review.specs.declared.permissions.questions.Point.{Point}
+use Rattle.gw_policy_review.specs.permissions.Permissions.{IsRead, point_of}
+use Rattle.gw_policy_review.proofs.permissions_lemmas.Reading.{one_property}
+use Rattle.gw_policy_review.proofs.permissions.objects.Reader.put_property.Goals as goal
+
+pub returns : goal.returns
+returns c =
+    let reader = c.args.self.now in
+    let found = c.in_ok-found.found in
+    let same : c.point_of.result ≡ point_of reader.object.now (only c.args.property) = c.point_of.ensures ∙ ap (point_of reader.object.now) c.only.ensures in
+    one_property c.put_property_line.result reader.config.now reader.number reader.object.now reader.network c.args.property c.args.name.now found
+    c.args.out.now.items c.put_property_line.new.out.items
+    (subst (λ (p : Point). IsRead reader.config.now reader.network p found) same c.in_ok-found.ensures) c.put_property_line.ensures
