@@ -469,7 +469,7 @@ const STATIONS: &str = "stations = [\"192.168.1.0/24\"]\n";
 /// The same, and a broadcast manager beside the port.
 const MANAGED: &str = "stations = [\"192.168.1.0/24\"]\nbbmd = \"192.168.1.3:47808\"\n";
 
-/// The text that a section's request has: that of the configuration, also with a broadcast manager beside its first port or
+/// The text that a section's request has: that of the configuration, also of another format, with a broadcast manager beside its first port or
 /// without it, one that is none, or nothing if it can't be read; or that of another request.
 fn reload_of(
     alloc: Global,
@@ -478,6 +478,9 @@ fn reload_of(
 ) -> Result<Option<Vec<u8>>, AllocError> {
     if section.has("reload same") {
         return text_if(alloc, true, config);
+    }
+    if section.has("reload other format") {
+        return text_with(alloc, config, "format = 1", "format = 2");
     }
     if section.has("reload manager") {
         return text_with(alloc, config, STATIONS, MANAGED);

@@ -13,7 +13,7 @@ use Rattle.gw_decisions.specs.tally.Tally.{IsTally}
 use Rattle.gw_watchers.specs.files.Trial.{IsAuditBy, IsTrialBy}
 use Rattle.gw_watchers.specs.declared.files.fault.WatchFault.{WatchFault}
 use Rattle.gw_watchers.specs.declared.files.fault.WatchFault.TheVariants as watch
-use Rattle.gw_watchers.specs.Watching.{Watching, with_marks}
+use Rattle.gw_watchers.specs.Watching.{Watching, ended_by, with_marks}
 use Rattle.gw_watchers.specs.declared.beside.Beside.{Beside}
 use Rattle.gw_service.specs.Keeping.{IsKeptAtTick, IsKeptFor, IsKeptLast, failing_in}
 use Rattle.gw_service.specs.declared.fault.ServiceFault.{ServiceFault}
@@ -95,6 +95,8 @@ pub record WatchesUnder {Log : Type 0} (FileReads LastDenials : List ℕ → Res
   pub audit : IsAuditUnder LastDenials LogOpens c names (Ok w.audit)
   pub counts : AreCountsUnder c names w.counts
   pub unseen : w.unseen ≡ 0
+  pub format : w.format ≡ c.format
+  pub ended : w.ended ≡ false
 
 -- something does if that is asked for
 abbrev pub IsWatcherUnder : {Log : Type 0} → (FileReads LastDenials : List ℕ → Result (Option (List ℕ)) ReadFailure → Type 0) → LogOpening Log
@@ -126,12 +128,13 @@ IsKeptLastBeside held k w l = IsKeptLast held k.first w l.first × (l.second ≡
 abbrev pub BeginAnew : (new : List ℕ) → (before after : Option (List ℕ)) → Type 0
 BeginAnew new before after = after ≡ option_map (λ _. new) before
 
--- What watches goes on by another configuration: its rules are audited that say so, and counts of them begin anew. The trial
--- stays.
+-- What watches goes on by another configuration: its rules are audited that say so, and counts of them begin anew. A trial of
+-- another format ends.
 pub record WatchesOn {T A : Type 0} (c : Configuration) (before after : Watching T A) : Type 0 where
   pub counts : List ℕ
   pub tally : IsTally c.rules [] counts
-  pub goes_on : after ≡ record before { audit = option_map (with_marks c.audits) before.audit; counts = option_map (λ _. counts) before.counts }
+  pub goes_on : after ≡ ended_by c.format
+      (record before { audit = option_map (with_marks c.audits) before.audit; counts = option_map (λ _. counts) before.counts })
 
 abbrev pub IsKeptForBeside : {S T A : Type 0} → (S → Option (List ℕ)) → Both (Kept S) (Watching T A) → Configuration → State
     → Both (Kept S) (Watching T A) → Type 0
@@ -153,7 +156,12 @@ abbrev pub has_lost : {C S : Type 0} → Option (Beside C S) → Bool
 has_lost log = option_map_or (λ (b : Beside _ _). nat_le 1 b.lost) log false
 
 abbrev pub troubles_of : {S T A : Type 0} → Both (Kept S) (Watching T A) → Troubles
-troubles_of k = record { state = failing_in k.first; trial = has_lost k.second.trial; audit = has_lost k.second.audit }
+troubles_of k = record {
+  state = failing_in k.first;
+  trial = has_lost k.second.trial;
+  audit = has_lost k.second.audit;
+  ended = k.second.ended;
+}
 
 -- what is counted of a log beside the log
 abbrev pub log_count : {C S : Type 0} → Option (Beside C S) → Option LogCount

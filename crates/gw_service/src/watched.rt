@@ -98,10 +98,11 @@ impl<S: Store + Drop, T: OctetSink + Drop, A: OctetSink + Drop> StateKeeper
             origin,
             marks,
             counts,
+            format,
         } = successor;
         self.first.keep_for(alloc, origin, gateway);
         let counts = begun_anew(self.second.counts(), counts);
-        self.second.go_on(marks, counts);
+        self.second.go_on(marks, counts, format);
     }
 
     fn keep_last(&mut self, alloc: Global, gateway: &Gateway) {
@@ -113,6 +114,7 @@ impl<S: Store + Drop, T: OctetSink + Drop, A: OctetSink + Drop> StateKeeper
             state: self.first.failing(),
             trial: has_lost(self.second.trial()),
             audit: has_lost(self.second.audit()),
+            ended: self.second.has_ended(),
         }
     }
 

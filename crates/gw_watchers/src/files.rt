@@ -1,6 +1,6 @@
 //! The files of what watches a gateway: a policy on trial with its log, and an audit.
 mod fault;
-mod fitting;
+pub(crate) mod fitting;
 mod numbers;
 mod opening;
 
