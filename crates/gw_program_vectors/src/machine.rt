@@ -9,6 +9,7 @@ ghost use Rattle.gw_system.specs.Requests.{silent};
 
 use crate::mem_log::MemLog;
 use gw_addr::BipAddr;
+use gw_cases::MemWriter;
 use gw_configuration::Port;
 use gw_log_words::{Calendar, Moment, moment_after};
 use gw_program_cases::{Left, MemFiles, Program, Section, UNREADABLE, put, put_left, put_lines};
@@ -26,6 +27,9 @@ const TRIAL: &str = "trial";
 
 /// The names of the logs beside the log.
 const BESIDE: [&str; 2] = ["trial.log", "audit.log"];
+
+/// The name of a named pipe.
+const PIPE: &str = "pipe";
 
 /// The name of the file of the metrics.
 const METRICS: &str = "bacgw.prom";
@@ -193,7 +197,7 @@ fn request_of(alloc: Global, text: &[u8]) -> Result<Request, AllocError> {
 }
 
 /// The wire and the log that a machine closed.
-type Closed = (MemSockets, Option<MemLog>);
+type Closed = (MemSockets, Option<MemLog<MemWriter>>);
 
 /// A machine in memory: its log takes so many octets, or can't be opened, one sync of it may fail, and it may end in a line that
 /// was cut; the broadcast socket of one port may fail; and it may route IP. It keeps what was closed.
@@ -218,7 +222,7 @@ struct MemHost<'a> {
 }
 
 impl<'a> Host for MemHost<'a> {
-    type Log = MemLog;
+    type Log = MemLog<MemWriter>;
 
     type Sockets = MemSockets;
 
@@ -252,14 +256,17 @@ impl<'a> Host for MemHost<'a> {
 
     ghost Closes = { λ host sockets log. host.closed ≡ Some (sockets, log) };
 
-    fn open_log(&self, _alloc: Global, name: &str) -> Result<MemLog, LogFailure> {
+    fn open_log(&self, _alloc: Global, name: &str) -> Result<MemLog<MemWriter>, LogFailure> {
         let room = if BESIDE.contains(&name) {
             self.beside
         } else {
             self.log
         };
         match room {
-            Some(room) => Ok(MemLog::new(self.alloc, room, self.failing_sync)?),
+            Some(room) => Ok(MemLog::new(
+                MemWriter::with_room(self.alloc, room, true)?,
+                self.failing_sync,
+            )),
             None => Err(LogFailure::Failed),
         }
     }
@@ -323,6 +330,17 @@ impl<'a> Host for MemHost<'a> {
         Ok(None)
     }
 
+    fn last_record(&self, _alloc: Global, name: &str) -> Result<Option<Vec<u8>>, ReadFailure> {
+        if name == PIPE {
+            return Err(ReadFailure::Unreadable(Obstacle::Other));
+        }
+        Ok(None)
+    }
+
+    fn waits(&self, name: &str) -> bool {
+        name == PIPE
+    }
+
     fn open_store(
         &self,
         alloc: Global,
@@ -377,7 +395,7 @@ impl<'a> Host for MemHost<'a> {
         MemCalendar
     }
 
-    fn close(&mut self, sockets: MemSockets, log: Option<MemLog>)
+    fn close(&mut self, sockets: MemSockets, log: Option<MemLog<MemWriter>>)
         ensures { self.new.closed ≡ Some (sockets, log) }
     {
         self.closed = Some((sockets, log));
@@ -406,7 +424,7 @@ end
 ";
 
 /// The text of the state that a section has: one that is cut, one with more after its end, one whose counts and port
-/// are none, one with tables of both ports, or none.
+/// are none, one of which a count is at its end, one with tables of both ports, or none.
 fn state_of(alloc: Global, section: &Section<'_>) -> Result<Option<Vec<u8>>, AllocError> {
     if section.has("state more") {
         return text_if(alloc, true, "bacgw state 1\ncounts 0 0 0\nend\nmore");
@@ -416,6 +434,20 @@ fn state_of(alloc: Global, section: &Section<'_>) -> Result<Option<Vec<u8>>, All
             alloc,
             true,
             "bacgw state 1\ncounts 2 1 0\nport 1 nowhere\nend\n",
+        );
+    }
+    if section.has("state at its end") {
+        return text_if(
+            alloc,
+            true,
+            "bacgw state 1\ncounts 0 9223372036854775808 0\nend\n",
+        );
+    }
+    if section.has("state denied to its end") {
+        return text_if(
+            alloc,
+            true,
+            "bacgw state 1\ncounts 0 0 9223372036854775808\nend\n",
         );
     }
     if section.has("state tables") {
@@ -441,8 +473,8 @@ fn text_with(
     Ok(Some(made))
 }
 
-/// The configuration that is on trial: that of the section; one with another broadcast address, or of another format; one that
-/// is none; or nothing.
+/// The configuration that is on trial: that of the section; one with another broadcast address, with fewer stations, or of another
+/// format; one that is none; or nothing.
 fn trial_of(
     alloc: Global,
     section: &Section<'_>,
@@ -453,6 +485,9 @@ fn trial_of(
     }
     if section.has("trial other format") {
         return text_with(alloc, config, "format = 1", "format = 2");
+    }
+    if section.has("trial other stations") {
+        return text_with(alloc, config, STATIONS, "stations = [\"192.168.1.0/25\"]\n");
     }
     if section.has("trial denies") {
         return text_with(alloc, config, "allow = true", "allow = false");
@@ -610,7 +645,7 @@ pub fn machine(alloc: Global, config: &str, text: &str, out: &mut Vec<u8>) -> io
 fn put_closed(closed: &Closed, shows_syncs: bool, out: &mut Vec<u8>) -> Result<(), AllocError> {
     let (sockets, log) = closed;
     if let Some(log) = log {
-        put_lines("log ", log.held(), out)?;
+        put_lines("log ", log.text().held(), out)?;
         if shows_syncs {
             put(out, &["syncs ", Buffer::new().format(log.syncs()), "\n"])?;
         }

@@ -6,7 +6,7 @@ ghost use Rattle.gw_watchers.specs.Watching.{HasWatched, Missed, Watches, Watchi
 
 use crate::audit::Marks;
 use crate::beside::Beside;
-use crate::files::fitting::is_same_format;
+use crate::files::is_same_format;
 use gw_core::{AllAsked, Asked, Gateway, Guard, Taken};
 use gw_decisions::count_asked;
 use gw_decisions::tally::Tally;
