@@ -27,13 +27,13 @@ pub enum Part {
 
 /// Which parts of two configurations are the same. A false says nothing.
 #[derive(Clone, Copy)]
-struct Sameness {
-    format: bool,
-    announce: bool,
-    device: bool,
-    ports: bool,
-    routes: bool,
-    objects: bool,
+pub(crate) struct Sameness {
+    pub format: bool,
+    pub announce: bool,
+    pub device: bool,
+    pub ports: bool,
+    pub routes: bool,
+    pub objects: bool,
 }
 
 fn sameness_of(old: &Config, new: &Config) -> Sameness

@@ -53,6 +53,7 @@ impl<S: OctetSink> Lasting for MemLog<S> {
 
     ghost Syncs = { λ was _ is. is.text ≡ was.text };
 
+    #[tactic(auto, using(gw_script::proofs::UnreadLemmas::keeps_same))]
     fn sync(&mut self) -> Result<(), WriteFailed> {
         if !self.is_unsynced {
             return Ok(());

@@ -1,6 +1,6 @@
 //! Which parts of a configuration beside its rules differ from those of a gateway that runs.
 
-ghost use Rattle.std.specs.Prelude.{◌≡◌, ◌&&◌, IfOk};
+ghost use Rattle.std.specs.Prelude.{◌≡◌, IfOk};
 ghost use Rattle.std.specs.Cmp.Lexicographic.{pointwise};
 ghost use Rattle.gw_notices.specs.rule_changes.Changes.{same_truth};
 ghost use Rattle.gw_service.specs.Reload.{differing, same_manager, same_neighbours, same_peers, same_subnet};

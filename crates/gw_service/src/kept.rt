@@ -3,7 +3,7 @@
 //! A function that owns a configuration or a gateway does nothing fallible after making it, and passes
 //! a reference on: each way out would drop a large value.
 
-ghost use Rattle.std.specs.Prelude.{◌≡◌, ◌<◌, ◌^◌, ◌||◌, ℕ, List, None, Ok, [], is_some, option_map, string_bytes, IfErr, IfOk, OnOk};
+ghost use Rattle.std.specs.Prelude.{◌≡◌, ◌<◌, ◌^◌, ◌||◌, ℕ, List, None, Some, Ok, [], is_some, option_map, string_bytes, IfErr, IfOk, OnOk};
 ghost use Rattle.std.specs.Io.Buffered.{writer_buffer, writer_contents};
 ghost use Rattle.std.specs.Io.KnownBytes.{Appends};
 ghost use Rattle.gw_configuration.specs.Configuration.{Configuration};
@@ -166,6 +166,19 @@ fn text_of_state(
     }
 }
 
+/// What is said of a policy that is to be on trial, by the text of its configuration.
+fn note_of_text(alloc: Global, config: &Config, text: &[u8]) -> Vec<u8>
+    ensures { IsTrialNoteOf config.now (Ok (Some text.now)) result.items }
+{
+    match read_config(alloc, text) {
+        Ok(trial) => match trial_line(alloc, config, &trial) {
+            Ok(line) => line,
+            Err(_) => Vec::new(alloc),
+        },
+        Err(_) => Vec::new(alloc),
+    }
+}
+
 /// What is said of a policy that is to be on trial, by what its file gave.
 fn note_of_trial(
     alloc: Global,
@@ -174,14 +187,10 @@ fn note_of_trial(
 ) -> Vec<u8>
     ensures { IsTrialNoteOf config.now (text_found read.now) result.items }
 {
-    if let Ok(Some(text)) = read {
-        if let Ok(trial) = read_config(alloc, text) {
-            if let Ok(line) = trial_line(alloc, config, &trial) {
-                return line;
-            }
-        }
+    match read {
+        Ok(Some(text)) => note_of_text(alloc, config, text),
+        Ok(None) | Err(_) => Vec::new(alloc),
     }
-    Vec::new(alloc)
 }
 
 /// What is said of the policy of this file, if there is to be a trial.
