@@ -180,19 +180,19 @@ same_of_both E F f g records [] (y ∷ ys) = refl
 same_of_both E F f g records (x ∷ xs) [] = refl
 same_of_both E F f g records (x ∷ xs) (y ∷ ys) = ap₂ (λ a b. a && b) (records x y) (same_of_both E F f g records xs ys)
 
-equal_ends : (since then : ℕ) (xs ys : List SavedPort) → pointwise is_same_port xs ys ≡ true
-    → pointwise (are_ending_alike since then) xs ys ≡ true → map (ending_port since) xs ≡ map (ending_port then) ys
-equal_ends since then [] [] is ends = refl
-equal_ends since then [] (y ∷ ys) is ends = absurd (true≢false (sym is))
-equal_ends since then (x ∷ xs) [] is ends = absurd (true≢false (sym is))
-equal_ends since then (x ∷ xs) (y ∷ ys) is ends =
+equal_ends : (since other : ℕ) (xs ys : List SavedPort) → pointwise is_same_port xs ys ≡ true
+    → pointwise (are_ending_alike since other) xs ys ≡ true → map (ending_port since) xs ≡ map (ending_port other) ys
+equal_ends since other [] [] is ends = refl
+equal_ends since other [] (y ∷ ys) is ends = absurd (true≢false (sym is))
+equal_ends since other (x ∷ xs) [] is ends = absurd (true≢false (sym is))
+equal_ends since other (x ∷ xs) (y ∷ ys) is ends =
     let one = and_parts (is_same_port x y) (pointwise is_same_port xs ys) is in
-    let two = and_parts (are_ending_alike since then x y) (pointwise (are_ending_alike since then) xs ys) ends in
-    let devices = both_equal (ends_alike since then) (ending since) (ending then) (λ a b. equal_device (ending since a) (ending then b)) x.devices
+    let two = and_parts (are_ending_alike since other x y) (pointwise (are_ending_alike since other) xs ys) ends in
+    let devices = both_equal (ends_alike since other) (ending since) (ending other) (λ a b. equal_device (ending since a) (ending other b)) x.devices
     y.devices two.0 in
     ap₂ (λ p ps. p ∷ ps)
     (ap₂ (λ (p : SavedPort) (kept : List KeptDevice). record p { devices = kept }) (equal_port x y one.0) devices)
-    (equal_ends since then xs ys one.1 two.1)
+    (equal_ends since other xs ys one.1 two.1)
 
 equal_route : (a b : ℕ × Route) → is_same_route a b ≡ true → a ≡ b
 equal_route a b is =
@@ -232,18 +232,18 @@ own_ends p = all_alike is_same_device own_device p.devices
 pub equal_but_ticks_is_alike : EqualButTicksIsAlike
 equal_but_ticks_is_alike a b same =
     let since = a.counts.since in
-    let then = b.counts.since in
-    let ports : map (ending_port since) a.ports ≡ map (ending_port then) b.ports = ap (λ (s : Saved). s.ports) same in
+    let other = b.counts.since in
+    let ports : map (ending_port since) a.ports ≡ map (ending_port other) b.ports = ap (λ (s : Saved). s.ports) same in
     let objects : a.objects ≡ b.objects = ap (λ (s : Saved). s.objects) same in
     let routes : a.routes ≡ b.routes = ap (λ (s : Saved). s.routes) same in
     let denials : a.counts.denials ≡ b.counts.denials = ap (λ (s : Saved). s.counts.denials) same in
     and_from (lasts_alike a b) _
     (and_from (pointwise is_same_port a.ports b.ports) (pointwise is_same_object a.objects b.objects)
-    (alike_by is_same_port is_same_port (ending_port since) (ending_port then) (λ x y. refl) own_port a.ports b.ports ports)
+    (alike_by is_same_port is_same_port (ending_port since) (ending_port other) (λ x y. refl) own_port a.ports b.ports ports)
     (ap (λ (l : List SavedObject). pointwise is_same_object l b.objects) objects ∙ all_alike is_same_object own_object b.objects))
-    (and_from (pointwise (are_ending_alike since then) a.ports b.ports) _
-    (alike_by (are_ending_alike since then) (λ p q. pointwise is_same_device p.devices q.devices) (ending_port since) (ending_port then)
-    (λ x y. same_of_both (ends_alike since then) is_same_device (ending since) (ending then) (λ c d. refl) x.devices y.devices) own_ends
+    (and_from (pointwise (are_ending_alike since other) a.ports b.ports) _
+    (alike_by (are_ending_alike since other) (λ p q. pointwise is_same_device p.devices q.devices) (ending_port since) (ending_port other)
+    (λ x y. same_of_both (ends_alike since other) is_same_device (ending since) (ending other) (λ c d. refl) x.devices y.devices) own_ends
     a.ports b.ports ports)
     (and_from (pointwise is_same_route a.routes b.routes) (nat_eq a.counts.denials b.counts.denials)
     (ap (λ (l : Routed). pointwise is_same_route l b.routes) routes ∙ all_alike is_same_route own_route b.routes)

@@ -97,12 +97,12 @@ abbrev pub is_same_device : KeptDevice → KeptDevice → Bool
 is_same_device a b = same_address a.address b.address && (nat_eq a.time_to_live b.time_to_live && nat_eq a.left b.left)
 
 -- two foreign devices, each kept after so many ticks, are one, and end at the same tick
-abbrev pub ends_alike : (since then : ℕ) → KeptDevice → KeptDevice → Bool
-ends_alike since then a b = is_same_device (ending since a) (ending then b)
+abbrev pub ends_alike : (since other : ℕ) → KeptDevice → KeptDevice → Bool
+ends_alike since other a b = is_same_device (ending since a) (ending other b)
 
 -- so it is for those of two ports, one by one
-abbrev pub are_ending_alike : (since then : ℕ) → SavedPort → SavedPort → Bool
-are_ending_alike since then a b = pointwise (ends_alike since then) a.devices b.devices
+abbrev pub are_ending_alike : (since other : ℕ) → SavedPort → SavedPort → Bool
+are_ending_alike since other a b = pointwise (ends_alike since other) a.devices b.devices
 
 abbrev pub is_same_route : ℕ × Route → ℕ × Route → Bool
 is_same_route a b = nat_eq a.0 b.0 && (nat_eq a.1.port b.1.port && same_address a.1.next b.1.next)

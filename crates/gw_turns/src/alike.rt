@@ -51,14 +51,14 @@ fn alike_but_ticks(a: &Saved, b: &Saved) -> bool
 fn have_same_ends(a: &Saved, b: &Saved) -> bool
     ensures { result ≡ pointwise (are_ending_alike a.now.counts.since b.now.counts.since) a.now.ports b.now.ports }
 {
-    let (since, then) = (a.counts().since, b.counts().since);
+    let (since, other) = (a.counts().since, b.counts().since);
     let (ports, others) = (a.ports(), b.ports());
     if ports.len() != others.len() {
         return false;
     }
     for (place, port) in ports.iter().enumerate() {
-        let (devices, other) = (port.devices.as_slice(), others[place].devices.as_slice());
-        if !are_ending_alike(since, then, devices, other) {
+        let devices = port.devices.as_slice();
+        if !are_ending_alike(since, other, devices, others[place].devices.as_slice()) {
             return false;
         }
     }
@@ -67,14 +67,14 @@ fn have_same_ends(a: &Saved, b: &Saved) -> bool
 
 /// Whether these foreign devices, kept after so many ticks, are those that were kept after so many others, and each ends at the same
 /// tick.
-fn are_ending_alike(since: u64, then: u64, a: &[KeptDevice], b: &[KeptDevice]) -> bool
-    ensures { result ≡ pointwise (ends_alike since then) a.now b.now }
+fn are_ending_alike(since: u64, other: u64, a: &[KeptDevice], b: &[KeptDevice]) -> bool
+    ensures { result ≡ pointwise (ends_alike since other) a.now b.now }
 {
     if a.len() != b.len() {
         return false;
     }
     for (place, device) in a.iter().enumerate() {
-        if !ends_alike(since, then, *device, b[place]) {
+        if !ends_alike(since, other, *device, b[place]) {
             return false;
         }
     }
@@ -82,12 +82,12 @@ fn are_ending_alike(since: u64, then: u64, a: &[KeptDevice], b: &[KeptDevice]) -
 }
 
 /// Whether two foreign devices, each kept after so many ticks, are one, and end at the same tick.
-fn ends_alike(since: u64, then: u64, a: KeptDevice, b: KeptDevice) -> bool
-    ensures { result ≡ ends_alike since then a b }
+fn ends_alike(since: u64, other: u64, a: KeptDevice, b: KeptDevice) -> bool
+    ensures { result ≡ ends_alike since other a b }
 {
     a.address == b.address
         && a.time_to_live == b.time_to_live
-        && end_of(since, a) == end_of(then, b)
+        && end_of(since, a) == end_of(other, b)
 }
 
 /// The tick at which a foreign device ends that is kept after so many ticks.

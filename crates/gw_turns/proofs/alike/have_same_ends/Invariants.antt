@@ -5,5 +5,5 @@ use Rattle.gw_turns.proofs.alike.have_same_ends.Given as goal
 
 abbrev pub invariant-loop-place : goal.invariant-loop-place
 invariant-loop-place l =
-    pointwise (are_ending_alike l.since l.then) (drop l.place l.ports) (drop l.place l.others)
-    ≡ pointwise (are_ending_alike l.since l.then) l.ports l.others
+    pointwise (are_ending_alike l.since l.other) (drop l.place l.ports) (drop l.place l.others)
+    ≡ pointwise (are_ending_alike l.since l.other) l.ports l.others
