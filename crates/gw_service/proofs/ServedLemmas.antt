@@ -24,6 +24,7 @@ use Rattle.gw_turns.specs.declared.serving.ServeFault.TheVariants as serving
 use Rattle.gw_turns.specs.declared.serving.Served.{Served}
 use Rattle.gw_system.specs.Requests.{Asking, GoesOn, answered, asked, asked_to_stop, nobody, recorded_by, unasked, untaken}
 use Rattle.gw_watchers.specs.Watching.{Watching}
+use Rattle.gw_service.specs.Reload.{taken_over_line}
 use Rattle.gw_service.specs.Chain.{AreLinks, IsLink, IsLooked, IsUnrequested, Link, Look, Manner, Runs, RunsToStop, Stage, Standing, announced_at}
 use Rattle.gw_service.specs.Chain.{ended, passed_over, refused, served, stopping, taken_over, ticked, unrequested, withheld}
 use Rattle.gw_service.specs.declared.running.End.{End}
