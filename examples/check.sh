@@ -411,6 +411,13 @@ same 'who may read a log that was made' "$(stat -c %a "$work/made.log")" 600
 ln -s "$work/made.log" "$work/link.log"
 ran 1 "bacgw: log failed: $work/link.log" --config "$work/loopback.toml" --log "$work/link.log" --turns 1
 
+# What is recorded beside the log is a regular file, since a reader that stalls would hold up all; a log that waits for one says so.
+mkfifo "$work/pipe"
+ran 1 "bacgw: audit failed: $work/pipe" --config "$work/loopback.toml" --audit "$work/pipe" --turns 1
+ran 1 "bacgw: trial: log failed: $work/pipe" --config "$work/loopback.toml" --trial "$work/loopback.toml" --trial-log "$work/pipe" --turns 1
+timeout 2 "$program" run --config "$work/loopback.toml" --log "$work/pipe" --turns 1 < /dev/null > "$work/out" 2> "$work/err"
+same 'a log that waits for its reader' "$(cat "$work/err")" 'bacgw: the log waits for its reader'
+
 # If standard error is closed, what is written there doesn't land in the log.
 "$program" run --config "$work/loopback.toml" --log "$work/log" --turns 1 --verbose < /dev/null 2>&-
 same 'the status where standard error is closed' "$?" 0

@@ -81,12 +81,20 @@ fn make_watcher(
     trial: MemWriter,
     audit: MemWriter,
 ) -> io::Result<Watcher<MemWriter, MemWriter>> {
-    let in_force = read(alloc, config)?.into_rules();
+    let config = read(alloc, config)?;
+    let format = config.format();
+    let in_force = config.into_rules();
     let marks = Vec::from_elem(alloc, true, in_force.rules().len())?;
     let trial = Beside::new(Policy::new(alloc, rules)?, trial);
     let audit = Beside::new(Marks::new(alloc, &marks)?, audit);
     let counts = Tally::new(alloc, &in_force)?;
-    Ok(Watcher::new(alloc, Some(trial), Some(audit), Some(counts)))
+    Ok(Watcher::new(
+        alloc,
+        format,
+        Some(trial),
+        Some(audit),
+        Some(counts),
+    ))
 }
 
 /// What the watcher's logs have and lost, and the counts.

@@ -1,5 +1,6 @@
 pub mod Startup
 pub mod Notices
+pub mod Parts
 pub mod Reload
 pub mod Stats
 pub mod Watch

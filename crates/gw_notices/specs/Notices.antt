@@ -6,7 +6,7 @@ use Rattle.gw_notices.specs.declared.troubles.Troubles.{Troubles}
 
 -- the state alone isn't kept
 abbrev pub of_state : Option StoreFault → Troubles
-of_state fault = record { state = fault; trial = false; audit = false }
+of_state fault = record { state = fault; trial = false; audit = false; ended = false }
 
 abbrev pub no_troubles : Troubles
 no_troubles = of_state None
@@ -39,6 +39,11 @@ abbrev pub audit_notice : (was is : Bool) → List ℕ
 audit_notice false true = codes "bacgw: audit: lines are lost\n"
 audit_notice _ _ = []
 
+-- A trial that ends is reported.
+abbrev pub ended_notice : (was is : Bool) → List ℕ
+ended_notice false true = codes "bacgw: trial: ended: the configuration has another format\n"
+ended_notice _ _ = []
+
 -- Metrics that aren't written are reported once, until they are written again, which is reported too.
 abbrev pub metrics_notice : (was is : Option StoreFault) → List ℕ
 metrics_notice None (Some fault) = codes "bacgw: metrics aren't written: " ++ reason_of fault ++ 10 ∷ []
@@ -56,4 +61,6 @@ stop_line None = codes "stopped\n"
 stop_line (Some fault) = codes "stopped: state isn't kept: " ++ reason_of fault ++ 10 ∷ []
 
 abbrev pub notice_of : (was is : Troubles) → List ℕ
-notice_of was is = state_notice was.state is.state ++ (trial_notice was.trial is.trial ++ audit_notice was.audit is.audit)
+notice_of was is =
+    state_notice was.state is.state
+    ++ (trial_notice was.trial is.trial ++ (audit_notice was.audit is.audit ++ ended_notice was.ended is.ended))

@@ -1,5 +1,6 @@
 -- What is reported of a configuration that is read again, and how often one was.
 use Rattle.std.specs.Prelude.{◌≡◌, ℕ, ◌⊎◌, List, [], ◌++◌, ◌∷◌, length, Option, Some, Result, Ok, codes, decimal}
+use Rattle.std.specs.List.{flat_map}
 use Rattle.gw_policy_text.specs.faults.Explanation.{ExplainsText}
 use Rattle.gw_configuration.specs.Configuration.{Configuration}
 use Rattle.gw_configuration.specs.declared.fault.ConfigFault.{ConfigFault}
@@ -13,6 +14,8 @@ use Rattle.gw_system.specs.declared.reading.ReadFailure.{ReadFailure}
 use Rattle.gw_system.specs.declared.reading.ReadFailure.TheVariants as reading
 use Rattle.gw_state_words.specs.takeover.Findings.{take_over}
 use Rattle.gw_decisions.specs.tally.Tally.{one_more}
+use Rattle.gw_notices.specs.Parts.{part_words}
+use Rattle.gw_notices.specs.declared.parts.Part.{Part}
 use Rattle.gw_notices.specs.declared.reload.ReloadCounts.{ReloadCounts}
 use Rattle.gw_notices.specs.declared.reload.ReloadFault.{ReloadFault}
 use Rattle.gw_notices.specs.declared.reload.ReloadFault.TheVariants as fault
@@ -71,10 +74,11 @@ policy_words rules c =
 abbrev pub objects_words : Configuration → List ℕ
 objects_words c = decimal (length c.objects) ++ codes " objects; "
 
--- the line of a configuration that is taken over by a gateway with these rules, of which this is saved: that, and what goes on
-abbrev pub reload_line : List Rule → Configuration → Saved → List ℕ
-reload_line rules c s =
-    codes "reload: " ++ policy_words rules c ++ objects_words c ++ take_over_words (take_over c s) ++ 10 ∷ []
+-- the line of a configuration that is taken over by a gateway with these rules, of which this is saved: that, what goes on, and
+-- which of these parts differ
+abbrev pub reload_line : List Rule → Configuration → Saved → List Part → List ℕ
+reload_line rules c s differ =
+    codes "reload: " ++ policy_words rules c ++ objects_words c ++ take_over_words (take_over c s) ++ flat_map part_words differ ++ 10 ∷ []
 
 -- ---- how often
 

@@ -4,6 +4,7 @@ ghost use Rattle.std.specs.Prelude.{◌≡◌, ◌++◌, IfOk, IfSome, Ok, OnOk,
 ghost use Rattle.gw_notices.specs.Reload.{IsRefusalLine, located_line, name_of, objects_words, policy_words, refusal_line, refusal_words, reload_line};
 ghost use Rattle.gw_system.specs.Requests.{text_found};
 
+use crate::parts::{Part, put_parts};
 use crate::reload::ReloadFault;
 use crate::rule_changes::{changes_of, put_changes};
 use gw_addr::put_decimal;
@@ -17,20 +18,23 @@ use gw_system::{Obstacle, ReadFailure};
 use std::alloc::{AllocError, Global};
 
 /// The line of a configuration that a gateway with these rules in force takes over, of which this was saved: how many rules it
-/// has and how they differ from those in force, how many objects, and what goes on. An `Err` only if a growth was refused.
+/// has and how they differ from those in force, how many objects, what goes on, and which of these parts differ. An `Err` only if a
+/// growth was refused.
 pub fn reload_line(
     alloc: Global,
     rules: &RuleList,
     config: &Config,
     saved: &Saved,
+    differ: &[Part],
 ) -> Result<Vec<u8>, AllocError>
-    ensures { IfOk result (λ line. line.items ≡ reload_line rules.now config.now saved.now) }
+    ensures { IfOk result (λ line. line.items ≡ reload_line rules.now config.now saved.now differ.now) }
 {
     let taken = take_over(alloc, config, saved)?;
     let mut line = Vec::from_slice(alloc, b"reload: ")?;
     put_policy(&mut line, rules, config)?;
     put_objects(&mut line, config)?;
     put_take_over(&taken, &mut line)?;
+    put_parts(&mut line, differ)?;
     line.push(b'\n')?;
     Ok(line)
 }

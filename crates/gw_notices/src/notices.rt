@@ -2,7 +2,7 @@
 
 ghost use Rattle.std.specs.Prelude.{◌≡◌, None, Some};
 ghost use Rattle.std.specs.Io.KnownBytes.{Appends};
-ghost use Rattle.gw_notices.specs.Notices.{audit_notice, metrics_notice, notice_of, state_notice, stop_line, trial_notice, unkept_line, untaken_line};
+ghost use Rattle.gw_notices.specs.Notices.{audit_notice, ended_notice, metrics_notice, notice_of, state_notice, stop_line, trial_notice, unkept_line, untaken_line};
 
 use crate::note::write_note;
 use crate::troubles::Troubles;
@@ -81,6 +81,17 @@ fn audit_notice(was: bool, is: bool) -> &'static str
     }
 }
 
+/// What is reported if a trial had ended before, or not, and has now: a line if it ended.
+fn ended_notice(was: bool, is: bool) -> &'static str
+    ensures { result.now ≡ ended_notice was is }
+{
+    if is && !was {
+        "bacgw: trial: ended: the configuration has another format\n"
+    } else {
+        ""
+    }
+}
+
 /// The line on what has the name of a request and isn't taken.
 pub fn untaken_line() -> &'static str
     ensures { result.now ≡ untaken_line }
@@ -111,6 +122,7 @@ pub fn report_notices<E: OctetSink>(was: Troubles, is: Troubles, errors: &mut E)
     write_note(state_notice(was.state, is.state).as_bytes(), errors);
     write_note(trial_notice(was.trial, is.trial).as_bytes(), errors);
     write_note(audit_notice(was.audit, is.audit).as_bytes(), errors);
+    write_note(ended_notice(was.ended, is.ended).as_bytes(), errors);
 }
 
 /// Reports why metrics aren't written, or that they are again, if that changed.

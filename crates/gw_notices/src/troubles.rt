@@ -14,6 +14,8 @@ pub struct Troubles {
     pub trial: bool,
     /// Whether lines of an audit were lost.
     pub audit: bool,
+    /// Whether the trial ended, since the configuration in force has another format.
+    pub ended: bool,
 }
 
 impl Troubles {
@@ -32,6 +34,7 @@ impl Troubles {
             state,
             trial: false,
             audit: false,
+            ended: false,
         }
     }
 }

@@ -4,15 +4,16 @@
 //! what the machine is like, as `log 9` for a log with room for 9 octets; and after a line `input`
 //! standard input. Each file has the text of the last configuration, but for `unreadable`.
 
-ghost use Rattle.std.specs.Prelude.{◌≡◌, ⊤, None, Some, false};
+ghost use Rattle.std.specs.Prelude.{◌≡◌, ◌≤◌, ⊤, None, Some, false, length};
 ghost use Rattle.gw_system.specs.Requests.{silent};
 
 use crate::mem_log::MemLog;
 use gw_addr::BipAddr;
+use gw_cases::MemWriter;
 use gw_configuration::Port;
 use gw_log_words::{Calendar, Moment, moment_after};
 use gw_program_cases::{Left, MemFiles, Program, Section, UNREADABLE, put, put_left, put_lines};
-use gw_script::append_send;
+use gw_script::{OctetSink, WriteFailed, append_send};
 use gw_shell::{FailedStep, Host, LogFailure, Obstacle, Reason, SocketFailure, Step, run};
 use gw_system::{ReadFailure, Request, Requests, StoreKind};
 use gw_wire::{Got, RECEIVE_ROOM, Store, StoreFault, Wire, WireFault};
@@ -27,6 +28,9 @@ const TRIAL: &str = "trial";
 /// The names of the logs beside the log.
 const BESIDE: [&str; 2] = ["trial.log", "audit.log"];
 
+/// The name of a named pipe.
+const PIPE: &str = "pipe";
+
 /// The name of the file of the metrics.
 const METRICS: &str = "bacgw.prom";
 
@@ -36,11 +40,25 @@ const DENIED_READ: [u8; 22] = [
     0x01, 0x40, 0x00, 0x02, 0x19, 0x55,
 ];
 
-/// A wire in memory: a denied read first, and then a tick at each receive. The send of one number, from 0, may fail. It shows
-/// its calls, if that is asked for.
+/// A write of Multi-state Value 1, which the built-in policy allows.
+const GRANTED_WRITE: [u8; 28] = [
+    0x81, 0x0A, 0x00, 0x1C, 0x01, 0x24, 0x00, 0x64, 0x01, 0x01, 0xFF, 0x00, 0x05, 0x0A, 0x0F, 0x0C,
+    0x04, 0xC0, 0x00, 0x01, 0x19, 0x55, 0x3E, 0x21, 0x03, 0x3F, 0x49, 0x08,
+];
+
+/// The datagram that comes first.
+fn first_datagram(writes: bool) -> &'static [u8]
+    ensures { length result.now ≤ 28 }
+{
+    if writes { &GRANTED_WRITE } else { &DENIED_READ }
+}
+
+/// A wire in memory: a denied read first, or a granted write, and then a tick at each receive. The send of one number, from 0, may
+/// fail. It shows its calls, if that is asked for.
 #[derive(Drop)]
 pub struct MemSockets {
     ports: u8,
+    writes: bool,
     receives: u64,
     sends: u64,
     failures: u128,
@@ -89,8 +107,9 @@ impl Wire for MemSockets {
         if self.receives != 1 || self.ports == 0 {
             return Ok(Got::Tick);
         }
-        for (octet, sent) in buf.iter_mut().zip(DENIED_READ) {
-            *octet = sent;
+        let datagram = first_datagram(self.writes);
+        for (octet, sent) in buf.iter_mut().zip(datagram) {
+            *octet = *sent;
         }
         let from = BipAddr {
             ip: [192, 168, 1, 5],
@@ -99,7 +118,7 @@ impl Wire for MemSockets {
         Ok(Got::Datagram {
             port: 1,
             from,
-            len: DENIED_READ.len(),
+            len: datagram.len(),
         })
     }
 
@@ -115,12 +134,73 @@ impl Wire for MemSockets {
     }
 }
 
+/// What is seen of the order in which a run writes: whether something was written to a log beside the log, and at each text that was
+/// put into a store whether that was so.
+#[derive(Drop)]
+struct Order {
+    is_beside: RefCell<bool>,
+    shown: RefCell<Vec<u8>>,
+}
+
+impl Order {
+    /// Nothing was written yet.
+    fn new(alloc: Global) -> Self {
+        Order {
+            is_beside: RefCell::new(false),
+            shown: RefCell::new(Vec::new(alloc)),
+        }
+    }
+
+    /// Something was written to a log beside the log.
+    fn write(&self) {
+        let _ = self.is_beside.try_replace(true);
+    }
+
+    /// A text is put into a store.
+    fn keep(&self, alloc: Global) {
+        let is_beside = self.is_beside.try_replace(false).unwrap_or(false);
+        let _ = self.is_beside.try_replace(is_beside);
+        let Ok(mut shown) = self.shown.try_replace(Vec::new(alloc)) else {
+            return;
+        };
+        let word: &[u8] = if is_beside {
+            b"after a record\n"
+        } else {
+            b"before a record\n"
+        };
+        let _ = shown.extend_from_slice(word);
+        let _ = self.shown.try_replace(shown);
+    }
+}
+
+/// What is written to, which is seen if it is a log beside the log.
+#[derive(Drop)]
+pub struct MemSink<'a, S> {
+    text: S,
+    order: Option<&'a Order>,
+}
+
+impl<S: OctetSink> OctetSink for MemSink<'_, S> {
+    ghost held = { λ sink. S.held sink.text };
+
+    ghost NeverFails = { λ _. ⊥ };
+
+    fn write_octets(&mut self, text: &[u8]) -> Result<usize, WriteFailed> {
+        let count = self.text.write_octets(text)?;
+        if let Some(order) = self.order {
+            order.write();
+        }
+        Ok(count)
+    }
+}
+
 /// A store that shows the last text that was put into it, or fails.
 #[derive(Drop)]
 pub struct MemStore<'a> {
     alloc: Global,
     fault: Option<StoreFault>,
     shown: &'a RefCell<Vec<u8>>,
+    order: &'a Order,
 }
 
 impl<'a> Store for MemStore<'a> {
@@ -135,6 +215,7 @@ impl<'a> Store for MemStore<'a> {
         let Ok(text) = Vec::from_slice(self.alloc, octets) else {
             return Err(StoreFault::Memory);
         };
+        self.order.keep(self.alloc);
         let _ = self.shown.try_replace(text);
         Ok(())
     }
@@ -193,7 +274,7 @@ fn request_of(alloc: Global, text: &[u8]) -> Result<Request, AllocError> {
 }
 
 /// The wire and the log that a machine closed.
-type Closed = (MemSockets, Option<MemLog>);
+type Closed<'a> = (MemSockets, Option<MemLog<MemSink<'a, MemWriter>>>);
 
 /// A machine in memory: its log takes so many octets, or can't be opened, one sync of it may fail, and it may end in a line that
 /// was cut; the broadcast socket of one port may fail; and it may route IP. It keeps what was closed.
@@ -202,6 +283,8 @@ struct MemHost<'a> {
     alloc: Global,
     metrics: &'a RefCell<Vec<u8>>,
     state_text: &'a RefCell<Vec<u8>>,
+    order: &'a Order,
+    writes: bool,
     log: Option<usize>,
     failing_sync: Option<u64>,
     beside: Option<usize>,
@@ -214,11 +297,11 @@ struct MemHost<'a> {
     state: Option<Vec<u8>>,
     unkept: Option<StoreFault>,
     reload: Option<Vec<u8>>,
-    closed: Option<Closed>,
+    closed: Option<Closed<'a>>,
 }
 
 impl<'a> Host for MemHost<'a> {
-    type Log = MemLog;
+    type Log = MemLog<MemSink<'a, MemWriter>>;
 
     type Sockets = MemSockets;
 
@@ -252,14 +335,19 @@ impl<'a> Host for MemHost<'a> {
 
     ghost Closes = { λ host sockets log. host.closed ≡ Some (sockets, log) };
 
-    fn open_log(&self, _alloc: Global, name: &str) -> Result<MemLog, LogFailure> {
-        let room = if BESIDE.contains(&name) {
-            self.beside
-        } else {
-            self.log
-        };
+    fn open_log(
+        &self,
+        _alloc: Global,
+        name: &str,
+    ) -> Result<MemLog<MemSink<'a, MemWriter>>, LogFailure> {
+        let is_beside = BESIDE.contains(&name);
+        let room = if is_beside { self.beside } else { self.log };
         match room {
-            Some(room) => Ok(MemLog::new(self.alloc, room, self.failing_sync)?),
+            Some(room) => {
+                let text = MemWriter::with_room(self.alloc, room, true)?;
+                let order = if is_beside { Some(self.order) } else { None };
+                Ok(MemLog::new(MemSink { text, order }, self.failing_sync))
+            }
             None => Err(LogFailure::Failed),
         }
     }
@@ -286,6 +374,7 @@ impl<'a> Host for MemHost<'a> {
             }
             _ => Ok(MemSockets {
                 ports: ports.len() as u8,
+                writes: self.writes,
                 receives: 0,
                 sends: 0,
                 failures: 0,
@@ -323,6 +412,17 @@ impl<'a> Host for MemHost<'a> {
         Ok(None)
     }
 
+    fn last_record(&self, _alloc: Global, name: &str) -> Result<Option<Vec<u8>>, ReadFailure> {
+        if name == PIPE {
+            return Err(ReadFailure::Unreadable(Obstacle::Other));
+        }
+        Ok(None)
+    }
+
+    fn waits(&self, name: &str) -> bool {
+        name == PIPE
+    }
+
     fn open_store(
         &self,
         alloc: Global,
@@ -338,6 +438,7 @@ impl<'a> Host for MemHost<'a> {
             alloc,
             fault: self.unkept,
             shown,
+            order: self.order,
         })
     }
 
@@ -377,7 +478,7 @@ impl<'a> Host for MemHost<'a> {
         MemCalendar
     }
 
-    fn close(&mut self, sockets: MemSockets, log: Option<MemLog>)
+    fn close(&mut self, sockets: MemSockets, log: Option<MemLog<MemSink<'a, MemWriter>>>)
         ensures { self.new.closed ≡ Some (sockets, log) }
     {
         self.closed = Some((sockets, log));
@@ -406,7 +507,7 @@ end
 ";
 
 /// The text of the state that a section has: one that is cut, one with more after its end, one whose counts and port
-/// are none, one with tables of both ports, or none.
+/// are none, one of which a count is at its end, one with tables of both ports, or none.
 fn state_of(alloc: Global, section: &Section<'_>) -> Result<Option<Vec<u8>>, AllocError> {
     if section.has("state more") {
         return text_if(alloc, true, "bacgw state 1\ncounts 0 0 0\nend\nmore");
@@ -416,6 +517,20 @@ fn state_of(alloc: Global, section: &Section<'_>) -> Result<Option<Vec<u8>>, All
             alloc,
             true,
             "bacgw state 1\ncounts 2 1 0\nport 1 nowhere\nend\n",
+        );
+    }
+    if section.has("state at its end") {
+        return text_if(
+            alloc,
+            true,
+            "bacgw state 1\ncounts 0 9223372036854775808 0\nend\n",
+        );
+    }
+    if section.has("state denied to its end") {
+        return text_if(
+            alloc,
+            true,
+            "bacgw state 1\ncounts 0 0 9223372036854775808\nend\n",
         );
     }
     if section.has("state tables") {
@@ -441,8 +556,8 @@ fn text_with(
     Ok(Some(made))
 }
 
-/// The configuration that is on trial: that of the section; one with another broadcast address, or of another format; one that
-/// is none; or nothing.
+/// The configuration that is on trial: that of the section; one with another broadcast address, with fewer stations, or of another
+/// format; one that is none; or nothing.
 fn trial_of(
     alloc: Global,
     section: &Section<'_>,
@@ -453,6 +568,9 @@ fn trial_of(
     }
     if section.has("trial other format") {
         return text_with(alloc, config, "format = 1", "format = 2");
+    }
+    if section.has("trial other stations") {
+        return text_with(alloc, config, STATIONS, "stations = [\"192.168.1.0/25\"]\n");
     }
     if section.has("trial denies") {
         return text_with(alloc, config, "allow = true", "allow = false");
@@ -469,7 +587,7 @@ const STATIONS: &str = "stations = [\"192.168.1.0/24\"]\n";
 /// The same, and a broadcast manager beside the port.
 const MANAGED: &str = "stations = [\"192.168.1.0/24\"]\nbbmd = \"192.168.1.3:47808\"\n";
 
-/// The text that a section's request has: that of the configuration, also with a broadcast manager beside its first port or
+/// The text that a section's request has: that of the configuration, also of another format, with a broadcast manager beside its first port or
 /// without it, one that is none, or nothing if it can't be read; or that of another request.
 fn reload_of(
     alloc: Global,
@@ -478,6 +596,9 @@ fn reload_of(
 ) -> Result<Option<Vec<u8>>, AllocError> {
     if section.has("reload same") {
         return text_if(alloc, true, config);
+    }
+    if section.has("reload other format") {
+        return text_with(alloc, config, "format = 1", "format = 2");
     }
     if section.has("reload manager") {
         return text_with(alloc, config, STATIONS, MANAGED);
@@ -503,12 +624,41 @@ fn reload_of(
     text_if(alloc, section.has("reload unreadable"), "")
 }
 
-/// What one run leaves: its exit status and both streams, what the machine closed, and the text of the metrics.
+/// What one run leaves: its exit status and both streams, how often the sockets were called, what the log holds, the text of the
+/// metrics, and in which order it wrote.
 #[derive(Drop)]
 struct Served {
     left: Left,
-    closed: Option<Closed>,
+    closed: Option<Shut>,
     metrics: Vec<u8>,
+    order: Vec<u8>,
+}
+
+/// What the machine closed.
+#[derive(Drop)]
+struct Shut {
+    sockets: MemSockets,
+    log: Option<Vec<u8>>,
+    syncs: u64,
+}
+
+/// What is shown of what the machine closed.
+fn shut(alloc: Global, closed: Option<Closed<'_>>) -> Result<Option<Shut>, AllocError> {
+    let Some((sockets, log)) = closed else {
+        return Ok(None);
+    };
+    let (text, syncs) = match &log {
+        Some(log) => (
+            Some(Vec::from_slice(alloc, log.text().text.held())?),
+            log.syncs(),
+        ),
+        None => (None, 0),
+    };
+    Ok(Some(Shut {
+        sockets,
+        log: text,
+        syncs,
+    }))
 }
 
 /// Runs the program of a section, whose output has room for so many octets.
@@ -521,10 +671,13 @@ fn run_with(
     let words = section.call(alloc, "bacgw")?;
     let metrics = RefCell::new(Vec::new(alloc));
     let state_text = RefCell::new(Vec::new(alloc));
+    let order = Order::new(alloc);
     let mut host = MemHost {
         alloc,
         metrics: &metrics,
         state_text: &state_text,
+        order: &order,
+        writes: section.has("write"),
         log: section.number("log "),
         failing_sync: section.number("failing sync ").map(|number| number as u64),
         beside: section.number("beside "),
@@ -562,8 +715,12 @@ fn run_with(
             output,
             errors,
         },
-        closed: host.closed,
+        closed: shut(alloc, host.closed)?,
         metrics: metrics
+            .try_replace(Vec::new(alloc))
+            .unwrap_or(Vec::new(alloc)),
+        order: order
+            .shown
             .try_replace(Vec::new(alloc))
             .unwrap_or(Vec::new(alloc)),
     })
@@ -596,6 +753,9 @@ pub fn machine(alloc: Global, config: &str, text: &str, out: &mut Vec<u8>) -> io
     let served = run_with(alloc, config, &section, section.room())?;
     put_left(&served.left, out)?;
     put_lines("metrics ", &served.metrics, out)?;
+    if section.has("order") {
+        put_lines("kept ", &served.order, out)?;
+    }
     match &served.closed {
         Some(closed) => Ok(put_closed(closed, section.has("syncs"), out)?),
         None => Ok(()),
@@ -604,12 +764,12 @@ pub fn machine(alloc: Global, config: &str, text: &str, out: &mut Vec<u8>) -> io
 
 /// The log in a file, and how often it was synced if that is shown, the calls of the wire if they are shown, and how often it was
 /// called.
-fn put_closed(closed: &Closed, shows_syncs: bool, out: &mut Vec<u8>) -> Result<(), AllocError> {
-    let (sockets, log) = closed;
-    if let Some(log) = log {
-        put_lines("log ", log.held(), out)?;
+fn put_closed(closed: &Shut, shows_syncs: bool, out: &mut Vec<u8>) -> Result<(), AllocError> {
+    let sockets = &closed.sockets;
+    if let Some(log) = &closed.log {
+        put_lines("log ", log, out)?;
         if shows_syncs {
-            put(out, &["syncs ", Buffer::new().format(log.syncs()), "\n"])?;
+            put(out, &["syncs ", Buffer::new().format(closed.syncs), "\n"])?;
         }
     }
     if let Some(calls) = &sockets.calls {

@@ -2,35 +2,33 @@
 
 ghost use Rattle.std.specs.Prelude.{◌≡◌, Ok, Option, None, false};
 
-use gw_cases::MemWriter;
 use gw_log_words::{Lasting, Notes};
 use gw_script::{OctetSink, WriteFailed};
-use std::alloc::{AllocError, Global};
 
-/// A log in memory, with room for so many octets. It is synced only if something was written since the last sync, and the sync of one
-/// number, from 0, may fail.
+/// A log in what is written to, which holds what that holds. It is synced only if something was written since the last sync, and the
+/// sync of one number, from 0, may fail.
 #[derive(Drop)]
-pub struct MemLog {
-    text: MemWriter,
+pub struct MemLog<S> {
+    text: S,
     is_unsynced: bool,
     syncs: u64,
     failing: Option<u64>,
 }
 
-impl MemLog {
-    /// One that takes so many octets, and whose sync of this number fails.
-    pub fn new(alloc: Global, room: usize, failing: Option<u64>) -> Result<Self, AllocError> {
-        Ok(MemLog {
-            text: MemWriter::with_room(alloc, room, true)?,
+impl<S> MemLog<S> {
+    /// One whose sync of this number fails.
+    pub fn new(text: S, failing: Option<u64>) -> Self {
+        MemLog {
+            text,
             is_unsynced: false,
             syncs: 0,
             failing,
-        })
+        }
     }
 
-    /// What was written to it.
-    pub fn held(&self) -> &[u8] {
-        self.text.held()
+    /// What it is written to.
+    pub fn text(&self) -> &S {
+        &self.text
     }
 
     /// How often it was synced.
@@ -39,8 +37,8 @@ impl MemLog {
     }
 }
 
-impl OctetSink for MemLog {
-    ghost held = { λ _. None };
+impl<S: OctetSink> OctetSink for MemLog<S> {
+    ghost held = { λ log. S.held log.text };
 
     ghost NeverFails = { λ _. ⊥ };
 
@@ -50,11 +48,12 @@ impl OctetSink for MemLog {
     }
 }
 
-impl Lasting for MemLog {
+impl<S: OctetSink> Lasting for MemLog<S> {
     ghost IsLasting = { λ log. log.is_unsynced ≡ false };
 
     ghost Syncs = { λ was _ is. is.text ≡ was.text };
 
+    #[tactic(auto, using(gw_script::proofs::UnreadLemmas::keeps_same))]
     fn sync(&mut self) -> Result<(), WriteFailed> {
         if !self.is_unsynced {
             return Ok(());
@@ -69,7 +68,7 @@ impl Lasting for MemLog {
     }
 }
 
-impl Notes for MemLog {
+impl<S: OctetSink> Notes for MemLog<S> {
     ghost Takes = { λ was _ _ is. is ≡ was };
 
     ghost BeginsAnew = { λ was anew is. (anew ≡ false) × (is ≡ was) };

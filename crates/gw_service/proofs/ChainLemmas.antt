@@ -30,8 +30,8 @@ use Rattle.gw_service.specs.Chain.{ended, passed_over, refused, served, standing
 use Rattle.gw_service.specs.declared.running.End.{End}
 use Rattle.gw_service.specs.declared.running.End.TheVariants as end
 use Rattle.gw_service.specs.Keeping.{IsSuccessor}
-use Rattle.gw_notices.specs.Reload.{IsRefusalLine, refusal_line, reload_line, with_refused, with_taken_over}
-use Rattle.gw_service.specs.Reload.{IsRefused, IsReloaded}
+use Rattle.gw_notices.specs.Reload.{IsRefusalLine, refusal_line, with_refused, with_taken_over}
+use Rattle.gw_service.specs.Reload.{IsRefused, IsReloaded, taken_over_line}
 use Rattle.gw_service.specs.declared.reload.Adopted.{Adopted}
 use Rattle.gw_notices.specs.declared.reload.ReloadCounts.{ReloadCounts}
 use Rattle.gw_notices.specs.declared.reload.ReloadFault.{ReloadFault}
@@ -82,7 +82,7 @@ taken_so {K} Adopts o w k l (Ok (Some text)) made first middle last line counts 
     adopts asks answers is_line is_counts is_due records noted = λ c is_origin.
     let new = is.config in
     let same : saved_of o w ≡ saved c w = ap (λ (x : Origin). saved_of x w) is_origin in
-    let is_text : line ≡ reload_line w.rules new (saved c w) = is_line ∙ is.adopted.line ∙ ap (reload_line w.rules new) same in (
+    let is_text : line ≡ taken_over_line w new (saved c w) = is_line ∙ is.adopted.line ∙ ap (taken_over_line w new) same in (
       new,
       taken_over text new,
       is.adopted.origin,

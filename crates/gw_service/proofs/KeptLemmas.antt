@@ -140,14 +140,14 @@ ran_kept {S} given c how start keeps reloads w k s t q u a m before after answer
 
 -- So did one that is watched.
 pub ran_watched : {S Q L : Type 0} (given : Given S Q L) (watcher : Watching L L) (c : Configuration) (how : Service) (start : Counts)
-    (keeps reloads : Bool) (w : State) (k : Both (Kept S) (Watching L L)) (s : Served) (t : Tally) (q : Asking) (u : ReloadCounts)
+    (keeps reloads : Bool) (w : State) (k : Both (Watching L L) (Kept S)) (s : Served) (t : Tally) (q : Asking) (u : ReloadCounts)
     (a : Announcing) (m : Option Metering) (before after : Ends) (answer : Result End ServeFault)
-    (left : Rest (Both (Kept S) (Watching L L))) (outcome : Result (Unit {0}) ServiceFault) (Never : Type 0)
+    (left : Rest (Both (Watching L L) (Kept S))) (outcome : Result (Unit {0}) ServiceFault) (Never : Type 0)
     (held holds : Option (List ℕ)) → given.watcher ≡ Some watcher → start ≡ counts_of w
-    → BeginsAs c given.saved given.line w → KeepsFirst given.held given.store c w k.first → k.second ≡ watcher → s ≡ zero_counts → t ≡ no_tally
+    → BeginsAs c given.saved given.line w → KeepsFirst given.held given.store c w k.second → k.first ≡ watcher → s ≡ zero_counts → t ≡ no_tally
     → q ≡ recorded_by given.said given.requests → u ≡ counts_since w.ticks → a ≡ first_announcing
     → m ≡ metered (option_map nothing_written given.metrics) → keeps ≡ (is_some given.requests || is_some given.store)
-    → reloads ≡ is_some given.requests → outcome ≡ outcome_by answer (failing_in left.keeper.first)
+    → reloads ≡ is_some given.requests → outcome ≡ outcome_by answer (failing_in left.keeper.second)
     → ((text : List ℕ) × RunsFrom (watched_manner_of given.held given.log_held (reporting how.stats start keeps reloads))
     (end_stats unkept_of more_of (reporting how.stats start keeps reloads)) start how.turns
     (stage c (moment (scene w before.log before.calls) k s t) q u a (troubles_of k) m) answer after left text × (Never → Appends held holds text))

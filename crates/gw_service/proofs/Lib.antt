@@ -7,4 +7,5 @@ mod PlainLemmas
 mod RunLemmas
 mod ServedLemmas
 mod StampedLemmas
+mod StartLemmas
 mod WatchedLemmas

@@ -1,5 +1,5 @@
 -- A run whose options name neither a state nor a request file, and that nothing watches: it is one of `serve`, and reports nothing.
-use Rattle.std.proofs.Common.{◌≡◌, ◌∙◌, ℕ, List, [], ◌∷◌, ◌++◌, Bool, true, false, true≢false, Option, Some, None, refl, sym, ap, subst, inl, inr}
+use Rattle.std.proofs.Common.{◌≡◌, ◌∙◌, ℕ, List, [], ◌∷◌, ◌++◌, Bool, true, false, true≢false, Option, Some, None, refl, sym, ap, ap₂, subst, inl, inr}
 use Rattle.std.proofs.lemmas.List.{append-nil}
 use Rattle.std.proofs.lemmas.List.Concat.{flat_map-cons}
 use Rattle.std.specs.Prelude.{Result, Ok, Err, is_some, not, ◌&&◌, ◌||◌, option_map, string_bytes}
@@ -27,7 +27,7 @@ use Rattle.gw_service.specs.declared.running.End.{End}
 use Rattle.gw_service.specs.declared.running.End.TheVariants as end
 use Rattle.gw_service.specs.Keeping.{IsKeptFor, failing_in, troubles_in}
 use Rattle.gw_service.specs.Kept.{AreRequestsUnder, Given, IsLastDenial, IsMetricsUnder, IsStateUnder, IsStoreUnder, IsUnprepared, LeavesKept, LeavesWithState}
-use Rattle.gw_service.specs.Kept.{Names, RunsBy, RunsKept, StateMachine, StoreOpening, first_stage, given, is_plain, manner_of, names_of, ran, reporting_of, stop_text, text_before, unopened, unprepared}
+use Rattle.gw_service.specs.Kept.{IsTrialNote, Names, RunsBy, RunsKept, StateMachine, StoreOpening, first_stage, given, is_plain, manner_of, names_of, ran, reporting_of, stop_text, text_before, unopened, unprepared}
 use Rattle.gw_service.specs.Serving.{Ends, LeavesServed, Machine, Service, service, shut}
 use Rattle.gw_service.specs.Serving.{served as served_by}
 use Rattle.gw_service.specs.Stats.{Reporting, due_by, end_by}
@@ -204,6 +204,11 @@ text_none : (name : Option (List ℕ)) (is_verbose : Bool) (c : Configuration) (
 text_none None is_verbose c saved is = refl
 text_none (Some name) is_verbose c saved is = absurd cc
 
+note_none : (FileReads : List ℕ → Result (Option (List ℕ)) ReadFailure → Type 0) (name : Option (List ℕ)) (c : Configuration) (note : List ℕ)
+    → name ≡ None → IsTrialNote FileReads name c note → note ≡ []
+note_none FileReads None c note is under = under
+note_none FileReads (Some name) c note is under = absurd cc
+
 -- ---- nothing can't be read or opened before
 
 no_state_fault : (FileReads : List ℕ → Result (Option (List ℕ)) ReadFailure → Type 0) (name : Option (List ℕ)) (f : ServiceFault) → name ≡ None
@@ -291,7 +296,9 @@ serves_plain m states names held holds c how is_verbose line said outcome none u
     let no_metrics = metrics_none states.StoreOpens names.metrics before.metrics none.metrics prepared.metrics in
     let no_requests = requests_none states.ReloadsOpen names.reload names.config before.requests none.reload prepared.requests in
     let no_watcher = watcher_none states.FileReads states.LastDenials m.LogOpens c names.watch before.watcher none.watched prepared.watcher in
-    let no_text = prepared.text ∙ text_none names.state is_verbose c before.saved none.state in
+    let told = prepared.text in
+    let no_text : before.text.items ≡ [] = told.says ∙ ap₂ (λ (x y : List ℕ). x ++ y) (text_none names.state is_verbose c before.saved none.state)
+    (note_none states.FileReads names.watch.trial c told.note none.trial told.tried) in
     let serves = as_served at no_saved no_line no_store no_requests c how _ _ text outcome quiet leaves in
     let nothing = silent at no_saved no_line no_store no_metrics no_requests no_watcher c how _ _ text outcome quiet unreported leaves in
     served_by log log_then sockets sockets_then output warning opens closes stays serves warns

@@ -24,6 +24,7 @@ use Rattle.gw_turns.specs.declared.serving.ServeFault.TheVariants as serving
 use Rattle.gw_turns.specs.declared.serving.Served.{Served}
 use Rattle.gw_system.specs.Requests.{Asking, GoesOn, answered, asked, asked_to_stop, nobody, recorded_by, unasked, untaken}
 use Rattle.gw_watchers.specs.Watching.{Watching}
+use Rattle.gw_service.specs.Reload.{taken_over_line}
 use Rattle.gw_service.specs.Chain.{AreLinks, IsLink, IsLooked, IsUnrequested, Link, Look, Manner, Runs, RunsToStop, Stage, Standing, announced_at}
 use Rattle.gw_service.specs.Chain.{ended, passed_over, refused, served, stopping, taken_over, ticked, unrequested, withheld}
 use Rattle.gw_service.specs.declared.running.End.{End}
@@ -33,7 +34,6 @@ use Rattle.gw_service.specs.Fault.{fault_of_serving}
 use Rattle.gw_service.specs.Keeping.{IsKeptAtTick, IsKeptFor, IsPassed, failing_in, troubles_in}
 use Rattle.gw_service.specs.Kept.{Given, KeepsFirst, RunsBy, RunsKept, first_stage, manner_of, outcome_by, reporting_of}
 use Rattle.gw_service.specs.Laws.{FindsNone, IsAsServed, NobodyAsks}
-use Rattle.gw_notices.specs.Reload.{reload_line}
 use Rattle.gw_service.specs.Serving.{Ends, Serves, Service, first_scene}
 use Rattle.gw_service.specs.Start.{BeginsAs, begun}
 use Rattle.gw_service.specs.Stats.{Reporting}
@@ -57,7 +57,7 @@ looks_none Adopts c d s t stopping is none =
 looks_none Adopts c d s t (refused read f line) is none =
     let goes = subst (λ (a : Asking). GoesOn a t.requests (asked read ∷ answered line ∷ [])) none is.requests in absurd goes.1.0
 looks_none Adopts c d s t (taken_over text new) is none =
-    let line = reload_line s.gateway.rules new (saved c s.gateway) in
+    let line = taken_over_line s.gateway new (saved c s.gateway) in
     let goes = subst (λ (a : Asking). GoesOn a t.requests (asked (Ok (Some text)) ∷ answered line ∷ [])) none is.requests in
     absurd goes.1.0
 

@@ -43,9 +43,10 @@ service_closes m states Closes so options held holds c said outcome leaves =
     let how = service options.turns options.stats in (
       leaves.0,
       leaves.1,
+      leaves.2,
       (
-        kept_closes m states Closes so (names_of options) held holds c how options.verbose line leaves.0 outcome leaves.2.0,
-        λ is quiet. served_closes m Closes so name held holds c options.turns options.verbose line leaves.0 outcome (leaves.2.1 is quiet),
+        kept_closes m states Closes so (names_of options) held holds c how options.verbose line leaves.1 outcome leaves.3.0,
+        λ is quiet. served_closes m Closes so name held holds c options.turns options.verbose line leaves.1 outcome (leaves.3.1 is quiet),
       ),
     )
 

@@ -6,13 +6,13 @@ use Rattle.gw_core.specs.State.{State}
 use Rattle.gw_core.specs.History.{state_from}
 use Rattle.gw_script.specs.Event.{Event}
 use Rattle.gw_script.specs.Event as event
-use Rattle.gw_turns.specs.Both.{first_moment}
+use Rattle.gw_turns.specs.Both.{second_moment}
 use Rattle.gw_core.specs.Guard.{LetsAllGo, PassesBoth}
 use Rattle.gw_turns.specs.Serve.{Turn, empty_turn, failed_turn, lost_event, taken_event, turn_events}
 use Rattle.gw_turns.specs.Stretch.{AreGuarded, GoOn, GuardsTurn, Moment}
 use Rattle.gw_core.specs.declared.guard.Both.{Both}
 use Rattle.gw_turns.specs.declared.serving.ServeFault.{ServeFault}
-use Rattle.gw_turns.proofs.BothLemmas.{under_first}
+use Rattle.gw_turns.proofs.BothLemmas.{second_goes, second_withheld, under_second}
 use Rattle.gw_watchers.specs.Watching.{HasWatched, Watching}
 use Rattle.gw_service.specs.Chain.{AreLinks, IsLink, IsLooked, IsServed, IsTicked, Link, Look, Runs, Stage, Standing, chain_text, look_text, stage, standing}
 use Rattle.gw_service.specs.Chain.{ended, passed_over, refused, served, stopping, taken_over, ticked, unrequested, withheld}
@@ -30,73 +30,25 @@ use Rattle.gw_service.specs.Watch.{IsKeptForBeside, more_of}
 use Rattle.gw_service.specs.declared.keeping.Kept.{Kept}
 use Rattle.gw_notices.specs.declared.troubles.Troubles.{Troubles}
 
--- ---- the first of two guards
-
-first_of : (one two : Bool) → true ≡ (one && two) → one ≡ true
-first_of true two is = refl
-first_of false two is = absurd cc
-
-first_withholds : (one two : Bool) → false ≡ (one && two) → two ≡ true → one ≡ false
-first_withholds true true is lets = absurd cc
-first_withholds false two is lets = refl
-first_withholds true false is lets = absurd cc
-
-first_turn : {G H : Type 0} (First : G → State → Event → G → Bool → Type 0) (Second : H → State → Event → H → Bool → Type 0) (g h : Both G H)
-    (w : State) (turn : Turn) → GuardsTurn (PassesBoth First Second) g w turn h → GuardsTurn First g.first w turn h.first
-first_turn First Second g h w empty_turn p = ap (λ (b : Both _ _). b.first) p
-first_turn First Second g h w failed_turn p = ap (λ (b : Both _ _). b.first) p
-first_turn First Second g h w (lost_event event) p = ap (λ (b : Both _ _). b.first) p
-first_turn First Second g h w (taken_event event tries) p =
-    subst (λ (b : Bool). First g.first w event h.first b) (first_of p.0 p.1 p.4) p.2
-
-first_turns : {G H : Type 0} (First : G → State → Event → G → Bool → Type 0) (Second : H → State → Event → H → Bool → Type 0) (g h : Both G H)
-    (w : State) (turns : List Turn) → AreGuarded (PassesBoth First Second) g w turns h → AreGuarded First g.first w turns h.first
-unfolding AreGuarded
-first_turns First Second g h w [] p = ap (λ (b : Both _ _). b.first) p
-first_turns First Second g h w (turn ∷ turns) p = (
-  p.0.first,
-  first_turn First Second g p.0 w turn p.1,
-  first_turns First Second p.0 h (state_from w (turn_events turn)) turns p.2,
-)
-
-first_goes : {G H : Type 0} (First : G → State → Event → G → Bool → Type 0) (Second : H → State → Event → H → Bool → Type 0)
-    (before after : Moment (Both G H)) (turns : List Turn) → GoOn (PassesBoth First Second) before turns after
-    → GoOn First (first_moment before) turns (first_moment after)
-first_goes First Second before after turns p = record {
-  went = p.went;
-  guarded = first_turns First Second before.guard after.guard before.scene.gateway turns p.guarded;
-  counts = p.counts;
-  tally = p.tally;
-}
-
-first_withheld : {G H : Type 0} (First : G → State → Event → G → Bool → Type 0) (Second : H → State → Event → H → Bool → Type 0)
-    → LetsAllGo Second → (g h : Both G H) (w : State) (event : Event) → PassesBoth First Second g w event h false
-    → First g.first w event h.first false
-first_withheld First Second lets g h w event p = by p.1 refl
-  where
-    by : (two : Bool) → p.1 ≡ two → First g.first w event h.first false
-    by true is = subst (λ (b : Bool). First g.first w event h.first b) (first_withholds p.0 p.1 p.4 is) p.2
-    by false is = absurd (lets g.second h.second w event (subst (λ (b : Bool). Second g.second w event h.second b) is p.3))
-
 -- what watches lets all go
 lets : {T A : Type 0} (trial : T → _) (audit : A → _) → LetsAllGo (HasWatched trial audit)
 lets trial audit g h w event p = absurd (true≢false (sym p.0))
 
 -- ---- without what watches
 
-abbrev unwatched : {S L : Type 0} → Stage (Both (Kept S) (Watching L L)) → Stage (Kept S)
-unwatched s = stage s.config (first_moment s.now) s.requests s.counts s.announcing (of_state s.said.state) s.metrics
+abbrev unwatched : {S L : Type 0} → Stage (Both (Watching L L) (Kept S)) → Stage (Kept S)
+unwatched s = stage s.config (second_moment s.now) s.requests s.counts s.announcing (of_state s.said.state) s.metrics
 
-abbrev standing_of : {S L : Type 0} → Standing (Both (Kept S) (Watching L L)) → Standing (Kept S)
-standing_of s = standing s.gateway s.keeper.first s.requests s.counts s.announcing
+abbrev standing_of : {S L : Type 0} → Standing (Both (Watching L L) (Kept S)) → Standing (Kept S)
+standing_of s = standing s.gateway s.keeper.second s.requests s.counts s.announcing
 
-looked : {S L : Type 0} (held : S → _) (c d : Configuration) (s t : Standing (Both (Kept S) (Watching L L))) (look : Look)
+looked : {S L : Type 0} (held : S → _) (c d : Configuration) (s t : Standing (Both (Watching L L) (Kept S))) (look : Look)
     → IsLooked (IsKeptForBeside held) c s look d t → IsLooked (IsKeptFor held) c (standing_of s) look d (standing_of t)
 looked held c d s t unrequested is = record {
   stays = record {
     config = is.stays.config;
     gateway = is.stays.gateway;
-    keeper = ap (λ (k : Both _ _). k.first) is.stays.keeper;
+    keeper = ap (λ (k : Both _ _). k.second) is.stays.keeper;
     announcing = is.stays.announcing;
   };
   requests = is.requests;
@@ -106,7 +58,7 @@ looked held c d s t passed_over is = record {
   stays = record {
     config = is.stays.config;
     gateway = is.stays.gateway;
-    keeper = ap (λ (k : Both _ _). k.first) is.stays.keeper;
+    keeper = ap (λ (k : Both _ _). k.second) is.stays.keeper;
     announcing = is.stays.announcing;
   };
   requests = is.requests;
@@ -116,7 +68,7 @@ looked held c d s t stopping is = record {
   stays = record {
     config = is.stays.config;
     gateway = is.stays.gateway;
-    keeper = ap (λ (k : Both _ _). k.first) is.stays.keeper;
+    keeper = ap (λ (k : Both _ _). k.second) is.stays.keeper;
     announcing = is.stays.announcing;
   };
   requests = is.requests;
@@ -128,7 +80,7 @@ looked held c d s t (refused read fault line) is = record {
   stays = record {
     config = is.stays.config;
     gateway = is.stays.gateway;
-    keeper = ap (λ (k : Both _ _). k.first) is.stays.keeper;
+    keeper = ap (λ (k : Both _ _). k.second) is.stays.keeper;
     announcing = is.stays.announcing;
   };
   requests = is.requests;
@@ -148,15 +100,15 @@ looked held c d s t (taken_over text new) is = record {
 -- ---- a link
 
 -- after a tick, whether the gateway is to stop or not
-ticks : {S L : Type 0} (held : S → _) (log_held : L → _) (how : Reporting) (stops : Bool) (s t : Stage (Both (Kept S) (Watching L L)))
+ticks : {S L : Type 0} (held : S → _) (log_held : L → _) (how : Reporting) (stops : Bool) (s t : Stage (Both (Watching L L) (Kept S)))
     (turns : List Turn) (look : Look) (text : List ℕ) → IsTicked (watched_manner_of held log_held how) stops s turns look text t
     → (other : List ℕ) × IsTicked (manner_of held how) stops (unwatched s) turns look other (unwatched t)
 ticks held log_held how stops s t turns look text is =
-    let then = first_moment is.then in
+    let then = second_moment is.then in
     let manner = manner_of held how in
     let other = ((look_text s.config (standing then.scene.gateway then.guard s.requests s.counts s.announcing) look
     ++ notice_of (of_state s.said.state) (of_state t.said.state))
-    ++ manner.report t.now.guard.first t.counts t.announcing (lost_by s.metrics) t.now.scene.gateway t.now.served t.now.tally)
+    ++ manner.report t.now.guard.second t.counts t.announcing (lost_by s.metrics) t.now.scene.gateway t.now.served t.now.tally)
     ++ metrics_notice (failing_by s.metrics) (failing_by t.metrics) in (
       other,
       record {
@@ -165,11 +117,11 @@ ticks held log_held how stops s t turns look text is =
         tries = is.tries;
         tick = is.tick;
         then = then;
-        went = first_goes (IsPassed held) (HasWatched log_held log_held) s.now is.then turns is.went;
+        went = second_goes (HasWatched log_held log_held) (IsPassed held) s.now is.then turns is.went;
         ticks = is.ticks;
         due = is.due;
         done = record {
-          keeper = is.done.keeper.first;
+          keeper = is.done.keeper.second;
           ticks = is.done.ticks.0;
           looked = looked held s.config t.config _ _ look is.done.looked;
         };
@@ -182,10 +134,10 @@ ticks held log_held how stops s t turns look text is =
     )
 
 -- turns that were served
-serves : {S L : Type 0} (held : S → _) (log_held : L → _) (how : Reporting) (s t : Stage (Both (Kept S) (Watching L L))) (turns : List Turn)
+serves : {S L : Type 0} (held : S → _) (log_held : L → _) (how : Reporting) (s t : Stage (Both (Watching L L) (Kept S))) (turns : List Turn)
     → IsServed (watched_manner_of held log_held how) s turns t → IsServed (manner_of held how) (unwatched s) turns (unwatched t)
 serves held log_held how s t turns is = record {
-  went = first_goes (IsPassed held) (HasWatched log_held log_held) s.now t.now turns is.went;
+  went = second_goes (HasWatched log_held log_held) (IsPassed held) s.now t.now turns is.went;
   config = is.config;
   requests = is.requests;
   counts = is.counts;
@@ -194,7 +146,7 @@ serves held log_held how s t turns is = record {
   said = ap (λ (x : Troubles). of_state x.state) is.said;
 }
 
-linked : {S L : Type 0} (held : S → _) (log_held : L → _) (how : Reporting) (s t : Stage (Both (Kept S) (Watching L L))) (link : Link)
+linked : {S L : Type 0} (held : S → _) (log_held : L → _) (how : Reporting) (s t : Stage (Both (Watching L L) (Kept S))) (link : Link)
     → IsLink (watched_manner_of held log_held how) s link t → (other : Link) × IsLink (manner_of held how) (unwatched s) other (unwatched t)
 linked held log_held how s t (served turns) is = (served turns, serves held log_held how s t turns is)
 linked held log_held how s t (ticked turns look text) is =
@@ -202,11 +154,11 @@ linked held log_held how s t (ticked turns look text) is =
 linked held log_held how s t (withheld turns event text) is = (
   withheld turns event (notice_of (of_state s.said.state) (of_state t.said.state)),
   record {
-    then = first_moment is.then;
-    went = first_goes (IsPassed held) (HasWatched log_held log_held) s.now is.then turns is.went;
+    then = second_moment is.then;
+    went = second_goes (HasWatched log_held log_held) (IsPassed held) s.now is.then turns is.went;
     last = record {
       logged = is.last.logged;
-      passes = first_withheld (IsPassed held) (HasWatched log_held log_held) (lets log_held log_held) is.then.guard t.now.guard
+      passes = second_withheld (HasWatched log_held log_held) (IsPassed held) (lets log_held log_held) is.then.guard t.now.guard
           is.then.scene.gateway event is.last.passes;
       counts = is.last.counts;
       tally = is.last.tally;
@@ -222,7 +174,7 @@ linked held log_held how s t (withheld turns event text) is = (
 )
 linked held log_held how s t (ended turns text) is = absurd is
 
-chained : {S L : Type 0} (held : S → _) (log_held : L → _) (how : Reporting) (s t : Stage (Both (Kept S) (Watching L L))) (links : List Link)
+chained : {S L : Type 0} (held : S → _) (log_held : L → _) (how : Reporting) (s t : Stage (Both (Watching L L) (Kept S))) (links : List Link)
     → AreLinks (watched_manner_of held log_held how) s links t
     → (others : List Link) × AreLinks (manner_of held how) (unwatched s) others (unwatched t)
 unfolding AreLinks
@@ -234,7 +186,7 @@ chained held log_held how s t (link ∷ links) chain =
 
 -- ---- a run
 
-ran : {S L : Type 0} (held : S → _) (log_held : L → _) (how : Reporting) (count : ℕ) (s t : Stage (Both (Kept S) (Watching L L)))
+ran : {S L : Type 0} (held : S → _) (log_held : L → _) (how : Reporting) (count : ℕ) (s t : Stage (Both (Watching L L) (Kept S)))
     (answer : Result End ServeFault) (links : List Link) → Runs (watched_manner_of held log_held how) count s answer links t
     → (others : List Link) × Runs (manner_of held how) count (unwatched s) answer others (unwatched t)
 ran held log_held how count s t (Ok end.Turns) links runs =
@@ -277,7 +229,7 @@ ran held log_held how count s t (Err fault) links runs =
         left = runs.left;
         most = runs.most;
         ends = record {
-          ends = under_first (IsPassed held) (HasWatched log_held log_held) (lets log_held log_held) runs.left runs.then.now t.now (Err fault)
+          ends = under_second (HasWatched log_held log_held) (IsPassed held) (lets log_held log_held) runs.left runs.then.now t.now (Err fault)
               runs.ends.ends;
           config = runs.ends.config;
           requests = runs.ends.requests;
@@ -291,13 +243,13 @@ ran held log_held how count s t (Err fault) links runs =
 
 -- what is done at the end
 ends : {S L : Type 0} (held : S → _) (log_held : L → _) (how : Reporting) (start : Counts) (answer : Result End ServeFault)
-    (last : Stage (Both (Kept S) (Watching L L))) (left : Rest (Both (Kept S) (Watching L L))) (text : List ℕ)
+    (last : Stage (Both (Watching L L) (Kept S))) (left : Rest (Both (Watching L L) (Kept S))) (text : List ℕ)
     → EndsRun (watched_manner_of held log_held how) (end_stats unkept_of more_of how) start answer last left text
     → (other : List ℕ) × EndsRun (manner_of held how) (end_stats unkept_in no_more how) start answer (unwatched last)
-    (rest left.keeper.first left.requests) other
+    (rest left.keeper.second left.requests) other
 ends held log_held how start answer last left text is = (
-  end_stats unkept_in no_more how left.keeper.first last.counts last.announcing (lost_by is.metrics) last.now.scene.gateway last.now.served
-      last.now.tally ++ stop_text answer (failing_in left.keeper.first),
+  end_stats unkept_in no_more how left.keeper.second last.counts last.announcing (lost_by is.metrics) last.now.scene.gateway last.now.served
+      last.now.tally ++ stop_text answer (failing_in left.keeper.second),
   record { keeps = is.keeps.0; metrics = is.metrics; put = is.put; answers = is.answers; said = refl },
 )
 
@@ -307,14 +259,14 @@ as_unwatched given w c how before after text outcome runs =
     let last = runs.runs.last in
     let other = ran given.held given.log_held reports how.turns _ last runs.answer runs.runs.links runs.runs.runs in
     let final = ends given.held given.log_held reports (counts_of runs.gateway) runs.answer last runs.left runs.runs.end_text runs.runs.ends in (
-      (notice_of no_troubles (troubles_in runs.keeper.first) ++ chain_text other.0) ++ final.0,
+      (notice_of no_troubles (troubles_in runs.keeper.second) ++ chain_text other.0) ++ final.0,
       record {
         gateway = runs.gateway;
         begins = runs.begins;
-        keeper = runs.keeper.first;
+        keeper = runs.keeper.second;
         keeps = runs.keeps;
         answer = runs.answer;
-        left = rest runs.left.keeper.first runs.left.requests;
+        left = rest runs.left.keeper.second runs.left.requests;
         runs = record {
           begun = unwatched runs.runs.begun;
           begins = record { announced = runs.runs.begins.announced; is = ap unwatched runs.runs.begins.is };

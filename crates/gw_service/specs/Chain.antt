@@ -21,8 +21,8 @@ use Rattle.gw_turns.specs.declared.serving.Served.{Served}
 use Rattle.gw_turns.specs.declared.tally.Tally.{Tally}
 use Rattle.gw_system.specs.Requests.{Asking, Exchange, GoesOn, answered, asked, asked_to_stop, unasked, untaken}
 use Rattle.gw_system.specs.declared.reading.ReadFailure.{ReadFailure}
-use Rattle.gw_notices.specs.Reload.{IsRefusalLine, reload_line, with_refused, with_taken_over}
-use Rattle.gw_service.specs.Reload.{IsRefused, have_same_ports}
+use Rattle.gw_notices.specs.Reload.{IsRefusalLine, with_refused, with_taken_over}
+use Rattle.gw_service.specs.Reload.{IsRefused, have_same_ports, taken_over_line}
 use Rattle.gw_metrics.specs.file.Writing.{Metering}
 use Rattle.gw_notices.specs.Notices.{metrics_notice, notice_of, untaken_line}
 use Rattle.gw_service.specs.Metering.{failing_by, lost_by}
@@ -113,7 +113,7 @@ pub record IsTakenOver {K : Type 0} (Adopts : K → Configuration → State → 
   pub gateway : t.gateway ≡ carried new (saved c s.gateway)
   pub keeper : Adopts s.keeper new t.gateway t.keeper
   pub requests : GoesOn s.requests t.requests
-      (asked (Ok (Some text)) ∷ answered (reload_line s.gateway.rules new (saved c s.gateway)) ∷ [])
+      (asked (Ok (Some text)) ∷ answered (taken_over_line s.gateway new (saved c s.gateway)) ∷ [])
   pub counts : t.counts ≡ with_taken_over s.counts s.gateway.ticks
   pub announcing : t.announcing ≡ with_due s.announcing
 
@@ -151,7 +151,7 @@ look_text c s unrequested = []
 look_text c s passed_over = untaken_line
 look_text c s stopping = []
 look_text c s (refused read fault line) = line
-look_text c s (taken_over text new) = reload_line s.gateway.rules new (saved c s.gateway)
+look_text c s (taken_over text new) = taken_over_line s.gateway new (saved c s.gateway)
 
 -- At a tick the keeper does what is due, and then a request is looked for.
 pub record AtTick {K : Type 0} (Ticks : K → State → K → Type 0) (Adopts : K → Configuration → State → K → Type 0) (c : Configuration)

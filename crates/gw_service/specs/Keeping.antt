@@ -15,11 +15,12 @@ use Rattle.gw_notices.specs.declared.troubles.Troubles.{Troubles}
 use Rattle.gw_notices.specs.Notices.{of_state}
 use Rattle.gw_decisions.specs.tally.Tally.{IsTally}
 
--- what is made of this configuration: what can be written, which rules are audited, and counts of which none began
+-- what is made of this configuration: what can be written, which rules are audited, counts of which none began, and its format
 pub record IsSuccessor (c : Configuration) (s : Successor) : Type 0 where
   pub origin : s.origin ≡ origin_of c
   pub marks : s.marks ≡ c.audits
   pub counts : IsTally c.rules [] s.counts
+  pub format : s.format ≡ c.format
 
 -- at an event
 abbrev pub IsPassed : {S : Type 0} → (S → Option (List ℕ)) → Kept S → State → Event → Kept S → Bool → Type 0

@@ -1,8 +1,9 @@
 -- What a run leaves: one that may keep its state, read its configuration again, report and be watched.
-use Rattle.std.specs.Prelude.{◌≡◌, ◌⊎◌, ⊤, ℕ, ◌&&◌, ◌||◌, Bool, true, false, is_some, not, List, [], ◌∷◌, ◌++◌, Option, Some, None, Result, Ok, Err, option_map, string_bytes}
+use Rattle.std.specs.Prelude.{◌≡◌, ◌⊎◌, ⊤, ℕ, ◌&&◌, ◌||◌, Bool, true, false, is_some, not, List, [], ◌∷◌, ◌++◌, Option, Some, None, Result, Ok, Err, codes, option_map, string_bytes}
 use Rattle.std.specs.Global.{Vec}
 use Rattle.gw_configuration.specs.Configuration.{Configuration}
 use Rattle.gw_core.specs.State.{State}
+use Rattle.gw_policy_text.specs.Document.{configuration}
 use Rattle.gw_core.specs.declared.event.Counts.{Counts}
 use Rattle.gw_state.specs.Saved.{Saved, origin_of}
 use Rattle.gw_core.specs.Guard.{PassesBoth}
@@ -30,6 +31,7 @@ use Rattle.gw_service.specs.Chain.{Begins, Link, Manner, Runs, Stage, chain_text
 use Rattle.gw_service.specs.declared.running.End.{End}
 use Rattle.gw_service.specs.declared.running.End.TheVariants as end
 use Rattle.gw_metrics.specs.file.Writing.{Metering, nothing_written}
+use Rattle.gw_notices.specs.Parts.{IsTrialLine}
 use Rattle.gw_notices.specs.Startup.{IsWarning, startup_line}
 use Rattle.gw_service.specs.Metering.{MetersLast, lost_by, metered, meters_by, seconds_of}
 use Rattle.gw_service.specs.Fault.{fault_of_opening, fault_of_serving}
@@ -114,6 +116,26 @@ abbrev pub text_before : Option (List ℕ) → Bool → Configuration → Option
 text_before None verbose c saved = []
 text_before (Some name) verbose c saved = start_text verbose name c saved
 
+-- What is said of a policy that is to be on trial beside this configuration, by what its file gave: that only its rules are tried,
+-- if other parts of its configuration differ. Nothing, if it has none, or memory runs out.
+abbrev pub IsTrialNoteOf : Configuration → Result (Option (List ℕ)) ReadFailure → List ℕ → Type 0
+IsTrialNoteOf c (Ok (Some text)) note =
+    ((trial : Configuration) × (configuration text ≡ Ok trial) × IsTrialLine c trial note) ⊎ (note ≡ [])
+IsTrialNoteOf c read note = note ≡ []
+
+-- of the file of this name, if there is a trial
+abbrev pub IsTrialNote : (List ℕ → Result (Option (List ℕ)) ReadFailure → Type 0) → Option (List ℕ) → Configuration → List ℕ → Type 0
+IsTrialNote FileReads None c note = note ≡ []
+IsTrialNote FileReads (Some name) c note =
+    (read : Result (Option (List ℕ)) ReadFailure) × FileReads name read × IsTrialNoteOf c read note
+
+-- what is said at the start: of the state, and of the trial
+pub record IsTextBefore (FileReads : List ℕ → Result (Option (List ℕ)) ReadFailure → Type 0) (state trial : Option (List ℕ)) (is_verbose : Bool)
+    (c : Configuration) (saved : Option Saved) (text : List ℕ) : Type 0 where
+  pub note : List ℕ
+  pub tried : IsTrialNote FileReads trial c note
+  pub says : text ≡ text_before state is_verbose c saved ++ note
+
 -- ---- the first moment
 
 -- The state is kept at once in this store, if there is one; or that failed, and the keeper says why.
@@ -160,14 +182,14 @@ manner_of held how =
     manner (IsPassed held) (IsKeptAtTick held) (IsKeptFor held) troubles_in (due_stats unkept_in no_more how) (meters_by how.start)
     (IsKeptLast held)
 
--- the same, and what watches it
-abbrev pub unkept_of : {S L : Type 0} → Both (Kept S) (Watching L L) → ℕ
-unkept_of k = unkept_in k.first
+-- the same, after what watches it: what is recorded of an event is written before its state is kept
+abbrev pub unkept_of : {S L : Type 0} → Both (Watching L L) (Kept S) → ℕ
+unkept_of k = unkept_in k.second
 
 abbrev pub watched_manner_of : {S L : Type 0} → (S → Option (List ℕ)) → (L → Option (List ℕ)) → Reporting
-    → Manner (Both (Kept S) (Watching L L))
+    → Manner (Both (Watching L L) (Kept S))
 watched_manner_of held log_held how =
-    manner (PassesBoth (IsPassed held) (HasWatched log_held log_held)) (IsKeptAtTickBeside held) (IsKeptForBeside held) troubles_of
+    manner (PassesBoth (HasWatched log_held log_held) (IsPassed held)) (IsKeptAtTickBeside held) (IsKeptForBeside held) troubles_of
     (due_stats unkept_of more_of how) (meters_by how.start) (IsKeptLastBeside held)
 
 -- the outcome of a run that was asked to stop, by why the state isn't kept, if it isn't
@@ -269,20 +291,20 @@ pub record RunsKept {S Q L : Type 0} (given : Given S Q L) (c : Configuration) (
       (counts_of gateway) how.turns (first_stage given c gateway keeper (troubles_in keeper) before) answer after left text
   pub answers : outcome ≡ outcome_by answer (failing_in left.keeper)
 
--- So does one that is watched, beside what keeps its state.
+-- So does one that is watched, before its state is kept.
 pub record RunsWatched {S Q L : Type 0} (given : Given S Q L) (watcher : Watching L L) (c : Configuration) (how : Service) (before after : Ends)
     (text : List ℕ) (outcome : Result (Unit {0}) ServiceFault) : Type 0 where
   pub gateway : State
   pub begins : BeginsAs c given.saved given.line gateway
-  pub keeper : Both (Kept S) (Watching L L)
-  pub keeps : KeepsFirst given.held given.store c gateway keeper.first
-  pub watches : keeper.second ≡ watcher
+  pub keeper : Both (Watching L L) (Kept S)
+  pub keeps : KeepsFirst given.held given.store c gateway keeper.second
+  pub watches : keeper.first ≡ watcher
   pub answer : Result End ServeFault
-  pub left : Rest (Both (Kept S) (Watching L L))
+  pub left : Rest (Both (Watching L L) (Kept S))
   pub runs : RunsFrom (watched_manner_of given.held given.log_held (reporting_of given how gateway))
       (end_stats unkept_of more_of (reporting_of given how gateway)) (counts_of gateway) how.turns
       (first_stage given c gateway keeper (troubles_of keeper) before) answer after left text
-  pub answers : outcome ≡ outcome_by answer (failing_in left.keeper.first)
+  pub answers : outcome ≡ outcome_by answer (failing_in left.keeper.second)
 
 -- by whether something watches
 abbrev pub RunsBy : {S Q L : Type 0} → Given S Q L → Option (Watching L L) → Configuration → Service → Ends → Ends → List ℕ
@@ -348,7 +370,7 @@ pub record IsPrepared {S Q Log : Type 0} (machine : StateMachine S Q) (LogOpens 
     (is_verbose : Bool) (before : Before S Q Log) : Type 0 where
   pub saved : IsStateUnder machine.FileReads names.state (Ok before.saved)
   pub line : IsLastDenial machine.LastDenials names.state names.log (Ok (option_map (λ line. line.items) before.line))
-  pub text : before.text.items ≡ text_before names.state is_verbose c before.saved
+  pub text : IsTextBefore machine.FileReads names.state names.watch.trial is_verbose c before.saved before.text.items
   pub store : IsStoreUnder machine.StoreOpens names.state (Ok before.store)
   pub metrics : IsMetricsUnder machine.StoreOpens names.metrics (Ok before.metrics)
   pub requests : AreRequestsUnder machine.ReloadsOpen names.reload names.config before.requests
@@ -404,9 +426,14 @@ LeavesChosen whole options held holds c said outcome =
     LeavesWithState whole.machine whole.states (names_of options) held holds c (service options.turns options.stats) options.verbose line said outcome
     × (is_plain options ≡ true → c.announce ≡ false → LeavesServed whole.machine name held holds c options.turns options.verbose line said outcome)
 
--- and before all it is said if rules say that they are audited, and no audit is named
+-- what is written if opening the log may wait for its reader
+abbrev pub waiting_note : Bool → List ℕ
+waiting_note true = codes "bacgw: the log waits for its reader\n"
+waiting_note false = []
+
+-- and before all it is said if rules say that they are audited, and no audit is named; and if the log waits for its reader
 abbrev pub LeavesService : {Log Sockets S Q : Type 0} → WholeMachine Log Sockets S Q → RunOptions → (held holds : Option (List ℕ))
     → Configuration → List ℕ → Result (Unit {0}) ServiceFault → Type 0
 LeavesService whole options held holds c said outcome =
-    (rest : List ℕ) × (said ≡ unaudited_note c.audits (is_some options.audit) ++ rest)
+    (waits : Bool) × (rest : List ℕ) × (said ≡ (unaudited_note c.audits (is_some options.audit) ++ waiting_note waits) ++ rest)
     × LeavesChosen whole options held holds c rest outcome

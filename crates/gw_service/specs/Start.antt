@@ -1,5 +1,5 @@
 -- From where a gateway begins that keeps its state: what its file holds, and the last denial of its log.
-use Rattle.std.specs.Prelude.{◌≡◌, ⊤, ℕ, List, [], ◌++◌, Bool, true, false, map, codes, Option, Some, None, Result, Ok, Err}
+use Rattle.std.specs.Prelude.{◌≡◌, ⊤, ℕ, ◌^◌, ◌||◌, nat_eq, List, [], ◌++◌, Bool, true, false, map, codes, Option, Some, None, Result, Ok, Err}
 use Rattle.gw_configuration.specs.Configuration.{Configuration}
 use Rattle.gw_core.specs.History.{state_after, no_counts}
 use Rattle.gw_core.specs.Resumed.{carried}
@@ -7,6 +7,7 @@ use Rattle.gw_core.specs.State.{State}
 use Rattle.gw_core.specs.declared.event.Counts.{Counts}
 use Rattle.gw_configuration.specs.Shown.{shown}
 use Rattle.gw_state.specs.Saved.{Saved}
+use Rattle.gw_state.specs.declared.counts.SavedCounts.{SavedCounts}
 use Rattle.gw_state_text.specs.Place.{IsPlaceOf}
 use Rattle.gw_state_text.specs.Text.{state_text}
 use Rattle.gw_state_text.specs.declared.fault.FaultKind.{FaultKind}
@@ -19,13 +20,25 @@ use Rattle.gw_service.specs.Counts.{GoesOnFrom}
 use Rattle.gw_service.specs.declared.fault.ServiceFault.{ServiceFault}
 use Rattle.gw_service.specs.declared.fault.ServiceFault.TheVariants as fault
 
+-- a count is at its end: a gateway that begins so ends at its first tick, or at its first denial
+abbrev pub are_at_end : SavedCounts → Bool
+are_at_end counts = nat_eq counts.ticks (2 ^ 63) || nat_eq counts.denials (2 ^ 63)
+
+-- What is known of a state by its text: it is that of this state, of which no count is at its end; or why it isn't, at which line, is
+-- the fault. Memory may run out.
+abbrev pub IsTextRead : List ℕ → Result Saved ServiceFault → Type 0
+IsTextRead text (Err fault.Memory) = ⊤
+IsTextRead text (Ok s) = (text ≡ state_text s) × (are_at_end s.counts ≡ false)
+IsTextRead text (Err (fault.State f)) = IsPlaceOf text f.line
+IsTextRead text outcome = ⊥
+
 -- What is known of a state by reading its file. There is none if there is no file. A file that is there is never passed over:
--- it is the text of a state, or why it isn't is the fault.
+-- it is the text of a state, or why it isn't is the fault. Memory runs out only at a text, or at reading it.
 abbrev pub IsStateRead : Result (Option (List ℕ)) ReadFailure → Result (Option Saved) ServiceFault → Type 0
-IsStateRead read (Err fault.Memory) = ⊤
+IsStateRead (Err reading.Memory) (Err fault.Memory) = ⊤
 IsStateRead (Ok None) (Ok None) = ⊤
-IsStateRead (Ok (Some text)) (Ok (Some s)) = text ≡ state_text s
-IsStateRead (Ok (Some text)) (Err (fault.State f)) = IsPlaceOf text f.line
+IsStateRead (Ok (Some text)) (Ok (Some s)) = IsTextRead text (Ok s)
+IsStateRead (Ok (Some text)) (Err f) = IsTextRead text (Err f)
 IsStateRead (Err (reading.Unreadable found)) (Err (fault.StateUnreadable why)) = why ≡ found
 IsStateRead read outcome = ⊥
 

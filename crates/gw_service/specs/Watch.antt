@@ -1,4 +1,4 @@
--- What watches a gateway beside what keeps its state: from where it begins, what is done with it, and what is reported of it.
+-- What watches a gateway, before what keeps its state: from where it begins, what is done with it, and what is reported of it.
 use Rattle.std.specs.Prelude.{◌≡◌, ◌⊎◌, ⊤, ℕ, ◌||◌, Bool, true, false, is_some, nat_le, not, ◌&&◌, if◌then◌else◌, List, [], codes, Option, Some, None, Result, Ok, Err, option_map, string_bytes}
 use Rattle.std.specs.List.{list_any}
 use Rattle.std.specs.Option.{option_map_or}
@@ -13,7 +13,7 @@ use Rattle.gw_decisions.specs.tally.Tally.{IsTally}
 use Rattle.gw_watchers.specs.files.Trial.{IsAuditBy, IsTrialBy}
 use Rattle.gw_watchers.specs.declared.files.fault.WatchFault.{WatchFault}
 use Rattle.gw_watchers.specs.declared.files.fault.WatchFault.TheVariants as watch
-use Rattle.gw_watchers.specs.Watching.{Watching, with_marks}
+use Rattle.gw_watchers.specs.Watching.{Watching, ended_by, with_marks}
 use Rattle.gw_watchers.specs.declared.beside.Beside.{Beside}
 use Rattle.gw_service.specs.Keeping.{IsKeptAtTick, IsKeptFor, IsKeptLast, failing_in}
 use Rattle.gw_service.specs.declared.fault.ServiceFault.{ServiceFault}
@@ -95,6 +95,8 @@ pub record WatchesUnder {Log : Type 0} (FileReads LastDenials : List ℕ → Res
   pub audit : IsAuditUnder LastDenials LogOpens c names (Ok w.audit)
   pub counts : AreCountsUnder c names w.counts
   pub unseen : w.unseen ≡ 0
+  pub format : w.format ≡ c.format
+  pub ended : w.ended ≡ false
 
 -- something does if that is asked for
 abbrev pub IsWatcherUnder : {Log : Type 0} → (FileReads LastDenials : List ℕ → Result (Option (List ℕ)) ReadFailure → Type 0) → LogOpening Log
@@ -113,29 +115,30 @@ IsUnwatched FileReads LastDenials LogOpens c names f =
 -- ---- while it runs
 
 -- At a tick what keeps the state does what is due, and what watches stays.
-abbrev pub IsKeptAtTickBeside : {S T A : Type 0} → (S → Option (List ℕ)) → Both (Kept S) (Watching T A) → State → Both (Kept S) (Watching T A)
+abbrev pub IsKeptAtTickBeside : {S T A : Type 0} → (S → Option (List ℕ)) → Both (Watching T A) (Kept S) → State → Both (Watching T A) (Kept S)
     → Type 0
-IsKeptAtTickBeside held k w l = IsKeptAtTick held k.first w l.first × (l.second ≡ k.second)
+IsKeptAtTickBeside held k w l = IsKeptAtTick held k.second w l.second × (l.first ≡ k.first)
 
 -- So it is at the end.
-abbrev pub IsKeptLastBeside : {S T A : Type 0} → (S → Option (List ℕ)) → Both (Kept S) (Watching T A) → State → Both (Kept S) (Watching T A)
+abbrev pub IsKeptLastBeside : {S T A : Type 0} → (S → Option (List ℕ)) → Both (Watching T A) (Kept S) → State → Both (Watching T A) (Kept S)
     → Type 0
-IsKeptLastBeside held k w l = IsKeptLast held k.first w l.first × (l.second ≡ k.second)
+IsKeptLastBeside held k w l = IsKeptLast held k.second w l.second × (l.first ≡ k.first)
 
 -- counts begin anew, if there are some
 abbrev pub BeginAnew : (new : List ℕ) → (before after : Option (List ℕ)) → Type 0
 BeginAnew new before after = after ≡ option_map (λ _. new) before
 
--- What watches goes on by another configuration: its rules are audited that say so, and counts of them begin anew. The trial
--- stays.
+-- What watches goes on by another configuration: its rules are audited that say so, and counts of them begin anew. A trial of
+-- another format ends.
 pub record WatchesOn {T A : Type 0} (c : Configuration) (before after : Watching T A) : Type 0 where
   pub counts : List ℕ
   pub tally : IsTally c.rules [] counts
-  pub goes_on : after ≡ record before { audit = option_map (with_marks c.audits) before.audit; counts = option_map (λ _. counts) before.counts }
+  pub goes_on : after ≡ ended_by c.format
+      (record before { audit = option_map (with_marks c.audits) before.audit; counts = option_map (λ _. counts) before.counts })
 
-abbrev pub IsKeptForBeside : {S T A : Type 0} → (S → Option (List ℕ)) → Both (Kept S) (Watching T A) → Configuration → State
-    → Both (Kept S) (Watching T A) → Type 0
-IsKeptForBeside held k c w l = IsKeptFor held k.first c w l.first × WatchesOn c k.second l.second
+abbrev pub IsKeptForBeside : {S T A : Type 0} → (S → Option (List ℕ)) → Both (Watching T A) (Kept S) → Configuration → State
+    → Both (Watching T A) (Kept S) → Type 0
+IsKeptForBeside held k c w l = IsKeptFor held k.second c w l.second × WatchesOn c k.first l.first
 
 -- ---- what is measured
 
@@ -143,8 +146,8 @@ IsKeptForBeside held k c w l = IsKeptFor held k.first c w l.first × WatchesOn c
 abbrev pub lost_of : {C S : Type 0} → Option (Beside C S) → ℕ
 lost_of log = option_map_or (λ (b : Beside _ _). b.lost) log 0
 
-abbrev pub losses_of : {S T A : Type 0} → Both (Kept S) (Watching T A) → Losses
-losses_of k = record { unwatched = k.second.unseen; trial_lines = lost_of k.second.trial; audit_lines = lost_of k.second.audit }
+abbrev pub losses_of : {S T A : Type 0} → Both (Watching T A) (Kept S) → Losses
+losses_of k = record { unwatched = k.first.unseen; trial_lines = lost_of k.first.trial; audit_lines = lost_of k.first.audit }
 
 -- ---- what is reported
 
@@ -152,8 +155,13 @@ losses_of k = record { unwatched = k.second.unseen; trial_lines = lost_of k.seco
 abbrev pub has_lost : {C S : Type 0} → Option (Beside C S) → Bool
 has_lost log = option_map_or (λ (b : Beside _ _). nat_le 1 b.lost) log false
 
-abbrev pub troubles_of : {S T A : Type 0} → Both (Kept S) (Watching T A) → Troubles
-troubles_of k = record { state = failing_in k.first; trial = has_lost k.second.trial; audit = has_lost k.second.audit }
+abbrev pub troubles_of : {S T A : Type 0} → Both (Watching T A) (Kept S) → Troubles
+troubles_of k = record {
+  state = failing_in k.second;
+  trial = has_lost k.first.trial;
+  audit = has_lost k.first.audit;
+  ended = k.first.ended;
+}
 
 -- what is counted of a log beside the log
 abbrev pub log_count : {C S : Type 0} → Option (Beside C S) → Option LogCount
@@ -163,8 +171,8 @@ log_count log = option_map (λ (b : Beside _ _). record { number = b.number; los
 abbrev pub counted_of : {T A : Type 0} → Watching T A → WatchCounts
 counted_of w = record { trial = log_count w.trial; audit = log_count w.audit; unseen = w.unseen }
 
-abbrev pub more_of : {S T A : Type 0} → Both (Kept S) (Watching T A) → State → List ℕ
-more_of k w = watch_text w.rules (counted_of k.second) k.second.counts
+abbrev pub more_of : {S T A : Type 0} → Both (Watching T A) (Kept S) → State → List ℕ
+more_of k w = watch_text w.rules (counted_of k.first) k.first.counts
 
 -- a rule says that it is audited, and no audit is named
 abbrev pub is_unaudited : (audits : List Bool) → (is_named : Bool) → Bool

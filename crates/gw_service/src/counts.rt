@@ -7,7 +7,7 @@ use gw_audit::read_line;
 use gw_core::Counts;
 
 /// Where each count of a gateway ends.
-const LAST_COUNT: u64 = 1 << 63;
+pub(crate) const LAST_COUNT: u64 = 1 << 63;
 
 /// The counts after a denial of this tick and number.
 fn counts_with(counts: Counts, tick: u64, number: u64) -> Counts

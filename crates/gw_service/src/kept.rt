@@ -3,7 +3,7 @@
 //! A function that owns a configuration or a gateway does nothing fallible after making it, and passes
 //! a reference on: each way out would drop a large value.
 
-ghost use Rattle.std.specs.Prelude.{◌≡◌, ◌<◌, ◌^◌, ◌||◌, ℕ, List, None, Ok, [], is_some, option_map, string_bytes, IfErr, IfOk, OnOk};
+ghost use Rattle.std.specs.Prelude.{◌≡◌, ◌<◌, ◌^◌, ◌||◌, ℕ, List, None, Some, Ok, [], is_some, option_map, string_bytes, IfErr, IfOk, OnOk};
 ghost use Rattle.std.specs.Io.Buffered.{writer_buffer, writer_contents};
 ghost use Rattle.std.specs.Io.KnownBytes.{Appends};
 ghost use Rattle.gw_configuration.specs.Configuration.{Configuration};
@@ -13,7 +13,7 @@ ghost use Rattle.gw_turns.specs.Announcing.{first_announcing};
 ghost use Rattle.gw_turns.specs.Serve.{zero_counts};
 ghost use Rattle.gw_turns.specs.Stretch.{CanCount};
 ghost use Rattle.gw_turns.specs.Tally.{no_tally};
-ghost use Rattle.gw_service.specs.Kept.{AreRequestsUnder, IsLastDenial, IsMetricsUnder, IsStateUnder, IsStoreUnder, IsUnprepared, KeepsFirst, LeavesKept, LeavesWithState, given, line_read, names_of, outcome_by, outcome_of_stop, state_machine, text_before};
+ghost use Rattle.gw_service.specs.Kept.{AreRequestsUnder, IsLastDenial, IsMetricsUnder, IsStateUnder, IsStoreUnder, IsTextBefore, IsTrialNote, IsTrialNoteOf, IsUnprepared, KeepsFirst, LeavesKept, LeavesWithState, given, line_read, names_of, outcome_by, outcome_of_stop, state_machine, text_before};
 ghost use Rattle.gw_notices.specs.Startup.{startup_line};
 ghost use Rattle.gw_notices.specs.Reload.{counts_since};
 ghost use Rattle.gw_service.specs.Serving.{IsFlushedFor, LogStays, ends, log_held, machine, service};
@@ -21,6 +21,7 @@ ghost use Rattle.gw_notices.specs.Notices.{no_troubles};
 ghost use Rattle.gw_service.specs.Start.{BeginsAs};
 ghost use Rattle.gw_service.specs.Watch.{IsWatcherUnder, watch_names};
 ghost use Rattle.gw_system.specs.Host.{OpensAtLine};
+ghost use Rattle.gw_system.specs.Requests.{text_found};
 
 use crate::fault::ServiceFault;
 use crate::keeping::{Kept, StateKeeper};
@@ -33,7 +34,8 @@ use crate::watch::watcher_under;
 use gw_configuration::{Config, RunOptions};
 use gw_core::Gateway;
 use gw_log_words::Notes;
-use gw_notices::{ReloadCounts, Troubles, warning_of, write_note};
+use gw_notices::{ReloadCounts, Troubles, trial_line, warning_of, write_note};
+use gw_policy_text::{MAX_OCTETS, read_config};
 use gw_script::OctetSink;
 use gw_state::{Origin, Saved};
 use gw_system::{Host, ReadFailure, Requests, StoreKind, note_of};
@@ -51,7 +53,7 @@ pub(crate) struct Before<S, Q, L: OctetSink + Drop> {
     pub saved: Option<Saved>,
     /// The line of the log's last denial, if it shows one.
     pub line: Option<Vec<u8>>,
-    /// What is said of the state.
+    /// What is said of the state, and of the trial.
     pub text: Vec<u8>,
     /// Its store, if it is kept.
     pub store: Option<S>,
@@ -149,7 +151,7 @@ fn requests_under<H: Host>(
 }
 
 /// What is said of the state at the start, if one is kept.
-fn text_of(
+fn text_of_state(
     alloc: Global,
     options: &RunOptions,
     config: &Config,
@@ -164,6 +166,63 @@ fn text_of(
     }
 }
 
+/// What is said of a policy that is to be on trial, by the text of its configuration.
+fn note_of_text(alloc: Global, config: &Config, text: &[u8]) -> Vec<u8>
+    ensures { IsTrialNoteOf config.now (Ok (Some text.now)) result.items }
+{
+    match read_config(alloc, text) {
+        Ok(trial) => match trial_line(alloc, config, &trial) {
+            Ok(line) => line,
+            Err(_) => Vec::new(alloc),
+        },
+        Err(_) => Vec::new(alloc),
+    }
+}
+
+/// What is said of a policy that is to be on trial, by what its file gave.
+fn note_of_trial(
+    alloc: Global,
+    config: &Config,
+    read: &Result<Option<Vec<u8>>, ReadFailure>,
+) -> Vec<u8>
+    ensures { IsTrialNoteOf config.now (text_found read.now) result.items }
+{
+    match read {
+        Ok(Some(text)) => note_of_text(alloc, config, text),
+        Ok(None) | Err(_) => Vec::new(alloc),
+    }
+}
+
+/// What is said of the policy of this file, if there is to be a trial.
+fn trial_note<H: Host>(alloc: Global, config: &Config, name: &Option<String>, host: &H) -> Vec<u8>
+    ensures { IsTrialNote (H.FileReads host.now) (option_map string_bytes name.now) config.now result.items }
+{
+    match name {
+        Some(name) => {
+            let read = host.read_file(alloc, name, MAX_OCTETS);
+            note_of_trial(alloc, config, &read)
+        }
+        None => Vec::new(alloc),
+    }
+}
+
+/// What is said at the start: of the state, and of the trial.
+fn text_of<H: Host>(
+    alloc: Global,
+    options: &RunOptions,
+    config: &Config,
+    saved: &Option<Saved>,
+    host: &H,
+) -> Result<Vec<u8>, AllocError>
+    ensures { IfOk result (λ text. IsTextBefore (H.FileReads host.now) (option_map string_bytes options.now.state)
+        (option_map string_bytes options.now.trial) options.now.verbose config.now saved.now text.items) }
+{
+    let mut text = text_of_state(alloc, options, config, saved)?;
+    let note = trial_note(alloc, config, &options.trial, host);
+    text.extend_from_slice(&note)?;
+    Ok(text)
+}
+
 /// Reads and makes what is due before anything is opened.
 pub(crate) fn prepare<H: Host>(
     alloc: Global,
@@ -175,8 +234,8 @@ pub(crate) fn prepare<H: Host>(
         IsStateUnder (H.FileReads host.now) (option_map string_bytes options.now.state) (Ok before.saved)) }
     ensures line { IfOk result (λ before. IsLastDenial (H.LastDenials host.now) (option_map string_bytes options.now.state)
         (option_map string_bytes options.now.log) (Ok (option_map (λ line. line.items) before.line))) }
-    ensures text { IfOk result (λ before. before.text.items
-        ≡ text_before (option_map string_bytes options.now.state) options.now.verbose config.now before.saved) }
+    ensures text { IfOk result (λ before. IsTextBefore (H.FileReads host.now) (option_map string_bytes options.now.state)
+        (option_map string_bytes options.now.trial) options.now.verbose config.now before.saved before.text.items) }
     ensures store { IfOk result (λ before.
         IsStoreUnder (H.StoreOpens host.now) (option_map string_bytes options.now.state) (Ok before.store)) }
     ensures metrics { IfOk result (λ before.
@@ -206,7 +265,7 @@ pub(crate) fn prepare<H: Host>(
         Ok(metrics) => metrics,
         Err(fault) => return Err(fault),
     };
-    let Ok(text) = text_of(alloc, options, config, &saved) else {
+    let Ok(text) = text_of(alloc, options, config, &saved, host) else {
         return Err(ServiceFault::Memory);
     };
     let Ok(requests) = requests_under(alloc, options, host) else {

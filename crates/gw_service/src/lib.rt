@@ -3,6 +3,7 @@
 #![tactic(auto)]
 
 mod counts;
+mod differing;
 mod fault;
 mod keeping;
 mod kept;

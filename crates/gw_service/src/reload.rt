@@ -5,10 +5,10 @@ ghost use Rattle.std.specs.Cmp.Lexicographic.{pointwise};
 ghost use Rattle.gw_core.specs.Resumed.{saved_of};
 ghost use Rattle.gw_state.specs.Saved.{origin_of};
 ghost use Rattle.gw_service.specs.Keeping.{IsSuccessor};
-ghost use Rattle.gw_notices.specs.Reload.{reload_line};
-ghost use Rattle.gw_service.specs.Reload.{IsAdopted, IsPortsOrMemory, IsRefused, IsReloaded, have_same_ports, same_port};
+ghost use Rattle.gw_service.specs.Reload.{IsAdopted, IsPortsOrMemory, IsRefused, IsReloaded, have_same_ports, same_port, taken_over_line};
 ghost use Rattle.gw_system.specs.Requests.{text_found};
 
+use crate::differing::differing;
 use crate::successor::Successor;
 use gw_configuration::{Config, Port};
 use gw_core::Gateway;
@@ -77,10 +77,11 @@ fn prepare(
     ensures origin { IfOk result (λ made. made.origin ≡ origin_of config.now) }
     ensures successor { IfOk result (λ made. IsSuccessor config.now made.successor) }
     ensures line { IfOk result
-        (λ made. made.line.items ≡ reload_line gateway.now.rules config.now (saved_of origin.now gateway.now)) }
+        (λ made. made.line.items ≡ taken_over_line gateway.now config.now (saved_of origin.now gateway.now)) }
 {
     let saved = gateway.save(alloc, origin)?;
-    let line = reload_line(alloc, gateway.rules(), config, &saved)?;
+    let differ = differing(alloc, gateway, &saved, config)?;
+    let line = reload_line(alloc, gateway.rules(), config, &saved, &differ)?;
     let origin = Origin::of(alloc, config)?;
     let successor = Successor::of(alloc, config)?;
     Ok(Prepared {

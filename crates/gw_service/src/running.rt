@@ -455,12 +455,13 @@ impl<K: StateKeeper, Q: Requests, M: Store + Drop> Running<K, Q, M> {
         answer
     }
 
-    /// The same gateway, which is also watched.
-    pub(crate) fn watched_by<V>(self, watcher: V) -> Running<Both<K, V>, Q, M>
+    /// The same gateway, which is also watched: what is recorded of an event is written before its state is kept, so no write is in
+    /// force that an audit lacks.
+    pub(crate) fn watched_by<V>(self, watcher: V) -> Running<Both<V, K>, Q, M>
         ensures gateway { result.gateway ≡ self.gateway }
         ensures origin { result.origin ≡ self.origin }
-        ensures first { result.keeper.first ≡ self.keeper }
-        ensures second { result.keeper.second ≡ watcher }
+        ensures first { result.keeper.first ≡ watcher }
+        ensures second { result.keeper.second ≡ self.keeper }
         ensures requests { result.requests ≡ self.requests }
         ensures counts { result.counts ≡ self.counts }
         ensures announcing { result.announcing ≡ self.announcing }
@@ -483,8 +484,8 @@ impl<K: StateKeeper, Q: Requests, M: Store + Drop> Running<K, Q, M> {
             gateway,
             origin,
             keeper: Both {
-                first: keeper,
-                second: watcher,
+                first: watcher,
+                second: keeper,
             },
             requests,
             counts,

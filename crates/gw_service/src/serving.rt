@@ -1,11 +1,11 @@
 //! The gateway at work: what `run` opens, and a gateway that serves it.
 
-ghost use Rattle.std.specs.Prelude.{◌≡◌, [], ℕ, List, None, MatchResult, is_some, option_map, string_bytes, IfOk, OnOk};
+ghost use Rattle.std.specs.Prelude.{◌≡◌, [], ℕ, Bool, List, None, MatchResult, is_some, option_map, string_bytes, IfOk, OnOk};
 ghost use Rattle.std.specs.Io.Buffered.{writer_buffer, writer_contents};
 ghost use Rattle.std.specs.Io.KnownBytes.{Appends};
 ghost use Rattle.gw_notices.specs.Startup.{startup_line};
 ghost use Rattle.gw_system.specs.Host.{OpensAtLine};
-ghost use Rattle.gw_service.specs.Kept.{LeavesService, state_machine, whole_machine};
+ghost use Rattle.gw_service.specs.Kept.{LeavesService, state_machine, waiting_note, whole_machine};
 ghost use Rattle.std.specs.List.{list_any};
 ghost use Rattle.gw_service.specs.Watch.{is_unaudited, unaudited_note};
 ghost use Rattle.gw_service.specs.Serving.{AreOpen, ArentOpen, IsFlushedFor, LogIsOpen, LogIsShut, machine};
@@ -114,6 +114,16 @@ fn unaudited_note(config: &Config, options: &RunOptions) -> &'static str
     }
 }
 
+/// What is written if opening the log may wait for its reader.
+fn waiting_note<H: Host>(log: &Option<String>, host: &H) -> &'static str
+    ensures { (waits : Bool) × (result.now ≡ waiting_note waits) }
+{
+    match log {
+        Some(name) if host.waits(name) => "bacgw: the log waits for its reader\n",
+        _ => "",
+    }
+}
+
 /// Serves the ports of a configuration as the options ask. With none of what follows this is [`serve`](gw_turns::serve), from a
 /// gateway that nothing came to yet. If they ask for more it writes at the start what is
 /// served and whether the machine routes IP past the gateway, or why sockets can't be opened. If they name a state it begins with
@@ -144,5 +154,6 @@ pub fn serve_ports<H: Host, W: Write + Drop, E: OctetSink>(
         (writer_buffer output.old) (writer_buffer output.new)) }
 {
     write_note(unaudited_note(&config, options).as_bytes(), errors);
+    write_note(waiting_note(&options.log, host).as_bytes(), errors);
     serve_kept(alloc, config, options, host, output, errors)
 }

@@ -1,14 +1,14 @@
 //! From where a gateway begins that keeps its state.
 
 ghost use Rattle.std.specs.Prelude.{◌≡◌, IfOk, option_map};
-ghost use Rattle.gw_service.specs.Start.{BeginsAs, IsStateRead, begun, fault_of_reading, fault_of_text, start_text};
+ghost use Rattle.gw_service.specs.Start.{BeginsAs, IsStateRead, IsTextRead, are_at_end, begun, fault_of_reading, fault_of_text, start_text};
 ghost use Rattle.gw_system.specs.Requests.{text_found};
 
-use crate::counts::go_on_from;
+use crate::counts::{LAST_COUNT, go_on_from};
 use crate::fault::ServiceFault;
 use gw_configuration::{Config, put_shown};
 use gw_core::{Counts, Gateway};
-use gw_state::Saved;
+use gw_state::{Saved, SavedCounts};
 use gw_state_text::{FaultKind, StateFault, read_state};
 use gw_state_words::put_dropped;
 use gw_system::ReadFailure;
@@ -37,6 +37,32 @@ fn fault_of_reading(failure: ReadFailure) -> ServiceFault
     }
 }
 
+/// Whether a count of what was saved is at its end.
+fn are_at_end(counts: SavedCounts) -> bool
+    ensures { result ≡ are_at_end counts }
+{
+    counts.ticks == LAST_COUNT || counts.denials == LAST_COUNT
+}
+
+/// What was saved, by its text. A state of which a count is at its end is faulty in its second line, which has the counts: a gateway
+/// that began with it would end at once, at each start.
+fn saved_of_text(alloc: Global, text: &[u8]) -> Result<Saved, ServiceFault>
+    ensures { IsTextRead text.now result }
+{
+    match read_state(alloc, text) {
+        Ok(saved) => {
+            if are_at_end(saved.counts()) {
+                return Err(ServiceFault::State(StateFault {
+                    line: 2,
+                    kind: FaultKind::Range,
+                }));
+            }
+            Ok(saved)
+        }
+        Err(fault) => Err(fault_of_text(fault)),
+    }
+}
+
 /// What was saved, by what its file gave: nothing if there is no file. Faults: `StateUnreadable` with why, `State` with the
 /// line at which the text isn't that of a state, and `Memory`.
 pub(crate) fn saved_in(
@@ -46,9 +72,9 @@ pub(crate) fn saved_in(
     ensures { IsStateRead (text_found read.now) result }
 {
     match read {
-        Ok(Some(text)) => match read_state(alloc, text) {
+        Ok(Some(text)) => match saved_of_text(alloc, text) {
             Ok(saved) => Ok(Some(saved)),
-            Err(fault) => Err(fault_of_text(fault)),
+            Err(fault) => Err(fault),
         },
         Ok(None) => Ok(None),
         Err(failure) => Err(fault_of_reading(*failure)),

@@ -5,6 +5,7 @@ ghost use Rattle.gw_service.specs.Keeping.{IsSuccessor};
 
 use gw_configuration::Config;
 use gw_decisions::tally::Tally;
+use gw_rules::Format;
 use gw_state::Origin;
 use gw_watchers::Marks;
 use std::alloc::{AllocError, Global};
@@ -18,6 +19,8 @@ pub struct Successor {
     pub marks: Marks,
     /// How often each rule decided: none did yet.
     pub counts: Tally,
+    /// Its format.
+    pub format: Format,
 }
 
 impl Successor {
@@ -32,6 +35,7 @@ impl Successor {
             origin,
             marks,
             counts,
+            format: config.format(),
         })
     }
 }

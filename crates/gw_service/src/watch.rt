@@ -110,7 +110,7 @@ pub(crate) fn watcher_under<H: Host>(
         Err(fault) => return Err(fault),
     };
     match audit_under(alloc, config, options, host) {
-        Ok(audit) => Ok(Some(Watcher::new(alloc, trial, audit, counts))),
+        Ok(audit) => Ok(Some(Watcher::new(alloc, config.format(), trial, audit, counts))),
         Err(fault) => Err(fault),
     }
 }

@@ -1,4 +1,4 @@
-//! A gateway whose state may be kept, and which is watched.
+//! A gateway that is watched, and whose state may then be kept.
 
 ghost use Rattle.std.specs.Prelude.{◌≡◌};
 ghost use Rattle.gw_service.specs.Watch.{BeginAnew, IsKeptAtTickBeside, IsKeptForBeside, IsKeptLastBeside, counted_of, has_lost, log_count, losses_of, lost_of, more_of, troubles_of};
@@ -70,7 +70,7 @@ fn begun_anew(so_far: &Option<Tally>, counts: Tally) -> Option<Tally>
 }
 
 impl<S: Store + Drop, T: OctetSink + Drop, A: OctetSink + Drop> StateKeeper
-    for Both<Kept<S>, Watcher<T, A>> {
+    for Both<Watcher<T, A>, Kept<S>> {
     ghost Ticks = { IsKeptAtTickBeside S.held };
 
     ghost Adopts = { IsKeptForBeside S.held };
@@ -79,18 +79,18 @@ impl<S: Store + Drop, T: OctetSink + Drop, A: OctetSink + Drop> StateKeeper
 
     ghost troubles = { troubles_of };
 
-    ghost unkept = { λ both. unkept_in both.first };
+    ghost unkept = { λ both. unkept_in both.second };
 
     ghost more = { more_of };
 
-    ghost tries = { λ both. tries_in both.first };
+    ghost tries = { λ both. tries_in both.second };
 
-    ghost decisions = { λ both. both.second.counts };
+    ghost decisions = { λ both. both.first.counts };
 
     ghost losses = { losses_of };
 
     fn keep_at_tick(&mut self, alloc: Global, gateway: &Gateway) {
-        self.first.keep_at_tick(alloc, gateway);
+        self.second.keep_at_tick(alloc, gateway);
     }
 
     fn adopt(&mut self, alloc: Global, successor: Successor, gateway: &Gateway) {
@@ -98,49 +98,51 @@ impl<S: Store + Drop, T: OctetSink + Drop, A: OctetSink + Drop> StateKeeper
             origin,
             marks,
             counts,
+            format,
         } = successor;
-        self.first.keep_for(alloc, origin, gateway);
-        let counts = begun_anew(self.second.counts(), counts);
-        self.second.go_on(marks, counts);
+        self.second.keep_for(alloc, origin, gateway);
+        let counts = begun_anew(self.first.counts(), counts);
+        self.first.go_on(marks, counts, format);
     }
 
     fn keep_last(&mut self, alloc: Global, gateway: &Gateway) {
-        self.first.keep_once_more(alloc, gateway);
+        self.second.keep_once_more(alloc, gateway);
     }
 
     fn troubles(&self) -> Troubles {
         Troubles {
-            state: self.first.failing(),
-            trial: has_lost(self.second.trial()),
-            audit: has_lost(self.second.audit()),
+            state: self.second.failing(),
+            trial: has_lost(self.first.trial()),
+            audit: has_lost(self.first.audit()),
+            ended: self.first.has_ended(),
         }
     }
 
     fn unkept(&self) -> u64 {
-        self.first.unkept()
+        self.second.unkept()
     }
 
     fn tries(&self) -> Option<StateTries> {
-        self.first.tries()
+        self.second.tries()
     }
 
     fn decisions<'a>(&'a self, _nothing: &'a Option<Tally>) -> &'a Option<Tally> {
-        self.second.counts()
+        self.first.counts()
     }
 
     fn losses(&self) -> Losses {
         Losses {
-            unwatched: self.second.unseen(),
-            trial_lines: lost_of(self.second.trial()),
-            audit_lines: lost_of(self.second.audit()),
+            unwatched: self.first.unseen(),
+            trial_lines: lost_of(self.first.trial()),
+            audit_lines: lost_of(self.first.audit()),
         }
     }
 
     fn report_more<E: OctetSink>(&self, gateway: &Gateway, errors: &mut E) {
         report_watched(
             gateway.rules(),
-            counted_of(&self.second),
-            self.second.counts(),
+            counted_of(&self.first),
+            self.first.counts(),
             errors,
         );
     }

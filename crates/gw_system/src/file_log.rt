@@ -156,10 +156,10 @@ fn log_failure(error: &io::Error) -> LogFailure {
     }
 }
 
-/// Whether the file of the name is this one, or can't be looked at.
+/// Whether the file of the name is this one, or can't be looked at, or is none that opens at once, as a pipe.
 fn has_name<R: Files>(rt: &R, name: &str, place: Place) -> bool {
     match rt.metadata(name) {
-        Ok(metadata) => place.is_same(Place::of(&metadata)),
+        Ok(metadata) => place.is_same(Place::of(&metadata)) || !metadata.is_file(),
         Err(error) => !matches!(error.kind(), ErrorKind::NotFound),
     }
 }

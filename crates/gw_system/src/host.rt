@@ -21,7 +21,7 @@ use crate::folder::{Folder, SystemFolder};
 use crate::making::{MadeRequest, make_request};
 use crate::opening::{LogFailure, SocketFailure, Step};
 use crate::poll_waiter::PollWaiter;
-use crate::reading::{ReadFailure, read_file, read_last_denial};
+use crate::reading::{ReadFailure, read_file, read_last_denial, read_last_record};
 use crate::requests::{FileRequests, Requests, wait_for_answer};
 use crate::store::{FileStore, StoreKind};
 use crate::system_clock::SystemClock;
@@ -33,6 +33,7 @@ use gw_wire::{Ports, SockPair, Store, StoreFault, TimedPorts, Watch, Wire};
 use std::alloc::{AllocError, Global};
 use std::io::{ErrorKind, Read, Seek, SeekFrom};
 use std::net::Net;
+use std::os::unix::fs::FileTypeExt;
 use std::rt::Files;
 use std::time::Clock;
 use std::{fs, io};
@@ -130,6 +131,14 @@ pub trait Host {
     /// a regular one, or no whole line there shows one. Faults: `Unreadable`, and `Memory`.
     fn last_denial(&self, alloc: Global, name: &str) -> Result<Option<Vec<u8>>, ReadFailure>
         ensures { LastDenials self.now name.now (text_found result) };
+
+    /// What [`last_denial`](Host::last_denial) gives, of a log that a stalled reader can't hold up: what has the name must be a regular
+    /// file, or nothing. Faults: `Unreadable`, also if it is a pipe, a device or a folder; and `Memory`.
+    fn last_record(&self, alloc: Global, name: &str) -> Result<Option<Vec<u8>>, ReadFailure>
+        ensures { LastDenials self.now name.now (text_found result) };
+
+    /// Whether opening the log of this name may wait for its reader, as that of a named pipe does. Not if it can't be looked at.
+    fn waits(&self, name: &str) -> bool;
 
     /// Opens the place that holds a text under this name for that, without reading or making anything. Faults:
     /// `NotPermitted` if it is a symbolic link, and those of the system.
@@ -330,6 +339,17 @@ impl<'a, R: Files + Net + Clock> Host for SystemHost<'a, R> {
 
     fn last_denial(&self, alloc: Global, name: &str) -> Result<Option<Vec<u8>>, ReadFailure> {
         read_last_denial(self.rt, alloc, name)
+    }
+
+    fn last_record(&self, alloc: Global, name: &str) -> Result<Option<Vec<u8>>, ReadFailure> {
+        read_last_record(self.rt, alloc, name)
+    }
+
+    fn waits(&self, name: &str) -> bool {
+        match self.rt.metadata(name) {
+            Ok(metadata) => metadata.file_type().is_fifo(),
+            Err(_) => false,
+        }
     }
 
     fn open_store(

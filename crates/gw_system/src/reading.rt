@@ -113,10 +113,27 @@ pub(crate) fn read_last_denial<R: Files>(
     name: &str,
 ) -> Result<Option<Vec<u8>>, ReadFailure> {
     match rt.metadata(name) {
-        Ok(metadata) if metadata.is_file() => {}
-        Ok(_) => return Ok(None),
-        Err(error) => return absent_by(&error),
+        Ok(metadata) if metadata.is_file() => read_last(rt, alloc, name),
+        Ok(_) => Ok(None),
+        Err(error) => absent_by(&error),
     }
+}
+
+/// The same of a log that must be a regular file, if there is one of its name.
+pub(crate) fn read_last_record<R: Files>(
+    rt: &R,
+    alloc: Global,
+    name: &str,
+) -> Result<Option<Vec<u8>>, ReadFailure> {
+    match rt.metadata(name) {
+        Ok(metadata) if metadata.is_file() => read_last(rt, alloc, name),
+        Ok(metadata) => Err(ReadFailure::Unreadable(obstacle_by(&metadata))),
+        Err(error) => absent_by(&error),
+    }
+}
+
+/// The same of a regular file.
+fn read_last<R: Files>(rt: &R, alloc: Global, name: &str) -> Result<Option<Vec<u8>>, ReadFailure> {
     for most in LOG_ENDS {
         let end = match read_end(rt, alloc, name, most) {
             Ok(end) => end,

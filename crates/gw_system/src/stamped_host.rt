@@ -114,6 +114,14 @@ impl<H: Host> Host for StampedHost<'_, H> {
         self.host.last_denial(alloc, name)
     }
 
+    fn last_record(&self, alloc: Global, name: &str) -> Result<Option<Vec<u8>>, ReadFailure> {
+        self.host.last_record(alloc, name)
+    }
+
+    fn waits(&self, name: &str) -> bool {
+        self.host.waits(name)
+    }
+
     fn open_store(
         &self,
         alloc: Global,

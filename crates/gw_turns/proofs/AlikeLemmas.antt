@@ -1,9 +1,8 @@
 -- That saved states of which the same lasts have equal lasting parts, and those with equal ones are alike.
-use Rattle.std.proofs.Common.{◌≡◌, ◌∙◌, refl, sym, ap, ap₂, true≢false, arith, ℕ, Bool, true, false, not, ◌&&◌, ◌||◌, nat_eq, nat_lt, length, List, [], ◌∷◌, map, Option, Some, None}
+use Rattle.std.proofs.Common.{◌≡◌, ◌∙◌, refl, sym, ap, ap₂, true≢false, ℕ, Bool, true, false, ◌&&◌, nat_eq, List, [], ◌∷◌, map, Option, Some, None}
 use Rattle.std.specs.Cmp.{nat_eq_equiv}
 use Rattle.std.specs.Cmp.Lexicographic.{pointwise, same_text}
-use Rattle.std.specs.List.{list_any}
-use Rattle.std.proofs.lemmas.Bool.{and_from, and_parts, eqb-true, ltb-false, or_parts}
+use Rattle.std.proofs.lemmas.Bool.{and_from, and_parts, eqb-true}
 use Rattle.std.proofs.lemmas.Cmp.{nat_list_eq_equiv}
 use Rattle.gw_addr.specs.declared.bip.BipAddr.{BipAddr}
 use Rattle.gw_addr.specs.declared.entry.BdtEntry.{BdtEntry}
@@ -19,7 +18,7 @@ use Rattle.gw_state.specs.declared.port.SavedPort.{SavedPort}
 use Rattle.gw_state.specs.Carried.{same_entry}
 use Rattle.gw_state.specs.Saved.{Saved, SavedObject}
 use Rattle.gw_codecs.specs.tags.Object.{Object}
-use Rattle.gw_turns.specs.Keeping.{AlikeButTicksIsEqual, AlikeIsEqual, EqualIsAlike, alike_but_ticks, but_ticks, has_device, has_devices, is_same_object, is_same_port, is_same_route, is_same_slot, lasting_of, lasting_port, lasts_alike}
+use Rattle.gw_turns.specs.Keeping.{AlikeButTicksIsEqual, AlikeIsEqual, EqualButTicksIsAlike, EqualIsAlike, alike_but_ticks, are_ending_alike, but_ticks, ending, ending_port, ends_alike, is_same_device, is_same_object, is_same_port, is_same_route, is_same_slot, lasting_of, lasting_port, lasts_alike}
 
 -- ---- lists
 
@@ -150,18 +149,50 @@ equal_is_alike a b is =
 
 -- ---- all but the ticks
 
-no_devices : (p : SavedPort) → has_device p ≡ false → lasting_port p ≡ p
-no_devices p none = none_of p.devices none
-  where
-    none_of : (devices : List KeptDevice) → nat_lt 0 (length devices) ≡ false → record p { devices = [] } ≡ record p { devices = devices }
-    none_of [] e = refl
-    none_of (d ∷ ds) e = absurd (omega (arith, ltb-false 0 (length (d ∷ ds)) e))
+equal_device : (a b : KeptDevice) → is_same_device a b ≡ true → a ≡ b
+equal_device a b is =
+    let one = and_parts (same_address a.address b.address) _ is in
+    let two = and_parts (nat_eq a.time_to_live b.time_to_live) (nat_eq a.left b.left) one.1 in
+    ap (λ (address : BipAddr). record a { address = address }) (equal_address a.address b.address one.0)
+    ∙ ap₂ (λ (time_to_live left : ℕ). record b { time_to_live = time_to_live; left = left }) (eqb-true a.time_to_live b.time_to_live two.0)
+    (eqb-true a.left b.left two.1)
 
-stay : (ports : List SavedPort) → list_any has_device ports ≡ false → map lasting_port ports ≡ ports
-stay [] none = refl
-stay (p ∷ ports) none =
-    let parts = or_parts (has_device p) (list_any has_device ports) none in
-    ap₂ (λ q qs. q ∷ qs) (no_devices p parts.0) (stay ports parts.1)
+own_device : (a : KeptDevice) → is_same_device a a ≡ true
+own_device a =
+    and_from (same_address a.address a.address) _ (own_address a.address)
+    (and_from (nat_eq a.time_to_live a.time_to_live) (nat_eq a.left a.left) (nat_eq_equiv.refl a.time_to_live) (nat_eq_equiv.refl a.left))
+
+-- what is alike, one by one, by images that two ways give, has equal ones
+both_equal : {A B : Type 0} (E : A → A → Bool) (f g : A → B) → ((x y : A) → E x y ≡ true → f x ≡ g y)
+    → (xs ys : List A) → pointwise E xs ys ≡ true → map f xs ≡ map g ys
+both_equal E f g sound [] [] is = refl
+both_equal E f g sound [] (y ∷ ys) is = absurd (true≢false (sym is))
+both_equal E f g sound (x ∷ xs) [] is = absurd (true≢false (sym is))
+both_equal E f g sound (x ∷ xs) (y ∷ ys) is =
+    let parts = and_parts (E x y) (pointwise E xs ys) is in
+    ap₂ (λ a l. a ∷ l) (sound x y parts.0) (both_equal E f g sound xs ys parts.1)
+
+-- whether they are alike can be seen from such images
+same_of_both : {A B : Type 0} (E : A → A → Bool) (F : B → B → Bool) (f g : A → B) → ((x y : A) → F (f x) (g y) ≡ E x y)
+    → (xs ys : List A) → pointwise F (map f xs) (map g ys) ≡ pointwise E xs ys
+same_of_both E F f g records [] [] = refl
+same_of_both E F f g records [] (y ∷ ys) = refl
+same_of_both E F f g records (x ∷ xs) [] = refl
+same_of_both E F f g records (x ∷ xs) (y ∷ ys) = ap₂ (λ a b. a && b) (records x y) (same_of_both E F f g records xs ys)
+
+equal_ends : (since other : ℕ) (xs ys : List SavedPort) → pointwise is_same_port xs ys ≡ true
+    → pointwise (are_ending_alike since other) xs ys ≡ true → map (ending_port since) xs ≡ map (ending_port other) ys
+equal_ends since other [] [] is ends = refl
+equal_ends since other [] (y ∷ ys) is ends = absurd (true≢false (sym is))
+equal_ends since other (x ∷ xs) [] is ends = absurd (true≢false (sym is))
+equal_ends since other (x ∷ xs) (y ∷ ys) is ends =
+    let one = and_parts (is_same_port x y) (pointwise is_same_port xs ys) is in
+    let two = and_parts (are_ending_alike since other x y) (pointwise (are_ending_alike since other) xs ys) ends in
+    let devices = both_equal (ends_alike since other) (ending since) (ending other) (λ a b. equal_device (ending since a) (ending other b)) x.devices
+    y.devices two.0 in
+    ap₂ (λ p ps. p ∷ ps)
+    (ap₂ (λ (p : SavedPort) (kept : List KeptDevice). record p { devices = kept }) (equal_port x y one.0) devices)
+    (equal_ends since other xs ys one.1 two.1)
 
 equal_route : (a b : ℕ × Route) → is_same_route a b ≡ true → a ≡ b
 equal_route a b is =
@@ -172,20 +203,48 @@ equal_route a b is =
     (equal_address a.1.next b.1.next two.1) in
     ap₂ (λ (n : ℕ) (r : Route). (n, r)) (eqb-true a.0 b.0 one.0) route
 
-not_true : (b : Bool) → not b ≡ true → b ≡ false
-not_true true e = sym e
-not_true false e = refl
-
 pub alike_but_ticks_is_equal : AlikeButTicksIsEqual
 alike_but_ticks_is_equal a b is =
     let one = and_parts (lasts_alike a b) _ is in
-    let two = and_parts (not (has_devices a)) _ one.1 in
-    let three = and_parts (not (has_devices b)) _ two.1 in
-    let four = and_parts (pointwise is_same_route a.routes b.routes) (nat_eq a.counts.denials b.counts.denials) three.1 in
-    let lasting = alike_is_equal a b one.0 in
-    let ports : a.ports ≡ b.ports =
-    sym (stay a.ports (not_true (has_devices a) two.0)) ∙ ap (λ (s : Saved). s.ports) lasting ∙ stay b.ports (not_true (has_devices b) three.0) in
-    ap₂ (λ (p : List SavedPort) (objects : List SavedObject). record (but_ticks a) { ports = p; objects = objects }) ports
-    (ap (λ (s : Saved). s.objects) lasting)
+    let two = and_parts (pointwise (are_ending_alike a.counts.since b.counts.since) a.ports b.ports) _ one.1 in
+    let three = and_parts (pointwise is_same_route a.routes b.routes) (nat_eq a.counts.denials b.counts.denials) two.1 in
+    let lasting = and_parts (pointwise is_same_port a.ports b.ports) (pointwise is_same_object a.objects b.objects) one.0 in
+    ap₂ (λ (p : List SavedPort) (objects : List SavedObject). record (but_ticks a) { ports = p; objects = objects })
+    (equal_ends a.counts.since b.counts.since a.ports b.ports lasting.0 two.0)
+    (all_equal is_same_object equal_object a.objects b.objects lasting.1)
     ∙ ap₂ (λ (routes : Routed) (denials : ℕ). record (but_ticks b) { routes = routes; counts = record { since = 0; ticks = 0; denials = denials } })
-    (all_equal is_same_route equal_route a.routes b.routes four.0) (eqb-true a.counts.denials b.counts.denials four.1)
+    (all_equal is_same_route equal_route a.routes b.routes three.0) (eqb-true a.counts.denials b.counts.denials three.1)
+
+own_route : (a : ℕ × Route) → is_same_route a a ≡ true
+own_route a =
+    and_from (nat_eq a.0 a.0) _ (nat_eq_equiv.refl a.0)
+    (and_from (nat_eq a.1.port a.1.port) (same_address a.1.next a.1.next) (nat_eq_equiv.refl a.1.port) (own_address a.1.next))
+
+-- what is alike of equal images
+alike_by : {A B : Type 0} (E : A → A → Bool) (F : B → B → Bool) (f g : A → B) → ((x y : A) → F (f x) (g y) ≡ E x y)
+    → ((x : B) → F x x ≡ true) → (xs ys : List A) → map f xs ≡ map g ys → pointwise E xs ys ≡ true
+alike_by E F f g records own xs ys same =
+    sym (same_of_both E F f g records xs ys) ∙ ap (λ (l : List _). pointwise F l (map g ys)) same ∙ all_alike F own (map g ys)
+
+own_ends : (p : SavedPort) → pointwise is_same_device p.devices p.devices ≡ true
+own_ends p = all_alike is_same_device own_device p.devices
+
+pub equal_but_ticks_is_alike : EqualButTicksIsAlike
+equal_but_ticks_is_alike a b same =
+    let since = a.counts.since in
+    let other = b.counts.since in
+    let ports : map (ending_port since) a.ports ≡ map (ending_port other) b.ports = ap (λ (s : Saved). s.ports) same in
+    let objects : a.objects ≡ b.objects = ap (λ (s : Saved). s.objects) same in
+    let routes : a.routes ≡ b.routes = ap (λ (s : Saved). s.routes) same in
+    let denials : a.counts.denials ≡ b.counts.denials = ap (λ (s : Saved). s.counts.denials) same in
+    and_from (lasts_alike a b) _
+    (and_from (pointwise is_same_port a.ports b.ports) (pointwise is_same_object a.objects b.objects)
+    (alike_by is_same_port is_same_port (ending_port since) (ending_port other) (λ x y. refl) own_port a.ports b.ports ports)
+    (ap (λ (l : List SavedObject). pointwise is_same_object l b.objects) objects ∙ all_alike is_same_object own_object b.objects))
+    (and_from (pointwise (are_ending_alike since other) a.ports b.ports) _
+    (alike_by (are_ending_alike since other) (λ p q. pointwise is_same_device p.devices q.devices) (ending_port since) (ending_port other)
+    (λ x y. same_of_both (ends_alike since other) is_same_device (ending since) (ending other) (λ c d. refl) x.devices y.devices) own_ends
+    a.ports b.ports ports)
+    (and_from (pointwise is_same_route a.routes b.routes) (nat_eq a.counts.denials b.counts.denials)
+    (ap (λ (l : Routed). pointwise is_same_route l b.routes) routes ∙ all_alike is_same_route own_route b.routes)
+    (ap (λ (n : ℕ). nat_eq n b.counts.denials) denials ∙ nat_eq_equiv.refl b.counts.denials)))

@@ -4,7 +4,7 @@ use Rattle.std.specs.Prelude.{Result, Ok, Err}
 use Rattle.gw_script.specs.Event.{Event}
 use Rattle.gw_core.specs.History.{state_from}
 use Rattle.gw_core.specs.State.{State}
-use Rattle.gw_turns.specs.Both.{GoOnUnderSecond, IsUnderFirst, first_moment, second_moment}
+use Rattle.gw_turns.specs.Both.{GoOnUnderFirst, GoOnUnderSecond, IsUnderFirst, IsUnderSecond, first_moment, second_moment}
 use Rattle.gw_core.specs.Guard.{LetsAllGo, PassesBoth}
 use Rattle.gw_turns.specs.Serve.{Turn, empty_turn, failed_turn, lost_event, taken_event, turn_events}
 use Rattle.gw_turns.specs.Stretch.{AreGuarded, EndsStretch, GoOn, GuardsTurn, IsFaulty, IsWithheld, Moment}
@@ -67,9 +67,8 @@ second_turns First Second g h w (turn ∷ turns) p = (
   second_turns First Second p.0 h (state_from w (turn_events turn)) turns p.2,
 )
 
-first_goes : {G H : Type 0} (First : G → State → Event → G → Bool → Type 0) (Second : H → State → Event → H → Bool → Type 0)
-    (before after : Moment (Both G H)) (turns : List Turn) → GoOn (PassesBoth First Second) before turns after
-    → GoOn First (first_moment before) turns (first_moment after)
+pub first_goes : {G H : Type 0} (First : G → State → Event → G → Bool → Type 0) (Second : H → State → Event → H → Bool → Type 0)
+    → GoOnUnderFirst First Second
 first_goes First Second before after turns p = record {
   went = p.went;
   guarded = first_turns First Second before.guard after.guard before.scene.gateway turns p.guarded;
@@ -135,6 +134,63 @@ under_first First Second lets count before after (Err fault) p = record {
   last = record {
     last = p.last.last;
     guard = ap (λ (b : Both _ _). b.first) p.last.guard;
+    counts = p.last.counts;
+    tally = p.last.tally;
+  };
+}
+
+second_withholds : (one two : Bool) → false ≡ (one && two) → one ≡ true → two ≡ false
+second_withholds true false is lets = refl
+second_withholds true true is lets = absurd cc
+second_withholds false two is lets = absurd cc
+
+-- what the first lets go, the second withholds
+pub second_withheld : {G H : Type 0} (First : G → State → Event → G → Bool → Type 0) (Second : H → State → Event → H → Bool → Type 0)
+    → LetsAllGo First → (g h : Both G H) (w : State) (event : Event) → PassesBoth First Second g w event h false
+    → Second g.second w event h.second false
+second_withheld First Second lets g h w event p = by p.0 refl
+  where
+    by : (one : Bool) → p.0 ≡ one → Second g.second w event h.second false
+    by true is = subst (λ (b : Bool). Second g.second w event h.second b) (second_withholds p.0 p.1 p.4 is) p.3
+    by false is = absurd (lets g.first h.first w event (subst (λ (b : Bool). First g.first w event h.first b) is p.2))
+
+pub under_second : {G H : Type 0} (First : G → State → Event → G → Bool → Type 0) (Second : H → State → Event → H → Bool → Type 0)
+    → IsUnderSecond First Second
+under_second First Second lets count before after (Ok Turns) p = record {
+  turns = p.turns;
+  all = p.all;
+  went = second_goes First Second before after p.turns p.went;
+  ticks = p.ticks;
+}
+under_second First Second lets count before after (Ok Tick) p = record {
+  turns = p.turns;
+  fewer = p.fewer;
+  tries = p.tries;
+  went = second_goes First Second before after _ p.went;
+  ticks = p.ticks;
+}
+under_second First Second lets count before after (Ok Withheld) p = record {
+  turns = p.turns;
+  fewer = p.fewer;
+  then = second_moment p.then;
+  went = second_goes First Second before p.then p.turns p.went;
+  event = p.event;
+  last = record {
+    logged = p.last.logged;
+    passes = second_withheld First Second lets p.then.guard after.guard p.then.scene.gateway p.event p.last.passes;
+    counts = p.last.counts;
+    tally = p.last.tally;
+  };
+}
+under_second First Second lets count before after (Err fault) p = record {
+  turns = p.turns;
+  fewer = p.fewer;
+  then = second_moment p.then;
+  went = second_goes First Second before p.then p.turns p.went;
+  event = p.event;
+  last = record {
+    last = p.last.last;
+    guard = ap (λ (b : Both _ _). b.second) p.last.guard;
     counts = p.last.counts;
     tally = p.last.tally;
   };

@@ -22,7 +22,18 @@ IsUnderFirst {G} {H} First Second = LetsAllGo Second → (count : ℕ) (before a
     EndsStretch (PassesBoth First Second) count before answer after →
     EndsStretch First count (first_moment before) answer (first_moment after)
 
--- And turns that both passed were passed by the second.
+-- If the first lets all go, a stretch under both is one under the second alone.
+abbrev pub IsUnderSecond : {G H : Type 0} → (G → State → Event → G → Bool → Type 0) → (H → State → Event → H → Bool → Type 0) → Type 0
+IsUnderSecond {G} {H} First Second = LetsAllGo First → (count : ℕ) (before after : Moment (Both G H)) (answer : Result Pause ServeFault) →
+    EndsStretch (PassesBoth First Second) count before answer after →
+    EndsStretch Second count (second_moment before) answer (second_moment after)
+
+-- And turns that both passed were passed by the first.
+abbrev pub GoOnUnderFirst : {G H : Type 0} → (G → State → Event → G → Bool → Type 0) → (H → State → Event → H → Bool → Type 0) → Type 0
+GoOnUnderFirst {G} {H} First Second = (before after : Moment (Both G H)) (turns : List Turn) →
+    GoOn (PassesBoth First Second) before turns after → GoOn First (first_moment before) turns (first_moment after)
+
+-- And by the second.
 abbrev pub GoOnUnderSecond : {G H : Type 0} → (G → State → Event → G → Bool → Type 0) → (H → State → Event → H → Bool → Type 0) → Type 0
 GoOnUnderSecond {G} {H} First Second = (before after : Moment (Both G H)) (turns : List Turn) →
     GoOn (PassesBoth First Second) before turns after → GoOn Second (second_moment before) turns (second_moment after)

@@ -1,11 +1,11 @@
 -- What is kept of a gateway in a store: the text of its state, before what lasts is answered, and each ten ticks.
-use Rattle.std.specs.Prelude.{◌≡◌, ◌⊎◌, ℕ, ◌+◌, ◌-◌, ◌<◌, ◌≤◌, ◌^◌, ◌&&◌, Bool, true, false, if◌then◌else◌, nat_eq, nat_le, nat_lt, not, length, List, [], map, Option, Some, None, ⊤}
+use Rattle.std.specs.Prelude.{◌≡◌, ◌⊎◌, ℕ, ◌+◌, ◌-◌, ◌<◌, ◌≤◌, ◌^◌, ◌&&◌, Bool, true, false, if◌then◌else◌, nat_eq, nat_le, List, [], map, Option, Some, None, ⊤}
 use Rattle.std.specs.Prelude.{Result, Ok, Err}
 use Rattle.std.specs.Cmp.Lexicographic.{pointwise}
-use Rattle.std.specs.List.{list_any}
 use Rattle.gw_objects.specs.declared.value.PropertyValue.{PropertyValue}
 use Rattle.gw_objects.specs.Values.{same_value}
 use Rattle.gw_tables.specs.declared.routes.route.Route.{Route}
+use Rattle.gw_tables.specs.declared.bdt_fdt.kept.KeptDevice.{KeptDevice}
 use Rattle.gw_state.specs.declared.port.SavedPort.{SavedPort}
 use Rattle.gw_tables.specs.bdt_fdt.Registrations.{same as same_address}
 use Rattle.gw_state.specs.Carried.{same_entry}
@@ -79,16 +79,30 @@ EqualIsAlike = (a b : Saved) → lasting_of a ≡ lasting_of b → lasts_alike a
 
 -- ---- whether all is the same but the ticks
 
--- what is saved, without the ticks that there were
+-- a foreign device that is kept after so many ticks, with the tick at which it ends in the place of how many are left
+abbrev pub ending : (since : ℕ) → KeptDevice → KeptDevice
+ending since d = record d { left = since + d.left }
+
+abbrev pub ending_port : (since : ℕ) → SavedPort → SavedPort
+ending_port since p = record p { devices = map (ending since) p.devices }
+
+-- what is saved, with the tick at which each registration ends, and without the ticks that there were
 abbrev pub but_ticks : Saved → Saved
-but_ticks s = record s { counts = record { since = 0; ticks = 0; denials = s.counts.denials } }
+but_ticks s = record s {
+  ports = map (ending_port s.counts.since) s.ports;
+  counts = record { since = 0; ticks = 0; denials = s.counts.denials };
+}
 
-abbrev pub has_device : SavedPort → Bool
-has_device p = nat_lt 0 (length p.devices)
+abbrev pub is_same_device : KeptDevice → KeptDevice → Bool
+is_same_device a b = same_address a.address b.address && (nat_eq a.time_to_live b.time_to_live && nat_eq a.left b.left)
 
--- a foreign device is registered, which has fewer ticks left with each tick
-abbrev pub has_devices : Saved → Bool
-has_devices s = list_any has_device s.ports
+-- two foreign devices, each kept after so many ticks, are one, and end at the same tick
+abbrev pub ends_alike : (since other : ℕ) → KeptDevice → KeptDevice → Bool
+ends_alike since other a b = is_same_device (ending since a) (ending other b)
+
+-- so it is for those of two ports, one by one
+abbrev pub are_ending_alike : (since other : ℕ) → SavedPort → SavedPort → Bool
+are_ending_alike since other a b = pointwise (ends_alike since other) a.devices b.devices
 
 abbrev pub is_same_route : ℕ × Route → ℕ × Route → Bool
 is_same_route a b = nat_eq a.0 b.0 && (nat_eq a.1.port b.1.port && same_address a.1.next b.1.next)
@@ -97,13 +111,16 @@ is_same_route a b = nat_eq a.0 b.0 && (nat_eq a.1.port b.1.port && same_address 
 abbrev pub alike_but_ticks : Saved → Saved → Bool
 alike_but_ticks a b =
     lasts_alike a b
-    && (not (has_devices a)
-    && (not (has_devices b)
-    && (pointwise is_same_route a.routes b.routes && nat_eq a.counts.denials b.counts.denials)))
+    && (pointwise (are_ending_alike a.counts.since b.counts.since) a.ports b.ports
+    && (pointwise is_same_route a.routes b.routes && nat_eq a.counts.denials b.counts.denials))
 
 -- if they are alike but for the ticks, they are equal but for the ticks
 abbrev pub AlikeButTicksIsEqual : Type 0
 AlikeButTicksIsEqual = (a b : Saved) → alike_but_ticks a b ≡ true → but_ticks a ≡ but_ticks b
+
+-- and if they are equal but for the ticks, they are alike: only a registration that is new, renewed or gone differs
+abbrev pub EqualButTicksIsAlike : Type 0
+EqualButTicksIsAlike = (a b : Saved) → but_ticks a ≡ but_ticks b → alike_but_ticks a b ≡ true
 
 -- ---- a keeper
 

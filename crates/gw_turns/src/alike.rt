@@ -1,13 +1,14 @@
 //! Whether of two saved states the same lasts.
 
-ghost use Rattle.std.specs.Prelude.{◌≡◌, Bool};
+ghost use Rattle.std.specs.Prelude.{◌≡◌, ◌+◌, Bool};
 ghost use Rattle.std.specs.Cmp.Lexicographic.{pointwise};
 ghost use Rattle.gw_state.specs.Carried.{same_entry};
-ghost use Rattle.gw_turns.specs.Keeping.{alike_but_ticks, has_device, has_devices, is_same, is_same_object, is_same_port, is_same_route, is_same_slot, lasts_alike};
+ghost use Rattle.gw_turns.specs.Keeping.{alike_but_ticks, are_ending_alike, ends_alike, is_same, is_same_object, is_same_port, is_same_route, is_same_slot, lasts_alike};
 
 use gw_addr::{BdtEntry, NetNum};
 use gw_objects::PropertyValue;
 use gw_state::{Saved, SavedObject, SavedPort};
+use gw_tables::bdt_fdt::KeptDevice;
 use gw_tables::routes::Route;
 
 /// What of two saved states is compared.
@@ -15,7 +16,7 @@ use gw_tables::routes::Route;
 pub enum Part {
     /// What lasts: the ports with their tables of peers, and the objects with their slots and defaults.
     Lasting,
-    /// All but how many ticks there were.
+    /// All but how many ticks there were, and how many are left of a registration that ends at the same tick.
     AllButTicks,
 }
 
@@ -41,24 +42,59 @@ fn alike_but_ticks(a: &Saved, b: &Saved) -> bool
     ensures { result ≡ alike_but_ticks a.now b.now }
 {
     lasts_alike(a, b)
-        && !has_devices(a)
-        && !has_devices(b)
+        && have_same_ends(a, b)
         && are_alike(a.routes(), b.routes())
         && a.counts().denials == b.counts().denials
 }
 
-/// Whether a foreign device is registered.
-fn has_devices(saved: &Saved) -> bool
-    ensures { result ≡ has_devices saved.now }
+/// Whether at the ports of two saved states the same foreign devices are registered, and each ends at the same tick.
+fn have_same_ends(a: &Saved, b: &Saved) -> bool
+    ensures { result ≡ pointwise (are_ending_alike a.now.counts.since b.now.counts.since) a.now.ports b.now.ports }
 {
-    saved.ports().iter().any(|port| has_device(port))
+    let (since, other) = (a.counts().since, b.counts().since);
+    let (ports, others) = (a.ports(), b.ports());
+    if ports.len() != others.len() {
+        return false;
+    }
+    for (place, port) in ports.iter().enumerate() {
+        let devices = port.devices.as_slice();
+        if !are_ending_alike(since, other, devices, others[place].devices.as_slice()) {
+            return false;
+        }
+    }
+    true
 }
 
-/// Whether a foreign device is registered at a port.
-fn has_device(port: &SavedPort) -> bool
-    ensures { result ≡ has_device port.now }
+/// Whether these foreign devices, kept after so many ticks, are those that were kept after so many others, and each ends at the same
+/// tick.
+fn are_ending_alike(since: u64, other: u64, a: &[KeptDevice], b: &[KeptDevice]) -> bool
+    ensures { result ≡ pointwise (ends_alike since other) a.now b.now }
 {
-    0 < port.devices.as_slice().len()
+    if a.len() != b.len() {
+        return false;
+    }
+    for (place, device) in a.iter().enumerate() {
+        if !ends_alike(since, other, *device, b[place]) {
+            return false;
+        }
+    }
+    true
+}
+
+/// Whether two foreign devices, each kept after so many ticks, are one, and end at the same tick.
+fn ends_alike(since: u64, other: u64, a: KeptDevice, b: KeptDevice) -> bool
+    ensures { result ≡ ends_alike since other a b }
+{
+    a.address == b.address
+        && a.time_to_live == b.time_to_live
+        && end_of(since, a) == end_of(other, b)
+}
+
+/// The tick at which a foreign device ends that is kept after so many ticks.
+fn end_of(since: u64, device: KeptDevice) -> u128
+    ensures { result ≡ since + device.left }
+{
+    u128::from(since) + u128::from(device.left)
 }
 
 /// What can be alike.

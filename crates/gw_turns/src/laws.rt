@@ -2,8 +2,8 @@
 
 ghost use Rattle.std.specs.Prelude.{◌≡◌};
 ghost use Rattle.gw_turns.specs.Announcing.{NothingDueNothingDone, PortsAreAll, UnannouncedIsSilent};
-ghost use Rattle.gw_turns.specs.Both.{GoOnUnderSecond, IsUnderFirst};
-ghost use Rattle.gw_turns.specs.Keeping.{AlikeButTicksIsEqual, AlikeIsEqual, EqualIsAlike, EventsTryFew, FailingIsSpared, RestsAtTicks, RestsEnd, TicksBeginAnew, TicksKeepRecent};
+ghost use Rattle.gw_turns.specs.Both.{GoOnUnderFirst, GoOnUnderSecond, IsUnderFirst, IsUnderSecond};
+ghost use Rattle.gw_turns.specs.Keeping.{AlikeButTicksIsEqual, AlikeIsEqual, EqualButTicksIsAlike, EqualIsAlike, EventsTryFew, FailingIsSpared, RestsAtTicks, RestsEnd, TicksBeginAnew, TicksKeepRecent};
 ghost use Rattle.gw_turns.specs.Logged.{ServingLogsFirst, StopsLogFirst, StretchesLogFirst};
 ghost use Rattle.gw_turns.specs.Pace.{PausesGrow};
 ghost use Rattle.gw_turns.specs.Served.{StopsAreServed, TurnsAreServed};
@@ -35,12 +35,13 @@ pub fn logged_first<G: Guard>()
 {}
 
 /// When a keeper doesn't write: of two saved states that it takes for alike the same lasts, and it takes all such for
-/// alike; or they differ only in their ticks. And after each tick the text is that of a state fewer than ten ticks ago, or
-/// of one that differs only in its ticks, unless the last try failed.
+/// alike; or they differ only in their ticks, and it takes all such for alike: no registration is new, renewed or gone. And after each
+/// tick the text is that of a state fewer than ten ticks ago, or of one that differs only in its ticks, unless the last try failed.
 pub fn keeping<S: Store>()
     ensures lasting { AlikeIsEqual }
     ensures alike { EqualIsAlike }
     ensures but_ticks { AlikeButTicksIsEqual }
+    ensures alike_but_ticks { EqualButTicksIsAlike }
     ensures recent { TicksKeepRecent S.held }
 {}
 
@@ -68,9 +69,11 @@ pub fn unannounced()
     ensures nothing_due { NothingDueNothingDone }
 {}
 
-/// Under two guards: if the second lets all go, a stretch is one under the first alone, which knows nothing of the second; and
-/// turns go on under the second as under both.
+/// Under two guards: if one lets all go, a stretch is one under the other alone, which knows nothing of it; and turns go on under each
+/// as under both.
 pub fn two_guards<G: Guard, H: Guard>()
     ensures first { IsUnderFirst G.Passes H.Passes }
     ensures second { GoOnUnderSecond G.Passes H.Passes }
+    ensures second_alone { IsUnderSecond G.Passes H.Passes }
+    ensures first_passed { GoOnUnderFirst G.Passes H.Passes }
 {}

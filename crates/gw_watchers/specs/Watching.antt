@@ -1,5 +1,5 @@
 -- What a watcher does about what an event asked.
-use Rattle.std.specs.Prelude.{◌≡◌, ◌⊎◌, ⊤, ℕ, ◌+◌, ◌-◌, ◌^◌, ◌||◌, Bool, true, min, is_some, List, []}
+use Rattle.std.specs.Prelude.{◌≡◌, ◌⊎◌, ⊤, ℕ, ◌+◌, ◌-◌, ◌^◌, ◌||◌, ◌&&◌, not, Bool, true, min, is_some, List, []}
 use Rattle.std.specs.Prelude.{codes, if◌then◌else◌, Option, Some, None}
 use Rattle.gw_core.specs.Asked.{asked_at}
 use Rattle.gw_core.specs.Effects.{NeedsNoMemory}
@@ -7,19 +7,28 @@ use Rattle.gw_core.specs.History.{next}
 use Rattle.gw_core.specs.State.{State}
 use Rattle.gw_core.specs.declared.asked.Asked.{Asked}
 use Rattle.gw_decisions.specs.Counted.{AreCounted}
+use Rattle.gw_rules.specs.declared.format.Format.{Format}
 use Rattle.gw_rules.specs.declared.rule.Rule.{Rule}
 use Rattle.gw_script.specs.Event.{Event}
 use Rattle.gw_watchers.specs.Beside.{IsRecorded}
 use Rattle.gw_watchers.specs.Records.{audited_by, denied_by, records}
+use Rattle.gw_watchers.specs.files.Trial.{is_same_format}
 use Rattle.gw_watchers.specs.declared.beside.Beside.{Beside}
 
--- what is watched: a policy on trial, an audit, and how often each rule decided, each if it is wanted; and how many events
--- weren't seen
+-- what is watched: a policy on trial, an audit, and how often each rule decided, each if it is wanted; how many events
+-- weren't seen; the format of the trial; and whether the trial ended
 pub record Watching (T A : Type 0) : Type 0 where
   pub trial : Option (Beside (List Rule) T)
   pub audit : Option (Beside (List Bool) A)
   pub counts : Option (List ℕ)
   pub unseen : ℕ
+  pub format : Format
+  pub ended : Bool
+
+-- a configuration of this format is in force: a trial of another one ends
+abbrev pub ended_by : {T A : Type 0} → Format → Watching T A → Watching T A
+ended_by format w =
+    if not (is_same_format w.format format) && is_some w.trial then record w { trial = None; ended = true } else w
 
 -- an audit of other marks
 abbrev pub with_marks : {A : Type 0} → List Bool → Beside (List Bool) A → Beside (List Bool) A
@@ -61,6 +70,8 @@ pub record Watches {T A : Type 0} (trial : T → Option (List ℕ)) (audit : A �
   pub audited : IsAudited audit w asked before.audit after.audit
   pub counted : IsCounted asked before.counts after.counts
   pub unseen : after.unseen ≡ before.unseen
+  pub format : after.format ≡ before.format
+  pub ended : after.ended ≡ before.ended
 
 -- an event isn't seen: that is counted, if something is watched
 abbrev pub Missed : {T A : Type 0} → (before after : Watching T A) → Type 0

@@ -5,4 +5,5 @@ mod numbers;
 mod opening;
 
 pub use fault::{TrialFault, WatchFault};
+pub use fitting::is_same_format;
 pub use opening::{open_audit, open_trial};

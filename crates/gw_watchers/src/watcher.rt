@@ -1,15 +1,17 @@
 //! What watches the asks of a gateway, and withholds nothing.
 
-ghost use Rattle.std.specs.Prelude.{◌≡◌, ◌+◌, ◌-◌, option_map, true};
+ghost use Rattle.std.specs.Prelude.{◌≡◌, ◌+◌, ◌-◌, option_map, false, true};
 ghost use Rattle.gw_core.specs.declared.asked.Asked.{Asked};
-ghost use Rattle.gw_watchers.specs.Watching.{HasWatched, Missed, Watches, Watching, is_watching, with_marks};
+ghost use Rattle.gw_watchers.specs.Watching.{HasWatched, Missed, Watches, Watching, ended_by, is_watching, with_marks};
 
 use crate::audit::Marks;
 use crate::beside::Beside;
+use crate::files::is_same_format;
 use gw_core::{AllAsked, Asked, Gateway, Guard, Taken};
 use gw_decisions::count_asked;
 use gw_decisions::tally::Tally;
 use gw_rule_index::Policy;
+use gw_rules::Format;
 use gw_script::OctetSink;
 use std::alloc::Global;
 use std::marker::Model;
@@ -21,6 +23,8 @@ pub struct Watcher<T, A> {
     audit: Option<Beside<Marks, A>>,
     counts: Option<Tally>,
     unseen: u64,
+    format: Format,
+    ended: bool,
     text: Vec<u8>,
 }
 
@@ -32,6 +36,8 @@ impl<T: Drop, A: Drop> Drop for Watcher<T, A> {
             audit: _,
             counts: _,
             unseen: _,
+            format: _,
+            ended: _,
             text: _,
         } = self;
     }
@@ -42,24 +48,34 @@ impl<T, A> Model for Watcher<T, A> {
 
     ghost Value = { Watching T A };
 
-    ghost view = { λ w. record { trial = w.trial; audit = w.audit; counts = w.counts; unseen = w.unseen } };
+    ghost view = { λ w. record {
+      trial = w.trial;
+      audit = w.audit;
+      counts = w.counts;
+      unseen = w.unseen;
+      format = w.format;
+      ended = w.ended;
+    } };
 }
 
 impl<T: OctetSink + Drop, A: OctetSink + Drop> Watcher<T, A> {
-    /// Watches for these: each only if there is one. It takes no memory.
+    /// Watches for these, by a configuration of this format: each only if there is one. It takes no memory.
     pub fn new(
         alloc: Global,
+        format: Format,
         trial: Option<Beside<Policy, T>>,
         audit: Option<Beside<Marks, A>>,
         counts: Option<Tally>,
     ) -> Self
-        ensures { result ≡ record { trial = trial; audit = audit; counts = counts; unseen = 0 } }
+        ensures { result ≡ record { trial = trial; audit = audit; counts = counts; unseen = 0; format = format; ended = false } }
     {
         Watcher {
             trial,
             audit,
             counts,
             unseen: 0,
+            format,
+            ended: false,
             text: Vec::new(alloc),
         }
     }
@@ -92,10 +108,30 @@ impl<T: OctetSink + Drop, A: OctetSink + Drop> Watcher<T, A> {
         self.unseen
     }
 
-    /// Goes on by other rules: these of them are marked, and these are their counts so far.
-    pub fn go_on(&mut self, marks: Marks, counts: Option<Tally>)
-        ensures { self.new ≡ record self.old { audit = option_map (with_marks marks) self.old.audit; counts = counts } }
+    /// Whether the trial ended, since a configuration of another format is in force.
+    pub fn has_ended(&self) -> bool
+        ensures { result ≡ self.now.ended }
     {
+        self.ended
+    }
+
+    /// Ends a trial of another format than this one.
+    fn end_trial(&mut self, format: Format)
+        ensures { self.new ≡ ended_by format self.old }
+    {
+        if !is_same_format(self.format, format) && self.trial.is_some() {
+            self.trial = None;
+            self.ended = true;
+        }
+    }
+
+    /// Goes on by other rules, of a configuration of this format: these of them are marked, and these are their counts so far. A
+    /// trial of another format ends.
+    pub fn go_on(&mut self, marks: Marks, counts: Option<Tally>, format: Format)
+        ensures { self.new ≡ ended_by format
+            (record self.old { audit = option_map (with_marks marks) self.old.audit; counts = counts }) }
+    {
+        self.end_trial(format);
         if let Some(audit) = &mut self.audit {
             audit.choice = marks;
         }

@@ -27,7 +27,7 @@ use Rattle.gw_service.specs.Kept.{Given, KeepsFirst, manner_of, reporting_of, wa
 use Rattle.gw_service.specs.Stats.{Reporting}
 use Rattle.gw_service.specs.declared.keeping.Kept.{Kept}
 use Rattle.gw_service.specs.declared.keeping.Kept.TheVariants.{Nowhere, In}
-use Rattle.gw_state_laws.specs.keeping.Laws.{FirstIsCurrent, IsCurrent, IsCurrentIn, IsRecentIn, KeepsAt, KeepsAtEnd, KeepsCurrent, KeptIsUpToDate, RunsEndCurrent, RunsKeepCurrent, RunsKeepLast, RunsKeepRecent, WatchedRunsEndCurrent, WatchedRunsKeepCurrent, WatchedRunsKeepLast, WatchedRunsKeepRecent, first_part, itself}
+use Rattle.gw_state_laws.specs.keeping.Laws.{FirstIsCurrent, IsCurrent, IsCurrentIn, IsRecentIn, KeepsAt, KeepsAtEnd, KeepsCurrent, KeptIsUpToDate, RunsEndCurrent, RunsKeepCurrent, RunsKeepLast, RunsKeepRecent, WatchedRunsEndCurrent, WatchedRunsKeepCurrent, WatchedRunsKeepLast, WatchedRunsKeepRecent, second_part, itself}
 use Rattle.gw_state_laws.proofs.keeping_lemmas.Currency.{current_is_up_to_date, event_current, passed_has, ticks_keep_current, tried_is_current}
 
 -- ---- a keeper of the configuration in force
@@ -122,10 +122,10 @@ whole held how = record {
   adopts = λ k l c w p. p;
 }
 
-first : {S L : Type 0} (held : S → Option (List ℕ)) (log_held : L → Option (List ℕ)) (how : Reporting)
-    → IsPart held first_part (watched_manner_of held log_held how)
-first held log_held how = record {
-  passes = λ k l w event passes p. (p.0, p.2);
+second : {S L : Type 0} (held : S → Option (List ℕ)) (log_held : L → Option (List ℕ)) (how : Reporting)
+    → IsPart held second_part (watched_manner_of held log_held how)
+second held log_held how = record {
+  passes = λ k l w event passes p. (p.1, p.3);
   ticks = λ k l w p. p.0;
   adopts = λ k l c w p. p.0;
 }
@@ -226,7 +226,7 @@ runs_keep_current held how s t links p now = links_keep held itself (manner_of h
 pub watched_runs_keep_current : {S L : Type 0} (held : S → Option (List ℕ)) (log_held : L → Option (List ℕ))
     → WatchedRunsKeepCurrent held log_held
 watched_runs_keep_current held log_held how s t links p now =
-    links_keep held first_part (watched_manner_of held log_held how) (first held log_held how) s t links p now
+    links_keep held second_part (watched_manner_of held log_held how) (second held log_held how) s t links p now
 
 -- ---- at the end
 
@@ -273,10 +273,10 @@ runs_end_current given store same c how before after text outcome run =
 pub watched_runs_end_current : {S Q L : Type 0} (given : Given S Q L) → WatchedRunsEndCurrent given
 watched_runs_end_current given store same watcher c how before after text outcome run =
     let reports = reporting_of given how run.gateway in
-    end_keeps given.held first_part (watched_manner_of given.held given.log_held reports) (first given.held given.log_held reports)
+    end_keeps given.held second_part (watched_manner_of given.held given.log_held reports) (second given.held given.log_held reports)
     how.turns _ run.runs.last run.answer run.runs.links run.runs.runs
-    (begun_keeps given.held first_part _ run.runs.begun run.runs.begins
-    (given_keeps given.held given.store store c run.gateway run.keeper.first same run.keeps))
+    (begun_keeps given.held second_part _ run.runs.begun run.runs.begins
+    (given_keeps given.held given.store store c run.gateway run.keeper.second same run.keeps))
 
 -- ---- what is kept last
 
@@ -303,9 +303,9 @@ runs_keep_last given store same c how before after text outcome run =
 pub watched_runs_keep_last : {S Q L : Type 0} (given : Given S Q L) → WatchedRunsKeepLast given
 watched_runs_keep_last given store same watcher c how before after text outcome run =
     let reports = reporting_of given how run.gateway in
-    let there = kept_at_end given.held first_part (watched_manner_of given.held given.log_held reports) how.turns _ run.runs.last run.answer
+    let there = kept_at_end given.held second_part (watched_manner_of given.held given.log_held reports) how.turns _ run.runs.last run.answer
     run.runs.links run.runs.runs (watched_runs_end_current given store same watcher c how before after text outcome run) in
-    keeps_in given.held run.runs.last.now.guard.first run.left.keeper.first there.0 run.runs.last.now.scene.gateway there.1
+    keeps_in given.held run.runs.last.now.guard.second run.left.keeper.second there.0 run.runs.last.now.scene.gateway there.1
     run.runs.ends.keeps.0
 
 -- ---- in the store
@@ -378,4 +378,4 @@ runs_keep_recent held how stops s t turns look text p =
 pub watched_runs_keep_recent : {S L : Type 0} (held : S → Option (List ℕ)) (log_held : L → Option (List ℕ))
     → WatchedRunsKeepRecent held log_held
 watched_runs_keep_recent held log_held how stops s t turns look text p =
-    tick_recent held first_part (watched_manner_of held log_held how) (first held log_held how) stops s t turns look text p
+    tick_recent held second_part (watched_manner_of held log_held how) (second held log_held how) stops s t turns look text p

@@ -104,12 +104,12 @@ KeepsAtEnd held part manner count first (Ok end) links last runs = KeepsAt held 
 KeepsAtEnd held part manner count first (Err fault) links last runs =
     KeepsCurrent held (part last.now.guard) last.config runs.ends.ends.then.scene.gateway
 
--- the guard of a run that isn't watched keeps the state itself, and the first part of one that is
+-- the guard of a run that isn't watched keeps the state itself, and the second part of one that is
 abbrev pub itself : {S : Type 0} → Kept S → Kept S
 itself kept = kept
 
-abbrev pub first_part : {S L : Type 0} → Both (Kept S) (Watching L L) → Kept S
-first_part both = both.first
+abbrev pub second_part : {S L : Type 0} → Both (Watching L L) (Kept S) → Kept S
+second_part both = both.second
 
 -- If a store is given, the state is kept in it and current at once.
 abbrev pub FirstIsCurrent : {S : Type 0} → (S → Option (List ℕ)) → Type 0
@@ -122,8 +122,8 @@ RunsKeepCurrent {S} held = (how : Reporting) (s t : Stage (Kept S)) (links : Lis
     KeepsAt held itself s → KeepsAt held itself t
 
 abbrev pub WatchedRunsKeepCurrent : {S L : Type 0} → (S → Option (List ℕ)) → (L → Option (List ℕ)) → Type 0
-WatchedRunsKeepCurrent {S} {L} held log_held = (how : Reporting) (s t : Stage (Both (Kept S) (Watching L L))) (links : List Link) →
-    AreLinks (watched_manner_of held log_held how) s links t → KeepsAt held first_part s → KeepsAt held first_part t
+WatchedRunsKeepCurrent {S} {L} held log_held = (how : Reporting) (s t : Stage (Both (Watching L L) (Kept S))) (links : List Link) →
+    AreLinks (watched_manner_of held log_held how) s links t → KeepsAt held second_part s → KeepsAt held second_part t
 
 -- So a run to which a store is given keeps the state in it to its end.
 abbrev pub RunsEndCurrent : {S Q L : Type 0} → Given S Q L → Type 0
@@ -136,7 +136,7 @@ abbrev pub WatchedRunsEndCurrent : {S Q L : Type 0} → Given S Q L → Type 0
 WatchedRunsEndCurrent {S} {Q} {L} given = (store : S) → given.store ≡ Some store → (watcher : Watching L L) (c : Configuration)
     (how : Service) (before after : Ends) (text : List ℕ) (outcome : Result (Unit {0}) ServiceFault) →
     (run : RunsWatched given watcher c how before after text outcome) →
-    KeepsAtEnd given.held first_part (watched_manner_of given.held given.log_held (reporting_of given how run.gateway)) how.turns _
+    KeepsAtEnd given.held second_part (watched_manner_of given.held given.log_held (reporting_of given how run.gateway)) how.turns _
     run.answer run.runs.links run.runs.last run.runs.runs
 
 -- A keeper that is current in this state keeps it in a store.
@@ -155,7 +155,7 @@ abbrev pub WatchedRunsKeepLast : {S Q L : Type 0} → Given S Q L → Type 0
 WatchedRunsKeepLast {S} {Q} {L} given = (store : S) → given.store ≡ Some store → (watcher : Watching L L) (c : Configuration)
     (how : Service) (before after : Ends) (text : List ℕ) (outcome : Result (Unit {0}) ServiceFault) →
     (run : RunsWatched given watcher c how before after text outcome) →
-    IsCurrentIn given.held run.runs.last.now.scene.gateway run.left.keeper.first
+    IsCurrentIn given.held run.runs.last.now.scene.gateway run.left.keeper.second
 
 -- Where it is current and no last try failed, the store is up to date, as that of a gateway of the configuration in force.
 abbrev pub KeptIsUpToDate : {S : Type 0} → (S → Option (List ℕ)) → Type 0
@@ -172,6 +172,6 @@ RunsKeepRecent {S} held = (how : Reporting) (stops : Bool) (s t : Stage (Kept S)
     IsTicked (manner_of held how) stops s turns look text t → IsRecentIn t.now.guard t.now.scene.gateway
 
 abbrev pub WatchedRunsKeepRecent : {S L : Type 0} → (S → Option (List ℕ)) → (L → Option (List ℕ)) → Type 0
-WatchedRunsKeepRecent {S} {L} held log_held = (how : Reporting) (stops : Bool) (s t : Stage (Both (Kept S) (Watching L L))) (turns : List Turn)
+WatchedRunsKeepRecent {S} {L} held log_held = (how : Reporting) (stops : Bool) (s t : Stage (Both (Watching L L) (Kept S))) (turns : List Turn)
     (look : Look) (text : List ℕ) → IsTicked (watched_manner_of held log_held how) stops s turns look text t →
-    IsRecentIn t.now.guard.first t.now.scene.gateway
+    IsRecentIn t.now.guard.second t.now.scene.gateway

@@ -79,12 +79,16 @@ pub record IsOnTrial {Log : Type 0} (FileReads LastDenials : List ℕ → Result
   pub choice : b.choice ≡ config.rules
   pub opened : IsOpened LastDenials LogOpens log b
 
+-- Memory may run out at reading this file, and at any text of it.
+abbrev pub MayRunOut : (FileReads : List ℕ → Result (Option (List ℕ)) ReadFailure → Type 0) → List ℕ → Type 0
+MayRunOut FileReads name = ((text : List ℕ) × FileReads name (Ok (Some text))) ⊎ FileReads name (Err reading.Memory)
+
 -- Why they aren't: the file can't be read, and why; it has no configuration; one of another format, or with other ports; or
--- the log can't be had. Memory may run out at any.
+-- the log can't be had. Memory may run out, but where there is no file or it can't be read.
 abbrev pub IsNoTrial : {Log : Type 0} → (FileReads LastDenials : List ℕ → Result (Option (List ℕ)) ReadFailure → Type 0)
     → LogOpening Log
     → Configuration → (rules log : List ℕ) → WatchFault → Type 0
-IsNoTrial FileReads LastDenials LogOpens c rules log fault.Memory = ⊤
+IsNoTrial FileReads LastDenials LogOpens c rules log fault.Memory = MayRunOut FileReads rules
 IsNoTrial FileReads LastDenials LogOpens c rules log (fault.Trial (trial.Unreadable why)) = IsUnreadable FileReads rules why
 IsNoTrial FileReads LastDenials LogOpens c rules log (fault.Trial (trial.Configuration f)) =
     (text : List ℕ) × FileReads rules (Ok (Some text)) × (configuration text ≡ Err f)

@@ -8,7 +8,7 @@ use gw_configuration::Port;
 use gw_rules::Format;
 
 /// Whether two formats are the same.
-pub(crate) fn is_same_format(a: Format, b: Format) -> bool
+pub fn is_same_format(a: Format, b: Format) -> bool
     ensures { result ≡ is_same_format a b }
 {
     match (a, b) {

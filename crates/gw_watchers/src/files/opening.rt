@@ -65,12 +65,13 @@ fn check_fit(config: &Config, trial: &Config) -> Result<(), WatchFault>
     Ok(())
 }
 
-/// Opens the log of this name, to go on from its last denial. `Failed` if it can't be opened or read, and `Memory`.
+/// Opens the log of this name, to go on from its last denial. `Failed` if it can't be opened or read, or isn't a regular file, whose
+/// reader could hold up all; and `Memory`.
 fn open_after<H: Host>(alloc: Global, name: &str, host: &H) -> Result<Opened<H::Log>, LogFailure>
     ensures { let LogOpens = OpensAtLine (H.LogOpens host.now) (H.LogIsCut host.now) H.Log.held in
         IsOpenedBy (H.LastDenials host.now) LogOpens name.now result }
 {
-    let line = match host.last_denial(alloc, name) {
+    let line = match host.last_record(alloc, name) {
         Ok(line) => line,
         Err(ReadFailure::Memory) => return Err(LogFailure::Memory),
         Err(ReadFailure::Unreadable(_)) => return Err(LogFailure::Failed),
@@ -102,7 +103,7 @@ fn beside<C, S: OctetSink>(choice: C, opened: Opened<S>) -> Beside<C, S>
 /// # Errors
 ///
 /// 1 `Trial`, and why: the file can't be read or has no configuration, it is of another format than the one in force or has
-/// other ports, or the log can't be had. 2 `Memory`. Nothing is opened unless the rules can be on trial.
+/// other ports, or the log can't be had, also if it isn't a regular file. 2 `Memory`. Nothing is opened unless the rules can be on trial.
 pub fn open_trial<H: Host>(
     alloc: Global,
     config: &Config,
@@ -135,7 +136,7 @@ pub fn open_trial<H: Host>(
 ///
 /// # Errors
 ///
-/// 1 `Audit` if it can't be opened or read, and 2 `Memory`.
+/// 1 `Audit` if it can't be opened or read, or isn't a regular file, and 2 `Memory`.
 pub fn open_audit<H: Host>(
     alloc: Global,
     config: &Config,

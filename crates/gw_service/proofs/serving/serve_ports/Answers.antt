@@ -1,4 +1,4 @@
-use Rattle.std.proofs.Common.{List, ℕ, ◌++◌, ◌≡◌, ap, rules, subst}
+use Rattle.std.proofs.Common.{List, ℕ, ◌++◌, ◌≡◌, ap₂, rules, subst}
 use Rattle.std.specs.Io.Buffered.{writer_contents}
 use Rattle.std.specs.Io.KnownBytes.{Appends}
 use Rattle.std.specs.Prelude.{option_map, string_bytes}
@@ -14,7 +14,9 @@ pub returns-clause-served : goal.returns-clause-served
 returns-clause-served g c =
     let done = c.serve_kept.ensures.served in
     let note = c.unaudited_note.result.now in
+    let wait = c.waiting_note.result.now in
     let same : c.as_bytes.result.now ≡ note = search rules in
+    let as_said : c.as_bytes-2.result.now ≡ wait = search rules in
     let held = g.E.OctetSink.held in
     let old = c.args.host.now in
     let options = c.args.options.now in
@@ -23,17 +25,25 @@ returns-clause-served g c =
     let states = state_machine (g.H.Host.FileReads old) (g.H.Host.LastDenials old) (g.H.Host.StoreOpens old) (g.H.Host.ReloadsOpen old)
     g.H.StateStore.Store.held g.H.Reloads.Requests.recorded in
     let line = startup_line options.verbose c.args.config (option_map string_bytes options.log) in (
-      note ++ done.0,
+      (note ++ wait) ++ done.0,
       (
+        c.waiting_note.ensures.0,
         done.0,
-        ap (λ (t : List ℕ). t ++ done.0) c.unaudited_note.ensures,
+        ap₂ (λ (t u : List ℕ). (t ++ u) ++ done.0) c.unaudited_note.ensures c.waiting_note.ensures.1,
         (
           done.1,
           λ plain quiet. plain_is_served given states options (writer_contents g.W.Write.contents c.args.output.now)
               (writer_contents g.W.Write.contents c.serve_kept.new.output) c.args.config line done.0 c.serve_kept.result plain quiet done.1,
         ),
       ),
-      λ never. appends_two (held c.args.errors.now) (held c.write_note.new.errors) (held c.serve_kept.new.errors) note done.0
-          (subst (λ (t : List ℕ). Appends (held c.args.errors.now) (held c.write_note.new.errors) t) same (c.write_note.ensures.said never))
-          (done.2 (c.write_note.ensures.lasts never)),
+      λ never.
+          let first = held c.args.errors.now in
+          let second = held c.write_note.new.errors in
+          let third = held c.write_note-2.new.errors in
+          let one = c.write_note.ensures.lasts never in
+          appends_two first third (held c.serve_kept.new.errors) (note ++ wait) done.0
+          (appends_two first second third note wait
+          (subst (λ (t : List ℕ). Appends first second t) same (c.write_note.ensures.said never))
+          (subst (λ (t : List ℕ). Appends second third t) as_said (c.write_note-2.ensures.said one)))
+          (done.2 (c.write_note-2.ensures.lasts one)),
     )

@@ -7,7 +7,7 @@ use Rattle.gw_system.specs.declared.opening.LogFailure.{LogFailure}
 use Rattle.gw_system.specs.declared.opening.LogFailure.TheVariants as log_failure
 use Rattle.gw_system.specs.declared.reading.ReadFailure.{ReadFailure}
 use Rattle.gw_watchers.specs.files.Numbers.{IsNumberAfter}
-use Rattle.gw_watchers.specs.files.Trial.{IsUnopened, IsUnreadable, are_same_ports, is_same_format}
+use Rattle.gw_watchers.specs.files.Trial.{IsUnopened, IsUnreadable, MayRunOut, are_same_ports, is_same_format}
 use Rattle.gw_watchers.specs.declared.files.fault.TrialFault.TheVariants as trial
 use Rattle.gw_watchers.specs.declared.files.fault.WatchFault.{WatchFault}
 use Rattle.gw_watchers.specs.declared.files.fault.WatchFault.TheVariants as fault
@@ -24,7 +24,7 @@ abbrev pub IsUnread : (FileReads : List ℕ → Result (Option (List ℕ)) ReadF
 IsUnread FileReads name (fault.Trial (trial.Unreadable why)) = IsUnreadable FileReads name why
 IsUnread FileReads name (fault.Trial (trial.Configuration f)) =
     (text : List ℕ) × FileReads name (Ok (Some text)) × (configuration text ≡ Err f)
-IsUnread FileReads name fault.Memory = ⊤
+IsUnread FileReads name fault.Memory = MayRunOut FileReads name
 IsUnread FileReads name _ = ⊥
 
 -- one configuration can be on trial beside another
