@@ -120,6 +120,7 @@ impl Outgoing {
 }
 
 /// An empty buffer of the sends with memory for a payload after any headers.
+#[inline(always)]
 fn empty_buffer(sends: &mut Sends, payload: &[u8]) -> Result<Vec<u8>, AllocError>
     ensures empty { IfOk result (λ octets. octets.items ≡ []) }
     ensures room { let most = 526 + length payload.now in
