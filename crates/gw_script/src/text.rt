@@ -277,8 +277,9 @@ fn write_each(octets: &[u8], digits: &mut [u8])
     ensures { AreWritten octets.now digits.new (2 * length octets.now) }
 {
     for i in 0..octets.len() {
-        digits[2 * i] = digit_of(octets[i] >> 4);
-        digits[2 * i + 1] = digit_of(octets[i] & 15);
+        let octet = octets[i];
+        digits[2 * i] = digit_of(octet >> 4);
+        digits[2 * i + 1] = digit_of(octet & 15);
     }
 }
 
