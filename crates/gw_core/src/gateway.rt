@@ -20,7 +20,7 @@ use crate::event::Counts;
 use crate::fault::StepFault;
 use crate::receive::{Arrival, Received, read_npdu, receive};
 use crate::reporting::{DenialsAlone, Reporting};
-use crate::respond::{network_of, put, respond};
+use crate::respond::{network_of, put, respond, take_out};
 use crate::saving::saved_ports;
 use gw_addr::BipAddr;
 use gw_configuration::Config;
@@ -89,8 +89,8 @@ impl Taken {
         self.effects.clear();
         self.drop = None;
         self.lasts = false;
-        self.change = None;
-        self.write = None;
+        put(&mut self.change, None);
+        put(&mut self.write, None);
     }
 
     /// The allocator of what it does.
@@ -530,8 +530,8 @@ impl Gateway {
     {
         let now = &*self;
         let asked = R::outcome(now, alloc, arrival, taken)?;
-        let change = taken.change.take();
-        let write = taken.write.take();
+        let change = take_out(&mut taken.change);
+        let write = take_out(&mut taken.write);
         self.move_on(change, write, taken.effects.denials.len() as u64)?;
         Ok(asked)
     }

@@ -1,12 +1,13 @@
 //! What the gateway makes of a datagram before any policy is asked (Annex J.2, clause 6.2).
 
-ghost use Rattle.std.specs.Prelude.{◌≡◌, ◌==◌};
+ghost use Rattle.std.specs.Prelude.{◌≡◌, ◌==◌, Err};
 ghost use Rattle.std.specs.List.{list_any};
 ghost use Rattle.std.specs.Option.{option_map};
 ghost use Rattle.gw_frames.specs.bvll.Bvll.{view as frame_view};
 ghost use Rattle.gw_addr.specs.Reading.{Gives};
 ghost use Rattle.gw_frames.specs.bvll.Reading.{bvll_at};
 ghost use Rattle.gw_frames.specs.npdu.Npdu.{address_view, view as npdu_view};
+ghost use Rattle.gw_frames.specs.declared.npdu.fault.NpduFault.TheVariants.{Short};
 ghost use Rattle.gw_core.specs.Receive.{claims_direct, comes_in, is_direct, manages, payload_of, receive_on, receive_payload};
 ghost use Rattle.gw_core.specs.internal.Frame.{frame_npdu, npdu_in, unread_drop};
 ghost use Rattle.gw_core.specs.Drops.{drop_on, length_drop, payload_drop};
@@ -139,9 +140,19 @@ pub(crate) fn read_npdu<'a>(
     match frame {
         Ok(frame) => match payload_of(frame) {
             Some(octets) if octets.len() <= MAX_NPDU => { gw_frames::npdu::decode_to(octets, npdu) }
-            _ => *npdu = Err(NpduFault::Short),
+            _ => set_unread(npdu),
         },
-        Err(_) => *npdu = Err(NpduFault::Short),
+        Err(_) => set_unread(npdu),
+    }
+}
+
+/// Writes into its place that no NPDU was read. If that is there, nothing is written.
+#[inline(always)]
+fn set_unread(npdu: &mut Result<Npdu<'_>, NpduFault>)
+    ensures { Gives npdu_view npdu.new (Err Short) }
+{
+    if !matches!(npdu, Err(NpduFault::Short)) {
+        *npdu = Err(NpduFault::Short);
     }
 }
 

@@ -45,6 +45,18 @@ pub(crate) fn put<T: Drop>(place: &mut Option<T>, value: Option<T>)
     }
 }
 
+/// Takes the value out of its place. If there is none, nothing is moved.
+#[inline(always)]
+pub(crate) fn take_out<T: Drop>(place: &mut Option<T>) -> Option<T>
+    ensures value { result ≡ place.old }
+    ensures after { place.new ≡ None }
+{
+    if place.is_none() {
+        return None;
+    }
+    place.take()
+}
+
 /// Whether a message brings an APDU, and none of the network layer.
 fn is_apdu(message: &Message<'_>) -> bool
     ensures { result ≡ is_apdu (npdu_view message.now.npdu.now).payload }
@@ -240,7 +252,7 @@ pub(crate) fn respond<A: Asker>(
         asks_for rules relay.now device.now due ≡ [] →
         sends_for rules relay.now device.now due ≡ [] → IsOk result }
 {
-    *write = None;
+    put(write, None);
     match received {
         Received::Dropped(_) => Ok(()),
         Received::Managed(message) => {

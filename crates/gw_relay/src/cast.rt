@@ -1,7 +1,7 @@
 //! Broadcasts, and whom they are distributed to (Annex J.4, J.5).
 
 ghost use Rattle.std.specs.Prelude.{◌≡◌, ◌++◌, [], false, true, List, map, IfOk, IsOk, OnErr, OnOk, None, ◌+◌, ◌≤◌};
-ghost use Rattle.std.specs.Prelude.{drop, length, vec_capacity, vec_len};
+ghost use Rattle.std.specs.Prelude.{drop, length, vec_len};
 ghost use Rattle.std.specs.List.{list_any};
 ghost use Rattle.std.specs.Option.{option_map_or};
 ghost use Rattle.gw_tables.specs.bdt_fdt.Peers.{is_of, peers};
@@ -27,7 +27,7 @@ use crate::turn::Turn;
 use gw_addr::{BdtEntry, BipAddr};
 use gw_frames::bvll::Bvll;
 use gw_rules::Asker;
-use std::alloc::{AllocError, Global};
+use std::alloc::AllocError;
 
 /// The mask by which a broadcast goes to a broadcast manager itself (Annex J.4).
 const ALL_ONES: [u8; 4] = [255, 255, 255, 255];
@@ -66,15 +66,6 @@ fn passed_on<'a>(from: BipAddr, frame: &Bvll<'a>) -> Bvll<'a>
         },
         _ => *frame,
     }
-}
-
-/// No address yet, with memory for so many: at most the port's broadcast address and all entries of its tables.
-fn no_targets(alloc: Global, count: usize) -> Result<Vec<BipAddr>, AllocError>
-    requires { count ≤ 193 }
-    ensures empty { IfOk result (λ targets. targets.items ≡ []) }
-    ensures room { IfOk result (λ targets. vec_capacity targets ≡ count) }
-{
-    Vec::with_capacity(alloc, count)
 }
 
 impl PortState {
@@ -168,7 +159,7 @@ impl PortState {
             let targets = targets self.now from (frame_view frame.now) in
             OnOk result (sends.new ≡ sends.old ++ sent self.now.port.number targets message) }
     {
-        let mut targets = no_targets(sends.alloc(), self.most_targets(frame))?;
+        let mut targets = sends.targets(self.most_targets(frame))?;
         self.add_targets(from, frame, &mut targets)?;
         let message = passed_on(from, frame);
         match batch_of(sends, self.port.number, targets, &message)? {
@@ -234,6 +225,7 @@ impl PortState {
     }
 
     /// Adds where a broadcast goes for each peer.
+    #[inline(always)]
     fn add_managers(&self, out: &mut Vec<BipAddr>) -> Result<(), AllocError>
         ensures { OnOk result (out.new.items ≡ out.old.items ++ managers self.now) }
     {
@@ -308,7 +300,11 @@ impl PortState {
             ≡ sent self.now.port.number all message) }
         ensures stays { sends.new ≡ sends.old }
     {
-        let mut targets = no_targets(sends.alloc(), self.entry_count())?;
+        let most = self.entry_count();
+        if most == 0 {
+            return Ok(None);
+        }
+        let mut targets = sends.targets(most)?;
         self.add_all(&mut targets)?;
         if targets.is_empty() {
             return Ok(None);
@@ -386,6 +382,7 @@ impl Relay {
 }
 
 /// A message to each of the addresses. None if it is too long, or if there is no address, which takes no memory.
+#[inline(always)]
 fn batch_of(
     sends: &mut Sends,
     port: u8,

@@ -198,6 +198,7 @@ impl PortState {
     }
 
     /// Adds an answer of these octets. After an `Err` the sends are as before.
+    #[inline(always)]
     fn add_answer(
         &self,
         from: BipAddr,

@@ -43,6 +43,7 @@ pub(crate) fn message_of<'a>(kind: MessageKind, octets: &'a [u8]) -> Npdu<'a>
 }
 
 /// Adds an NPDU to one address, if there is one.
+#[inline(always)]
 pub(crate) fn add_unicast(
     port: u8,
     to: BipAddr,

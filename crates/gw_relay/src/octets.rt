@@ -77,6 +77,7 @@ pub(crate) fn set_header(message: &mut [u8], function: Function)
 }
 
 /// The octets of a BVLC-Result, in a buffer of the sends (Annex J.2.1).
+#[inline(always)]
 pub(crate) fn result_octets(sends: &mut Sends, code: ResultCode) -> Result<Vec<u8>, AllocError>
     ensures octets { IfOk result (λ octets. octets.items ≡ encoding (result_code code.0)) }
     ensures stays { sends.new ≡ sends.old }

@@ -120,6 +120,7 @@ impl Outgoing {
 }
 
 /// An empty buffer of the sends with memory for a payload after any headers.
+#[inline(always)]
 fn empty_buffer(sends: &mut Sends, payload: &[u8]) -> Result<Vec<u8>, AllocError>
     ensures empty { IfOk result (λ octets. octets.items ≡ []) }
     ensures room { let most = 526 + length payload.now in
@@ -131,6 +132,7 @@ fn empty_buffer(sends: &mut Sends, payload: &[u8]) -> Result<Vec<u8>, AllocError
 
 /// A buffer of the sends that keeps four octets for the BVLL header, and has room for any headers before this
 /// payload.
+#[inline(always)]
 fn buffer(sends: &mut Sends, payload: &[u8]) -> Result<Vec<u8>, AllocError>
     ensures octets { IfOk result (λ octets. octets.items ≡ 0 ∷ 0 ∷ 0 ∷ 0 ∷ []) }
     ensures stays { sends.new ≡ sends.old }

@@ -1,7 +1,8 @@
 //! Datagrams to send. A message is kept once, whomever it goes to: a broadcast to many addresses
 //! takes the octets of one.
 
-ghost use Rattle.std.specs.Prelude.{◌≡◌, ◌==◌, ◌+◌, ◌^◌, ◌<◌, ◌≤◌, ◌++◌, ◌∷◌, [], length, vec_len, IfOk, IsOk, OnOk, OnErr};
+ghost use Rattle.std.specs.Prelude.{◌≡◌, ◌+◌, ◌^◌, ◌<◌, ◌≤◌, ◌++◌, ◌∷◌, ℕ, [], length, take, vec_len};
+ghost use Rattle.std.specs.Prelude.{IfOk, IfSome, IsOk, OnOk, OnErr};
 ghost use Rattle.std.specs.List.{flat_map};
 ghost use Rattle.std.specs.Vec.{vec_capacity};
 ghost use Rattle.gw_relay.specs.Sends.{sendings, sendings_of};
@@ -16,6 +17,8 @@ use std::mem;
 pub const BUFFER_ROOM: usize = 1000;
 /// How many octets a buffer that is kept has room for at most.
 pub const KEPT_ROOM: usize = 4096;
+/// How many addresses a broadcast goes to at most: that of the port's network, 64 peers and 128 foreign devices.
+const MOST_TARGETS: usize = 193;
 
 /// Whom a message goes to. One address takes no memory.
 #[derive(Drop)]
@@ -96,9 +99,45 @@ impl Batch {
     {
         self.octets.as_slice()
     }
+
+    /// Its buffer, emptied, if that has room for so many octets, and for no more than are kept.
+    #[inline(always)]
+    fn give_buffer(&mut self, room: usize) -> Option<Vec<u8>>
+        ensures empty { IfSome result (λ octets. octets.items ≡ []) }
+        ensures least { IfSome result (λ octets. room ≤ vec_capacity octets) }
+        ensures most { IfSome result (λ octets. vec_capacity octets ≤ KEPT_ROOM) }
+    {
+        if self.octets.capacity() < room || self.octets.capacity() > KEPT_ROOM {
+            return None;
+        }
+        let none = Vec::new(*self.octets.allocator());
+        let mut octets = mem::replace(&mut self.octets, none);
+        octets.clear();
+        Some(octets)
+    }
+
+    /// Its list of addresses, emptied, if that has room for so many, and for no more than a broadcast goes to.
+    #[inline(always)]
+    fn give_targets(&mut self, room: usize) -> Option<Vec<BipAddr>>
+        ensures empty { IfSome result (λ targets. targets.items ≡ []) }
+        ensures least { IfSome result (λ targets. room ≤ vec_capacity targets) }
+        ensures most { IfSome result (λ targets. vec_capacity targets ≤ MOST_TARGETS) }
+    {
+        let Targets::Many(held) = &mut self.targets else {
+            return None;
+        };
+        if held.capacity() < room || held.capacity() > MOST_TARGETS {
+            return None;
+        }
+        let none = Vec::new(*held.allocator());
+        let mut targets = mem::replace(held, none);
+        targets.clear();
+        Some(targets)
+    }
 }
 
-/// The messages of a list. One message takes no memory.
+/// The messages of a list, and after them those of an earlier one, whose memory is used again. One message takes no
+/// memory.
 #[derive(Drop)]
 enum Batches {
     None,
@@ -118,35 +157,86 @@ impl Batches {
         }
     }
 
-    /// The last message, for keeps.
+    /// Puts a message after so many. An `Err` if there is no memory for it: they are as before. The first needs none.
     #[inline(always)]
-    fn into_last(self) -> Option<Batch> {
-        match self {
-            Batches::None => None,
-            Batches::One([batch]) => Some(batch),
-            Batches::Many(mut batches) => batches.pop(),
+    fn put(&mut self, alloc: Global, place: usize, batch: Batch) -> Result<(), AllocError>
+        requires { place ≤ length (batches_of self.old) }
+        ensures ok { OnOk result (take (place + 1) (batches_of self.new) ≡ take place (batches_of self.old) ++ batch ∷ []) }
+        ensures err { OnErr result (batches_of self.new ≡ batches_of self.old) }
+        ensures first { place ≡ 0 → IsOk result }
+    {
+        if place >= self.as_slice().len() {
+            return self.append(alloc, batch);
         }
+        match self {
+            Batches::None => {}
+            Batches::One(held) => held[place] = batch,
+            Batches::Many(all) => all[place] = batch,
+        }
+        Ok(())
     }
 
-    /// Adds others after them. An `Err` if there is no memory for the list: they are as before.
+    /// Adds a message after them. An `Err` if there is no memory for it: they are as before. The first needs none.
     #[inline(never)]
-    fn append(&mut self, alloc: Global, others: Batches) -> Result<(), AllocError>
-        ensures ok { OnOk result (batches_of self.new ≡ batches_of self.old ++ batches_of others) }
+    fn append(&mut self, alloc: Global, batch: Batch) -> Result<(), AllocError>
+        ensures ok { OnOk result (batches_of self.new ≡ batches_of self.old ++ batch ∷ []) }
         ensures err { OnErr result (batches_of self.new ≡ batches_of self.old) }
+        ensures first { batches_of self.old ≡ [] → IsOk result }
     {
-        if let Batches::Many(all) = self {
-            return others.move_to(all);
+        if self.as_slice().is_empty() {
+            *self = Batches::One([batch]);
+            return Ok(());
         }
-        let mut all = empty_list(alloc, &others)?;
+        if let Batches::Many(all) = self {
+            all.push(batch)?;
+            return Ok(());
+        }
+        let mut all = room_for_two(alloc)?;
         mem::replace(self, Batches::None).move_to(&mut all)?;
-        others.move_to(&mut all)?;
+        all.push(batch)?;
         *self = Batches::Many(all);
         Ok(())
     }
 
-    /// Moves the messages to the end of a list. An `Err` if it has no room and gets no memory:
-    /// it is as before.
+    /// The buffer of the message at a place, emptied, if it has room for so many octets. The messages before it stay.
     #[inline(always)]
+    fn give_buffer(&mut self, place: usize, room: usize) -> Option<Vec<u8>>
+        ensures empty { IfSome result (λ octets. octets.items ≡ []) }
+        ensures least { IfSome result (λ octets. room ≤ vec_capacity octets) }
+        ensures most { IfSome result (λ octets. vec_capacity octets ≤ KEPT_ROOM) }
+        ensures len { length (batches_of self.new) ≡ length (batches_of self.old) }
+        ensures stay { (n : ℕ) → n ≤ place → take n (batches_of self.new) ≡ take n (batches_of self.old) }
+    {
+        if place >= self.as_slice().len() {
+            return None;
+        }
+        match self {
+            Batches::None => None,
+            Batches::One(held) => held[place].give_buffer(room),
+            Batches::Many(all) => all[place].give_buffer(room),
+        }
+    }
+
+    /// The list of addresses of the message at a place, emptied, if it has room for so many. The messages before it stay.
+    #[inline(always)]
+    fn give_targets(&mut self, place: usize, room: usize) -> Option<Vec<BipAddr>>
+        ensures empty { IfSome result (λ targets. targets.items ≡ []) }
+        ensures least { IfSome result (λ targets. room ≤ vec_capacity targets) }
+        ensures most { IfSome result (λ targets. vec_capacity targets ≤ MOST_TARGETS) }
+        ensures len { length (batches_of self.new) ≡ length (batches_of self.old) }
+        ensures stay { (n : ℕ) → n ≤ place → take n (batches_of self.new) ≡ take n (batches_of self.old) }
+    {
+        if place >= self.as_slice().len() {
+            return None;
+        }
+        match self {
+            Batches::None => None,
+            Batches::One(held) => held[place].give_targets(room),
+            Batches::Many(all) => all[place].give_targets(room),
+        }
+    }
+
+    /// Moves the messages to the end of a list that has room for them.
     fn move_to(self, all: &mut Vec<Batch>) -> Result<(), AllocError>
         ensures ok { OnOk result (all.new.items ≡ all.old.items ++ batches_of self) }
         ensures err { OnErr result (all.new.items ≡ all.old.items) }
@@ -164,26 +254,26 @@ impl Batches {
     }
 }
 
-/// An empty list with memory for one message and others after it.
-fn empty_list(alloc: Global, others: &Batches) -> Result<Vec<Batch>, AllocError>
+/// An empty list with memory for two messages.
+fn room_for_two(alloc: Global) -> Result<Vec<Batch>, AllocError>
     ensures empty { IfOk result (λ all. all.items ≡ []) }
-    ensures room { IfOk result (λ all. vec_capacity all ≡ 1 + length (batches_of others.now)) }
+    ensures room { IfOk result (λ all. vec_capacity all ≡ 2) }
 {
-    Vec::with_capacity(alloc, 1 + others.as_slice().len())
+    Vec::with_capacity(alloc, 2)
 }
 
 /// Datagrams to send, in order, at most 2^64 - 1. Contracts see the list of them, each with its
-/// port, address and octets. One message takes no memory. A buffer of messages that were let go is kept for the next.
+/// port, address and octets. One message takes no memory. The memory of messages that were let go is kept for the next.
 #[derive(Drop)]
 pub struct Sends {
     alloc: Global,
     batches: Batches,
+    used: usize,
     count: u64,
-    spare: Vec<u8>,
 }
 
 impl Model for Sends {
-    ghost use Rattle.std.specs.Prelude.{◌≡◌, ◌<◌, ◌≤◌, ◌^◌, List, length, vec_capacity};
+    ghost use Rattle.std.specs.Prelude.{◌≡◌, ◌<◌, ◌≤◌, ◌^◌, List, length, take};
     ghost use Rattle.std.specs.List.{flat_map};
     ghost use Rattle.gw_relay.specs.Sends.{Sending, sendings_of};
 
@@ -191,9 +281,10 @@ impl Model for Sends {
 
     ghost use Rattle.gw_relay.specs.internal.Batches.{batches_of};
 
-    ghost view = { λ s. flat_map sendings_of (batches_of s.batches) };
+    ghost view = { λ s. flat_map sendings_of (take s.used (batches_of s.batches)) };
 
-    ghost invariant = { λ s. (s.count ≡ length (flat_map sendings_of (batches_of s.batches))) × (s.count < 2 ^ 64) × (vec_capacity s.spare ≤ 4096) };
+    ghost invariant = { λ s. let used = take s.used (batches_of s.batches) in
+        (s.count ≡ length (flat_map sendings_of used)) × (s.count < 2 ^ 64) × (s.used ≤ s.count) × (s.used ≤ length (batches_of s.batches)) };
 }
 
 impl Sends {
@@ -204,8 +295,8 @@ impl Sends {
         Sends {
             alloc,
             batches: Batches::None,
+            used: 0,
             count: 0,
-            spare: Vec::new(alloc),
         }
     }
 
@@ -236,43 +327,23 @@ impl Sends {
         if more == 0 {
             return Ok(());
         }
-        if self.count == 0 {
-            self.batches = Batches::One([batch]);
-            self.count = more;
-            return Ok(());
-        }
         let count = sum(self.count, more)?;
-        self.batches.append(self.alloc, Batches::One([batch]))?;
+        self.batches.put(self.alloc, self.used, batch)?;
+        self.used += 1;
         self.count = count;
         Ok(())
     }
 
-    /// Lets all datagrams go, and keeps the buffer of the last message.
+    /// Lets all datagrams go, and keeps their memory.
     #[inline(always)]
     pub fn clear(&mut self)
         ensures { self.new ≡ [] }
     {
-        if self.count == 0 {
-            return;
-        }
-        let batches = mem::replace(&mut self.batches, Batches::None);
+        self.used = 0;
         self.count = 0;
-        if let Some(batch) = batches.into_last() {
-            self.keep(batch.octets);
-        }
     }
 
-    /// Keeps a buffer, unless it has too much room or the kept one has more.
-    fn keep(&mut self, octets: Vec<u8>)
-        ensures { self.new ≡ self.old }
-    {
-        let room = octets.capacity();
-        if self.spare.capacity() < room && room <= KEPT_ROOM {
-            self.spare = octets;
-        }
-    }
-
-    /// An empty buffer for a message, with room for so many octets: the one that was kept, if it has that room. The
+    /// An empty buffer for a message, with room for so many octets: one that was kept, if it has that room. The
     /// datagrams stay as they are. An `Err` if there is no memory for it.
     #[inline(always)]
     pub(crate) fn buffer(&mut self, room: usize) -> Result<Vec<u8>, AllocError>
@@ -281,12 +352,30 @@ impl Sends {
         ensures most { IfOk result (λ octets. vec_capacity octets ≤ room + KEPT_ROOM) }
         ensures stays { self.new ≡ self.old }
     {
-        if self.spare.capacity() < room {
-            return empty_buffer(self.alloc, room);
+        if let Some(octets) = self.batches.give_buffer(self.used, room) {
+            return Ok(octets);
         }
-        let mut octets = mem::replace(&mut self.spare, Vec::new(self.alloc));
-        octets.clear();
-        Ok(octets)
+        // A message may be made before the one that goes before it is added.
+        if let Some(octets) = self.batches.give_buffer(self.used.saturating_add(1), room) {
+            return Ok(octets);
+        }
+        empty_buffer(self.alloc, room)
+    }
+
+    /// An empty list of addresses, with room for so many, at most those that a broadcast goes to: one that was kept, if it
+    /// has that room. The datagrams stay as they are. An `Err` if there is no memory for it.
+    #[inline(always)]
+    pub(crate) fn targets(&mut self, room: usize) -> Result<Vec<BipAddr>, AllocError>
+        requires { room ≤ MOST_TARGETS }
+        ensures empty { IfOk result (λ targets. targets.items ≡ []) }
+        ensures least { IfOk result (λ targets. room ≤ vec_capacity targets) }
+        ensures most { IfOk result (λ targets. vec_capacity targets ≤ MOST_TARGETS) }
+        ensures stays { self.new ≡ self.old }
+    {
+        if let Some(targets) = self.batches.give_targets(self.used, room) {
+            return Ok(targets);
+        }
+        Vec::with_capacity(self.alloc, room)
     }
 
     /// The messages in order, each with the addresses that it goes to.
@@ -294,7 +383,7 @@ impl Sends {
         ensures all { flat_map sendings_of result.now ≡ self.now }
         ensures few { length self.now < 2 ^ 64 }
     {
-        self.batches.as_slice()
+        &self.batches.as_slice()[..self.used]
     }
 }
 

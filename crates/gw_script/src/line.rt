@@ -1,7 +1,7 @@
 //! The grammar of a line: `tick`, or a datagram as `<port> <address> <hex>`.
 
 ghost use Rattle.std.specs.Prelude.{◌≡◌, ◌≢◌, ◌+◌, ◌*◌, ◌/◌, ◌<◌, ◌≤◌, ◌++◌, ◌∷◌, ℕ, List, length};
-ghost use Rattle.std.specs.Prelude.{Ok, None, Some, IsErr, IfSome, IsNone, slice_index};
+ghost use Rattle.std.specs.Prelude.{Ok, None, Some, IsErr, IfSome, IsNone, codes, slice_index};
 ghost use Rattle.std.specs.Bool.{OnTrue, OnFalse};
 ghost use Rattle.std.specs.Option.{option_map};
 ghost use Rattle.hex.specs.Hex.{decode_of};
@@ -66,9 +66,18 @@ pub fn parse_spelled<'a, 'b>(
     ensures spelled { IfSome result (λ x. option_map (λ s. s.address) x.1 ≡ sender_of (event_view x.0)) }
 {
     match line {
-        [b't', b'i', b'c', b'k'] => Some((Event::Tick, None)),
+        [a, b, c, d] if is_tick([*a, *b, *c, *d]) => Some((Event::Tick, None)),
         _ => parse_datagram(ports, line, buffer),
     }
+}
+
+/// Whether four octets are the word `tick`, compared as one number.
+#[inline(always)]
+pub(crate) fn is_tick(word: [u8; 4]) -> bool
+    ensures is { OnTrue result (word ≡ codes "tick") }
+    ensures only { OnFalse result (¬ (word ≡ codes "tick")) }
+{
+    u32::from_le_bytes(word) == u32::from_le_bytes(*b"tick")
 }
 
 /// The datagram that a line writes, and whom it comes from as the line spells it.

@@ -7,6 +7,7 @@ ghost use Rattle.gw_addr.specs.Text.{Lacks};
 ghost use Rattle.gw_script.specs.Reader.{IsAtHand, IsGiven, IsNextLine, IsPaid, IsWithin};
 
 use crate::finding::place_of;
+use crate::line::is_tick;
 use crate::source::{OctetSource, ReadFailed};
 use std::marker::Model;
 
@@ -70,7 +71,10 @@ fn move_to_front(octets: &mut [u8; MAX_UNREAD], start: usize, end: usize)
 fn begins_with_tick(text: &[u8]) -> bool
     ensures { OnTrue result (text.now ≡ codes "tick" ++ 10 ∷ drop 5 text.now) }
 {
-    matches!(text, [b't', b'i', b'c', b'k', b'\n', ..])
+    match text {
+        [a, b, c, d, b'\n', ..] => is_tick([*a, *b, *c, *d]),
+        _ => false,
+    }
 }
 
 impl LineReader {

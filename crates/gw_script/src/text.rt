@@ -8,9 +8,12 @@ ghost use Rattle.gw_script.specs.Text.{EndsWith, end_line, send_head, send_line,
 ghost use Rattle.gw_script.specs.internal.Digits.{AreDigits, AreWritten};
 
 use crate::event::SpelledAddr;
-use crate::line::{BLOCK, BLOCK_DIGITS, HALF_BLOCK, HALF_DIGITS};
+use crate::line::{BLOCK, BLOCK_DIGITS};
 use gw_addr::{BipAddr, keep_whole, put_decimal, put_octet, put_slice};
 use std::alloc::AllocError;
+
+/// The digits in upper case, in their order.
+const UPPER_DIGITS: [u8; 16] = *b"0123456789ABCDEF";
 
 /// Appends the line of a datagram that is sent. An `Err` only where the buffer had no room for it;
 /// the buffer then holds what it held.
@@ -216,6 +219,14 @@ fn upper_digit(number: u8) -> u8
     }
 }
 
+/// The same digit, looked up, which takes fewer steps if no others are made beside it.
+fn digit_of(number: u8) -> u8
+    requires { number < 16 }
+    ensures { result ≡ slice_index upper_digits number }
+{
+    UPPER_DIGITS[usize::from(number)]
+}
+
 /// So many digits, from the first one of this octet on.
 #[inline(always)]
 fn block_digits<const DIGITS: usize>(octets: &[u8], start: usize) -> [u8; DIGITS]
@@ -266,24 +277,10 @@ fn write_each(octets: &[u8], digits: &mut [u8])
     ensures { AreWritten octets.now digits.new (2 * length octets.now) }
 {
     for i in 0..octets.len() {
-        digits[2 * i] = upper_digit(octets[i] >> 4);
-        digits[2 * i + 1] = upper_digit(octets[i] & 15);
+        let octet = octets[i];
+        digits[2 * i] = digit_of(octet >> 4);
+        digits[2 * i + 1] = digit_of(octet & 15);
     }
-}
-
-/// Writes octets, fewer than a block. Four or more are two half blocks, which may have octets in common.
-#[inline(always)]
-fn write_few(octets: &[u8], digits: &mut [u8])
-    requires pairs { length digits.old ≡ 2 * length octets.now }
-    requires few { length octets.now < BLOCK }
-    ensures { AreWritten octets.now digits.new (2 * length octets.now) }
-{
-    if octets.len() < HALF_BLOCK {
-        write_each(octets, digits);
-        return;
-    }
-    write_block::<HALF_DIGITS>(octets, digits, 0);
-    write_block::<HALF_DIGITS>(octets, digits, octets.len() - HALF_BLOCK);
 }
 
 /// Writes octets in upper-case digits over as many digits as they have.
@@ -293,7 +290,7 @@ fn write_digits(octets: &[u8], digits: &mut [u8])
     ensures { digits.new ≡ encode_upper octets.now }
 {
     if octets.len() < BLOCK {
-        write_few(octets, digits);
+        write_each(octets, digits);
     } else {
         write_blocks(octets, digits);
     }

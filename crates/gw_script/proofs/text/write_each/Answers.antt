@@ -11,5 +11,5 @@ loop-i-preserved c =
     let octet : ℕ = get_or octets i 0 in
     let same : 0 + i ≡ i = omega arith in
     let here : get_or octets (0 + i) 0 ≡ octet = ap (λ (k : ℕ). get_or octets k 0) same in
-    octet_more octets 0 i c.loop-i.digits _ _ (omega arith) (omega arith) (rw here c.upper_digit.ensures)
-    (rw here (c.upper_digit-in-loop-i.ensures ∙ ap (λ (k : ℕ). get_or upper_digits k 0) (and_mask octet 4))) c.loop-i.invariant
+    octet_more octets 0 i c.loop-i.digits _ _ (omega arith) (omega arith) (rw here c.digit_of.ensures)
+    (rw here (c.digit_of-in-loop-i.ensures ∙ ap (λ (k : ℕ). get_or upper_digits k 0) (and_mask octet 4))) c.loop-i.invariant

@@ -1,10 +1,7 @@
--- How registrations are kept: by the tick with which each ends.
-use Rattle.std.specs.Prelude.{◌≡◌, ℕ, ◌+◌, ◌-◌, ◌^◌, ◌≤◌, Bool, nat_lt, List, length, map, IsTrue}
-use Rattle.std.specs.List.{AllByRecursion, IsDistinct, list_any}
+-- How registrations are kept: by the tick with which each ends, and by a tick before which none does.
+use Rattle.std.specs.Prelude.{ℕ, ◌+◌, ◌-◌, ◌^◌, ◌≤◌, Bool, nat_lt, List, length, map, IsTrue}
+use Rattle.std.specs.List.{AllByRecursion, IsDistinct}
 use Rattle.std.specs.Map.{keys_of}
-use Rattle.std.specs.Cmp.Lexicographic.{slice_cmp}
-use Rattle.std.specs.Ordering.{is_eq, nat_cmp, ordering_then}
-use Rattle.std.specs.declared.cmp.Ordering.{Ordering}
 use Rattle.gw_addr.specs.declared.bip.BipAddr.{BipAddr}
 use Rattle.gw_tables.specs.declared.bdt_fdt.leases.Lease.{Lease}
 use Rattle.gw_tables.specs.declared.bdt_fdt.kept.KeptDevice.{KeptDevice}
@@ -42,32 +39,11 @@ pub record AreKept (ticks : ℕ) (leases : LeaseList) : Type 0 where
 abbrev pub lease_kept : ℕ → KeptDevice → BipAddr × Lease
 lease_kept ticks d = (d.address, record { time_to_live = d.time_to_live; deadline = ticks + d.left })
 
--- ---- the ordered set of ends
+-- a lease ends with a tick or after it
+abbrev pub ends_from : ℕ → BipAddr × Lease → Type 0
+ends_from first e = first ≤ e.1.deadline
 
--- the end of a lease: the tick with which it is gone, and its address
-abbrev pub End : Type 0
-End = ℕ × BipAddr
-
-abbrev pub end_of : BipAddr × Lease → End
-end_of e = (e.1.deadline, e.0)
-
--- how addresses are ordered: by their octets, then by their ports
-abbrev pub address_cmp : BipAddr → BipAddr → Ordering
-address_cmp a b = ordering_then (slice_cmp nat_cmp a.ip b.ip) (nat_cmp a.udp b.udp)
-
--- how ends are ordered: by the tick, then by the address
-abbrev pub end_cmp : End → End → Ordering
-end_cmp x y = ordering_then (nat_cmp x.0 y.0) (address_cmp x.1 y.1)
-
--- two ends are one
-abbrev pub tied : End → End → Bool
-tied x y = is_eq (end_cmp x y)
-
--- the ends are exactly those of the leases
-abbrev pub AreEnds : List End → LeaseList → Type 0
-AreEnds ends leases = (q : End) → list_any (tied q) ends ≡ list_any (tied q) (map end_of leases)
-
--- what is kept of leases and their ends: the ends are theirs, and no address has two
-pub record AreTied (ordered : List End) (leases : LeaseList) : Type 0 where
-  pub ends : AreEnds ordered leases
+-- what is kept of leases and a tick: none of them ends before it, and no address has two
+pub record AreFrom (first : ℕ) (leases : LeaseList) : Type 0 where
+  pub later : AllByRecursion (ends_from first) leases
   pub once : IsDistinct same (keys_of leases)

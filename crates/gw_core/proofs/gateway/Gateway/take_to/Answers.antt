@@ -25,12 +25,12 @@ returns-clause-step g c =
     record {
       effects = is.effects;
       state = moves_on w _ a.port a.from a.octets.now
-          (option_map Commit c.take-change.result) c.take-write.result c.len.result c.in_ok-move_on.ensures.state
-          (ap (option_map Commit) c.take-change.ensures.value ∙ is.moves) (c.take-write.ensures.value ∙ is.write) (c.len.ensures ∙ is.denied);
+          (option_map Commit c.take_out-change.result) c.take_out-write.result c.len.result c.in_ok-move_on.ensures.state
+          (ap (option_map Commit) c.take_out-change.ensures.value ∙ is.moves) (c.take_out-write.ensures.value ∙ is.write) (c.len.ensures ∙ is.denied);
       counts = passes_end-within w event _ refl ticks is.room;
     }
 
 pub returns-in_err-move_on-clause-silent : goal.returns-in_err-move_on-clause-silent
 returns-in_err-move_on-clause-silent g c = λ none.
-    let ok = c.in_err-move_on.ensures.no_growth (c.take-change.ensures.value ∙ c.in_ok-asked.ensures.outcome.stays none.0) in
+    let ok = c.in_err-move_on.ensures.no_growth (c.take_out-change.ensures.value ∙ c.in_ok-asked.ensures.outcome.stays none.0) in
     absurd cc
