@@ -7,6 +7,7 @@ pub mod Growing
 pub mod JoiningLaw
 pub mod MeetingLaw
 pub mod MergingLaw
+pub mod PairLaw
 pub mod PresenceLaw
 pub mod RangeLaw
 pub mod RegionLaw
