@@ -1,5 +1,5 @@
 //! Which parts of two configurations differ, beside what their rules decide.
-ghost use Rattle.std.specs.Prelude.{◌≡◌, ◌++◌, ◌≤◌, [], length, map, IfOk, IsFalse, IsTrue, OnOk};
+ghost use Rattle.std.specs.Prelude.{◌≡◌, ◌++◌, ◌≤◌, [], length, map, true, IfOk, IsFalse, IsTrue, OnOk};
 ghost use Rattle.std.specs.List.{flat_map};
 ghost use Rattle.gw_addr.specs.declared.TheConstants.{MAX_PORTS};
 ghost use Rattle.gw_ask_sets.specs.regions.Tidying.{tidy};
@@ -203,7 +203,8 @@ fn have_same_notes(
 
 /// Whether the logs of two policies lack the same denials, since no rule of either is quiet, or their rules are the same.
 fn have_same_quiets(rules: &[Rule], others: &[Rule]) -> bool
-    ensures { IsTrue result → HaveSameQuiets rules.now others.now }
+    ensures same { IsTrue result → HaveSameQuiets rules.now others.now }
+    ensures loud { has_no_quiet rules.now ≡ true → has_no_quiet others.now ≡ true → result ≡ true }
 {
     (have_no_quiet(rules) && have_no_quiet(others)) || are_same(rules, others)
 }
