@@ -20,6 +20,8 @@
 #     bench/compare.sh 5 9       # 5 pairs, from the seed 9
 #     bench/compare.sh lists     # lists as a site has them, of 3 to 512 rules, after an edit: how many lines, and in what time
 #     bench/compare.sh lists 3   # the same, with 3 lists of each length and edit in the place of 10
+#     bench/compare.sh pairs 50 # hostile lists of so many rules, wide but for slits: the comparison is complete by pairs of rules, each
+#                               # pair has an ask that shows it, and no random ask is of another pair
 #     bench/compare.sh traffic 2000 7   # 2,000 pairs of sites, from the seed 7, with 60 events each
 #
 # It wants python3 and the programs built, as `./bacgw prove` leaves them; BACGWCTL and BACGW name other ones, with their words.
@@ -539,6 +541,75 @@ def measure_lists(room, lists, seed):
             print(f"{length} rules, not finished: " + ", ".join(left), file=sys.stderr)
 
 
+# ---- hostile lists
+
+PAIR_LINE = re.compile(r"now (allowed|denied) by (\S+) \(was (allowed|denied) by (\S+)\), for one:(.*)")
+
+
+def slit_rule(dice, width):
+    """A rule that takes all but a slit of each of four fields."""
+    out = {}
+    for field in dice.sample(["source_network", "source", "destination", "service", "object_type", "instance", "property", "priority"], 4):
+        low, high = {"source_network": (1, 65534), "service": (0, 1031)}.get(field) or BOUNDS[field]
+        slit = max(1, (high - low) // width)
+        at = dice.randrange(low + 1, high - slit)
+        out[field] = [(low, at - 1), (at + slit, high)]
+    return {"allow": dice.random() < 0.5, "ranges": out}
+
+
+def asked(text):
+    out = dict.fromkeys(FIELDS)
+    for item in text.split():
+        field, value = item.split("=")
+        if value != "-":
+            out[field] = NUMBER[value] if field == "operation" else number_of(value)
+    return out
+
+
+def near(dice, rules):
+    """A random ask of the shapes, with numbers at the ends of the rules' ranges."""
+    sides = dice.choice(SHAPES)
+    out = {}
+    for field, (absent, span) in sides.items():
+        numbers = [it for rule in rules for low, high in rule["ranges"].get(field, []) for it in (low - 1, low, high, high + 1) if span and span[0] <= it <= span[1]]
+        choices = ([None] if absent else []) + ([dice.randint(*span)] if span else []) + ([dice.choice(numbers)] if numbers else [])
+        out[field] = dice.choice(choices)
+    return out
+
+
+SHAPES = list(shapes_of(2))
+
+
+def is_of(sides, ask):
+    return all(absent if ask[field] is None else span and span[0] <= ask[field] <= span[1] for field, (absent, span) in sides.items())
+
+
+def judge_hostile(room, length, seed):
+    dice = random.Random(seed)
+    for place in ["last", "first"]:
+        old = [slit_rule(dice, 50) for _ in range(length)]
+        new = old + [slit_rule(dice, 50)] if place == "last" else [slit_rule(dice, 50)] + old
+        files = [room / "old.toml", room / "new.toml"]
+        lists = [[{**it, "name": f"{letter}{number}"} for number, it in enumerate(rules)] for letter, rules in [("o", old), ("n", new)]]
+        for path, rules in zip(files, lists):
+            path.write_text(text_of(rules, 2), encoding="utf-8")
+        start = time.monotonic()
+        status, said, wrong = compare(*files, "--most", "1000000")
+        seconds = time.monotonic() - start
+        found = {(it[4], it[2]): (it[1], it[3], asked(it[5])) for it in map(PAIR_LINE.fullmatch, said) if it}
+        assert status == 1 and not wrong, (status, wrong)
+        for (was, now), (verdict, before, ask) in found.items():
+            assert verdict != before and any(is_of(sides, ask) for sides in SHAPES), ask
+            assert decide(lists[0], ask) == (before == "allowed", was) and decide(lists[1], ask) == (verdict == "allowed", now), (was, now, ask)
+        if said[-1].startswith("pairs"):
+            assert said[-1] == f"pairs of rules that decide asks otherwise: {len(found)}, and no other", said[-1]
+        for _ in range(20000):
+            ask = near(dice, lists[0] + lists[1])
+            (before, was), (after, now) = decide(lists[0], ask), decide(lists[1], ask)
+            assert before == after or not said[-1].startswith("pairs") or (was, now) in found, (was, now, ask)
+        print(f"{length} rules, one added {place}: {len(found)} pairs, {seconds:.1f} s, {said[-1]}", flush=True)
+
+
 # ---- what comes of datagrams
 
 
@@ -746,6 +817,8 @@ def judge_sites(room, sites, seed):
 with tempfile.TemporaryDirectory() as folder:
     if mode == "lists":
         measure_lists(Path(folder), int(more[0]) if more else 10, 1)
+    elif mode == "pairs":
+        judge_hostile(Path(folder), int(more[0]) if more else 50, int(more[1]) if len(more) > 1 else 1)
     elif mode == "traffic":
         judge_sites(Path(folder), int(more[0]) if more else 200, int(more[1]) if len(more) > 1 else 1)
     else:

@@ -8,6 +8,7 @@ pub mod JoiningLaw
 pub mod MeetingLaw
 pub mod MergingLaw
 pub mod OneTidyLaw
+pub mod PairLaw
 pub mod PresenceLaw
 pub mod RangeLaw
 pub mod RegionLaw

@@ -3,6 +3,7 @@ pub mod Coverage
 pub mod Deciding
 pub mod Meeting
 pub mod Merging
+pub mod Pairs
 pub mod Presence
 pub mod Ranges
 pub mod Regions

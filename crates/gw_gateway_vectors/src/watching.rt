@@ -88,13 +88,7 @@ fn make_watcher(
     let trial = Beside::new(Policy::new(alloc, rules)?, trial);
     let audit = Beside::new(Marks::new(alloc, &marks)?, audit);
     let counts = Tally::new(alloc, &in_force)?;
-    Ok(Watcher::new(
-        alloc,
-        format,
-        Some(trial),
-        Some(audit),
-        Some(counts),
-    ))
+    Ok(Watcher::new(alloc, format, Some(trial), Some(audit), Some(counts)))
 }
 
 /// What the watcher's logs have and lost, and the counts.

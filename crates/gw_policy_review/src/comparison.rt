@@ -8,6 +8,7 @@ pub mod laws;
 mod lines;
 mod listing;
 mod object_details;
+mod pairs;
 mod parts;
 mod port_details;
 mod rule_details;
@@ -15,7 +16,7 @@ pub(crate) mod words;
 
 pub use asks::asks_of;
 pub use comparing::{Comparing, put_steps};
-pub use comparison::{Compared, compared_by, put_comparison};
+pub use comparison::{Compared, Results, compared_by, judged_by, put_comparison};
 pub use details::put_details;
 pub use groups::MOST_UNGROUPED;
 pub use parts::{Part, PortPart, differing_parts, put_part_names};

@@ -40,4 +40,5 @@ abbrev pub outcome_of_comparison : Compared → Result (Unit {0}) Fault
 outcome_of_comparison compared.Alike = Ok tt
 outcome_of_comparison compared.OtherParts = Err fault.OtherParts
 outcome_of_comparison compared.Different = Err fault.Different
+outcome_of_comparison compared.Paired = Err fault.Different
 outcome_of_comparison compared.Unfinished = Err fault.Different

@@ -198,7 +198,7 @@ pub fn outcome_of(made: Compared) -> Result<(), Fault>
     match made {
         Compared::Alike => Ok(()),
         Compared::OtherParts => Err(Fault::OtherParts),
-        Compared::Different | Compared::Unfinished => Err(Fault::Different),
+        Compared::Different | Compared::Paired | Compared::Unfinished => Err(Fault::Different),
     }
 }
 

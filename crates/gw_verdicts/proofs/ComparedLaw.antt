@@ -2,7 +2,7 @@
 use Rattle.std.proofs.Common.{◌≡◌, inl, inr, true}
 use Rattle.gw_configuration.specs.Configuration.{Configuration}
 use Rattle.gw_policy_review.specs.comparison.Laws.{IsAskOf}
-use Rattle.gw_policy_review.proofs.comparison_lemmas.TextLaw.{alike_is_alike, found_is_all, lines_are_true}
+use Rattle.gw_policy_review.proofs.comparison_lemmas.TextLaw.{alike_is_alike, found_is_all, lines_are_true, pairs_are_all}
 use Rattle.gw_core.specs.Asks.{asks}
 use Rattle.gw_ask_sets.specs.regions.Comparing.{IsDecided}
 use Rattle.gw_ask_sets.specs.regions.Regions.{lies}
@@ -10,7 +10,7 @@ use Rattle.gw_rules.specs.Ask.{Ask}
 use Rattle.gw_rules.proofs.EachAsk.{each_weaker}
 use Rattle.gw_ask_sets.specs.shapes.Shape.{LiesInOne}
 use Rattle.gw_ask_sets.specs.shapes.Shapes.{shapes}
-use Rattle.gw_verdicts.specs.Compared.{EventsAreAlike, EventsAreCompared, LinesAreTrueOfEvents, OfBoth}
+use Rattle.gw_verdicts.specs.Compared.{EventsAreAlike, EventsAreCompared, EventsArePaired, LinesAreTrueOfEvents, OfBoth}
 use Rattle.gw_verdicts.proofs.ShapeLaw.{asks_lie_in_shapes}
 
 -- what holds of each ask of the shapes holds of each ask that is raised
@@ -23,8 +23,12 @@ raised old new Holds so = (
 )
 
 pub events_are_compared : EventsAreCompared
-events_are_compared old new most made text translated finished =
-    raised old new _ (found_is_all old new most made text translated finished)
+events_are_compared old new most made text translated finished paired =
+    raised old new _ (found_is_all old new most made text translated finished paired)
+
+pub events_are_paired : EventsArePaired
+events_are_paired old new most made text translated paired =
+    raised old new _ (pairs_are_all old new most made text translated paired)
 
 pub events_are_alike : EventsAreAlike
 events_are_alike old new most made text translated alike = raised old new _ (alike_is_alike old new most made text translated alike)

@@ -3,7 +3,7 @@ use Rattle.std.specs.Prelude.{◌≡◌, ◌≢◌, ℕ, true, List}
 use Rattle.std.specs.List.{AllByRecursion}
 use Rattle.gw_configuration.specs.Configuration.{Configuration}
 use Rattle.gw_policy_review.specs.comparison.Comparison.{IsComparisonText}
-use Rattle.gw_policy_review.specs.comparison.Laws.{says_alike}
+use Rattle.gw_policy_review.specs.comparison.Laws.{is_paired, says_alike}
 use Rattle.gw_policy_review.specs.declared.comparison.comparison.Compared.{Compared}
 use Rattle.gw_policy_review.specs.declared.comparison.comparison.Compared.TheVariants as compared
 use Rattle.gw_ask_sets.specs.regions.Comparing.{IsDecided, differs, is_found}
@@ -16,11 +16,18 @@ use Rattle.gw_verdicts.specs.Laws.{OfEachAsk}
 abbrev pub OfBoth : Configuration → Configuration → (Ask → Type 0) → Type 0
 OfBoth old new Holds = OfEachAsk old Holds × OfEachAsk new Holds
 
--- Unless the comparison isn't finished, it is decided otherwise exactly if it lies in a region that was found.
+-- Unless the comparison isn't finished, or is by pairs alone, it is decided otherwise exactly if it lies in a region that was
+-- found.
 abbrev pub EventsAreCompared : Type 0
 EventsAreCompared = (old new : Configuration) (most : ℕ) (made : Compared) (text : List ℕ)
-    (translated : IsComparisonText old new most made text) → made ≢ compared.Unfinished
+    (translated : IsComparisonText old new most made text) → made ≢ compared.Unfinished → made ≢ compared.Paired
     → OfBoth old new (λ ask. differs old.rules new.rules ask ≡ is_found translated.found ask)
+
+-- If the comparison is by pairs, it is decided otherwise exactly if the two rules that decide it are a pair that was found.
+abbrev pub EventsArePaired : Type 0
+EventsArePaired = (old new : Configuration) (most : ℕ) (made : Compared) (text : List ℕ)
+    (translated : IsComparisonText old new most made text) → made ≡ compared.Paired
+    → OfBoth old new (λ ask. differs old.rules new.rules ask ≡ is_paired old new translated.pairs ask)
 
 -- If the text says that no ask is decided otherwise, or that only other parts differ, none is.
 abbrev pub EventsAreAlike : Type 0

@@ -5,7 +5,7 @@ ghost use Rattle.gw_addr.specs.Reading.{AreOctets};
 ghost use Rattle.gw_configuration.specs.Subnet.{IsSubnet};
 ghost use Rattle.gw_script.specs.Event.{event_view};
 ghost use Rattle.gw_verdicts.specs.Asserted.{AsksAreJudged, EmptyMeansNone, HoldingIsTrue};
-ghost use Rattle.gw_verdicts.specs.Compared.{EventsAreAlike, EventsAreCompared, LinesAreTrueOfEvents};
+ghost use Rattle.gw_verdicts.specs.Compared.{EventsAreAlike, EventsAreCompared, EventsArePaired, LinesAreTrueOfEvents};
 ghost use Rattle.gw_verdicts.specs.Laws.{AsksLieInShapes, FoundNeverDecides, FreshAsksLieInShapes, HasSubnets, IsCarried, IsInstance, IsNumbered, IsOnNetwork, NeverFirstNeverDecides, PeersRaiseTheAsk, WhyNamesTheRule};
 ghost use Rattle.gw_verdicts.specs.Runs.{AlikeRunsAlike};
 ghost use Rattle.gw_verdicts.specs.States.{CarriedAreUnder, HistoriesAreUnder, StatesStayUnder};
@@ -60,9 +60,11 @@ pub fn lines()
 
 /// What `bacgwctl compare` says is true of every event of a gateway of the old or of the new configuration,
 /// whatever came before: an ask that it raises is decided otherwise exactly if it lies in a region that was
-/// found, if the comparison is finished; and as the line of that region says.
+/// found, if the comparison is finished, or if the two rules that decide it are a pair that was found, if it is by pairs; and
+/// as the line of that region says.
 pub fn comparisons()
     ensures compared { EventsAreCompared }
+    ensures paired { EventsArePaired }
     ensures alike { EventsAreAlike }
     ensures lines { LinesAreTrueOfEvents }
 {}

@@ -15,7 +15,6 @@ use Rattle.gw_rules.specs.declared.range.Range.{Range}
 use Rattle.gw_configuration.specs.Assertion.{is_for, is_meant_by, is_of_service, is_passed, meets_but_object, meets_but_operation}
 use Rattle.gw_configuration.specs.declared.assertion.Assertion.{Assertion}
 use Rattle.gw_ask_sets.specs.assertions.internal.Conditions.{is_met, is_one_met, named_services, operation_condition, passing_condition}
-use Rattle.gw_ask_sets.specs.assertions.Asserted.{is_number}
 use Rattle.gw_ask_sets.specs.declared.assertions.condition.Condition.{Condition}
 use Rattle.gw_ask_sets.specs.regions.Ranges.{between, shared}
 use Rattle.gw_ask_sets.proofs.assertions_lemmas.NumberLaw.{any_one, only_admits}

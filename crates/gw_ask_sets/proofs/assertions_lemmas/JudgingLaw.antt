@@ -7,7 +7,7 @@ use Rattle.gw_configuration.specs.Configuration.{Configuration}
 use Rattle.gw_configuration.specs.declared.assertion.Assertion.{Assertion}
 use Rattle.gw_rules.specs.Ask.{Ask}
 use Rattle.gw_rules.specs.RuleList.{allows, first}
-use Rattle.gw_ask_sets.specs.assertions.Asserted.{LiesInAsserted, is_unraised}
+use Rattle.gw_ask_sets.specs.assertions.Asserted.{is_unraised}
 use Rattle.gw_ask_sets.specs.assertions.Judging.{IsBroken, IsEmpty, IsHeld, IsMeantIn, IsUnfinished}
 use Rattle.gw_ask_sets.specs.assertions.internal.Passing.{IsVain}
 use Rattle.gw_ask_sets.specs.assertions.internal.Unraised.{AreAsserted}

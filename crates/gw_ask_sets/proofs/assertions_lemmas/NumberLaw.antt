@@ -1,8 +1,6 @@
 -- Ranges of one number.
-use Rattle.std.proofs.Common.{◌≡◌, ◌∙◌, sym, ap, refl, ℕ, Bool, true, false, ◌&&◌, ◌||◌, ◌==◌, List, [], ◌∷◌, length, map, nat_eq, nat_le, Option, Some, None, arith}
-use Rattle.std.specs.Prelude.{◌≤◌}
+use Rattle.std.proofs.Common.{◌≡◌, ◌∙◌, ap, refl, ℕ, ◌&&◌, ◌||◌, ◌==◌, List, [], ◌∷◌, map, nat_eq, nat_le, Option, Some, None, arith}
 use Rattle.std.specs.List.{list_any}
-use Rattle.std.specs.Option.{option_map_or}
 use Rattle.std.proofs.lemmas.Bool.{and_from, and_parts, eq-eqb, eqb-true, le-leb, leb-true}
 use Rattle.gw_rules.specs.Range.{admits, holds}
 use Rattle.gw_ask_sets.specs.assertions.Asserted.{is_number}

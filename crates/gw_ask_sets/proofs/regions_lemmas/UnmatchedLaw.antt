@@ -11,7 +11,8 @@ use Rattle.gw_rules.specs.declared.rule.Rule.{Rule}
 use Rattle.gw_ask_sets.specs.regions.Coverage.{covers}
 use Rattle.gw_ask_sets.specs.regions.Regions.{Region, lies, lies_in_one}
 use Rattle.gw_ask_sets.specs.regions.Steps.{divides}
-use Rattle.gw_ask_sets.specs.regions.Unmatched.{AreAllMatched, AreNarrowed, IsCut, IsNarrowed, IsUnmatched, Narrows, is_matched, parts_at}
+use Rattle.gw_ask_sets.specs.regions.Unmatched.{AreAllMatched, AreNarrowed, AreUsedUp, EndsWith, IsCut, IsFoundAt, IsNarrowed, IsUnmatched, Narrows, is_matched, parts_at}
+use Rattle.gw_ask_sets.specs.declared.regions.unmatched.Unmatched.TheVariants as unmatched
 use Rattle.gw_ask_sets.specs.regions.internal.Nearest.{IsOpen}
 use Rattle.gw_ask_sets.proofs.regions_lemmas.RegionLaw.{parts_at_law}
 
@@ -109,3 +110,16 @@ is_cut rules region place rule field is at =
 -- a region without an ask
 pub empty_matched : (rules : List Rule) (region : Region) → ((ask : Ask) → lies region ask ≡ false) → AreAllMatched (region ∷ []) rules
 empty_matched rules region none ask there = absurd (both_ways (lies region ask) (none ask) (sym (or_false (lies region ask)) ∙ there))
+
+-- ---- how a search ends
+
+pub ended_found : (rules : List Rule) (regions : List Region) (count : ℕ) (ask : Ask) → IsFoundAt rules regions count ask → IsUnmatched regions rules ask
+ended_found rules regions count ask is =
+    found_there rules is.earlier regions (is.rest ++ is.region ∷ []) is.rest is.region ask is.made refl is.there
+
+pub ended_nothing : (rules : List Rule) (regions : List Region) (count : ℕ) → AreNarrowed rules count regions [] → AreAllMatched regions rules
+ended_nothing rules regions count made = nothing_left rules count regions [] made refl
+
+pub ended_unknown : (rules : List Rule) (regions : List Region) (given count : ℕ) → EndsWith rules regions given count unmatched.Unknown
+    → AreUsedUp rules given regions
+ended_unknown rules regions given count is = (is.1.left, is.1.made)

@@ -1,5 +1,5 @@
 -- The key that an ask says for a station is one of those that shapes have.
-use Rattle.std.proofs.Common.{◌≡◌, ◌∙◌, ◌≤◌, ◌+◌, refl, ℕ, Bool, true, false, List, [], ◌∷◌, length, Option, Some, None, arith, nat_le}
+use Rattle.std.proofs.Common.{◌≡◌, ◌≤◌, ◌+◌, refl, ℕ, Bool, true, false, List, [], ◌∷◌, length, Option, Some, None, arith, nat_le}
 use Rattle.std.specs.Prelude.{◌==◌, if◌then◌else◌}
 use Rattle.std.proofs.lemmas.Bool.{and_parts, eqb-true, leb-true}
 use Rattle.gw_addr.specs.Address.{big_endian}

@@ -1,5 +1,5 @@
 -- The search for an ask of some regions that none of some rules matches.
-use Rattle.std.specs.Prelude.{◌≡◌, ◌⊎◌, ℕ, zero, suc, Bool, true, false, List, [], ◌∷◌, ◌++◌}
+use Rattle.std.specs.Prelude.{◌≡◌, ◌≢◌, ◌⊎◌, ℕ, zero, suc, ◌+◌, Bool, true, false, List, [], ◌∷◌, ◌++◌}
 use Rattle.std.specs.List.{list_any}
 use Rattle.gw_rules.specs.Ask.{Ask}
 use Rattle.gw_rules.specs.Fields.{value_of}
@@ -10,6 +10,8 @@ use Rattle.gw_ask_sets.specs.regions.Coverage.{covers}
 use Rattle.gw_ask_sets.specs.regions.Regions.{Region, lies_in_one, piece, piece_at}
 use Rattle.gw_ask_sets.specs.regions.Steps.{IsRuleOf, divides}
 use Rattle.gw_ask_sets.specs.regions.Values.{admitted}
+use Rattle.gw_ask_sets.specs.declared.regions.unmatched.Unmatched.{Unmatched}
+use Rattle.gw_ask_sets.specs.declared.regions.unmatched.Unmatched.TheVariants as unmatched
 
 -- ---- in words
 
@@ -63,3 +65,26 @@ AreNarrowed rules (suc count) before after =
 -- all steps of a search were used, and what is left isn't looked at
 abbrev pub AreUsedUp : List Rule → ℕ → List Region → Type 0
 AreUsedUp rules steps regions = (left : List Region) × AreNarrowed rules steps regions left
+
+-- ---- how a search ends
+
+-- after so many steps: the last of them takes up a region with an ask that none of the rules matches
+pub record IsFoundAt (rules : List Rule) (regions : List Region) (count : ℕ) (ask : Ask) : Type 0 where
+  pub earlier : ℕ
+  pub counted : count ≡ earlier + 1
+  pub rest : List Region
+  pub region : Region
+  pub made : AreNarrowed rules earlier regions (rest ++ region ∷ [])
+  pub there : IsUnmatched (region ∷ []) rules ask
+
+-- all steps that were given, and a region is left
+pub record IsLeft (rules : List Rule) (regions : List Region) (given : ℕ) : Type 0 where
+  pub left : List Region
+  pub some : left ≢ []
+  pub made : AreNarrowed rules given regions left
+
+-- with an ask; with no region left; or with all steps made that were given
+abbrev pub EndsWith : List Rule → List Region → (given count : ℕ) → Unmatched → Type 0
+EndsWith rules regions given count (unmatched.Found ask) = IsFoundAt rules regions count ask
+EndsWith rules regions given count unmatched.Nothing = AreNarrowed rules count regions []
+EndsWith rules regions given count unmatched.Unknown = (count ≡ given) × IsLeft rules regions given

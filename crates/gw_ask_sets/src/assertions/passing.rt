@@ -1,15 +1,15 @@
 //! The search for an ask of some regions that rules decide in one way: rule by rule, in order.
-ghost use Rattle.std.specs.Prelude.{◌≡◌, ◌&&◌, ◌||◌, ◌++◌, ◌∷◌, [], List, true, false, not, IfOk, OnOk, Ok};
+ghost use Rattle.std.specs.Prelude.{◌≡◌, ◌++◌, ◌∷◌, [], List, true, false, not, IfOk, Ok};
 ghost use Rattle.gw_rules.specs.Ask.{Ask as SpecAsk};
 ghost use Rattle.gw_rules.specs.Rule.{matches};
 ghost use Rattle.gw_rules.specs.RuleList.{allows};
 ghost use Rattle.gw_rules.specs.declared.rule.Rule.{Rule as SpecRule};
 ghost use Rattle.gw_ask_sets.specs.assertions.internal.Passing.{IsPassed, IsReached, IsVain};
-ghost use Rattle.gw_ask_sets.specs.regions.Comparing.{unlike};
-ghost use Rattle.gw_ask_sets.specs.regions.Regions.{lies, lies_in_one};
+ghost use Rattle.gw_ask_sets.specs.regions.Regions.{lies_in_one};
 
 use crate::regions::coverage::meets_each;
-use crate::regions::region::region_within;
+use crate::regions::matching::matched;
+use crate::regions::pairs::is_unlike;
 use crate::regions::tidying::tidied;
 use crate::regions::{Region, Unmatched, search_unmatched};
 use gw_rules::Rule;
@@ -36,42 +36,6 @@ fn may_match(regions: &[Region], rule: &Rule) -> bool
         }
     }
     false
-}
-
-/// Puts what the rule matches of a region after those that are there.
-fn push_matched(
-    alloc: Global,
-    out: &mut Vec<Region>,
-    rule: &Rule,
-    region: &Region,
-) -> Result<(), AllocError>
-    ensures { OnOk result ((ask : SpecAsk) → lies_in_one out.new.items ask
-        ≡ (lies_in_one out.old.items ask || (lies region.now ask && matches rule.now ask))) }
-{
-    if !meets_each(rule, region) {
-        return Ok(());
-    }
-    let made = region_within(alloc, rule, region)?;
-    out.push(made)?;
-    Ok(())
-}
-
-/// What the rule matches of the regions.
-fn matched(alloc: Global, regions: &[Region], rule: &Rule) -> Result<Vec<Region>, AllocError>
-    ensures { IfOk result (λ made. (ask : SpecAsk) →
-        lies_in_one made.items ask ≡ (lies_in_one regions.now ask && matches rule.now ask)) }
-{
-    let mut out = Vec::new(alloc);
-    for region in regions {
-        push_matched(alloc, &mut out, rule, region)?;
-    }
-    Ok(out)
-}
-
-fn is_unlike(a: bool, b: bool) -> bool
-    ensures { result ≡ unlike a b }
-{
-    if a { !b } else { b }
 }
 
 /// Looks at the rule behind those that were passed, of which those that say the other thing are kept: whether it is

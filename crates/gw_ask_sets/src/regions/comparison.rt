@@ -118,7 +118,7 @@ impl Comparison {
     }
 
     /// What it found, and what is left.
-    pub(crate) fn into_parts(self) -> (Vec<Found>, Vec<Region>)
+    pub fn into_parts(self) -> (Vec<Found>, Vec<Region>)
         ensures found { result.0.items ≡ self.found.items }
         ensures left { result.1.items ≡ self.left.items }
     {

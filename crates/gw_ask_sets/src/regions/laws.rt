@@ -11,7 +11,7 @@ ghost use Rattle.gw_ask_sets.specs.regions.Values.{has, is_any};
 ghost use Rattle.gw_ask_sets.specs.declared.regions.comparison.Found.{Found};
 ghost use Rattle.gw_ask_sets.specs.declared.regions.values.Values.{Values};
 
-use crate::regions::MAX_STEPS;
+use crate::regions::{ALL_PAIR_STEPS, MAX_STEPS, PAIR_STEPS};
 
 /// An ask of the shapes that lies in no region that is left is decided otherwise exactly if it lies in one
 /// that was found. So if none is left, all that is decided otherwise is found. If none was found either,
@@ -77,7 +77,9 @@ pub fn tidying()
     ensures matching { TidiedMatchesTheSame }
 {}
 
-/// The limit is 65,536 steps.
+/// The limits are 65,536 steps for regions, 16,384 for a pair of rules, and 262,144 for all pairs.
 pub fn limits()
-    ensures { MAX_STEPS ≡ 65536 }
+    ensures regions { MAX_STEPS ≡ 65536 }
+    ensures pair { PAIR_STEPS ≡ 16384 }
+    ensures pairs { ALL_PAIR_STEPS ≡ 262144 }
 {}

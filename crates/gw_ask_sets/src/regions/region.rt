@@ -25,7 +25,7 @@ pub fn lies(region: &Region, ask: &Ask) -> bool
         .all(|field| region.get(*field).has(*ask.get(*field)))
 }
 
-fn copy_region(alloc: Global, region: &Region) -> Result<Region, AllocError>
+pub(crate) fn copy_region(alloc: Global, region: &Region) -> Result<Region, AllocError>
     ensures { IfOk result (λ copied. copied ≡ region.now) }
 {
     Fields::try_from_each(|field| region.get(field).copy(alloc))

@@ -1,12 +1,12 @@
 //! The search for an ask of some regions that none of some rules matches.
-ghost use Rattle.std.specs.Prelude.{◌≡◌, ◌≢◌, ◌+◌, ◌<◌, ◌++◌, ◌∷◌, [], List, length, take, true, false, not};
+ghost use Rattle.std.specs.Prelude.{◌≡◌, ◌≢◌, ◌+◌, ◌<◌, ◌≤◌, ◌++◌, ◌∷◌, [], List, length, take, true, false, not};
 ghost use Rattle.std.specs.Prelude.{IfOk, IfSome, None, Ok, OnOk};
 ghost use Rattle.gw_rules.specs.Ask.{Ask as SpecAsk};
 ghost use Rattle.gw_rules.specs.Fields.{value_of};
 ghost use Rattle.gw_rules.specs.Rule.{matches, ranges_of};
 ghost use Rattle.gw_ask_sets.specs.regions.Coverage.{covers};
 ghost use Rattle.gw_ask_sets.specs.regions.Regions.{Region as SpecRegion, lies};
-ghost use Rattle.gw_ask_sets.specs.regions.Unmatched.{AreAllMatched, AreUsedUp, IsUnmatched, Narrows, is_matched, parts_at};
+ghost use Rattle.gw_ask_sets.specs.regions.Unmatched.{AreAllMatched, AreUsedUp, EndsWith, IsUnmatched, Narrows, is_matched, parts_at};
 ghost use Rattle.gw_ask_sets.specs.regions.internal.Nearest.{IsNearest};
 
 use crate::regions::Region;
@@ -25,6 +25,13 @@ pub enum Unmatched {
     Nothing,
     /// All steps were used.
     Unknown,
+}
+
+/// That, and how many steps the search made.
+#[derive(Clone, Copy)]
+pub struct Searched {
+    pub outcome: Unmatched,
+    pub steps: u32,
 }
 
 /// Which of some rules is nearest to matching all of a region.
@@ -185,14 +192,44 @@ pub fn search_unmatched(
     ensures nothing { result ≡ Ok Unmatched.Nothing → AreAllMatched regions.items rules.now }
     ensures unknown { result ≡ Ok Unmatched.Unknown → AreUsedUp rules.now steps regions.items }
 {
+    let searched = search_counted(alloc, rules, regions, steps)?;
+    Ok(searched.outcome)
+}
+
+/// The same search, and how many steps it made: after the last one that was given it says `Unknown` only if a region is
+/// left. An `Err` if there is no memory.
+pub fn search_counted(
+    alloc: Global,
+    rules: &[Rule],
+    regions: Vec<Region>,
+    steps: u32,
+) -> Result<Searched, AllocError>
+    ensures ended { IfOk result (λ s. EndsWith rules.now regions.items steps s.steps s.outcome) }
+    ensures most { IfOk result (λ s. s.steps ≤ steps) }
+{
     let mut left = regions;
-    for _ in 0..steps {
+    for used in 0..steps {
         let Some(region) = left.pop() else {
-            return Ok(Unmatched::Nothing);
+            return Ok(Searched {
+                outcome: Unmatched::Nothing,
+                steps: used,
+            });
         };
         if let Some(ask) = narrow(alloc, rules, region, &mut left)? {
-            return Ok(Unmatched::Found(ask));
+            return Ok(Searched {
+                outcome: Unmatched::Found(ask),
+                steps: used + 1,
+            });
         }
     }
-    Ok(Unmatched::Unknown)
+    if left.is_empty() {
+        return Ok(Searched {
+            outcome: Unmatched::Nothing,
+            steps: steps,
+        });
+    }
+    Ok(Searched {
+        outcome: Unmatched::Unknown,
+        steps: steps,
+    })
 }

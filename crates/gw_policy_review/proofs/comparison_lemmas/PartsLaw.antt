@@ -1,19 +1,20 @@
 -- The parts that differ are named, and no other.
 use Rattle.std.proofs.Common.{◌≡◌, ◌∙◌, ap, append_assoc, arith, refl, subst, sym, ℕ, ◌+◌, ◌<◌, Bool, true, false, List, [], ◌∷◌, ◌++◌, length, map, Some, slice_get, suc, zero}
 use Rattle.std.proofs.lemmas.List.{append-nil, length-append}
-use Rattle.std.specs.Prelude.{◌-◌, ◌*◌, ◌&&◌, ◌==◌, ◌||◌, IsTrue, if◌then◌else◌}
+use Rattle.std.specs.Prelude.{◌-◌, ◌*◌, ◌&&◌, ◌==◌, ◌||◌, IsTrue, Option, None, if◌then◌else◌}
 use Rattle.std.proofs.lemmas.Bool.{both_ways, eqb-true, le-leb}
 use Rattle.std.proofs.lemmas.Nat.{pow_pos}
 use Rattle.std.specs.List.{list_all, list_any}
 use Rattle.gw_ask_sets.specs.regions.Tidying.{tidy}
 use Rattle.gw_ask_sets.proofs.regions_lemmas.OneTidyLaw.{tidy_is_one}
 use Rattle.gw_ask_sets.proofs.regions_lemmas.TidyLaw.{tidy_has_the_same, tidy_is_tidy}
+use Rattle.gw_ask_sets.specs.regions.Pairs.{Findings}
 use Rattle.gw_configuration.specs.Subnet.{Subnet, keys_of, size_of}
 use Rattle.gw_configuration.specs.declared.port.Port.{Port}
 use Rattle.gw_rules.specs.Range.{holds, is_ordered}
 use Rattle.gw_rules.specs.declared.range.Range.{Range}
 use Rattle.gw_rules.specs.declared.rule.Rule.{Rule}
-use Rattle.gw_policy_review.specs.comparison.Comparison.{compared_by}
+use Rattle.gw_policy_review.specs.comparison.Comparison.{judged_by}
 use Rattle.gw_policy_review.specs.comparison.Laws.{AlikeIsLike, LikeHasNone, NoneDiffers}
 use Rattle.gw_policy_review.specs.comparison.Parts.{AreDifferences, AreLikePorts, ArePortParts, HaveSameNames, HaveSameStations, IsPortSameness, frame_parts, has_key, parts_of_port, port_parts, rest_parts, unless}
 use Rattle.gw_policy_review.specs.declared.comparison.parts.Part.{Part}
@@ -281,10 +282,17 @@ abbrev is_alike : Compared → Bool
 is_alike compared.Alike = true
 is_alike _ = false
 
-no_differ : (differ found left : ℕ) → compared.Alike ≡ compared_by differ found left → differ ≡ 0
-no_differ differ found left e = by (left == 0) (found == 0) (differ == 0) refl (ap is_alike (sym e))
+no_differ : (differ found left : ℕ) (pairs : Option Findings) → compared.Alike ≡ judged_by differ found left pairs → differ ≡ 0
+no_differ differ found left None e = by (left == 0) (found == 0) (differ == 0) refl (ap is_alike (sym e))
   where
     by : (b c d : Bool) → (differ == 0) ≡ d → is_alike (if b then (if c then (if d then compared.Alike else compared.OtherParts) else compared.Different) else compared.Unfinished) ≡ true → differ ≡ 0
+    by true true true is all = eqb-true differ 0 is
+    by true true false is all = absurd (both_ways false refl all)
+    by true false d is all = absurd (both_ways false refl all)
+    by false c d is all = absurd (both_ways false refl all)
+no_differ differ found left (Some known) e = by (length known.given_up == 0) (length known.found == 0) (differ == 0) refl (ap is_alike (sym e))
+  where
+    by : (b c d : Bool) → (differ == 0) ≡ d → is_alike (if b then (if c then (if d then compared.Alike else compared.OtherParts) else compared.Paired) else compared.Unfinished) ≡ true → differ ≡ 0
     by true true true is all = eqb-true differ 0 is
     by true true false is all = absurd (both_ways false refl all)
     by true false d is all = absurd (both_ways false refl all)
@@ -293,7 +301,7 @@ no_differ differ found left e = by (left == 0) (found == 0) (differ == 0) refl (
 pub alike_is_like : AlikeIsLike
 alike_is_like old new most text written =
     none_differs old new (subst (λ (differ : List Part). AreDifferences old new differ)
-    (none_by_length written.differ (no_differ (length written.differ) (length written.found) (length written.left) written.verdict))
+    (none_by_length written.differ (no_differ (length written.differ) (length written.found) (length written.left) written.pairs written.verdict))
     written.are_differences)
 
 -- ---- the parts of one port more

@@ -3,6 +3,8 @@ use Rattle.std.specs.Prelude.{ℕ, Bool, ◌||◌, ◌==◌, nat_le, List, ◌�
 use Rattle.gw_configuration.specs.Configuration.{Configuration}
 use Rattle.gw_ask_sets.specs.regions.Comparing.{IsComparison}
 use Rattle.gw_ask_sets.specs.regions.Regions.{Region}
+use Rattle.gw_ask_sets.specs.regions.Steps.{IsReached, stage}
+use Rattle.gw_ask_sets.specs.regions.Tidying.{all_tidied}
 use Rattle.gw_ask_sets.specs.declared.regions.comparison.Found.{Found}
 use Rattle.gw_policy_review.specs.comparison.Asks.{asks_of}
 
@@ -14,9 +16,12 @@ pub record Progress : Type 0 where
   pub left : List Region
   pub steps : ℕ
 
--- what it found, and what is left, is right of the rules of the two, over all asks that a gateway of either may raise
-abbrev pub IsUnderWay : Progress → Type 0
-IsUnderWay p = IsComparison (asks_of p.old_one p.new_one) p.old_one.rules p.new_one.rules p.found p.left
+-- what it found, and what is left, is right of the rules of the two, over all asks that a gateway of either may raise, and was
+-- reached in so many steps, by the rules with their ranges in order
+pub record IsUnderWay (p : Progress) : Type 0 where
+  pub is_right : IsComparison (asks_of p.old_one p.new_one) p.old_one.rules p.new_one.rules p.found p.left
+  pub reached : IsReached (asks_of p.old_one p.new_one) (all_tidied p.old_one.rules) (all_tidied p.new_one.rules) p.steps
+      (stage p.found p.left)
 
 -- nothing is left, or all steps are used
 abbrev pub is_finished : Progress → Bool

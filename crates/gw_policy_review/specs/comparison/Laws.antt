@@ -1,8 +1,10 @@
 -- What the text of a comparison says of the asks of two configurations.
-use Rattle.std.specs.Prelude.{◌≡◌, ◌≢◌, ◌⊎◌, ℕ, Bool, true, false, count_by, List, [], None}
+use Rattle.std.specs.Prelude.{◌≡◌, ◌≢◌, ◌⊎◌, ℕ, Bool, true, false, count_by, IfSome, List, [], Option, None}
 use Rattle.std.specs.List.{AllByRecursion}
+use Rattle.std.specs.Option.{option_map_or}
 use Rattle.gw_configuration.specs.Configuration.{Configuration}
-use Rattle.gw_ask_sets.specs.regions.Comparing.{IsDecided, differs, is_found}
+use Rattle.gw_ask_sets.specs.regions.Comparing.{IsDecided, decider, differs, is_found}
+use Rattle.gw_ask_sets.specs.regions.Pairs.{Findings, IsDecidedBy, is_shown}
 use Rattle.gw_ask_sets.specs.regions.Regions.{lies}
 use Rattle.gw_ask_sets.specs.regions.Values.{has, is_any}
 use Rattle.gw_ask_sets.specs.declared.regions.comparison.Found.{Found}
@@ -12,7 +14,8 @@ use Rattle.gw_rules.specs.RuleList.{allows, is_logged}
 use Rattle.gw_rules.specs.declared.field.FieldName.{FieldName}
 use Rattle.gw_ask_sets.specs.shapes.Shape.{LiesInOne}
 use Rattle.gw_ask_sets.specs.shapes.Shapes.{shapes}
-use Rattle.gw_policy_review.specs.comparison.Comparison.{IsComparisonText}
+use Rattle.gw_policy_review.specs.comparison.Asks.{asks_of}
+use Rattle.gw_policy_review.specs.comparison.Comparison.{IsComparisonText, has_lines}
 use Rattle.gw_policy_review.specs.comparison.Groups.{firsts, is_like}
 use Rattle.gw_policy_review.specs.comparison.Parts.{AreDifferences, AreLike}
 use Rattle.gw_policy_review.specs.declared.comparison.parts.Part.{Part}
@@ -23,17 +26,37 @@ use Rattle.gw_policy_review.specs.declared.comparison.comparison.Compared.TheVar
 abbrev pub IsAskOf : Configuration → Configuration → Ask → Type 0
 IsAskOf old new ask = LiesInOne (shapes old) ask ⊎ LiesInOne (shapes new) ask
 
--- Unless the comparison isn't finished, such an ask is decided otherwise exactly if it lies in a region that was found.
+-- Unless the comparison isn't finished, or is by pairs alone, such an ask is decided otherwise exactly if it lies in a region
+-- that was found.
 abbrev pub FoundIsAll : Type 0
 FoundIsAll = (old new : Configuration) (most : ℕ) (made : Compared) (text : List ℕ)
-    (written : IsComparisonText old new most made text) → made ≢ compared.Unfinished
+    (written : IsComparisonText old new most made text) → made ≢ compared.Unfinished → made ≢ compared.Paired
     → (ask : Ask) → IsAskOf old new ask → differs old.rules new.rules ask ≡ is_found written.found ask
+
+-- the rules that decide an ask are a pair that was found
+abbrev pub is_paired : Configuration → Configuration → Option Findings → Ask → Bool
+is_paired old new pairs ask =
+    option_map_or (λ known. is_shown known.found (decider old.rules ask) (decider new.rules ask)) pairs false
+
+-- If it is by pairs, such an ask is decided otherwise exactly if the two rules that decide it are a pair that was found.
+abbrev pub PairsAreAll : Type 0
+PairsAreAll = (old new : Configuration) (most : ℕ) (made : Compared) (text : List ℕ)
+    (written : IsComparisonText old new most made text) → made ≡ compared.Paired
+    → (ask : Ask) → IsAskOf old new ask → differs old.rules new.rules ask ≡ is_paired old new written.pairs ask
+
+-- Finished or not: each pair that was found has such an ask, which the two decide.
+abbrev pub PairsHaveAsks : Type 0
+PairsHaveAsks = (old new : Configuration) (most : ℕ) (made : Compared) (text : List ℕ)
+    (written : IsComparisonText old new most made text)
+    → IfSome written.pairs (λ known. AllByRecursion (λ shown.
+    IsAskOf old new shown.ask × IsDecidedBy (asks_of old new) old.rules new.rules shown) known.found)
 
 -- the text says that no ask is decided otherwise, or that only other parts differ
 abbrev pub says_alike : Compared → Bool
 says_alike compared.Alike = true
 says_alike compared.OtherParts = true
 says_alike compared.Different = false
+says_alike compared.Paired = false
 says_alike compared.Unfinished = false
 
 -- Then the two decide each of them alike.
@@ -73,11 +96,11 @@ LinesHaveAsks = (old new : Configuration) (most : ℕ) (made : Compared) (text :
     (written : IsComparisonText old new most made text)
     → AllByRecursion (λ f. (lies f.region f.ask ≡ true) × IsAskOf old new f.ask) written.found
 
--- A field of a region that may be absent, but isn't just anything, is absent in such an ask that lies there: a line that
+-- Where regions have lines: a field of a region that may be absent, but isn't just anything, is absent in such an ask that lies there: a line that
 -- says `or none` of a field, or `without` it, has an ask without it.
 abbrev pub NoneHasAsk : Type 0
 NoneHasAsk = (old new : Configuration) (most : ℕ) (made : Compared) (text : List ℕ)
-    (written : IsComparisonText old new most made text)
+    (written : IsComparisonText old new most made text) → has_lines written.pairs ≡ true
     → AllByRecursion (λ f. (field : FieldName) → has (value_of field f.region) None ≡ true
     → is_any (value_of field f.region) ≡ false
     → (ask : Ask) × (lies f.region ask ≡ true) × IsAskOf old new ask × (value_of field ask ≡ None)) written.found

@@ -2,10 +2,12 @@
 ghost use Rattle.std.specs.Prelude.{◌≡◌, ◌≤◌, ◌<◌, ◌+◌, [], length, true, IfOk, OnErr, OnOk};
 ghost use Rattle.gw_addr.specs.Appending.{IsAppended, IsAppendedWhole};
 ghost use Rattle.gw_policy_review.specs.comparison.Comparing.{IsUnderWay, is_finished, steps_text};
-ghost use Rattle.gw_policy_review.specs.comparison.Comparison.{AppendsComparison};
+ghost use Rattle.gw_policy_review.specs.comparison.Comparison.{AppendsCounted, AreResults};
+ghost use Rattle.gw_policy_review.specs.comparison.PairLines.{known_of};
 
 use crate::comparison::asks::asks_of;
-use crate::comparison::comparison::{Compared, comparison_of, put_whole, summary_of};
+use crate::comparison::comparison::{Compared, Results, comparison_of, put_whole, summary_if};
+use crate::comparison::pairs::{have_lines, pairs_if};
 use gw_addr::{keep_whole, put_decimal, put_slice};
 use gw_ask_sets::regions::{Comparison, MAX_STEPS, Policies, Region, all_tidied};
 use gw_configuration::Config;
@@ -131,8 +133,22 @@ impl<'a> Comparing<'a> {
     /// then holds what it held.
     pub fn put(self, alloc: Global, most: usize, out: &mut Vec<u8>) -> Result<Compared, AllocError>
         ensures ok { IfOk result (λ made. IsUnderWay self.entry →
-            AppendsComparison self.entry.old_one self.entry.new_one most made out.old.items out.new.items) }
+            AppendsCounted self.entry.old_one self.entry.new_one most made self.entry.steps out.old.items out.new.items) }
         ensures err { OnErr result (out.new.items ≡ out.old.items) }
+    {
+        let (old, new) = (self.before, self.after);
+        let results = self.into_results(alloc)?;
+        let written = comparison_of(alloc, old, new, &results, most)?;
+        put_whole(out, &written.text)?;
+        Ok(written.made)
+    }
+
+    /// What is found so far, in few and wide regions, and the pairs of rules that decide an ask otherwise if a region is
+    /// left. An `Err` if there is no memory.
+    pub fn into_results(self, alloc: Global) -> Result<Results, AllocError>
+        ensures results { IfOk result (λ r. IsUnderWay self.entry → AreResults self.entry.old_one self.entry.new_one
+            r.summary.found.items r.summary.left.items r.summary.steps (known_of r.pairs)) }
+        ensures steps { IfOk result (λ r. r.summary.steps ≡ self.entry.steps) }
     {
         let Comparing {
             before,
@@ -142,10 +158,14 @@ impl<'a> Comparing<'a> {
             asks,
             comparison,
         } = self;
-        let summary = summary_of(alloc, &asks, comparison)?;
-        let written = comparison_of(alloc, before, after, &summary, most)?;
-        put_whole(out, &written.text)?;
-        Ok(written.made)
+        let policies = Policies {
+            old: before.rules().rules(),
+            new: after.rules().rules(),
+            shapes: &asks,
+        };
+        let pairs = pairs_if(alloc, &policies, comparison.left.len())?;
+        let summary = summary_if(alloc, &asks, comparison, have_lines(&pairs))?;
+        Ok(Results { summary, pairs })
     }
 }
 

@@ -1,19 +1,22 @@
 //! What `bacgwctl compare` says of two configurations.
-ghost use Rattle.std.specs.Prelude.{◌≡◌, ◌++◌, ◌∷◌, ◌==◌, [], codes, decimal, if◌then◌else◌, length, IfOk, List, OnErr, OnOk};
+ghost use Rattle.std.specs.Prelude.{◌≡◌, true, ◌++◌, ◌∷◌, ◌==◌, [], codes, decimal, if◌then◌else◌, length, IfOk, List, OnErr, OnOk};
 ghost use Rattle.std.specs.List.Sorted.{IsNonDecreasingBy, IsPermutation};
 ghost use Rattle.gw_policy_review.specs.comparison.Asks.{asks_of};
-ghost use Rattle.gw_policy_review.specs.comparison.Comparison.{AppendsComparison, IsComparisonText, compared_by, ending_text, kinds_text, rank};
+ghost use Rattle.gw_policy_review.specs.comparison.Comparison.{AppendsComparison, AreResults, IsComparisonText, asks_text, by_both_text, by_pairs_text, by_regions_text, compared_by, ending_text, judged_by, kinds_text, paired_by, rank};
 ghost use Rattle.gw_ask_sets.specs.regions.Comparing.{IsComparison, IsSummary};
 ghost use Rattle.gw_ask_sets.specs.regions.Presence.{OrNoneIsMeant};
+ghost use Rattle.gw_ask_sets.specs.regions.Pairs.{findings};
+ghost use Rattle.gw_policy_review.specs.comparison.PairLines.{known_of};
 ghost use Rattle.gw_policy_review.specs.comparison.PartLines.{details};
 ghost use Rattle.gw_rules.specs.declared.rule.Rule.{Rule as SpecRule};
 
 use crate::comparison::Comparing;
 use crate::comparison::details::put_details;
 use crate::comparison::groups::{Listing, put_regions};
+use crate::comparison::pairs::{put_given_up, put_pairs};
 use crate::comparison::parts::{Part, differing_parts};
 use gw_addr::{keep_whole, put_decimal, put_slice};
-use gw_ask_sets::regions::{Comparison, Found, MAX_STEPS, Region, Summary};
+use gw_ask_sets::regions::{Comparison, Found, MAX_STEPS, Pairs, Region, ShownPair, Summary};
 use gw_configuration::Config;
 use std::alloc::{AllocError, Global};
 
@@ -26,8 +29,19 @@ pub enum Compared {
     OtherParts,
     /// They decide some otherwise, which are all found.
     Different,
+    /// They decide some otherwise, and all pairs of rules are found that do. The steps of the search for regions were used up.
+    Paired,
     /// The steps were used up: they decide those that were found otherwise, and perhaps others.
     Unfinished,
+}
+
+/// What is found of what two policies decide otherwise.
+#[derive(Drop)]
+pub struct Results {
+    /// The regions, and how many are left.
+    pub summary: Summary,
+    /// The pairs of rules, which are looked for where a region is left.
+    pub pairs: Option<Pairs>,
 }
 
 /// A text, and how the policies compare that it is about.
@@ -52,6 +66,13 @@ impl Drop for ComparisonText {
 /// now allowed: write, type 5 binary-value, instance 1, property 85 present-value, priority 1..7, from network 2, by panel (was denied by no-writes)
 /// now denied: list, from network 1, by quiet (was allowed by find)
 /// 2 kinds of asks are decided otherwise, and no other
+/// ```
+///
+/// Where the steps don't find all kinds, it is pairs of rules that are told:
+///
+/// ```text
+/// now allowed by panel (was denied by no-writes), for one: operation=write port=1 source_network=2 ..
+/// pairs of rules that decide asks otherwise: 1, and no other
 /// ```
 ///
 /// An `Err` if there is no memory: the buffer then holds what it held.
@@ -100,27 +121,112 @@ pub(crate) fn comparison_of(
     alloc: Global,
     old: &Config,
     new: &Config,
-    summary: &Summary,
+    results: &Results,
     most: usize,
 ) -> Result<ComparisonText, AllocError>
     ensures { IfOk result (λ written.
-        IsSummary (asks_of old.now new.now) old.now.rules new.now.rules summary.now.found.items summary.now.left.items →
-        OrNoneIsMeant (asks_of old.now new.now) summary.now.found.items →
-        IsNonDecreasingBy rank summary.now.found.items →
-        IsComparisonText old.now new.now most written.made written.text.items) }
+        AreResults old.now new.now results.now.summary.found.items results.now.summary.left.items results.now.summary.steps
+        (known_of results.now.pairs) →
+        (is : IsComparisonText old.now new.now most written.made written.text.items)
+        × (is.steps ≡ results.now.summary.steps)) }
 {
     let differ = differing_parts(alloc, old, new)?;
     let mut text = details_of(alloc, old, new, &differ)?;
-    let made = compared_by(differ.len(), summary.found.len(), summary.left.len());
+    let made = judged_by(
+        differ.len(),
+        results.summary.found.len(),
+        results.summary.left.len(),
+        &results.pairs,
+    );
     let listing = Listing {
-        found: &summary.found,
+        found: &results.summary.found,
         old: old.rules().rules(),
         new: new.rules().rules(),
         most,
     };
-    put_regions(alloc, &mut text, &listing)?;
-    put_ending(&mut text, made, summary.found.len())?;
+    put_asks(alloc, &mut text, &listing, made, &results.pairs)?;
     Ok(ComparisonText { text, made })
+}
+
+/// Appends what is said of the asks, and the last line.
+fn put_asks(
+    alloc: Global,
+    out: &mut Vec<u8>,
+    listing: &Listing<'_>,
+    made: Compared,
+    pairs: &Option<Pairs>,
+) -> Result<(), AllocError>
+    ensures { OnOk result (out.new.items ≡ out.old.items ++ asks_text listing.now.old.now listing.now.new.now listing.now.most
+        made listing.now.found.now (known_of pairs.now)) }
+{
+    match pairs {
+        None => put_by_regions(alloc, out, listing, made),
+        Some(pairs) => put_by(alloc, out, listing, made, pairs),
+    }
+}
+
+/// Appends what is said of pairs, and of regions too if the pairs aren't all, and the last line.
+fn put_by(
+    alloc: Global,
+    out: &mut Vec<u8>,
+    listing: &Listing<'_>,
+    made: Compared,
+    pairs: &Pairs,
+) -> Result<(), AllocError>
+    ensures { OnOk result (out.new.items ≡ out.old.items
+        ++ (if length pairs.now.given_up.items == 0
+        then by_pairs_text listing.now.old.now listing.now.new.now listing.now.most made pairs.now.found.items
+        else by_both_text listing.now.old.now listing.now.new.now listing.now.most made listing.now.found.now
+        (findings pairs.now.found.items pairs.now.given_up.items pairs.now.steps))) }
+{
+    if pairs.given_up.is_empty() {
+        return put_by_pairs(out, listing, made, &pairs.found);
+    }
+    put_by_both(alloc, out, listing, made, pairs)
+}
+
+/// Appends what is said of regions alone, and the last line.
+fn put_by_regions(
+    alloc: Global,
+    out: &mut Vec<u8>,
+    listing: &Listing<'_>,
+    made: Compared,
+) -> Result<(), AllocError>
+    ensures { OnOk result (out.new.items ≡ out.old.items
+        ++ by_regions_text listing.now.old.now listing.now.new.now listing.now.most made listing.now.found.now) }
+{
+    put_regions(alloc, out, listing)?;
+    put_ending(out, made, listing.found.len())
+}
+
+fn put_by_pairs(
+    out: &mut Vec<u8>,
+    listing: &Listing<'_>,
+    made: Compared,
+    found: &[ShownPair],
+) -> Result<(), AllocError>
+    ensures { OnOk result (out.new.items ≡ out.old.items
+        ++ by_pairs_text listing.now.old.now listing.now.new.now listing.now.most made found.now) }
+{
+    put_pairs(out, listing.old, listing.new, listing.most, found)?;
+    put_ending(out, made, found.len())
+}
+
+fn put_by_both(
+    alloc: Global,
+    out: &mut Vec<u8>,
+    listing: &Listing<'_>,
+    made: Compared,
+    pairs: &Pairs,
+) -> Result<(), AllocError>
+    ensures { OnOk result (out.new.items ≡ out.old.items
+        ++ by_both_text listing.now.old.now listing.now.new.now listing.now.most made listing.now.found.now
+        (findings pairs.now.found.items pairs.now.given_up.items pairs.now.steps)) }
+{
+    put_regions(alloc, out, listing)?;
+    put_pairs(out, listing.old, listing.new, listing.most, &pairs.found)?;
+    put_given_up(out, pairs.found.len(), pairs.given_up.len())?;
+    put_ending(out, made, listing.found.len())
 }
 
 /// What a comparison over these asks has found so far, what is newly allowed first.
@@ -134,10 +240,35 @@ pub(crate) fn summary_of(
         IsSummary asks.now old new s.found.items s.left.items) }
     ensures or_none { IfOk result (λ s. OrNoneIsMeant asks.now s.found.items) }
     ensures in_order { IfOk result (λ s. IsNonDecreasingBy rank s.found.items) }
+    ensures left { IfOk result (λ s. s.left.items ≡ comparison.left.items) }
+    ensures steps { IfOk result (λ s. s.steps ≡ comparison.steps) }
 {
     let mut summary = gw_ask_sets::regions::summary_of(alloc, asks, comparison)?;
     sort_found(&mut summary.found)?;
     Ok(summary)
+}
+
+/// The same, summed up only if the regions have lines.
+pub(crate) fn summary_if(
+    alloc: Global,
+    asks: &[Region],
+    comparison: Comparison,
+    has_lines: bool,
+) -> Result<Summary, AllocError>
+    ensures summary { IfOk result (λ s. (old new : List SpecRule) →
+        IsComparison asks.now old new comparison.found.items comparison.left.items →
+        IsSummary asks.now old new s.found.items s.left.items) }
+    ensures or_none { IfOk result (λ s. has_lines ≡ true → OrNoneIsMeant asks.now s.found.items) }
+    ensures in_order { IfOk result (λ s. has_lines ≡ true → IsNonDecreasingBy rank s.found.items) }
+    ensures left { IfOk result (λ s. s.left.items ≡ comparison.left.items) }
+    ensures steps { IfOk result (λ s. s.steps ≡ comparison.steps) }
+{
+    if has_lines {
+        return summary_of(alloc, asks, comparison);
+    }
+    let steps = comparison.steps;
+    let (found, left) = comparison.into_parts();
+    Ok(Summary { found, left, steps })
 }
 
 /// The place of a region among others: the lower comes first.
@@ -156,7 +287,32 @@ fn sort_found(found: &mut Vec<Found>) -> Result<(), AllocError>
     Ok(())
 }
 
-/// How two policies compare, by how many other parts differ, how many regions were found, and how many are left.
+/// How two policies compare, by how many other parts differ, how many regions were found, how many are left, and by the
+/// pairs if they were looked for.
+pub fn judged_by(differ: usize, found: usize, left: usize, pairs: &Option<Pairs>) -> Compared
+    ensures { result ≡ judged_by differ found left (known_of pairs.now) }
+{
+    match pairs {
+        Some(pairs) => paired_by(differ, pairs),
+        None => compared_by(differ, found, left),
+    }
+}
+
+fn paired_by(differ: usize, pairs: &Pairs) -> Compared
+    ensures { result ≡ paired_by differ (findings pairs.now.found.items pairs.now.given_up.items pairs.now.steps) }
+{
+    if !pairs.given_up.is_empty() {
+        Compared::Unfinished
+    } else if !pairs.found.is_empty() {
+        Compared::Paired
+    } else if differ != 0 {
+        Compared::OtherParts
+    } else {
+        Compared::Alike
+    }
+}
+
+/// The same where pairs aren't looked for.
 pub fn compared_by(differ: usize, found: usize, left: usize) -> Compared
     ensures { result ≡ compared_by differ found left }
 {
@@ -181,6 +337,7 @@ fn put_ending(out: &mut Vec<u8>, made: Compared, count: usize) -> Result<(), All
             out.extend_from_slice(b"the rules decide alike, but other parts differ\n")
         }
         Compared::Different => put_finished(out, count),
+        Compared::Paired => put_paired(out, count),
         Compared::Unfinished => {
             out.extend_from_slice(unfinished_words(count).as_bytes())?;
             put_kinds(out, count)?;
@@ -195,6 +352,14 @@ fn put_finished(out: &mut Vec<u8>, count: usize) -> Result<(), AllocError>
         out.old.items ++ (kinds_text count ++ (codes ", and no other" ++ 10 ∷ []))) }
 {
     put_kinds(out, count)?;
+    put_slice(out, b", and no other\n")
+}
+
+fn put_paired(out: &mut Vec<u8>, count: usize) -> Result<(), AllocError>
+    ensures { OnOk result (out.new.items ≡ out.old.items ++ ending_text Compared.Paired count) }
+{
+    put_slice(out, b"pairs of rules that decide asks otherwise: ")?;
+    put_decimal(out, count)?;
     put_slice(out, b", and no other\n")
 }
 

@@ -1,7 +1,7 @@
 //! What the text of a comparison says of the asks of two configurations. The functions do nothing: their
 //! contracts are the laws.
 ghost use Rattle.std.specs.Prelude.{◌≡◌};
-ghost use Rattle.gw_policy_review.specs.comparison.Laws.{AlikeIsAlike, AlikeIsLike, AlikeIsLogged, EachHasOneGroup, FoundIsAll, LikeHasNone, LinesAreTrue, LinesHaveAsks, NoneDiffers, NoneHasAsk};
+ghost use Rattle.gw_policy_review.specs.comparison.Laws.{AlikeIsAlike, AlikeIsLike, AlikeIsLogged, EachHasOneGroup, FoundIsAll, LikeHasNone, LinesAreTrue, LinesHaveAsks, NoneDiffers, NoneHasAsk, PairsAreAll, PairsHaveAsks};
 
 use crate::comparison::MOST_UNGROUPED;
 
@@ -14,6 +14,13 @@ pub fn comparisons()
     ensures lines { LinesAreTrue }
     ensures asks { LinesHaveAsks }
     ensures or_none { NoneHasAsk }
+{}
+
+/// If what is decided otherwise is said by pairs of rules, an ask is decided otherwise exactly if the two rules that decide it
+/// are a pair that was found; and each pair has an ask.
+pub fn pairs()
+    ensures all { PairsAreAll }
+    ensures asks { PairsHaveAsks }
 {}
 
 /// The parts that differ are named, and no other: if none is, all that has an effect is the same, but for what the rules

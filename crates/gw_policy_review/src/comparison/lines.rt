@@ -104,7 +104,7 @@ fn put_other_name(out: &mut Vec<u8>, rules: &[Rule], number: usize) -> Result<()
 }
 
 /// Appends the name of the rule of a number, or `default` for 0.
-fn put_name(out: &mut Vec<u8>, rules: &[Rule], number: usize) -> Result<(), AllocError>
+pub(crate) fn put_name(out: &mut Vec<u8>, rules: &[Rule], number: usize) -> Result<(), AllocError>
     ensures { OnOk result (out.new.items ≡ out.old.items ++ rule_name rules.now number) }
 {
     if number == 0 {

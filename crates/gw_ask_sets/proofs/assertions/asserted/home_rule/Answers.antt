@@ -6,7 +6,7 @@ use Rattle.gw_configuration.specs.Subnet.{Subnet}
 use Rattle.std.specs.Prelude.{◌==◌, length}
 use Rattle.std.proofs.lemmas.List.{nil_from_length}
 use Rattle.std.proofs.lemmas.Bool.{eqb-true}
-use Rattle.gw_ask_sets.specs.assertions.internal.Unraised.{enter_rule, station_keys}
+use Rattle.gw_ask_sets.specs.assertions.internal.Unraised.{enter_rule}
 use Rattle.gw_ask_sets.proofs.assertions_lemmas.AssertedLaw.{all_home, none_home, some_home}
 use Rattle.gw_ask_sets.proofs.assertions.asserted.home_rule.Goals as goal
 

@@ -1,4 +1,4 @@
-use Rattle.std.proofs.Common.{◌∙◌, ◌&&◌, sym}
+use Rattle.std.proofs.Common.{◌&&◌}
 use Rattle.std.specs.Prelude.{not}
 use Rattle.gw_rules.specs.Rule.{matches}
 use Rattle.gw_ask_sets.specs.regions.Regions.{lies}

@@ -1,7 +1,7 @@
 use Rattle.std.proofs.Common.{◌≡◌, ◌∙◌, List, Ok, ap, subst, sym, take, true}
 use Rattle.gw_rules.specs.Ask.{Ask}
 use Rattle.gw_rules.specs.RuleList.{allows}
-use Rattle.gw_ask_sets.specs.assertions.internal.Passing.{IsPassed, IsReached, IsVain}
+use Rattle.gw_ask_sets.specs.assertions.internal.Passing.{IsPassed, IsVain}
 use Rattle.gw_ask_sets.specs.regions.Regions.{Region, lies_in_one}
 use Rattle.gw_ask_sets.proofs.assertions_lemmas.PassingLaw.{reached_at, vain_at}
 use Rattle.gw_ask_sets.proofs.assertions.passing.search_decided.Goals as goal

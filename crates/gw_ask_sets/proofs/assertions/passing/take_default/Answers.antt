@@ -1,4 +1,3 @@
-use Rattle.std.proofs.Common.{refl}
 use Rattle.gw_ask_sets.proofs.assertions_lemmas.PassingLaw.{allowed_none, denied_none, denied_one}
 use Rattle.gw_ask_sets.proofs.assertions.passing.take_default.Goals as goal
 

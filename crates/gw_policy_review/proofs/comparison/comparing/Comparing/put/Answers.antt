@@ -1,30 +1,24 @@
-use Rattle.std.proofs.Common.{◌∙◌, ◌++◌, ℕ, List, ap, subst}
-use Rattle.gw_ask_sets.specs.regions.Comparing.{IsComparison, IsSummary}
-use Rattle.gw_ask_sets.specs.regions.Presence.{OrNoneIsMeant}
-use Rattle.gw_ask_sets.specs.regions.Regions.{Region}
+use Rattle.std.proofs.Common.{◌∙◌, ◌++◌, ℕ, List, ap, subst, sym}
 use Rattle.gw_policy_review.specs.comparison.Comparing.{IsUnderWay, Progress}
-use Rattle.gw_policy_review.specs.comparison.Comparison.{AppendsComparison}
+use Rattle.gw_policy_review.specs.comparison.Comparison.{AppendsCounted, AreResults}
+use Rattle.gw_policy_review.specs.comparison.PairLines.{known_of}
 use Rattle.gw_policy_review.proofs.comparison.comparing.Comparing.put.Goals as goal
 
 pub returns-clause-ok : goal.returns-clause-ok
 returns-clause-ok c =
-    let it = c.self.inside in
-    let old = it.before.now.rules in
-    let new = it.after.now.rules in
-    let summary = c.in_ok-summary.summary in
+    let results = c.in_ok-results.results in
+    let summary = results.summary in
     let written = c.in_ok-written.written in
-    let same = c.deref.ensures.value ∙ c.self.invariant.0 in
+    let of = subst (λ (p : Progress). IsUnderWay p → AreResults p.old_one p.new_one summary.found.items summary.left.items summary.steps (known_of results.pairs))
+    (sym c.self.view_is) c.in_ok-results.ensures.results in
+    let same = c.in_ok-results.ensures.steps in
     subst
-    (λ (p : Progress). IsUnderWay p → AppendsComparison p.old_one p.new_one c.args.most written.made c.args.out.now.items c.put_whole.new.out.items)
+    (λ (p : Progress). IsUnderWay p → AppendsCounted p.old_one p.new_one c.args.most written.made c.args.self.steps c.args.out.now.items c.put_whole.new.out.items)
     c.self.view_is
-    (λ was. (
+    (λ was.
+    let is = c.in_ok-written.ensures (of was) in (
       written.text.items,
-      c.in_ok-written.ensures
-          (subst
-          (λ (asks : List Region).
-          IsComparison asks old new it.comparison.found.items it.comparison.left.items → IsSummary asks old new summary.found.items summary.left.items)
-          same (c.in_ok-summary.ensures.summary old new) was)
-          (subst (λ (asks : List Region). OrNoneIsMeant asks summary.found.items) same c.in_ok-summary.ensures.or_none)
-          c.in_ok-summary.ensures.in_order,
-      c.in_ok-put_whole.ensures.ok ∙ ap (λ (text : List ℕ). c.args.out.now.items ++ text) c.deref-2.ensures.value,
+      is.0,
+      is.1 ∙ same,
+      c.in_ok-put_whole.ensures.ok ∙ ap (λ (text : List ℕ). c.args.out.now.items ++ text) c.deref.ensures.value,
     ))

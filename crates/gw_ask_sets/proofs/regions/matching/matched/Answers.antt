@@ -2,7 +2,7 @@ use Rattle.std.proofs.Common.{false}
 use Rattle.gw_rules.specs.Rule.{matches}
 use Rattle.gw_ask_sets.specs.regions.Regions.{lies_in_one}
 use Rattle.gw_ask_sets.proofs.assertions_lemmas.GrowingLaw.{pushed_next}
-use Rattle.gw_ask_sets.proofs.assertions.passing.matched.Goals as goal
+use Rattle.gw_ask_sets.proofs.regions.matching.matched.Goals as goal
 
 pub loop-region-preserved : goal.loop-region-preserved
 loop-region-preserved c = λ ask.

@@ -3,7 +3,7 @@ use Rattle.gw_rules.specs.Rule.{matches}
 use Rattle.gw_ask_sets.specs.regions.Regions.{lies}
 use Rattle.gw_ask_sets.proofs.assertions_lemmas.GrowingLaw.{both_false, none_more, one_more}
 use Rattle.gw_ask_sets.proofs.regions_lemmas.CoverageLaw.{apart_law}
-use Rattle.gw_ask_sets.proofs.assertions.passing.push_matched.Goals as goal
+use Rattle.gw_ask_sets.proofs.regions.matching.push_matched.Goals as goal
 
 pub returns-then-not-meets_each : goal.returns-then-not-meets_each
 returns-then-not-meets_each c = λ ask.
