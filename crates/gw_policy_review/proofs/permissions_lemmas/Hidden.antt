@@ -1,6 +1,6 @@
 -- Of an object that is hidden whatever else an ask says, no read is allowed.
 use Rattle.std.proofs.Common.{◌≡◌, inl, inr, ℕ, List, [], ◌∷◌, Option, Some, None, ap, arith, refl}
-use Rattle.std.proofs.lemmas.Bool.{both_ways}
+use Rattle.std.proofs.lemmas.Bool.{both_ways, false≢true}
 use Rattle.gw_rules.specs.Ask.{Ask}
 use Rattle.gw_rules.specs.Hides.{Reads}
 use Rattle.gw_rules.specs.Operation.{operation_number}
@@ -13,7 +13,7 @@ use Rattle.gw_ask_sets.specs.shapes.Shapes.{only}
 use Rattle.gw_policy_review.specs.permissions.Laws.{HiddenIsNotRead}
 
 one_number : (number : ℕ) (value : Option ℕ) → IsWithin (only number) value → value ≡ Some number
-one_number number None is = absurd is
+one_number number None is = absurd (false≢true is)
 one_number number (Some other) is =
     let from = is.0 in
     let to = is.1 in
