@@ -57,12 +57,7 @@ fn names_it(table: &Value, key: &str, value: &Value, kind: Option<&Value>) -> bo
 }
 
 /// The first of these tables that has it.
-fn first_with(
-    tables: &[Value],
-    key: &str,
-    value: &Value,
-    kind: Option<&Value>,
-) -> Option<usize>
+fn first_with(tables: &[Value], key: &str, value: &Value, kind: Option<&Value>) -> Option<usize>
     ensures { let of = option_map (λ v. view v.now) kind.entry in
         result ≡ position (λ t. names_it key.now (view value.now) of (view t)) tables.now }
 {
