@@ -1,5 +1,5 @@
 //! Where the fault of a configuration is, for an operator.
-ghost use Rattle.std.specs.Prelude.{◌≡◌, ◌≢◌, ◌++◌, ◌==◌, ℕ, List, Err, IfOk, OnOk, codes, count_by, length, not, reverse};
+ghost use Rattle.std.specs.Prelude.{◌≡◌, ◌≢◌, ◌≤◌, ◌++◌, ◌==◌, ℕ, List, Err, IfOk, OnOk, codes, count_by, drop, length, not, reverse, take};
 ghost use Rattle.std.specs.List.{take_while};
 ghost use Rattle.toml.specs.Data.{Members};
 ghost use Rattle.toml.specs.View.{table_view};
@@ -91,8 +91,7 @@ fn no_document_words(alloc: Global, document: &str) -> Result<Vec<u8>, AllocErro
     let Some(span) = error.span() else {
         return Err(AllocError);
     };
-    let (front, rest) = document.as_bytes().split_at(span.start);
-    error_words(alloc, front, error.message(), rest)
+    error_words(alloc, document.as_bytes(), span.start, error.message())
 }
 
 /// Whether it begins with a bracket, as a table does.
@@ -119,21 +118,23 @@ fn help_words(reason: &str, rest: &[u8]) -> &'static [u8]
     }
 }
 
-/// That a text is no document after this front of it, and why.
+/// That a text is no document after so many octets, and why.
 fn error_words(
     alloc: Global,
-    front: &[u8],
+    text: &[u8],
+    place: usize,
     reason: &str,
-    rest: &[u8],
 ) -> Result<Vec<u8>, AllocError>
+    requires { place ≤ length text.now }
     ensures { IfOk result (λ words. words.items ≡
-        codes "is no TOML document" ++ position_words front.now ++ codes ": " ++ reason.now ++ help_words reason.now rest.now) }
+        codes "is no TOML document" ++ position_words (take place text.now) ++ codes ": " ++ reason.now
+        ++ help_words reason.now (drop place text.now)) }
 {
     let mut words = Vec::from_slice(alloc, b"is no TOML document")?;
-    put_position(&mut words, front)?;
+    put_position(&mut words, &text[..place])?;
     words.extend_from_slice(b": ")?;
     words.extend_from_slice(reason.as_bytes())?;
-    words.extend_from_slice(help_words(reason, rest))?;
+    words.extend_from_slice(help_words(reason, &text[place..]))?;
     Ok(words)
 }
 

@@ -7,6 +7,7 @@ ghost use Rattle.gw_configuration.specs.Located.{located_view};
 ghost use Rattle.gw_policy_text.specs.keys.Range.{bounds_of};
 ghost use Rattle.gw_policy_text.specs.keys.Items.{set_name_in};
 ghost use Rattle.gw_policy_text.specs.keys.Value.{list_in};
+ghost use Rattle.gw_policy_text.specs.faults.First.{first_of, first_words};
 ghost use Rattle.gw_policy_text.specs.faults.Wanted.{address_text, addresses_words, bits_in, bounds_words, due_words, end_of, every_port_words, first_address, first_octet, fixed_words, host_bits, is_reversed, is_slash, is_known, is_known_in, item_words, kind_at, kind_words, last_address, last_octet, length_range_words, length_words, list_kind_words, list_noun, list_words, long_item_words, long_length_words, mention_words, missing_words, must_words, name_words, named_text, named_words, number_words, other_front, other_words, range_words, reversed_ends, scalar_words, shape_words, single_words, straight_words, subnet_in, subnet_words, twice_words, two_front, two_words, type_words, unshaped_words, wanted_words, within_32};
 
 use crate::faults::first::put_first_place;
@@ -67,10 +68,7 @@ pub(crate) fn put_wanted(
     let value = value_at(located, top);
     match located.fault {
         ConfigFault::UnknownKey => put_keys(line, located.place, top),
-        ConfigFault::Duplicate => {
-            put_twice(line, kind)?;
-            put_first_place(line, located, kind, top)
-        }
+        ConfigFault::Duplicate => put_duplicate(line, located, kind, top),
         _ => put_shape(line, located, top, value),
     }
 }
@@ -111,6 +109,21 @@ fn kind_at<'a>(located: &Located<'_>, top: &'a Table) -> Option<&'a Value>
         return None;
     }
     member(table_at(located.place, top)?, "type")
+}
+
+/// Puts that a value occurs twice, and where it is first.
+fn put_duplicate(
+    line: &mut Vec<u8>,
+    located: &Located<'_>,
+    kind: Option<&Value>,
+    top: &Table,
+) -> Result<(), AllocError>
+    ensures { let of = option_map (λ v. view v.now) kind.entry in
+        let first = first_words (first_of (located_view located.now) of (table_view top.now)) in
+        OnOk result (line.new.items ≡ line.old.items ++ (twice_words of ++ first)) }
+{
+    put_twice(line, kind)?;
+    put_first_place(line, located, kind, top)
 }
 
 /// Puts that a value occurs twice.
