@@ -550,7 +550,7 @@ def slit_rule(dice, width):
     """A rule that takes all but a slit of each of four fields."""
     out = {}
     for field in dice.sample(["source_network", "source", "destination", "service", "object_type", "instance", "property", "priority"], 4):
-        low, high = {"source_network": (1, 65534), "service": (0, 1031)}.get(field) or BOUNDS[field]
+        low, high = {"source_network": (1, 65534), "destination": (1, 65534), "service": (0, 1031)}.get(field) or BOUNDS[field]
         slit = max(1, (high - low) // width)
         at = dice.randrange(low + 1, high - slit)
         out[field] = [(low, at - 1), (at + slit, high)]
