@@ -1,6 +1,7 @@
 //! What is wrong with what words say.
 
-ghost use Rattle.std.specs.Prelude.{◌≡◌, ◌==◌, ◌≤◌, [], find, length, take, drop};
+ghost use Rattle.std.specs.Prelude.{◌≡◌, ◌==◌, ◌≤◌, ◌&&◌, [], find, is_some, length, take, drop};
+ghost use Rattle.gw_policy_drafts.specs.beginning.Part.{has_station};
 ghost use Rattle.std.specs.List.{list_any};
 ghost use Rattle.gw_policy_drafts.specs.beginning.Flaws.{first_flaw, flaw_of, is_at_port, is_beside, is_given, is_named, is_port, is_station, is_subnet, is_taken, lacks_udp, lacks_udp_of};
 ghost use Rattle.gw_policy_drafts.specs.beginning.Flaws.{manager_flaw, of_number, operator_flaw, or_else, overlaps_one, peer_flaw, port_flaw, router_flaw, wrong_from, wrong_in, wrong_of};
@@ -97,15 +98,21 @@ fn is_at_port(site: &Site, part: Part) -> bool
     }
 }
 
+/// Whether one of these ports names a UDP port and has a station of this address.
+fn is_of_named(host: u64, ports: &[Part]) -> bool
+    ensures { result ≡ list_any (λ port. is_some port.udp && has_station host port) ports.now }
+{
+    ports
+        .iter()
+        .any(|port| port.udp.is_some() && port.has_station(host))
+}
+
 /// Whether a part names no UDP port, while the port of these does whose subnet has its address.
 fn lacks_udp(part: Part, ports: &[Part]) -> bool
     ensures { result ≡ lacks_udp part ports.now }
 {
-    let host = part.host();
-    let has_one = ports
-        .iter()
-        .any(|port| port.udp.is_some() && port.has_station(host));
-    part.udp.is_none() && has_one
+    let is_beyond = is_of_named(part.host(), ports);
+    part.udp.is_none() && is_beyond
 }
 
 /// Whether a peer names no UDP port, while its port does.

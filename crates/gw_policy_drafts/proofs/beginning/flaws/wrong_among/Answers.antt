@@ -1,4 +1,4 @@
-use Rattle.std.proofs.Common.{◌≡◌, ◌∙◌, ◌+◌, ◌≤◌, [], Option, ap, sym, take, drop, length, arith}
+use Rattle.std.proofs.Common.{◌≡◌, ◌∙◌, ◌+◌, ◌≤◌, [], None, Option, ap, sym, take, drop, length, arith}
 use Rattle.std.proofs.lemmas.List.{drop_all}
 use Rattle.gw_policy_drafts.proofs.BeginningLaw.{wrong_last, wrong_next}
 use Rattle.gw_policy_drafts.specs.beginning.Flaws.{wrong_from, wrong_or}
@@ -8,7 +8,7 @@ use Rattle.gw_policy_drafts.specs.declared.beginning.part.Part.{Part}
 use Rattle.gw_policy_drafts.proofs.beginning.flaws.wrong_among.Goals as goal
 
 abbrev nobody : Part
-nobody = record { number = 0; ip = []; prefix = 0 }
+nobody = record { number = 0; ip = []; prefix = 0; udp = None }
 
 pub returns-in-Some : goal.returns-in-Some
 returns-in-Some c =
