@@ -1,19 +1,19 @@
 -- The parts of a configuration beside its rules, and which of them differ from those of another.
-use Rattle.std.specs.Prelude.{◌≡◌, ℕ, Bool, IsTrue, if◌then◌else◌, List, [], ◌∷◌, ◌++◌, codes}
+use Rattle.std.specs.Prelude.{◌≡◌, ◌↔◌, ℕ, Bool, IsTrue, if◌then◌else◌, List, [], ◌∷◌, ◌++◌, codes}
 use Rattle.std.specs.List.{flat_map}
 use Rattle.gw_configuration.specs.Configuration.{Configuration}
 use Rattle.gw_notices.specs.declared.parts.Part.{Part}
 use Rattle.gw_notices.specs.declared.parts.Part.TheVariants as parts
 use Rattle.gw_notices.specs.declared.parts.Sameness.{Sameness}
 
--- what is said to be the same of two configurations is the same
+-- exactly what is the same of two configurations is said to be the same
 pub record IsSameness (old new : Configuration) (same : Sameness) : Type 0 where
-  pub format : IsTrue same.format → old.format ≡ new.format
-  pub announce : IsTrue same.announce → old.announce ≡ new.announce
-  pub device : IsTrue same.device → old.device ≡ new.device
-  pub ports : IsTrue same.ports → old.ports ≡ new.ports
-  pub routes : IsTrue same.routes → old.routes ≡ new.routes
-  pub objects : IsTrue same.objects → old.objects ≡ new.objects
+  pub format : IsTrue same.format ↔ (old.format ≡ new.format)
+  pub announce : IsTrue same.announce ↔ (old.announce ≡ new.announce)
+  pub device : IsTrue same.device ↔ (old.device ≡ new.device)
+  pub ports : IsTrue same.ports ↔ (old.ports ≡ new.ports)
+  pub routes : IsTrue same.routes ↔ (old.routes ≡ new.routes)
+  pub objects : IsTrue same.objects ↔ (old.objects ≡ new.objects)
 
 -- a part, unless it is said to be the same
 abbrev pub unless : Bool → Part → List Part
@@ -41,7 +41,7 @@ abbrev pub trial_line : List Part → List ℕ
 trial_line [] = []
 trial_line (part ∷ differ) = codes "bacgw: trial: only its rules are tried" ++ flat_map part_words (part ∷ differ) ++ 10 ∷ []
 
--- what isn't in the line is the same
+-- exactly the parts that differ are in the line
 pub record IsTrialLine (c trial : Configuration) (line : List ℕ) : Type 0 where
   pub same : Sameness
   pub is_so : IsSameness c trial same

@@ -25,7 +25,7 @@ pub enum Part {
     Objects,
 }
 
-/// Which parts of two configurations are the same. A false says nothing.
+/// Which parts of two configurations are the same.
 #[derive(Clone, Copy)]
 pub(crate) struct Sameness {
     pub format: bool,
@@ -111,7 +111,7 @@ fn line_of(alloc: Global, parts: &[Part]) -> Result<Vec<u8>, AllocError>
 }
 
 /// What is reported of a policy that is on trial beside a configuration: that only its rules are tried, if other parts of its
-/// configuration differ, and which. What isn't in the line is the same. An `Err` only if a growth was refused.
+/// configuration differ, and exactly which. An `Err` only if a growth was refused.
 pub fn trial_line(alloc: Global, config: &Config, trial: &Config) -> Result<Vec<u8>, AllocError>
     ensures { IfOk result (λ line. IsTrialLine config.now trial.now line.items) }
 {
