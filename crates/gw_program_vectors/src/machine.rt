@@ -4,7 +4,7 @@
 //! what the machine is like, as `log 9` for a log with room for 9 octets; and after a line `input`
 //! standard input. Each file has the text of the last configuration, but for `unreadable`.
 
-ghost use Rattle.std.specs.Prelude.{◌≡◌, ◌≤◌, ⊤, None, Some, false, length};
+ghost use Rattle.std.specs.Prelude.{◌≡◌, ⊤, None, Some, false};
 ghost use Rattle.gw_system.specs.Requests.{silent};
 
 use crate::mem_log::MemLog;
@@ -13,7 +13,7 @@ use gw_cases::MemWriter;
 use gw_configuration::Port;
 use gw_log_words::{Calendar, Moment, moment_after};
 use gw_program_cases::{Left, MemFiles, Program, Section, UNREADABLE, put, put_left, put_lines};
-use gw_script::{OctetSink, WriteFailed, append_send};
+use gw_script::append_send;
 use gw_shell::{FailedStep, Host, LogFailure, Obstacle, Reason, SocketFailure, Step, run};
 use gw_system::{ReadFailure, Request, Requests, StoreKind};
 use gw_wire::{Got, RECEIVE_ROOM, Store, StoreFault, Wire, WireFault};
@@ -40,25 +40,11 @@ const DENIED_READ: [u8; 22] = [
     0x01, 0x40, 0x00, 0x02, 0x19, 0x55,
 ];
 
-/// A write of Multi-state Value 1, which the built-in policy allows.
-const GRANTED_WRITE: [u8; 28] = [
-    0x81, 0x0A, 0x00, 0x1C, 0x01, 0x24, 0x00, 0x64, 0x01, 0x01, 0xFF, 0x00, 0x05, 0x0A, 0x0F, 0x0C,
-    0x04, 0xC0, 0x00, 0x01, 0x19, 0x55, 0x3E, 0x21, 0x03, 0x3F, 0x49, 0x08,
-];
-
-/// The datagram that comes first.
-fn first_datagram(writes: bool) -> &'static [u8]
-    ensures { length result.now ≤ 28 }
-{
-    if writes { &GRANTED_WRITE } else { &DENIED_READ }
-}
-
-/// A wire in memory: a denied read first, or a granted write, and then a tick at each receive. The send of one number, from 0, may
-/// fail. It shows its calls, if that is asked for.
+/// A wire in memory: a denied read first, and then a tick at each receive. The send of one number, from 0, may fail. It shows
+/// its calls, if that is asked for.
 #[derive(Drop)]
 pub struct MemSockets {
     ports: u8,
-    writes: bool,
     receives: u64,
     sends: u64,
     failures: u128,
@@ -107,9 +93,8 @@ impl Wire for MemSockets {
         if self.receives != 1 || self.ports == 0 {
             return Ok(Got::Tick);
         }
-        let datagram = first_datagram(self.writes);
-        for (octet, sent) in buf.iter_mut().zip(datagram) {
-            *octet = *sent;
+        for (octet, sent) in buf.iter_mut().zip(DENIED_READ) {
+            *octet = sent;
         }
         let from = BipAddr {
             ip: [192, 168, 1, 5],
@@ -118,7 +103,7 @@ impl Wire for MemSockets {
         Ok(Got::Datagram {
             port: 1,
             from,
-            len: datagram.len(),
+            len: DENIED_READ.len(),
         })
     }
 
@@ -134,73 +119,12 @@ impl Wire for MemSockets {
     }
 }
 
-/// What is seen of the order in which a run writes: whether something was written to a log beside the log, and at each text that was
-/// put into a store whether that was so.
-#[derive(Drop)]
-struct Order {
-    is_beside: RefCell<bool>,
-    shown: RefCell<Vec<u8>>,
-}
-
-impl Order {
-    /// Nothing was written yet.
-    fn new(alloc: Global) -> Self {
-        Order {
-            is_beside: RefCell::new(false),
-            shown: RefCell::new(Vec::new(alloc)),
-        }
-    }
-
-    /// Something was written to a log beside the log.
-    fn write(&self) {
-        let _ = self.is_beside.try_replace(true);
-    }
-
-    /// A text is put into a store.
-    fn keep(&self, alloc: Global) {
-        let is_beside = self.is_beside.try_replace(false).unwrap_or(false);
-        let _ = self.is_beside.try_replace(is_beside);
-        let Ok(mut shown) = self.shown.try_replace(Vec::new(alloc)) else {
-            return;
-        };
-        let word: &[u8] = if is_beside {
-            b"after a record\n"
-        } else {
-            b"before a record\n"
-        };
-        let _ = shown.extend_from_slice(word);
-        let _ = self.shown.try_replace(shown);
-    }
-}
-
-/// What is written to, which is seen if it is a log beside the log.
-#[derive(Drop)]
-pub struct MemSink<'a, S> {
-    text: S,
-    order: Option<&'a Order>,
-}
-
-impl<S: OctetSink> OctetSink for MemSink<'_, S> {
-    ghost held = { λ sink. S.held sink.text };
-
-    ghost NeverFails = { λ _. ⊥ };
-
-    fn write_octets(&mut self, text: &[u8]) -> Result<usize, WriteFailed> {
-        let count = self.text.write_octets(text)?;
-        if let Some(order) = self.order {
-            order.write();
-        }
-        Ok(count)
-    }
-}
-
 /// A store that shows the last text that was put into it, or fails.
 #[derive(Drop)]
 pub struct MemStore<'a> {
     alloc: Global,
     fault: Option<StoreFault>,
     shown: &'a RefCell<Vec<u8>>,
-    order: &'a Order,
 }
 
 impl<'a> Store for MemStore<'a> {
@@ -215,7 +139,6 @@ impl<'a> Store for MemStore<'a> {
         let Ok(text) = Vec::from_slice(self.alloc, octets) else {
             return Err(StoreFault::Memory);
         };
-        self.order.keep(self.alloc);
         let _ = self.shown.try_replace(text);
         Ok(())
     }
@@ -274,7 +197,7 @@ fn request_of(alloc: Global, text: &[u8]) -> Result<Request, AllocError> {
 }
 
 /// The wire and the log that a machine closed.
-type Closed<'a> = (MemSockets, Option<MemLog<MemSink<'a, MemWriter>>>);
+type Closed = (MemSockets, Option<MemLog<MemWriter>>);
 
 /// A machine in memory: its log takes so many octets, or can't be opened, one sync of it may fail, and it may end in a line that
 /// was cut; the broadcast socket of one port may fail; and it may route IP. It keeps what was closed.
@@ -283,8 +206,6 @@ struct MemHost<'a> {
     alloc: Global,
     metrics: &'a RefCell<Vec<u8>>,
     state_text: &'a RefCell<Vec<u8>>,
-    order: &'a Order,
-    writes: bool,
     log: Option<usize>,
     failing_sync: Option<u64>,
     beside: Option<usize>,
@@ -297,11 +218,11 @@ struct MemHost<'a> {
     state: Option<Vec<u8>>,
     unkept: Option<StoreFault>,
     reload: Option<Vec<u8>>,
-    closed: Option<Closed<'a>>,
+    closed: Option<Closed>,
 }
 
 impl<'a> Host for MemHost<'a> {
-    type Log = MemLog<MemSink<'a, MemWriter>>;
+    type Log = MemLog<MemWriter>;
 
     type Sockets = MemSockets;
 
@@ -335,18 +256,16 @@ impl<'a> Host for MemHost<'a> {
 
     ghost Closes = { λ host sockets log. host.closed ≡ Some (sockets, log) };
 
-    fn open_log(
-        &self,
-        _alloc: Global,
-        name: &str,
-    ) -> Result<MemLog<MemSink<'a, MemWriter>>, LogFailure> {
-        let is_beside = BESIDE.contains(&name);
-        let room = if is_beside { self.beside } else { self.log };
+    fn open_log(&self, _alloc: Global, name: &str) -> Result<MemLog<MemWriter>, LogFailure> {
+        let room = if BESIDE.contains(&name) {
+            self.beside
+        } else {
+            self.log
+        };
         match room {
             Some(room) => {
                 let text = MemWriter::with_room(self.alloc, room, true)?;
-                let order = if is_beside { Some(self.order) } else { None };
-                Ok(MemLog::new(MemSink { text, order }, self.failing_sync))
+                Ok(MemLog::new(text, self.failing_sync))
             }
             None => Err(LogFailure::Failed),
         }
@@ -374,7 +293,6 @@ impl<'a> Host for MemHost<'a> {
             }
             _ => Ok(MemSockets {
                 ports: ports.len() as u8,
-                writes: self.writes,
                 receives: 0,
                 sends: 0,
                 failures: 0,
@@ -438,7 +356,6 @@ impl<'a> Host for MemHost<'a> {
             alloc,
             fault: self.unkept,
             shown,
-            order: self.order,
         })
     }
 
@@ -478,7 +395,7 @@ impl<'a> Host for MemHost<'a> {
         MemCalendar
     }
 
-    fn close(&mut self, sockets: MemSockets, log: Option<MemLog<MemSink<'a, MemWriter>>>)
+    fn close(&mut self, sockets: MemSockets, log: Option<MemLog<MemWriter>>)
         ensures { self.new.closed ≡ Some (sockets, log) }
     {
         self.closed = Some((sockets, log));
@@ -624,41 +541,12 @@ fn reload_of(
     text_if(alloc, section.has("reload unreadable"), "")
 }
 
-/// What one run leaves: its exit status and both streams, how often the sockets were called, what the log holds, the text of the
-/// metrics, and in which order it wrote.
+/// What one run leaves: its exit status and both streams, what the machine closed, and the text of the metrics.
 #[derive(Drop)]
 struct Served {
     left: Left,
-    closed: Option<Shut>,
+    closed: Option<Closed>,
     metrics: Vec<u8>,
-    order: Vec<u8>,
-}
-
-/// What the machine closed.
-#[derive(Drop)]
-struct Shut {
-    sockets: MemSockets,
-    log: Option<Vec<u8>>,
-    syncs: u64,
-}
-
-/// What is shown of what the machine closed.
-fn shut(alloc: Global, closed: Option<Closed<'_>>) -> Result<Option<Shut>, AllocError> {
-    let Some((sockets, log)) = closed else {
-        return Ok(None);
-    };
-    let (text, syncs) = match &log {
-        Some(log) => (
-            Some(Vec::from_slice(alloc, log.text().text.held())?),
-            log.syncs(),
-        ),
-        None => (None, 0),
-    };
-    Ok(Some(Shut {
-        sockets,
-        log: text,
-        syncs,
-    }))
 }
 
 /// Runs the program of a section, whose output has room for so many octets.
@@ -671,13 +559,10 @@ fn run_with(
     let words = section.call(alloc, "bacgw")?;
     let metrics = RefCell::new(Vec::new(alloc));
     let state_text = RefCell::new(Vec::new(alloc));
-    let order = Order::new(alloc);
     let mut host = MemHost {
         alloc,
         metrics: &metrics,
         state_text: &state_text,
-        order: &order,
-        writes: section.has("write"),
         log: section.number("log "),
         failing_sync: section.number("failing sync ").map(|number| number as u64),
         beside: section.number("beside "),
@@ -715,12 +600,8 @@ fn run_with(
             output,
             errors,
         },
-        closed: shut(alloc, host.closed)?,
+        closed: host.closed,
         metrics: metrics
-            .try_replace(Vec::new(alloc))
-            .unwrap_or(Vec::new(alloc)),
-        order: order
-            .shown
             .try_replace(Vec::new(alloc))
             .unwrap_or(Vec::new(alloc)),
     })
@@ -753,9 +634,6 @@ pub fn machine(alloc: Global, config: &str, text: &str, out: &mut Vec<u8>) -> io
     let served = run_with(alloc, config, &section, section.room())?;
     put_left(&served.left, out)?;
     put_lines("metrics ", &served.metrics, out)?;
-    if section.has("order") {
-        put_lines("kept ", &served.order, out)?;
-    }
     match &served.closed {
         Some(closed) => Ok(put_closed(closed, section.has("syncs"), out)?),
         None => Ok(()),
@@ -764,12 +642,12 @@ pub fn machine(alloc: Global, config: &str, text: &str, out: &mut Vec<u8>) -> io
 
 /// The log in a file, and how often it was synced if that is shown, the calls of the wire if they are shown, and how often it was
 /// called.
-fn put_closed(closed: &Shut, shows_syncs: bool, out: &mut Vec<u8>) -> Result<(), AllocError> {
-    let sockets = &closed.sockets;
-    if let Some(log) = &closed.log {
-        put_lines("log ", log, out)?;
+fn put_closed(closed: &Closed, shows_syncs: bool, out: &mut Vec<u8>) -> Result<(), AllocError> {
+    let (sockets, log) = closed;
+    if let Some(log) = log {
+        put_lines("log ", log.text().held(), out)?;
         if shows_syncs {
-            put(out, &["syncs ", Buffer::new().format(closed.syncs), "\n"])?;
+            put(out, &["syncs ", Buffer::new().format(log.syncs()), "\n"])?;
         }
     }
     if let Some(calls) = &sockets.calls {

@@ -124,4 +124,5 @@ AppendsCounted old new most made steps before after =
     (text : List ℕ) × (written : IsComparisonText old new most made text) × (written.steps ≡ steps) × (after ≡ before ++ text)
 
 abbrev pub AppendsComparison : Configuration → Configuration → ℕ → Compared → List ℕ → List ℕ → Type 0
-AppendsComparison old new most made before after = (steps : ℕ) × AppendsCounted old new most made steps before after
+AppendsComparison old new most made before after =
+    (text : List ℕ) × IsComparisonText old new most made text × (after ≡ before ++ text)

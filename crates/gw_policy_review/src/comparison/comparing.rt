@@ -2,7 +2,7 @@
 ghost use Rattle.std.specs.Prelude.{◌≡◌, ◌≤◌, ◌<◌, ◌+◌, [], length, true, IfOk, OnErr, OnOk};
 ghost use Rattle.gw_addr.specs.Appending.{IsAppended, IsAppendedWhole};
 ghost use Rattle.gw_policy_review.specs.comparison.Comparing.{IsUnderWay, is_finished, steps_text};
-ghost use Rattle.gw_policy_review.specs.comparison.Comparison.{AppendsCounted, AreResults};
+ghost use Rattle.gw_policy_review.specs.comparison.Comparison.{AppendsComparison, AppendsCounted, AreResults};
 ghost use Rattle.gw_policy_review.specs.comparison.PairLines.{known_of};
 
 use crate::comparison::asks::asks_of;
@@ -133,6 +133,8 @@ impl<'a> Comparing<'a> {
     /// then holds what it held.
     pub fn put(self, alloc: Global, most: usize, out: &mut Vec<u8>) -> Result<Compared, AllocError>
         ensures ok { IfOk result (λ made. IsUnderWay self.entry →
+            AppendsComparison self.entry.old_one self.entry.new_one most made out.old.items out.new.items) }
+        ensures counted { IfOk result (λ made. IsUnderWay self.entry →
             AppendsCounted self.entry.old_one self.entry.new_one most made self.entry.steps out.old.items out.new.items) }
         ensures err { OnErr result (out.new.items ≡ out.old.items) }
     {
