@@ -28,7 +28,7 @@ if [ -z "${BIN:-}" ]; then
 fi
 ip netns add "$space"
 for port in 1 2; do
-    ip -n "$space" link add "port$port" type dummy
+    ip -n "$space" link add "port$port" type bridge
     ip -n "$space" addr add "10.$port.0.2/24" broadcast + dev "port$port"
     ip -n "$space" link set "port$port" up
 done
