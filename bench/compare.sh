@@ -597,7 +597,8 @@ def judge_hostile(room, length, seed):
         status, said, wrong = compare(*files, "--most", "1000000")
         seconds = time.monotonic() - start
         found = {(it[4], it[2]): (it[1], it[3], asked(it[5])) for it in map(PAIR_LINE.fullmatch, said) if it}
-        assert status == 1 and not wrong, (status, wrong)
+        # Without a pair only the names of the rules differ.
+        assert status == (1 if found else 3) and not wrong, (status, wrong)
         for (was, now), (verdict, before, ask) in found.items():
             assert verdict != before and any(is_of(sides, ask) for sides in SHAPES), ask
             assert decide(lists[0], ask) == (before == "allowed", was) and decide(lists[1], ask) == (verdict == "allowed", now), (was, now, ask)
