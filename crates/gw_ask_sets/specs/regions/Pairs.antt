@@ -48,7 +48,7 @@ pub record ArePairs (shapes : List Region) (old new : List Rule) (found : List S
 
 -- ---- which pairs are tried
 
--- Places of rules are counted from 0; that behind all rules is the default's, which matches every ask, and denies it.
+-- Places of rules are counted from 0; that after all rules is the default's, which matches every ask, and denies it.
 
 -- what the rule at a place says
 abbrev pub says_at : List Rule → ℕ → Bool

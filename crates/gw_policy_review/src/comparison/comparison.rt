@@ -68,7 +68,7 @@ impl Drop for ComparisonText {
 /// 2 kinds of asks are decided otherwise, and no other
 /// ```
 ///
-/// Where the steps don't find all kinds, it is pairs of rules that are told:
+/// Where the steps don't find all kinds, pairs of rules are named:
 ///
 /// ```text
 /// now allowed by panel (was denied by no-writes), for one: operation=write port=1 source_network=2 ..
