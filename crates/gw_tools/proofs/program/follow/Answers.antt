@@ -198,16 +198,14 @@ returns-in-Ok-Ask-clause-followed g c =
     let holds = writer_contents g.W.Write.contents c.answer_question_in.new.output in
     let Reads = g.F.ConfigFiles.Reads c.args.files.now in
     let deed = c.in-Ok-Ask.deed in
+    let to = option_map string_bytes c.in-Ok-Ask.to in
     let file = c.deref-in-Ok-Ask in
     let from = c.deref-in-Ok-Ask-2 in
-    let to = c.deref-in-Ok-Ask-3 in
-    let first = subst (λ (name : List ℕ). LeavesQuestionIn Reads name (asked_text from.result.now to.result.now deed) held holds
+    let first = subst (λ (name : List ℕ). LeavesQuestionIn Reads name (asked_text from.result.now to deed) held holds
     c.answer_question_in.result) file.ensures c.answer_question_in.ensures.output in
-    let second = subst (λ (name : List ℕ). LeavesQuestionIn Reads (string_bytes c.in-Ok-Ask.file) (asked_text name to.result.now deed) held holds
+    let second = subst (λ (name : List ℕ). LeavesQuestionIn Reads (string_bytes c.in-Ok-Ask.file) (asked_text name to deed) held holds
     c.answer_question_in.result) from.ensures first in
-    let third = subst (λ (name : List ℕ). LeavesQuestionIn Reads (string_bytes c.in-Ok-Ask.file)
-    (asked_text (string_bytes c.in-Ok-Ask.from) name deed) held holds c.answer_question_in.result) to.ensures second in
-    followed _ _ c.args.choice.now (Ok chosen) c.answer_question_in.result is refl third
+    followed _ _ c.args.choice.now (Ok chosen) c.answer_question_in.result is refl second
     (λ never. appends_nothing (g.E.OctetSink.held c.args.errors.now))
 
 pub returns-in-Ok-Init-clause-followed : goal.returns-in-Ok-Init-clause-followed
