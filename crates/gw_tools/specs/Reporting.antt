@@ -21,10 +21,10 @@ IsPageWith p (Ok log) (Err _) = ⊥
 IsPageWith p (Err f) made = made ≡ Err f
 
 -- what is made with the log of this name, if there is one
-abbrev pub IsPageOf : (ReadsLog : List ℕ → Result (Option (List ℕ)) Fault → Type 0) → Option (List ℕ) → Configuration
+abbrev pub IsPageOf : (ReadsLog : List ℕ → Result (Option (List ℕ)) Fault → Type 0) → Option (List ℕ) → Placed
     → Result (List ℕ) Fault → Type 0
-IsPageOf ReadsLog None c made = IsPageAlone c made
-IsPageOf ReadsLog (Some log) c made = (opened : Result (Option (List ℕ)) Fault) × ReadsLog log opened × IsPageWith p opened made
+IsPageOf ReadsLog None p made = IsPageAlone p made
+IsPageOf ReadsLog (Some log) p made = (opened : Result (Option (List ℕ)) Fault) × ReadsLog log opened × IsPageWith p opened made
 
 -- what is made of the configuration that was read, or of why there is none
 abbrev pub IsReported : (ReadsLog : List ℕ → Result (Option (List ℕ)) Fault → Type 0) → Option (List ℕ)
