@@ -5,6 +5,9 @@
 #
 #     # CRATE needs DEP: reason
 #
+# A program reaches nothing that docs/ARCHITECTURE.md keeps from it: bacgw no crate of the group Tools, bacgwctl neither gw_service nor
+# gw_turns.
+#
 #     bench/edges.sh         # says which edges are idle; the last line is how many there are, the status 1 if one is
 #
 # It wants python3.
@@ -17,6 +20,8 @@ from pathlib import Path
 top = Path(sys.argv[1])
 NEEDS = re.compile(r"# (\w+) needs (\w+): \S.*")
 COMMENT = re.compile(r"\s*(//|--)")
+GROUP = re.compile(r"- \*\*(.+)\*\*")
+MEMBER = re.compile(r"    - \[`(\w+)`\]")
 
 
 def listed():
@@ -43,6 +48,28 @@ def named_in(crate):
     return found
 
 
+def grouped(group):
+    """The crates that the page of the architecture lists in a group."""
+    found, at = [], None
+    for line in (top / "docs" / "ARCHITECTURE.md").read_text(encoding="utf-8").splitlines():
+        if title := GROUP.fullmatch(line):
+            at = title[1]
+        elif (crate := MEMBER.match(line)) and at == group:
+            found.append(crate[1])
+    return found
+
+
+def reached(crate, uses):
+    """Every crate that a crate reaches, by the first way that leads there."""
+    ways, left = {}, [(it, [it]) for it in uses[crate]]
+    while left:
+        name, way = left.pop(0)
+        if name in uses and name not in ways:
+            ways[name] = way
+            left += [(it, [*way, it]) for it in uses[name]]
+    return ways
+
+
 faults, edges, before = [], 0, set()
 rows = list(listed())
 ours = {name for name, _, _ in rows}
@@ -55,6 +82,12 @@ for name, uses, needs in rows:
     idle = {it for it in uses if it not in words}
     faults += [f"a comment says that {name} needs {it}, but it doesn't use it or names it" for crate, it in sorted(needs) if crate == name and it not in idle]
     before.add(name)
+every = {name: uses for name, uses, _ in rows}
+tools = grouped("Tools")
+faults += [] if "gw_tools" in tools else ["docs/ARCHITECTURE.md lists no crates of the group Tools"]
+for program, kept_from in (("bacgw", tools), ("bacgwctl", ["gw_service", "gw_turns"])):
+    ways = reached(program, every)
+    faults += [f"{program} reaches {it}, by {' '.join(ways[it])}" for it in kept_from if it in ways]
 for fault in faults:
     print(f"crates.txt: {fault}")
 print(f"{edges} edges of crates.txt, {len(faults)} faults")

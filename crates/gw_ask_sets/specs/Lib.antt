@@ -1,3 +1,4 @@
+pub mod AskText
 pub mod assertions
 pub mod regions
 pub mod shapes

@@ -12,4 +12,3 @@ mod trust_note;
 
 pub use finding::{Finding, MAX_STEPS, findings_of};
 pub use lint::put_lint;
-pub use text::put_ask;

@@ -7,7 +7,7 @@ use Rattle.gw_ask_sets.specs.declared.assertions.judging.Judged.TheVariants as j
 use Rattle.gw_configuration.specs.Configuration.{Configuration}
 use Rattle.gw_configuration.specs.declared.assertion.Assertion.{Assertion}
 use Rattle.gw_rules.specs.declared.rule.Rule.{Rule}
-use Rattle.gw_policy_review.specs.lint.Text.{ask_fields_text, name_at}
+use Rattle.gw_ask_sets.specs.AskText.{ask_fields_text}
 use Rattle.gw_script.specs.Order.{in_order}
 use Rattle.gw_ending.specs.declared.fault.Fault.{Fault}
 use Rattle.gw_ending.specs.declared.fault.Fault.TheVariants as fault
@@ -33,7 +33,7 @@ assertion_name assertions number = option_map_or (λ a. a.name) (slice_get asser
 -- the name of the rule that decides, or `default` if none matches
 abbrev pub decider_name : List Rule → Option ℕ → List ℕ
 decider_name rules None = codes "default"
-decider_name rules (Some number) = name_at rules number
+decider_name rules (Some number) = option_map_or (λ rule. rule.name) (slice_get rules (number - 1)) []
 
 -- how an ask is decided, up to the rule
 abbrev pub verdict_text : Bool → List ℕ

@@ -8,10 +8,10 @@ ghost use Rattle.gw_ending.specs.reading.Assertions.{assertion_name, decider_nam
 use crate::Fault;
 use crate::reading::configured::summary;
 use crate::reading::printing::print_ending;
+use gw_ask_sets::ask_text::put_ask;
 use gw_ask_sets::assertions::Judged;
 use gw_ask_sets::shapes::rule_at;
 use gw_configuration::{Assertion, Config};
-use gw_policy_review::lint::put_ask;
 use gw_rules::RuleList;
 use itoa::Buffer;
 use std::alloc::{AllocError, Global};

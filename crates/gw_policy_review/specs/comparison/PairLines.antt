@@ -7,7 +7,7 @@ use Rattle.gw_ask_sets.specs.declared.regions.pairs.Pairs.{Pairs}
 use Rattle.gw_ask_sets.specs.declared.regions.pairs.ShownPair.{ShownPair}
 use Rattle.gw_rules.specs.declared.rule.Rule.{Rule}
 use Rattle.gw_policy_review.specs.comparison.Lines.{rule_name, verdict_text}
-use Rattle.gw_policy_review.specs.lint.Text.{ask_fields_text}
+use Rattle.gw_ask_sets.specs.AskText.{ask_fields_text}
 
 -- what is known of pairs, if they were looked for
 abbrev pub known_of : Option Pairs → Option Findings

@@ -1,10 +1,8 @@
 -- The words for the asks of a region. They are this project's own, the names in them the standard's.
-use Rattle.std.specs.Prelude.{ℕ, ◌==◌, Bool, true, false, nat_lt, if◌then◌else◌, List, [], ◌∷◌, ◌++◌, length, drop, codes}
+use Rattle.std.specs.Prelude.{ℕ, ◌==◌, Bool, true, false, if◌then◌else◌, List, [], ◌∷◌, ◌++◌, length, codes}
 use Rattle.std.specs.Prelude.{decimal}
-use Rattle.std.specs.Int.{w64, to_be_bytes}
 use Rattle.std.specs.List.{flat_map, list_all}
-use Rattle.gw_addr.specs.Address.{address_in, text_of}
-use Rattle.gw_audit.specs.Line.{key_text}
+use Rattle.gw_ask_sets.specs.AskText.{station_text}
 use Rattle.gw_log_words.specs.Words.{name_text}
 use Rattle.gw_codecs.specs.names.Names.{object_type_name, property_name, service_name}
 use Rattle.gw_ask_sets.specs.regions.Ranges.{shared}
@@ -58,11 +56,6 @@ word_of SourceKey = codes "from "
 word_of DestinationNetwork = codes "to network "
 word_of Station = codes "to "
 word_of field = noun_of field ++ codes " "
-
--- a station by its key: one of six octets as an address, another one by its octets
-abbrev pub station_text : ℕ → List ℕ
-station_text key =
-    if nat_lt key 281474976710656 then text_of (address_in (drop 2 (to_be_bytes w64 key))) else codes "mac:" ++ key_text key
 
 -- an end of a range of a field
 abbrev pub end_text : FieldName → ℕ → List ℕ

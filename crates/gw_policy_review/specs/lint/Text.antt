@@ -3,46 +3,13 @@ use Rattle.std.specs.Prelude.{◌≡◌, ℕ, ◌-◌, ◌&&◌, Bool, true, fal
 use Rattle.std.specs.Prelude.{Option, codes, decimal}
 use Rattle.std.specs.List.{flat_map, list_all}
 use Rattle.std.specs.Option.{is_some, option_map_or}
-use Rattle.gw_audit.specs.Line.{absent, field_text, operation_text}
-use Rattle.gw_rules.specs.Field.{field_key}
-use Rattle.gw_rules.specs.Ask.{Ask}
-use Rattle.gw_rules.specs.Fields.{value_of}
+use Rattle.gw_ask_sets.specs.AskText.{ask_fields_text}
 use Rattle.gw_rules.specs.RuleList.{allows_at}
-use Rattle.gw_rules.specs.declared.field.FieldName.{FieldName}
-use Rattle.gw_rules.specs.declared.field.FieldName.TheVariants.{Operation, SourceKey}
-use Rattle.gw_rules.specs.declared.field.FieldName.TheVariants.{Sender, Station}
-use Rattle.gw_rules.specs.declared.field.TheConstants.FieldName.{ALL}
 use Rattle.gw_rules.specs.declared.rule.Rule.{Rule}
 use Rattle.gw_configuration.specs.Configuration.{Configuration}
 use Rattle.gw_policy_review.specs.Places.{is_derived, place_words}
-use Rattle.gw_policy_review.specs.comparison.Words.{station_text}
 use Rattle.gw_policy_review.specs.declared.lint.finding.Finding.{Finding}
 use Rattle.gw_policy_review.specs.declared.lint.finding.Finding.TheVariants as finding
-
--- ---- an ask
-
--- what an ask has for a field: an operation by its name, the key of a station as an address, else a number
-abbrev pub value_text : FieldName → Option ℕ → List ℕ
-value_text Operation value = operation_text value
-value_text SourceKey value = option_map_or station_text value absent
-value_text Sender value = option_map_or station_text value absent
-value_text Station value = option_map_or station_text value absent
-value_text _ value = field_text value
-
--- an ask without a sender is one of formats 1 and 2, which have neither sender nor station
-abbrev pub is_shown : Ask → FieldName → Bool
-is_shown ask Sender = is_some ask.sender
-is_shown ask Station = is_some ask.sender
-is_shown ask _ = true
-
--- ` <key>=<value>`
-abbrev pub item_text : Ask → FieldName → List ℕ
-item_text ask field =
-    if is_shown ask field then codes " " ++ field_key field ++ codes "=" ++ value_text field (value_of field ask) else []
-
--- the fields of an ask: twelve, or ten where it has no sender
-abbrev pub ask_fields_text : Ask → List ℕ
-ask_fields_text ask = flat_map (item_text ask) ALL
 
 -- ---- a rule
 

@@ -1,6 +1,6 @@
 -- What a configuration surely lacks, though all that it has may be meant, and the lines that say it. They follow the warnings of
 -- `Warnings.antt`.
-use Rattle.std.specs.Prelude.{ℕ, ◌+◌, ◌-◌, ◌%◌, ◌==◌, Bool, ◌&&◌, ◌||◌, not, is_some, if◌then◌else◌, List, [], ◌∷◌, ◌++◌, length, position, take}
+use Rattle.std.specs.Prelude.{ℕ, ◌+◌, ◌-◌, ◌*◌, ◌%◌, ◌^◌, ◌==◌, Bool, ◌&&◌, ◌||◌, not, is_some, if◌then◌else◌, List, [], ◌∷◌, ◌++◌, length, position, take}
 use Rattle.std.specs.Prelude.{codes, decimal, Some}
 use Rattle.std.specs.List.{list_all, list_any}
 use Rattle.std.specs.Option.{option_map_or}
@@ -84,6 +84,29 @@ abbrev pub overlap_lines : List Port → ℕ → Port → ℕ → Subnet → Lis
 overlap_lines ports number port item subnet =
     option_map_or (λ place. overlap_line number item subnet (place + 1))
     (position (shares_with port subnet) (take (number - 1) ports)) []
+
+-- ---- stations that nobody is
+
+-- the keys of the addresses that no host has, from the first to the last of each block (RFC 6890): this network, the loopback of a
+-- host, and groups with what is reserved above them
+abbrev pub hostless : List Range
+hostless =
+    record { low = 0; high = 2 ^ 40 - 1 } ∷ record { low = 127 * 2 ^ 40; high = 2 ^ 47 - 1 }
+    ∷ record { low = 224 * 2 ^ 40; high = 2 ^ 48 - 1 } ∷ []
+
+-- a subnet of stations has such addresses
+abbrev pub is_hostless : Subnet → Bool
+is_hostless subnet = list_any (overlaps (keys_of subnet)) hostless
+
+abbrev pub hostless_words : Subnet → List ℕ
+hostless_words subnet = subnet_text subnet ++ codes " has addresses of no host: some of 0.0.0.0/8, 127.0.0.0/8 or 224.0.0.0/3\n"
+
+abbrev pub hostless_line : ℕ → ℕ → Subnet → List ℕ
+hostless_line number item subnet =
+    codes "warning: port " ++ (decimal number ++ (codes ": stations: item " ++ (decimal item ++ (codes ": " ++ hostless_words subnet))))
+
+abbrev pub hostless_lines : ℕ → ℕ → Subnet → List ℕ
+hostless_lines number item subnet = if is_hostless subnet then hostless_line number item subnet else []
 
 -- ---- peers that aren't heard
 
@@ -229,7 +252,8 @@ behinds_lines c lines number rule =
 abbrev pub port_oversights : Configuration → ℕ → Port → List ℕ
 port_oversights c number port =
     apart_lines number port
-    ++ (in_order (overlap_lines c.ports number port) 1 port.stations ++ in_order (unheard_lines c.rules number port) 1 port.peers)
+    ++ (in_order (overlap_lines c.ports number port) 1 port.stations
+    ++ (in_order (hostless_lines number) 1 port.stations ++ in_order (unheard_lines c.rules number port) 1 port.peers))
 
 abbrev pub rule_oversights : Configuration → (lines : List ℕ) → ℕ → Rule → List ℕ
 rule_oversights c lines number rule = unsent_lines c lines number rule ++ behinds_lines c lines number rule

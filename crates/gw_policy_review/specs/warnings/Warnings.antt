@@ -28,7 +28,7 @@ use Rattle.gw_policy_review.specs.warnings.Subnet.{has_holes, is_elsewhere, is_l
 use Rattle.gw_policy_review.specs.declared.warnings.spot.Spot.{Spot}
 use Rattle.gw_policy_review.specs.declared.warnings.spot.Spot.TheVariants.{Address, Broadcast, PeerAddress, PeerMask, Next}
 use Rattle.gw_policy_review.specs.declared.warnings.oddity.Oddity.{Oddity}
-use Rattle.gw_policy_review.specs.declared.warnings.oddity.Oddity.TheVariants.{ZeroPort, Multicast, OtherPort, OffSubnet, Limited, IsBroadcast}
+use Rattle.gw_policy_review.specs.declared.warnings.oddity.Oddity.TheVariants.{ZeroPort, LowPort, Multicast, OtherPort, OffSubnet, Limited, IsBroadcast}
 use Rattle.gw_policy_review.specs.declared.warnings.oddity.Oddity.TheVariants.{IsOwn, Elsewhere}
 
 -- ---- words
@@ -45,6 +45,7 @@ spot_words (Next route) = numbered (codes "route ") route ++ codes ": next: "
 -- what can't be meant of an address
 abbrev pub oddity_words : Oddity → List ℕ
 oddity_words ZeroPort = codes " has UDP port 0"
+oddity_words LowPort = codes " has a UDP port below 1024, which is another service's"
 oddity_words Multicast = codes " is a multicast address"
 oddity_words (OtherPort own) = codes " has another UDP port than " ++ text_of own
 oddity_words (OffSubnet own) = codes " is the broadcast address of no subnet of " ++ text_of own
@@ -91,6 +92,15 @@ device_lines device = if nat_le device.revision 13 then [] else revision_line de
 abbrev pub has_zero_port : BipAddr → Bool
 has_zero_port address = address.udp == 0
 
+-- a UDP port from 1 to 1023: those of the system's services (RFC 6335, 6)
+abbrev pub has_low_port : BipAddr → Bool
+has_low_port address = nat_lt 0 address.udp && nat_lt address.udp 1024
+
+-- of an address at which no BACnet/IP device is
+abbrev pub unusual_lines : Spot → BipAddr → List ℕ
+unusual_lines spot address =
+    line_where (has_low_port address) spot address LowPort ++ line_where (is_multicast address) spot address Multicast
+
 -- the position of the port whose own address it is; no two ports have one
 abbrev pub owner : List Port → BipAddr → Option ℕ
 owner ports address = position (λ port. key port.address == key address) ports
@@ -108,7 +118,7 @@ owned_line spot address found = option_map_or (λ port. line spot address (IsOwn
 abbrev pub own_lines : ℕ → Port → List ℕ
 own_lines place port =
     line_where (has_zero_port port.address) (Address place) port.address ZeroPort
-    ++ line_where (is_multicast port.address) (Address place) port.address Multicast
+    ++ unusual_lines (Address place) port.address
 
 -- of its broadcast address
 abbrev pub broadcast_lines : ℕ → Port → List ℕ
@@ -122,7 +132,7 @@ broadcast_lines place port =
 -- of a peer
 abbrev pub peer_lines : List Port → ℕ → Port → ℕ → BdtEntry → List ℕ
 peer_lines ports place port index peer =
-    line_where (is_multicast peer.address) (PeerAddress place index) peer.address Multicast
+    unusual_lines (PeerAddress place index) peer.address
     ++ line_where (key peer.address == key port.broadcast) (PeerAddress place index) peer.address (IsBroadcast place)
     ++ owned_line (PeerAddress place index) peer.address (other_than place (owner ports peer.address))
     ++ mask_line (PeerMask place index) peer.mask
@@ -137,7 +147,7 @@ port_lines ports place port =
 -- of a route to this router by the port at this position
 abbrev pub way_lines : List Port → ℕ → BipAddr → ℕ → Port → List ℕ
 way_lines ports index next place port =
-    line_where (is_multicast next) (Next index) next Multicast
+    unusual_lines (Next index) next
     ++ owned_line (Next index) next (owner ports next)
     ++ line_where (key next == key port.broadcast) (Next index) next (IsBroadcast place)
     ++ line_where (is_elsewhere port.address port.broadcast next) (Next index) next (Elsewhere place)

@@ -7,8 +7,8 @@ ghost use Rattle.gw_policy_review.specs.comparison.Comparison.{has_lines};
 ghost use Rattle.gw_policy_review.specs.comparison.PairLines.{given_up_text, known_of, more_pairs_text, now_by_text, pair_text, pairs_text, was_by_text};
 
 use crate::comparison::lines::{put_name, verdict};
-use crate::lint::put_ask;
 use gw_addr::{put_decimal, put_slice};
+use gw_ask_sets::ask_text::put_ask;
 use gw_ask_sets::regions::{Pair, Pairs, Policies, ShownPair, pairs_of};
 use gw_rules::Rule;
 use std::alloc::{AllocError, Global};

@@ -8,12 +8,13 @@ ghost use Rattle.gw_rules.specs.Operation.{operation_name};
 ghost use Rattle.gw_rules.specs.declared.operation.TheConstants.Operation.{ALL};
 ghost use Rattle.gw_policy_review.specs.comparison.Words.{any_of, end_text, is_keyed, item_text, items, last_of, named_text, noun_of};
 ghost use Rattle.gw_policy_review.specs.comparison.Words.{numbers_of, numbers_text, operations_of, operations_text, possible, range_text};
-ghost use Rattle.gw_policy_review.specs.comparison.Words.{region_text, station_text, values_text, word_of};
+ghost use Rattle.gw_policy_review.specs.comparison.Words.{region_text, values_text, word_of};
 
-use gw_addr::{BipAddr, Sequence, put_decimal};
+use gw_addr::{Sequence, put_decimal};
+use gw_ask_sets::ask_text::put_station;
 use gw_ask_sets::regions::{Region, Values, shared};
 use gw_ask_sets::shapes::KEY_RANGES;
-use gw_audit::{KEYS, put_key};
+use gw_audit::KEYS;
 use gw_codecs::names::{object_type_name, property_name, service_name};
 use gw_rules::{FieldName, Format, Operation, Range};
 use std::alloc::{AllocError, Global};
@@ -272,18 +273,6 @@ fn put_end(out: &mut Vec<u8>, field: FieldName, number: u64) -> Result<(), Alloc
         FieldName::SourceKey | FieldName::Sender | FieldName::Station => put_station(out, number),
         _ => put_decimal(out, number),
     }
-}
-
-/// Appends a station by its key: one of six octets as an address, another one by its octets.
-pub(crate) fn put_station(out: &mut Vec<u8>, key: u64) -> Result<(), AllocError>
-    ensures { OnOk result (out.new.items ≡ out.old.items ++ station_text key) }
-{
-    if KEYS <= key {
-        out.extend_from_slice(b"mac:")?;
-        return put_key(out, key);
-    }
-    let [_, _, a, b, c, d, high, low] = key.to_be_bytes();
-    BipAddr::from_octets(&[a, b, c, d, high, low]).put_text(out)
 }
 
 /// The standard's name of a number of a field, if it has one.

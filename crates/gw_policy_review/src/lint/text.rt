@@ -1,24 +1,19 @@
 //! The line that a rule has in a lint.
 ghost use Rattle.std.specs.Prelude.{◌≡◌, ◌-◌, ◌++◌, codes, length, take, OnOk};
-ghost use Rattle.std.specs.List.{flat_map, list_all};
-ghost use Rattle.gw_audit.specs.Line.{operation_text};
+ghost use Rattle.std.specs.List.{list_all};
 ghost use Rattle.gw_rules.specs.RuleList.{allows_at};
 ghost use Rattle.gw_script.specs.Order.{in_order};
-ghost use Rattle.gw_policy_review.specs.lint.Text.{ask_fields_text, decides_at, found_text, head_of, is_allowed_before, is_left_out, is_listed};
-ghost use Rattle.gw_policy_review.specs.lint.Text.{is_shown, item_text, likeness_text, line_text, name_at, rule_text, says_same, value_text};
+ghost use Rattle.gw_policy_review.specs.lint.Text.{decides_at, found_text, head_of, is_allowed_before, is_left_out, is_listed};
+ghost use Rattle.gw_policy_review.specs.lint.Text.{likeness_text, line_text, name_at, rule_text, says_same};
 
-use crate::comparison::words::put_station;
 use crate::lint::Finding;
 use crate::places::{is_derived, put_place};
 use gw_addr::put_decimal;
+use gw_ask_sets::ask_text::put_ask;
 use gw_ask_sets::shapes::rule_at;
-use gw_audit::operation_named;
 use gw_configuration::Config;
-use gw_rules::{Ask, FieldName, Rule, RuleList};
+use gw_rules::{Rule, RuleList};
 use std::alloc::AllocError;
-
-/// What is written for a field that the ask doesn't have.
-const ABSENT: &[u8] = b"-";
 
 /// What a lint is made of.
 #[derive(Clone, Copy)]
@@ -208,72 +203,5 @@ pub(crate) fn allows_at(rules: &RuleList, number: u16) -> bool
     match rule_at(rules, number) {
         Some(rule) => rule.allow,
         None => false,
-    }
-}
-
-/// Appends what an ask has, ` <key>=<value>` for each of its twelve fields, or for ten where it has no sender, as those of
-/// formats 1 and 2. An `Err` if there is no memory.
-pub fn put_ask(out: &mut Vec<u8>, ask: &Ask) -> Result<(), AllocError>
-    ensures { OnOk result (out.new.items ≡ out.old.items ++ ask_fields_text ask.now) }
-{
-    put_items(out, ask, &FieldName::ALL)
-}
-
-/// Appends what an ask has for these fields, each by its key in a configuration.
-fn put_items(out: &mut Vec<u8>, ask: &Ask, fields: &[FieldName]) -> Result<(), AllocError>
-    ensures { OnOk result
-        (out.new.items ≡ out.old.items ++ flat_map (item_text ask.now) fields.now) }
-{
-    for field in fields {
-        put_item(out, ask, *field)?;
-    }
-    Ok(())
-}
-
-fn put_item(out: &mut Vec<u8>, ask: &Ask, field: FieldName) -> Result<(), AllocError>
-    ensures { OnOk result (out.new.items ≡ out.old.items ++ item_text ask.now field) }
-{
-    if !is_shown(ask, field) {
-        return Ok(());
-    }
-    out.push(b' ')?;
-    out.extend_from_slice(field.key().as_bytes())?;
-    out.push(b'=')?;
-    put_value(out, field, *ask.get(field))
-}
-
-/// Whether the ask can have the field: without a sender it is one of formats 1 and 2, which have neither
-/// sender nor station.
-fn is_shown(ask: &Ask, field: FieldName) -> bool
-    ensures { result ≡ is_shown ask.now field }
-{
-    match field {
-        FieldName::Sender | FieldName::Station => ask.sender.is_some(),
-        _ => true,
-    }
-}
-
-/// Appends what an ask has for a field: an operation by its name, the key of a station as an address, else
-/// a number.
-fn put_value(out: &mut Vec<u8>, field: FieldName, value: Option<u64>) -> Result<(), AllocError>
-    ensures { OnOk result (out.new.items ≡ out.old.items ++ value_text field value) }
-{
-    let Some(number) = value else {
-        return out.extend_from_slice(ABSENT);
-    };
-    match field {
-        FieldName::Operation => put_operation(out, number),
-        FieldName::SourceKey | FieldName::Sender | FieldName::Station => put_station(out, number),
-        _ => put_decimal(out, number),
-    }
-}
-
-/// Appends the name of an operation by its number, or that number where no operation has it.
-fn put_operation(out: &mut Vec<u8>, number: u64) -> Result<(), AllocError>
-    ensures { OnOk result (out.new.items ≡ out.old.items ++ operation_text (Some number)) }
-{
-    match operation_named(number, true) {
-        Some(operation) => out.extend_from_slice(operation.name().as_bytes()),
-        None => put_decimal(out, number),
     }
 }

@@ -14,6 +14,8 @@ use std::alloc::AllocError;
 pub(crate) enum Oddity {
     /// Its UDP port is 0.
     ZeroPort,
+    /// Its UDP port is from 1 to 1023.
+    LowPort,
     /// It is an address of many.
     Multicast,
     /// Its UDP port isn't that of this own address.
@@ -44,6 +46,12 @@ fn put_oddity(out: &mut Vec<u8>, oddity: Oddity) -> Result<(), AllocError>
 {
     match oddity {
         Oddity::ZeroPort => put_slice(out, b" has UDP port 0"),
+        Oddity::LowPort => {
+            put_slice(
+                out,
+                b" has a UDP port below 1024, which is another service's",
+            )
+        }
         Oddity::Multicast => put_slice(out, b" is a multicast address"),
         Oddity::OtherPort(own) => put_with(out, b" has another UDP port than ", own),
         Oddity::OffSubnet(own) => put_with(out, b" is the broadcast address of no subnet of ", own),

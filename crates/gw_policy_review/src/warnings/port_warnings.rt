@@ -3,7 +3,7 @@ ghost use Rattle.std.specs.Prelude.{◌≡◌, ◌==◌, position};
 ghost use Rattle.gw_addr.specs.Appending.{IsAppended};
 ghost use Rattle.gw_configuration.specs.Duplicates.{key};
 ghost use Rattle.gw_script.specs.Order.{in_order};
-ghost use Rattle.gw_policy_review.specs.warnings.Warnings.{broadcast_lines, has_zero_port, other_than, own_lines, owner, peer_lines, port_lines};
+ghost use Rattle.gw_policy_review.specs.warnings.Warnings.{broadcast_lines, has_low_port, has_zero_port, other_than, own_lines, owner, peer_lines, port_lines, unusual_lines};
 
 use crate::warnings::oddity::{Oddity, put_mask, put_owned, put_where};
 use crate::warnings::spot::Spot;
@@ -11,6 +11,9 @@ use crate::warnings::subnet::{is_limited, is_multicast, is_off_subnet};
 use gw_addr::{BdtEntry, BipAddr};
 use gw_configuration::Port;
 use std::alloc::AllocError;
+
+/// The least UDP port that isn't one of the system's services.
+const LEAST_USUAL: u16 = 1024;
 
 /// Whether two addresses are one, with its UDP port.
 pub(crate) fn is_same(a: BipAddr, b: BipAddr) -> bool
@@ -23,6 +26,21 @@ fn has_zero_port(address: BipAddr) -> bool
     ensures { result ≡ has_zero_port address }
 {
     address.udp == 0
+}
+
+/// Whether the UDP port is one of the system's services.
+fn has_low_port(address: BipAddr) -> bool
+    ensures { result ≡ has_low_port address }
+{
+    0 < address.udp && address.udp < LEAST_USUAL
+}
+
+/// Appends the lines of an address at which no BACnet/IP device is.
+pub(crate) fn put_unusual(out: &mut Vec<u8>, spot: Spot, address: BipAddr) -> Result<(), AllocError>
+    ensures { IsAppended (unusual_lines spot address) out.old out.new result }
+{
+    put_where(out, has_low_port(address), spot, address, Oddity::LowPort)?;
+    put_where(out, is_multicast(address), spot, address, Oddity::Multicast)
 }
 
 /// The position of the port whose own address it is.
@@ -67,7 +85,7 @@ fn put_own(out: &mut Vec<u8>, place: usize, port: &Port) -> Result<(), AllocErro
     let own = port.address;
     let spot = Spot::Address(place);
     put_where(out, has_zero_port(own), spot, own, Oddity::ZeroPort)?;
-    put_where(out, is_multicast(own), spot, own, Oddity::Multicast)
+    put_unusual(out, spot, own)
 }
 
 fn put_broadcast(out: &mut Vec<u8>, place: usize, port: &Port) -> Result<(), AllocError>
@@ -125,7 +143,7 @@ fn put_peer(
     };
     let broadcasts = is_same(address, port.broadcast);
     let owner = other_than(place, owner(ports, address));
-    put_where(out, is_multicast(address), spot, address, Oddity::Multicast)?;
+    put_unusual(out, spot, address)?;
     put_where(out, broadcasts, spot, address, Oddity::IsBroadcast(place))?;
     put_owned(out, spot, address, owner)?;
     put_mask(

@@ -4,9 +4,9 @@ ghost use Rattle.gw_script.specs.Order.{in_order};
 ghost use Rattle.gw_policy_review.specs.warnings.Warnings.{next_lines, route_lines, way_lines};
 
 use crate::warnings::oddity::{Oddity, put_owned, put_where};
-use crate::warnings::port_warnings::{is_same, owner};
+use crate::warnings::port_warnings::{is_same, owner, put_unusual};
 use crate::warnings::spot::Spot;
-use crate::warnings::subnet::{is_elsewhere, is_multicast};
+use crate::warnings::subnet::is_elsewhere;
 use gw_addr::BipAddr;
 use gw_configuration::{Port, Route};
 use std::alloc::AllocError;
@@ -67,7 +67,7 @@ fn put_way(
     let spot = Spot::Next(index);
     let broadcasts = is_same(next, port.broadcast);
     let elsewhere = is_elsewhere(port.address, port.broadcast, next);
-    put_where(out, is_multicast(next), spot, next, Oddity::Multicast)?;
+    put_unusual(out, spot, next)?;
     put_owned(out, spot, next, owner(ports, next))?;
     put_where(out, broadcasts, spot, next, Oddity::IsBroadcast(place))?;
     put_where(out, elsewhere, spot, next, Oddity::Elsewhere(place))

@@ -6,7 +6,7 @@ ghost use Rattle.gw_configuration.specs.Subnet.{keys_of, subnet_holds};
 ghost use Rattle.gw_script.specs.Order.{in_order};
 ghost use Rattle.gw_policy_review.specs.warnings.Oversights.{apart_line, apart_lines, enter_ask, first_address, has_stations, is_accounted, is_apart};
 ghost use Rattle.gw_policy_review.specs.warnings.Oversights.{is_left_out, is_near, is_station, is_unheard, overlap_line, overlap_lines, port_oversights, shares_with};
-ghost use Rattle.gw_policy_review.specs.warnings.Oversights.{overlap_words, unheard_line, unheard_lines};
+ghost use Rattle.gw_policy_review.specs.warnings.Oversights.{hostless_line, hostless_lines, hostless_words, is_hostless, overlap_words, unheard_line, unheard_lines};
 
 use crate::warnings::port_warnings::is_same;
 use crate::warnings::rule_warnings::address_of;
@@ -116,6 +116,7 @@ fn put_port(
     };
     put_apart(out, number, port)?;
     put_overlaps(out, &numbered, port.stations.as_slice())?;
+    put_hostless(out, number, port.stations.as_slice())?;
     put_peers(out, &numbered, port.peers.as_slice())
 }
 
@@ -217,6 +218,83 @@ fn put_overlap_words(out: &mut Vec<u8>, subnet: Subnet, other: u128) -> Result<(
     out.extend_from_slice(b" overlaps with those of port ")?;
     put_decimal(out, other)?;
     put_slice(out, b"\n")
+}
+
+// ---- stations that nobody is
+
+/// The keys of the addresses that no host has: this network, the loopback of a host, and groups with what is reserved above them.
+const HOSTLESS: [Range; 3] = [
+    Range {
+        low: 0,
+        high: 0x00FF_FFFF_FFFF,
+    },
+    Range {
+        low: 0x7F00_0000_0000,
+        high: 0x7FFF_FFFF_FFFF,
+    },
+    Range {
+        low: 0xE000_0000_0000,
+        high: 0xFFFF_FFFF_FFFF,
+    },
+];
+
+/// Whether a subnet of stations has such addresses.
+fn is_hostless(subnet: Subnet) -> bool
+    ensures { result ≡ is_hostless subnet }
+{
+    let keys = subnet.keys();
+    HOSTLESS.iter().any(|block| overlaps(&keys, block))
+}
+
+/// Appends a line for each of these subnets of a port's stations that has addresses of no host.
+fn put_hostless(out: &mut Vec<u8>, number: usize, stations: &[Subnet]) -> Result<(), AllocError>
+    requires { length stations.now ≤ 16 }
+    ensures { OnOk result (out.new.items ≡ out.old.items ++ in_order (hostless_lines number) 1 stations.now) }
+{
+    for place in 0..stations.len() {
+        put_hostless_item(out, number, place + 1, stations[place])?;
+    }
+    Ok(())
+}
+
+fn put_hostless_item(
+    out: &mut Vec<u8>,
+    number: usize,
+    item: usize,
+    subnet: Subnet,
+) -> Result<(), AllocError>
+    ensures { OnOk result (out.new.items ≡ out.old.items ++ hostless_lines number item subnet) }
+{
+    if is_hostless(subnet) {
+        put_hostless_line(out, number, item, subnet)
+    } else {
+        Ok(())
+    }
+}
+
+fn put_hostless_line(
+    out: &mut Vec<u8>,
+    number: usize,
+    item: usize,
+    subnet: Subnet,
+) -> Result<(), AllocError>
+    ensures { OnOk result (out.new.items ≡ out.old.items ++ hostless_line number item subnet) }
+{
+    put_text_number(out, "warning: port ", number)?;
+    put_text_number(out, ": stations: item ", item)?;
+    out.extend_from_slice(b": ")?;
+    put_hostless_words(out, subnet)
+}
+
+fn put_hostless_words(out: &mut Vec<u8>, subnet: Subnet) -> Result<(), AllocError>
+    ensures { OnOk result (out.new.items ≡ out.old.items ++ hostless_words subnet) }
+{
+    let text = subnet.to_string(*out.allocator())?;
+    out.extend_from_slice(text.as_bytes())?;
+    put_slice(
+        out,
+        b" has addresses of no host: some of 0.0.0.0/8, 127.0.0.0/8 or 224.0.0.0/3\n",
+    )
 }
 
 // ---- peers that aren't heard

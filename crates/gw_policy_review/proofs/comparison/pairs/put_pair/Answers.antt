@@ -1,7 +1,7 @@
 use Rattle.std.proofs.Common.{◌++◌, ◌∷◌, []}
 use Rattle.std.specs.Prelude.{codes}
 use Rattle.gw_policy_review.specs.comparison.PairLines.{now_by_text, was_by_text}
-use Rattle.gw_policy_review.specs.lint.Text.{ask_fields_text}
+use Rattle.gw_ask_sets.specs.AskText.{ask_fields_text}
 use Rattle.gw_policy_review.proofs.comparison_lemmas.Appending.{two}
 use Rattle.gw_policy_review.proofs.comparison.pairs.put_pair.Goals as goal
 

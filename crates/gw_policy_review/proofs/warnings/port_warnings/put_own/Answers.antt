@@ -4,7 +4,7 @@ use Rattle.gw_policy_review.proofs.warnings.port_warnings.put_own.Goals as goal
 
 pub returns : goal.returns
 returns c =
-    then_put (rw c.has_zero_port.ensures at c.in_ok-put_where.ensures) (rw c.is_multicast.ensures at c.put_where-2.ensures)
+    then_put (rw c.has_zero_port.ensures at c.in_ok-put_where.ensures) c.put_unusual.ensures
 
 pub returns-in_err-put_where : goal.returns-in_err-put_where
 returns-in_err-put_where c =

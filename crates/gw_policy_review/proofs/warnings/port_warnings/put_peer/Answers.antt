@@ -4,16 +4,16 @@ use Rattle.gw_policy_review.proofs.warnings.port_warnings.put_peer.Goals as goal
 
 pub returns : goal.returns
 returns c =
-    then_put (then_put (then_put (rw c.is_multicast.ensures at c.in_ok-put_where.ensures) (rw c.is_same-broadcasts.ensures at c.in_ok-put_where-2.ensures)) (rw (c.other_than-owner.ensures, c.owner.ensures) at c.in_ok-put_owned.ensures)) c.put_mask.ensures
+    then_put (then_put (then_put c.in_ok-put_unusual.ensures (rw c.is_same-broadcasts.ensures at c.in_ok-put_where.ensures)) (rw (c.other_than-owner.ensures, c.owner.ensures) at c.in_ok-put_owned.ensures)) c.put_mask.ensures
+
+pub returns-in_err-put_unusual : goal.returns-in_err-put_unusual
+returns-in_err-put_unusual c =
+    refused (cut _ (cut _ (cut _ c.in_err-put_unusual.ensures))) c.from_residual.ensures.0
 
 pub returns-in_err-put_where : goal.returns-in_err-put_where
 returns-in_err-put_where c =
-    refused (cut _ (cut _ (cut _ (rw c.is_multicast.ensures at c.in_err-put_where.ensures)))) c.from_residual.ensures.0
-
-pub returns-in_err-put_where-2 : goal.returns-in_err-put_where-2
-returns-in_err-put_where-2 c =
-    refused (cut _ (cut _ (then_put (rw c.is_multicast.ensures at c.in_ok-put_where.ensures) (rw c.is_same-broadcasts.ensures at c.in_err-put_where-2.ensures)))) c.from_residual-in_err-put_where-2.ensures.0
+    refused (cut _ (cut _ (then_put c.in_ok-put_unusual.ensures (rw c.is_same-broadcasts.ensures at c.in_err-put_where.ensures)))) c.from_residual-in_err-put_where.ensures.0
 
 pub returns-in_err-put_owned : goal.returns-in_err-put_owned
 returns-in_err-put_owned c =
-    refused (cut _ (then_put (then_put (rw c.is_multicast.ensures at c.in_ok-put_where.ensures) (rw c.is_same-broadcasts.ensures at c.in_ok-put_where-2.ensures)) (rw (c.other_than-owner.ensures, c.owner.ensures) at c.in_err-put_owned.ensures))) c.from_residual-in_err-put_owned.ensures.0
+    refused (cut _ (then_put (then_put c.in_ok-put_unusual.ensures (rw c.is_same-broadcasts.ensures at c.in_ok-put_where.ensures)) (rw (c.other_than-owner.ensures, c.owner.ensures) at c.in_err-put_owned.ensures))) c.from_residual-in_err-put_owned.ensures.0

@@ -1,6 +1,6 @@
-use Rattle.gw_policy_review.specs.lint.Text.{item_text}
+use Rattle.gw_ask_sets.specs.AskText.{item_text}
 use Rattle.gw_ask_sets.proofs.shapes_lemmas.Listing.{flat_end, flat_step}
-use Rattle.gw_policy_review.proofs.lint.text.put_items.Goals as goal
+use Rattle.gw_ask_sets.proofs.ask_text.put_items.Goals as goal
 
 pub loop-field-preserved : goal.loop-field-preserved
 loop-field-preserved c =
