@@ -12,7 +12,7 @@ mod questions;
 mod reach;
 mod words;
 
-pub(crate) use passing::matches_all;
-pub use passing::{decides_all, may_allow, may_pass, place_of_all, search_allowed};
+pub(crate) use passing::is_never;
+pub use passing::{decides_all, may_allow, may_pass, place_of_all, search_allowed, search_decided};
 pub use permissions::put_permissions;
 pub(crate) use words::Placed;

@@ -78,7 +78,7 @@ stopping rule (finding.Decides ask) denies may = ap not denies
 stopping rule finding.Unknown denies may = ap not denies
 
 -- a rule that matches an ask has a first one that does
-some_first : (rules : List Rule) (ask : Ask) (number : ℕ) (rule : Rule) → HasNumber rules number rule → Matches rule ask
+pub some_first : (rules : List Rule) (ask : Ask) (number : ℕ) (rule : Rule) → HasNumber rules number rule → Matches rule ask
     → (lower : ℕ) × (first rules ask ≡ Some lower)
 some_first rules ask number rule has matching = by (first rules ask) refl
   where

@@ -1,8 +1,8 @@
 -- Notes on rules that may not mean what they say. Each says when it is made; none is a theorem about the gateway.
-use Rattle.std.specs.Prelude.{ℕ, ◌+◌, Bool, not, ◌&&◌, ◌||◌, ◌==◌, nat_lt, if◌then◌else◌, List, [], ◌∷◌, ◌++◌, length, find}
+use Rattle.std.specs.Prelude.{◌≡◌, ℕ, ◌+◌, Bool, true, false, not, ◌&&◌, ◌||◌, ◌==◌, nat_lt, if◌then◌else◌, List, [], ◌∷◌, ◌++◌, length, find}
 use Rattle.std.specs.Prelude.{codes, decimal, position}
 use Rattle.std.specs.List.{filter, flat_map, list_any}
-use Rattle.std.specs.Option.{is_some, option_map_or}
+use Rattle.std.specs.Option.{option_map_or}
 use Rattle.gw_addr.specs.Address.{text_of}
 use Rattle.gw_configuration.specs.Configuration.{Configuration}
 use Rattle.gw_configuration.specs.declared.port.Port.{Port}
@@ -13,12 +13,16 @@ use Rattle.gw_rules.specs.Range.{holds}
 use Rattle.gw_rules.specs.Rule.{ranges_of}
 use Rattle.gw_rules.specs.declared.field.FieldName.{FieldName}
 use Rattle.gw_rules.specs.declared.field.TheConstants.FieldName.{ALL}
-use Rattle.gw_rules.specs.declared.operation.Operation.TheVariants.{Cast}
+use Rattle.gw_rules.specs.declared.operation.Operation.TheVariants.{Cast, Route}
 use Rattle.gw_rules.specs.declared.range.Range.{Range}
 use Rattle.gw_rules.specs.declared.rule.Rule.{Rule}
 use Rattle.gw_ask_sets.specs.shapes.Meeting.{overlaps}
 use Rattle.gw_script.specs.Order.{in_order}
-use Rattle.gw_policy_review.specs.lint.Passage.{answers, is_cast, is_routed, is_unnamed, opener, opens_beyond, requests}
+use Rattle.gw_policy_review.specs.lint.Passage.{ArePassages, answers, opener, opens, passes, requests, shapes_for, unnamed_shapes}
+use Rattle.gw_policy_review.specs.permissions.Passing.{IsPassage, is_never}
+use Rattle.gw_policy_review.specs.permissions.Texts.{AreInOrder}
+use Rattle.gw_ask_sets.specs.declared.shapes.search.Outcome.{Outcome}
+use Rattle.gw_ask_sets.specs.declared.shapes.search.Outcome.TheVariants as outcome
 use Rattle.gw_ask_sets.specs.shapes.Shape.{Shape}
 use Rattle.gw_policy_review.specs.lint.Text.{rule_text}
 use Rattle.gw_policy_review.specs.lint.Trust.{ending_words, is_open_end, is_open_for, is_source_alone, is_source_network_alone}
@@ -73,15 +77,22 @@ overlap_notes c lines number rule = flat_map (overlap_note c lines number rule) 
 
 -- ---- requests without an object
 
--- messages are routed, and requests among them that name no object may pass by this rule
-abbrev pub lets_unnamed : List Shape → Configuration → ℕ → Bool
-lets_unnamed shapes c number =
-    list_any (λ shape. is_routed shape && is_some (opener c.rules shape)) shapes
-    && list_any (λ shape. is_unnamed shape && opens_beyond c.rules c.device.network number shape) shapes
+-- what is found of such requests to another network than the device's, if messages are routed at all
+abbrev pub unnamed_if : Bool → Configuration → List Shape → List Shape
+unnamed_if routes c shapes = if routes then unnamed_shapes c.device.network shapes else []
 
-abbrev pub object_note : List Shape → Configuration → (lines : List ℕ) → ℕ → List ℕ
-object_note shapes c lines number =
-    if lets_unnamed shapes c number
+pub record AreUnnamed (c : Configuration) (shapes : List Shape) (unnamed : List Outcome) : Type 0 where
+  pub routed : Outcome
+  pub is_routed : IsPassage (shapes_for Route shapes) c.rules routed
+  pub are_found : ArePassages c.rules (unnamed_if (passes routed) c shapes) unnamed
+
+-- some were found to pass by the rule of this number
+abbrev pub lets_unnamed : List Outcome → Configuration → ℕ → Bool
+lets_unnamed unnamed c number = list_any (opens c.rules number) unnamed
+
+abbrev pub object_note : List Outcome → Configuration → (lines : List ℕ) → ℕ → List ℕ
+object_note unnamed c lines number =
+    if lets_unnamed unnamed c number
     then note_text c lines number (codes "object_type: without one, requests pass that name no object")
     else []
 
@@ -92,16 +103,31 @@ answer_words one other =
     codes "the way back: requests from network " ++ decimal one ++ codes " to network " ++ decimal other
     ++ codes " may pass, their answers (services 1026 to 1031) may not"
 
--- for two ports, where requests may pass from the network of one to that of the other, and no answer may pass back
-abbrev pub answer_note : Configuration → (lines : List ℕ) → ℕ → Port → ℕ → Port → List ℕ
-answer_note c lines number port other_number other =
-    if (port.network == other.network) || is_some (opener c.rules (answers c.format other_number other port.network))
-    then []
-    else option_map_or (λ by. note_text c lines by (answer_words port.network other.network))
-    (opener c.rules (requests c.format number port other.network)) []
+-- a note on the rule by which such a request was found to pass
+abbrev pub way_note : Configuration → (lines : List ℕ) → (one other : ℕ) → Outcome → List ℕ
+way_note c lines one other found =
+    option_map_or (λ by. note_text c lines by (answer_words one other)) (opener c.rules found) []
 
-abbrev pub answer_notes : Configuration → (lines : List ℕ) → ℕ → Port → List ℕ
-answer_notes c lines number port = in_order (answer_note c lines number port) 1 c.ports
+-- where no answer passes back, requests are searched
+abbrev pub IsWay : Configuration → (lines : List ℕ) → ℕ → Port → Port → (back : Outcome) → List ℕ → Type 0
+IsWay c lines number port other outcome.Never text =
+    (found : Outcome) × IsPassage (requests c.format number port other.network ∷ []) c.rules found
+    × (text ≡ way_note c lines port.network other.network found)
+IsWay c lines number port other back text = text ≡ []
+
+-- for the ports of two networks, where requests are found to pass from the one to the other, and none of the answers to pass back
+abbrev pub IsAnswerNote : (is_same : Bool) → Configuration → (lines : List ℕ) → ℕ → Port → ℕ → Port → List ℕ → Type 0
+IsAnswerNote true c lines number port other_number other text = text ≡ []
+IsAnswerNote false c lines number port other_number other text =
+    (back : Outcome) × IsPassage (answers c.format other_number other port.network ∷ []) c.rules back
+    × IsWay c lines number port other back text
+
+abbrev pub IsNoteOnAnswers : Configuration → (lines : List ℕ) → ℕ → Port → ℕ → Port → List ℕ → Type 0
+IsNoteOnAnswers c lines number port other_number other text =
+    IsAnswerNote (port.network == other.network) c lines number port other_number other text
+
+abbrev pub AreAnswerNotes : Configuration → (lines : List ℕ) → ℕ → Port → List ℕ → Type 0
+AreAnswerNotes c lines number port text = AreInOrder (IsNoteOnAnswers c lines number port) 1 c.ports text
 
 -- ---- what anyone may say (`Trust.antt`)
 
@@ -146,8 +172,9 @@ abbrev pub stations_note : ℕ → Port → List ℕ
 stations_note number port = if lacks_broadcast port then stations_words number port else []
 
 -- those of a port
-abbrev pub port_notes : Configuration → (lines : List ℕ) → ℕ → Port → List ℕ
-port_notes c lines number port = stations_note number port ++ answer_notes c lines number port
+abbrev pub ArePortNotes : Configuration → (lines : List ℕ) → ℕ → Port → List ℕ → Type 0
+ArePortNotes c lines number port text =
+    (answers : List ℕ) × AreAnswerNotes c lines number port answers × (text ≡ stations_note number port ++ answers)
 
 -- ---- broadcasts to all networks
 
@@ -180,29 +207,34 @@ discovery_note c lines number rule =
 
 -- ---- broadcasts
 
--- one of the broadcasts of these shapes may pass
-abbrev pub lets_broadcasts : List Shape → List Rule → Bool
-lets_broadcasts shapes rules = list_any (λ shape. is_cast shape && is_some (opener rules shape)) shapes
-
--- where some are distributed, and no rule allows them
-abbrev pub cast_note : List Shape → Configuration → List ℕ
-cast_note shapes c =
-    if not (list_any is_cast shapes) || lets_broadcasts shapes c.rules then []
+-- where some are distributed, and each was found to be denied
+abbrev pub cast_note : (distributed : List Shape) → (found : Outcome) → List ℕ
+cast_note distributed found =
+    if (length distributed == 0) || not (is_never found) then []
     else codes "note: look at cast: no rule allows it, so no broadcast reaches a peer or a foreign device" ++ 10 ∷ []
+
+abbrev pub IsCastNote : List Shape → Configuration → List ℕ → Type 0
+IsCastNote shapes c text =
+    (found : Outcome) × IsPassage (shapes_for Cast shapes) c.rules found × (text ≡ cast_note (shapes_for Cast shapes) found)
 
 -- ---- all of them
 
 -- on what a rule may not match as it reads
-abbrev pub field_notes : List Shape → Configuration → (lines : List ℕ) → ℕ → Rule → List ℕ
-field_notes shapes c lines number rule =
-    network_note c lines number rule ++ overlap_notes c lines number rule ++ object_note shapes c lines number
+abbrev pub field_notes : List Outcome → Configuration → (lines : List ℕ) → ℕ → Rule → List ℕ
+field_notes unnamed c lines number rule =
+    network_note c lines number rule ++ overlap_notes c lines number rule ++ object_note unnamed c lines number
 
 -- those of a rule
-abbrev pub rule_notes : List Shape → Configuration → (lines : List ℕ) → ℕ → Rule → List ℕ
-rule_notes shapes c lines number rule =
-    field_notes shapes c lines number rule ++ (trust_notes c lines number rule ++ discovery_note c lines number rule)
+abbrev pub rule_notes : List Outcome → Configuration → (lines : List ℕ) → ℕ → Rule → List ℕ
+rule_notes unnamed c lines number rule =
+    field_notes unnamed c lines number rule ++ (trust_notes c lines number rule ++ discovery_note c lines number rule)
 
 -- rule by rule, then port by port, and then that on broadcasts, over the shapes of the configuration
-abbrev pub notes_text : List Shape → Configuration → (lines : List ℕ) → List ℕ
-notes_text shapes c lines =
-    in_order (rule_notes shapes c lines) 1 c.rules ++ in_order (port_notes c lines) 1 c.ports ++ cast_note shapes c
+pub record AreNotes (shapes : List Shape) (c : Configuration) (lines text : List ℕ) : Type 0 where
+  pub unnamed : List Outcome
+  pub are_unnamed : AreUnnamed c shapes unnamed
+  pub ports : List ℕ
+  pub are_ports : AreInOrder (ArePortNotes c lines) 1 c.ports ports
+  pub casts : List ℕ
+  pub are_casts : IsCastNote shapes c casts
+  pub shown : text ≡ in_order (rule_notes unnamed c lines) 1 c.rules ++ (ports ++ casts)

@@ -1,33 +1,55 @@
--- Whether asks of a shape may pass a policy, as far as the ranges of its rules show.
-use Rattle.std.specs.Prelude.{ℕ, ◌+◌, ◌-◌, Bool, false, not, ◌&&◌, ◌||◌, ◌==◌, if◌then◌else◌, List, [], Option, Some}
-use Rattle.std.specs.Prelude.{None, position}
-use Rattle.std.specs.Option.{option_map, option_map_or}
+-- Asks of which notes say that they pass, or that none does, and what is found of them.
+use Rattle.std.specs.Prelude.{⊤, ℕ, ◌+◌, ◌-◌, Bool, true, false, not, ◌&&◌, ◌||◌, ◌==◌, if◌then◌else◌, List, [], ◌∷◌, Option, None}
+use Rattle.std.specs.List.{filter, flat_map}
+use Rattle.std.specs.Option.{option_map_or}
 use Rattle.gw_configuration.specs.declared.port.Port.{Port}
 use Rattle.gw_rules.specs.Operation.{operation_number}
 use Rattle.gw_rules.specs.Range.{holds}
-use Rattle.gw_rules.specs.RuleList.{allows_at}
+use Rattle.gw_rules.specs.RuleList.{first}
 use Rattle.gw_rules.specs.declared.format.Format.{Format}
+use Rattle.gw_rules.specs.declared.operation.Operation.{Operation}
 use Rattle.gw_rules.specs.declared.operation.Operation.TheVariants as operations
 use Rattle.gw_rules.specs.declared.rule.Rule.{Rule}
-use Rattle.gw_ask_sets.specs.shapes.Meeting.{has_number, meets}
+use Rattle.gw_ask_sets.specs.shapes.Meeting.{has_number}
 use Rattle.gw_ask_sets.specs.shapes.Pieces.{numbers}
 use Rattle.gw_ask_sets.specs.shapes.Shape.{Shape}
 use Rattle.gw_ask_sets.specs.shapes.Shapes.{aimed, bound, is_manager, only, own}
+use Rattle.gw_ask_sets.specs.declared.shapes.search.Outcome.{Outcome}
+use Rattle.gw_ask_sets.specs.declared.shapes.search.Outcome.TheVariants as outcome
 use Rattle.gw_ask_sets.specs.declared.shapes.side.Side.{Side}
-use Rattle.gw_policy_review.specs.permissions.Passing.{matches_all}
+use Rattle.gw_policy_review.specs.permissions.Passing.{IsPassage}
 
--- a rule settles what becomes of a shape's asks: it allows and may match one of them, or denies and matches each
-abbrev pub settles : Shape → Rule → Bool
-settles shape rule = if rule.allow then meets shape rule else matches_all shape rule
+-- ---- what is found of asks
 
--- the number of the first rule that settles it
-abbrev pub settler : List Rule → Shape → Option ℕ
-settler rules shape = option_map (λ place. place + 1) (position (settles shape) rules)
+-- an ask that passes
+abbrev pub passes : Outcome → Bool
+passes (outcome.Decides ask) = true
+passes _ = false
 
--- that number where the rule allows: then an ask of the shape may pass by it
-abbrev pub opener : List Rule → Shape → Option ℕ
-opener rules shape =
-    option_map_or (λ number. if allows_at rules number then Some number else None) (settler rules shape) None
+-- the number of the rule by which it does
+abbrev pub opener : List Rule → Outcome → Option ℕ
+opener rules (outcome.Decides ask) = first rules ask
+opener rules _ = None
+
+-- it does by the rule of this number
+abbrev pub opens : List Rule → ℕ → Outcome → Bool
+opens rules number found = option_map_or (λ by. by == number) (opener rules found) false
+
+-- what is found of each of these shapes, in order
+abbrev pub ArePassages : List Rule → List Shape → List Outcome → Type 0
+ArePassages rules [] [] = ⊤
+ArePassages rules [] (one ∷ found) = ⊥
+ArePassages rules (shape ∷ shapes) [] = ⊥
+ArePassages rules (shape ∷ shapes) (one ∷ found) = IsPassage (shape ∷ []) rules one × ArePassages rules shapes found
+
+-- ---- shapes of an operation
+
+-- a shape has asks for this operation
+abbrev pub is_for : Operation → Shape → Bool
+is_for operation shape = holds (operation_number operation) shape.operation.range
+
+abbrev pub shapes_for : Operation → List Shape → List Shape
+shapes_for operation shapes = filter (is_for operation) shapes
 
 -- ---- requests and their answers
 
@@ -53,24 +75,19 @@ is_unnamed shape =
     || shape.operation.range.low == operation_number operations.Write)
     && not (has_number shape.object_type)
 
--- a shape of messages that are routed
-abbrev pub is_routed : Shape → Bool
-is_routed shape = shape.operation.range.low == operation_number operations.Route
-
--- a shape that has broadcasts which are passed on to peers and foreign devices
-abbrev pub is_cast : Shape → Bool
-is_cast shape = holds (operation_number operations.Cast) shape.operation.range
-
--- the rule of this number is the one by which asks of a shape may pass
-abbrev pub opens : List Rule → ℕ → Shape → Bool
-opens rules number shape = option_map_or (λ by. by == number) (opener rules shape) false
-
 -- the asks of a shape that go to networks of these numbers
 abbrev pub towards : Side → Shape → Shape
 towards networks shape = record shape { destination_network = networks }
 
--- and so it is for those to another network than the device's, which is below that or above it
-abbrev pub opens_beyond : List Rule → ℕ → ℕ → Shape → Bool
-opens_beyond rules device number shape =
-    opens rules number (towards (numbers shape.destination_network.range.low (device - 1)) shape)
-    || opens rules number (towards (numbers (device + 1) shape.destination_network.range.high) shape)
+-- those that go to another network than the device's, which is below that or above it
+abbrev pub beyond : ℕ → Shape → List Shape
+beyond device shape =
+    towards (numbers shape.destination_network.range.low (device - 1)) shape
+    ∷ towards (numbers (device + 1) shape.destination_network.range.high) shape
+    ∷ []
+
+abbrev pub unnamed_of : ℕ → Shape → List Shape
+unnamed_of device shape = if is_unnamed shape then beyond device shape else []
+
+abbrev pub unnamed_shapes : ℕ → List Shape → List Shape
+unnamed_shapes device shapes = flat_map (unnamed_of device) shapes

@@ -1,11 +1,12 @@
 -- Which rules may allow asks of a shape.
-use Rattle.std.specs.Prelude.{◌≡◌, ℕ, ◌+◌, ◌-◌, Bool, true, false, not, ◌&&◌, List, [], Some, length, position, slice_get, take, unwrap_or}
+use Rattle.std.specs.Prelude.{◌≡◌, ℕ, ◌+◌, ◌-◌, Bool, true, false, not, ◌&&◌, if◌then◌else◌, List, [], ◌∷◌, ◌++◌, Some, codes, length}
+use Rattle.std.specs.Prelude.{position, slice_get, take, unwrap_or}
 use Rattle.std.specs.List.{list_any}
 use Rattle.std.specs.Option.{option_map_or}
 use Rattle.gw_rules.specs.Ask.{Ask}
-use Rattle.gw_rules.specs.Fields.{value_of}
+use Rattle.gw_rules.specs.Fields.{in_each, value_of}
 use Rattle.gw_rules.specs.Rule.{each_field, ranges_of}
-use Rattle.gw_rules.specs.RuleList.{allows, first}
+use Rattle.gw_rules.specs.RuleList.{allows, allows_at, first}
 use Rattle.gw_rules.specs.declared.rule.Rule.{Rule}
 use Rattle.gw_ask_sets.specs.regions.Tidying.{all_tidied}
 use Rattle.gw_ask_sets.specs.shapes.Cover.{takes_side}
@@ -51,21 +52,37 @@ lets rule (finding.Decides ask) = rule.allow
 lets rule finding.Unknown = rule.allow
 lets rule _ = false
 
--- what a search for an ask of these shapes that the rule of this number decides and allows comes to
-abbrev pub IsAllowedBy : List Shape → List Rule → ℕ → Outcome → Type 0
-IsAllowedBy shapes rules number outcome.Never =
-    (ask : Ask) → LiesInOne shapes ask → first rules ask ≡ Some number → allows rules ask ≡ false
-IsAllowedBy shapes rules number (outcome.Decides ask) = LiesInOne shapes ask × (allows rules ask ≡ true)
-IsAllowedBy shapes rules number outcome.Unknown = IsUsedUp shapes rules number MAX_STEPS
+-- the rule behind all others: what none of them matches is denied
+abbrev pub default_rule : Rule
+default_rule = record { name = codes "default"; allow = false; quiet = false; ranges = in_each [] }
 
--- what a search for an ask of these shapes that the policy allows comes to: one, or that none is allowed, or that all steps were used, of
--- the rules with their ranges in order, which match the same asks
+-- the rules as they are searched: their ranges are in order, so that they match the same asks, and the default is behind them
+abbrev pub searched_rules : List Rule → List Rule
+searched_rules rules = all_tidied rules ++ default_rule ∷ []
+
+-- the rule of this number says so: it allows, or it denies
+abbrev pub is_said : List Rule → ℕ → Bool → Bool
+is_said rules number says = if says then allows_at rules number else not (allows_at rules number)
+
+-- what a search for an ask of these shapes that the rule of this number decides so comes to
+abbrev pub IsSaidBy : Bool → ℕ → List Shape → List Rule → ℕ → Outcome → Type 0
+IsSaidBy says steps shapes rules number outcome.Never =
+    (ask : Ask) → LiesInOne shapes ask → first rules ask ≡ Some number → allows rules ask ≡ not says
+IsSaidBy says steps shapes rules number (outcome.Decides ask) = LiesInOne shapes ask × (allows rules ask ≡ says)
+IsSaidBy says steps shapes rules number outcome.Unknown = IsUsedUp shapes rules number steps
+
+-- what a search for an ask of these shapes that the policy decides so comes to: one, or that each is decided otherwise, or that all
+-- steps were used of the search for one that the rule of a number decides
+abbrev pub IsDecision : Bool → ℕ → List Shape → List Rule → Outcome → Type 0
+IsDecision says steps shapes rules outcome.Never = (ask : Ask) → LiesInOne shapes ask → allows rules ask ≡ not says
+IsDecision says steps shapes rules (outcome.Decides ask) = LiesInOne shapes ask × (allows rules ask ≡ says)
+IsDecision says steps shapes rules outcome.Unknown = (number : ℕ) × IsUsedUp shapes (searched_rules rules) number steps
+
+-- what a search for one that the policy allows comes to
 abbrev pub IsPassage : List Shape → List Rule → Outcome → Type 0
-IsPassage shapes rules outcome.Never = (ask : Ask) → LiesInOne shapes ask → allows rules ask ≡ false
-IsPassage shapes rules (outcome.Decides ask) = LiesInOne shapes ask × (allows rules ask ≡ true)
-IsPassage shapes rules outcome.Unknown = (number : ℕ) × IsUsedUp shapes (all_tidied rules) number MAX_STEPS
+IsPassage shapes rules found = IsDecision true MAX_STEPS shapes rules found
 
--- each ask is denied
+-- each ask is decided otherwise
 abbrev pub is_never : Outcome → Bool
 is_never outcome.Never = true
 is_never _ = false

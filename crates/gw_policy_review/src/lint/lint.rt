@@ -63,6 +63,6 @@ fn lint(
     };
     let mut text = Vec::new(alloc);
     lint.put_lines(&mut text)?;
-    put_notes(&mut text, &shapes, &lint)?;
+    put_notes(alloc, &mut text, &shapes, &lint)?;
     Ok(text)
 }

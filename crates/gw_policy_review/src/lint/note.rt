@@ -1,74 +1,109 @@
 //! Notes on rules that may not mean what they say.
-ghost use Rattle.std.specs.Prelude.{◌≡◌, ◌&&◌, ◌==◌, ◌++◌, find, is_some, length, OnOk};
+ghost use Rattle.std.specs.Prelude.{◌≡◌, ◌==◌, ◌++◌, find, length, IfOk, OnOk};
 ghost use Rattle.std.specs.List.{filter, flat_map, list_any};
 ghost use Rattle.gw_ask_sets.specs.shapes.Meeting.{overlaps};
-ghost use Rattle.gw_policy_review.specs.lint.Notes.{answer_note, answer_notes, answer_words, cast_note, field_notes, has_overlap};
-ghost use Rattle.gw_policy_review.specs.lint.Notes.{head_text, is_known, is_unknown, lets_broadcasts, lets_unnamed, network_note};
-ghost use Rattle.gw_policy_review.specs.lint.Notes.{network_words, note_text, notes_text, object_note, overlap_note, overlap_words};
-ghost use Rattle.gw_policy_review.specs.lint.Notes.{lacks_broadcast, port_notes, rule_notes, stations_note, stations_words};
+ghost use Rattle.gw_ask_sets.specs.declared.shapes.search.Outcome.TheVariants.{Never};
+ghost use Rattle.gw_policy_review.specs.lint.Notes.{AreAnswerNotes, AreNotes, ArePortNotes, AreUnnamed, IsCastNote, IsNoteOnAnswers, IsWay};
+ghost use Rattle.gw_policy_review.specs.lint.Notes.{answer_words, cast_note, field_notes, has_overlap, head_text, is_known, is_unknown};
+ghost use Rattle.gw_policy_review.specs.lint.Notes.{lacks_broadcast, lets_unnamed, network_note, network_words, note_text, object_note};
+ghost use Rattle.gw_policy_review.specs.lint.Notes.{overlap_note, overlap_words, rule_notes, stations_note, stations_words, unnamed_if, way_note};
+ghost use Rattle.gw_policy_review.specs.permissions.Texts.{Appends, AreInOrder};
 ghost use Rattle.gw_script.specs.Order.{in_order};
-ghost use Rattle.gw_policy_review.specs.lint.Passage.{is_cast, is_routed, is_unnamed, opener, opens_beyond};
 
 use crate::lint::discovery_note::put_discovery_note;
 use crate::lint::passage::{
-    answers, is_cast, is_routed, is_unnamed, opener, opens_beyond, requests,
+    answers, opener, opens, passage, passages, passes, requests, shapes_for, unnamed_shapes,
 };
 use crate::lint::text::Lint;
 use crate::lint::trust_note::put_trust_notes;
+use crate::permissions::{is_never, search_allowed};
 use crate::warnings::is_station;
 use gw_addr::{put_decimal, put_slice, put_text_number};
-use gw_ask_sets::shapes::{Shape, overlaps};
+use gw_ask_sets::shapes::{Outcome, Shape, overlaps};
 use gw_configuration::{Config, Port, Route};
-use gw_rules::{FieldName, Range, Rule, RuleList};
-use std::alloc::AllocError;
+use gw_rules::{FieldName, Operation, Range, Rule};
+use std::alloc::{AllocError, Global};
 
 /// Appends all notes: rule by rule, then port by port, and then that on broadcasts.
 pub(crate) fn put_notes(
+    alloc: Global,
     out: &mut Vec<u8>,
     shapes: &[Shape],
     lint: &Lint<'_>,
 ) -> Result<(), AllocError>
-    ensures { OnOk result (out.new.items ≡ out.old.items ++ notes_text shapes.now lint.now.config.now lint.now.lines.now) }
+    ensures { OnOk result (Appends (AreNotes shapes.now lint.now.config.now lint.now.lines.now) out.old.items out.new.items) }
 {
-    put_rules_notes(out, shapes, lint)?;
-    put_ports_notes(out, lint)?;
-    put_cast_note(out, shapes, lint.config)
+    let unnamed = unnamed(alloc, shapes, lint.config)?;
+    put_rules_notes(out, &unnamed, lint)?;
+    put_ports_notes(alloc, out, lint)?;
+    put_cast_note(alloc, out, shapes, lint.config)
 }
 
-fn put_rules_notes(out: &mut Vec<u8>, shapes: &[Shape], lint: &Lint<'_>) -> Result<(), AllocError>
+/// What is found of requests that name no object, to another network than the device's, if messages are routed at all.
+fn unnamed(alloc: Global, shapes: &[Shape], config: &Config) -> Result<Vec<Outcome>, AllocError>
+    ensures { IfOk result (λ found. AreUnnamed config.now shapes.now found.items) }
+{
+    let rules = config.rules();
+    let routed = search_allowed(alloc, rules, &shapes_for(alloc, Operation::Route, shapes)?)?;
+    let asked = unnamed_if(alloc, passes(&routed), config, shapes)?;
+    let found = passages(alloc, rules, &asked)?;
+    Ok(found)
+}
+
+fn unnamed_if(
+    alloc: Global,
+    routes: bool,
+    config: &Config,
+    shapes: &[Shape],
+) -> Result<Vec<Shape>, AllocError>
+    ensures { IfOk result (λ made. made.items ≡ unnamed_if routes config.now shapes.now) }
+{
+    if routes {
+        unnamed_shapes(alloc, config.device().network, shapes)
+    } else {
+        Ok(Vec::new(alloc))
+    }
+}
+
+fn put_rules_notes(
+    out: &mut Vec<u8>,
+    unnamed: &[Outcome],
+    lint: &Lint<'_>,
+) -> Result<(), AllocError>
     ensures { OnOk result (out.new.items ≡
-        out.old.items ++ in_order (rule_notes shapes.now lint.now.config.now lint.now.lines.now) 1 lint.now.config.now.rules) }
+        out.old.items ++ in_order (rule_notes unnamed.now lint.now.config.now lint.now.lines.now) 1 lint.now.config.now.rules) }
 {
     let rules = lint.config.rules().rules();
     for place in 0..rules.len() {
-        put_rule_notes(out, shapes, lint, place as u16 + 1, &rules[place])?;
+        put_rule_notes(out, unnamed, lint, place as u16 + 1, &rules[place])?;
     }
     Ok(())
 }
 
-fn put_ports_notes(out: &mut Vec<u8>, lint: &Lint<'_>) -> Result<(), AllocError>
-    ensures { OnOk result (out.new.items ≡
-        out.old.items ++ in_order (port_notes lint.now.config.now lint.now.lines.now) 1 lint.now.config.now.ports) }
+fn put_ports_notes(alloc: Global, out: &mut Vec<u8>, lint: &Lint<'_>) -> Result<(), AllocError>
+    ensures { OnOk result (Appends (AreInOrder (ArePortNotes lint.now.config.now lint.now.lines.now) 1 lint.now.config.now.ports)
+        out.old.items out.new.items) }
 {
     let ports = lint.config.ports();
     for place in 0..ports.len() {
-        put_port_notes(out, lint, place as u16 + 1, &ports[place])?;
+        put_port_notes(alloc, out, lint, place as u16 + 1, &ports[place])?;
     }
     Ok(())
 }
 
 /// Appends the notes on one port, the one of this number.
 fn put_port_notes(
+    alloc: Global,
     out: &mut Vec<u8>,
     lint: &Lint<'_>,
     number: u16,
     port: &Port,
 ) -> Result<(), AllocError>
     ensures { OnOk result
-        (out.new.items ≡ out.old.items ++ port_notes lint.now.config.now lint.now.lines.now number port.now) }
+        (Appends (ArePortNotes lint.now.config.now lint.now.lines.now number port.now) out.old.items out.new.items) }
 {
     put_stations_note(out, number, port)?;
-    put_answer_notes(out, lint, number, port)
+    put_answer_notes(alloc, out, lint, &NumberedPort { number, port })
 }
 
 /// Whether a subnet of the port's stations has its own address, and none has its broadcast address.
@@ -101,15 +136,15 @@ fn put_stations_words(out: &mut Vec<u8>, number: u16, port: &Port) -> Result<(),
 /// Appends the notes on one rule, the one of this number.
 fn put_rule_notes(
     out: &mut Vec<u8>,
-    shapes: &[Shape],
+    unnamed: &[Outcome],
     lint: &Lint<'_>,
     number: u16,
     rule: &Rule,
 ) -> Result<(), AllocError>
     ensures { OnOk result (out.new.items ≡
-        out.old.items ++ rule_notes shapes.now lint.now.config.now lint.now.lines.now number rule.now) }
+        out.old.items ++ rule_notes unnamed.now lint.now.config.now lint.now.lines.now number rule.now) }
 {
-    put_field_notes(out, shapes, lint, number, rule)?;
+    put_field_notes(out, unnamed, lint, number, rule)?;
     put_trust_notes(out, lint, number, rule)?;
     put_discovery_note(out, lint, number, rule)
 }
@@ -117,17 +152,17 @@ fn put_rule_notes(
 /// Appends those on what the rule may not match as it reads.
 fn put_field_notes(
     out: &mut Vec<u8>,
-    shapes: &[Shape],
+    unnamed: &[Outcome],
     lint: &Lint<'_>,
     number: u16,
     rule: &Rule,
 ) -> Result<(), AllocError>
     ensures { OnOk result (out.new.items ≡
-        out.old.items ++ field_notes shapes.now lint.now.config.now lint.now.lines.now number rule.now) }
+        out.old.items ++ field_notes unnamed.now lint.now.config.now lint.now.lines.now number rule.now) }
 {
     put_network_note(out, lint, number, rule)?;
     put_overlap_notes(out, lint, number, rule, &FieldName::ALL)?;
-    put_object_note(out, shapes, lint, number)
+    put_object_note(out, unnamed, lint, number)
 }
 
 /// Appends what each note begins with: the rule that it is on.
@@ -276,105 +311,116 @@ fn put_overlap_words(out: &mut Vec<u8>, field: FieldName) -> Result<(), AllocErr
     out.extend_from_slice(b": two of its ranges overlap")
 }
 
-/// Whether messages are routed at all.
-fn routes_any(shapes: &[Shape], rules: &RuleList) -> bool
-    ensures { result
-        ≡ list_any (λ shape. is_routed shape && is_some (opener rules.now shape)) shapes.now }
-{
-    shapes
-        .iter()
-        .any(|shape| is_routed(shape) && opener(rules, shape).is_some())
-}
-
-/// Whether requests that name no object may pass by the rule of this number, to another network than
-/// the device's.
-fn opens_unnamed(shapes: &[Shape], config: &Config, number: u16) -> bool
-    ensures { result ≡ list_any (λ shape. is_unnamed shape
-        && opens_beyond config.now.rules config.now.device.network number shape) shapes.now }
+/// Whether requests that name no object were found to pass by the rule of this number.
+fn lets_unnamed(unnamed: &[Outcome], config: &Config, number: u16) -> bool
+    ensures { result ≡ lets_unnamed unnamed.now config.now number }
 {
     let rules = config.rules();
-    let device = config.device().network;
-    shapes.iter().any(|shape| is_unnamed(shape) && opens_beyond(rules, device, number, shape))
+    unnamed.iter().any(|found| opens(rules, number, found))
 }
 
-/// Whether both is so.
-fn lets_unnamed(shapes: &[Shape], config: &Config, number: u16) -> bool
-    ensures { result ≡ lets_unnamed shapes.now config.now number }
-{
-    routes_any(shapes, config.rules()) && opens_unnamed(shapes, config, number)
-}
-
-/// Appends a note where it is.
+/// Appends a note if they were.
 fn put_object_note(
     out: &mut Vec<u8>,
-    shapes: &[Shape],
+    unnamed: &[Outcome],
     lint: &Lint<'_>,
     number: u16,
 ) -> Result<(), AllocError>
     ensures { OnOk result
-        (out.new.items ≡ out.old.items ++ object_note shapes.now lint.now.config.now lint.now.lines.now number) }
+        (out.new.items ≡ out.old.items ++ object_note unnamed.now lint.now.config.now lint.now.lines.now number) }
 {
-    if !lets_unnamed(shapes, lint.config, number) {
+    if !lets_unnamed(unnamed, lint.config, number) {
         return Ok(());
     }
     put_head(out, lint, number)?;
     out.extend_from_slice(b"object_type: without one, requests pass that name no object\n")
 }
 
-/// Appends a note for each port to whose network requests may pass from the network of this one, and no
+/// A port by its number, from 1.
+#[derive(Clone, Copy)]
+struct NumberedPort<'a> {
+    /// The number.
+    number: u16,
+    /// The port.
+    port: &'a Port,
+}
+
+/// Appends a note for each port to whose network requests are found to pass from the network of this one, and no
 /// answer back.
 fn put_answer_notes(
+    alloc: Global,
     out: &mut Vec<u8>,
     lint: &Lint<'_>,
-    number: u16,
-    port: &Port,
+    from: &NumberedPort<'_>,
 ) -> Result<(), AllocError>
-    ensures { OnOk result
-        (out.new.items ≡ out.old.items ++ answer_notes lint.now.config.now lint.now.lines.now number port.now) }
+    ensures { OnOk result (Appends (AreAnswerNotes lint.now.config.now lint.now.lines.now from.now.number from.now.port.now)
+        out.old.items out.new.items) }
 {
     let ports = lint.config.ports();
     for place in 0..ports.len() {
-        put_answer_note(out, lint, number, port, place as u16 + 1, &ports[place])?;
+        let to = NumberedPort {
+            number: place as u16 + 1,
+            port: &ports[place],
+        };
+        put_answer_note(alloc, out, lint, from, &to)?;
     }
     Ok(())
 }
 
 /// Appends that note for two ports.
 fn put_answer_note(
+    alloc: Global,
     out: &mut Vec<u8>,
     lint: &Lint<'_>,
-    number: u16,
-    port: &Port,
-    other_number: u16,
-    other: &Port,
+    from: &NumberedPort<'_>,
+    to: &NumberedPort<'_>,
 ) -> Result<(), AllocError>
-    ensures { OnOk result (out.new.items ≡
-        out.old.items ++ answer_note lint.now.config.now lint.now.lines.now number port.now other_number other.now) }
+    ensures { OnOk result (Appends (IsNoteOnAnswers lint.now.config.now lint.now.lines.now from.now.number from.now.port.now
+        to.now.number to.now.port.now) out.old.items out.new.items) }
 {
-    let format = lint.config.format();
-    let rules = lint.config.rules();
-    let here = port.network.get();
-    let there = other.network.get();
-    let back = answers(format, other_number, other, here);
-    if here == there || opener(rules, &back).is_some() {
+    let here = from.port.network.get();
+    if here == to.port.network.get() {
         return Ok(());
     }
-    match opener(rules, &requests(format, number, port, there)) {
-        Some(by) => put_way_note(out, lint, by, here, there),
-        None => Ok(()),
+    let asked = answers(lint.config.format(), to.number, to.port, here);
+    let back = passage(alloc, lint.config.rules(), asked)?;
+    if is_never(&back) {
+        put_request_note(alloc, out, lint, from, to.port)
+    } else {
+        Ok(())
     }
+}
+
+/// Appends it, if requests are found to pass.
+fn put_request_note(
+    alloc: Global,
+    out: &mut Vec<u8>,
+    lint: &Lint<'_>,
+    from: &NumberedPort<'_>,
+    to: &Port,
+) -> Result<(), AllocError>
+    ensures { OnOk result (Appends (IsWay lint.now.config.now lint.now.lines.now from.now.number from.now.port.now to.now Never)
+        out.old.items out.new.items) }
+{
+    let (here, there) = (from.port.network.get(), to.network.get());
+    let asked = requests(lint.config.format(), from.number, from.port, there);
+    let found = passage(alloc, lint.config.rules(), asked)?;
+    put_way_note(out, lint, here, there, &found)
 }
 
 fn put_way_note(
     out: &mut Vec<u8>,
     lint: &Lint<'_>,
-    by: u16,
     here: u16,
     there: u16,
+    found: &Outcome,
 ) -> Result<(), AllocError>
     ensures { OnOk result
-        (out.new.items ≡ out.old.items ++ note_text lint.now.config.now lint.now.lines.now by (answer_words here there)) }
+        (out.new.items ≡ out.old.items ++ way_note lint.now.config.now lint.now.lines.now here there found.now) }
 {
+    let Some(by) = opener(lint.config.rules(), found) else {
+        return Ok(());
+    };
     put_head(out, lint, by)?;
     put_answer_words(out, here, there)?;
     out.push(b'\n')?;
@@ -394,27 +440,28 @@ fn put_answer_words(out: &mut Vec<u8>, here: u16, there: u16) -> Result<(), Allo
     )
 }
 
-/// Whether one of the broadcasts of these shapes may pass.
-fn lets_broadcasts(shapes: &[Shape], rules: &RuleList) -> bool
-    ensures { result ≡ lets_broadcasts shapes.now rules.now }
+/// Appends a note where some broadcasts are distributed, and each is denied.
+fn put_cast_note(
+    alloc: Global,
+    out: &mut Vec<u8>,
+    shapes: &[Shape],
+    config: &Config,
+) -> Result<(), AllocError>
+    ensures { OnOk result (Appends (IsCastNote shapes.now config.now) out.old.items out.new.items) }
 {
-    shapes
-        .iter()
-        .any(|shape| is_cast(shape) && opener(rules, shape).is_some())
+    let distributed = shapes_for(alloc, Operation::Cast, shapes)?;
+    let found = search_allowed(alloc, config.rules(), &distributed)?;
+    put_cast_words(out, &distributed, &found)
 }
 
-/// Whether some broadcasts are among these shapes.
-fn has_broadcasts(shapes: &[Shape]) -> bool
-    ensures { result ≡ list_any is_cast shapes.now }
+fn put_cast_words(
+    out: &mut Vec<u8>,
+    distributed: &[Shape],
+    found: &Outcome,
+) -> Result<(), AllocError>
+    ensures { OnOk result (out.new.items ≡ out.old.items ++ cast_note distributed.now found.now) }
 {
-    shapes.iter().any(|shape| is_cast(shape))
-}
-
-/// Appends a note where some broadcasts are distributed, and no rule allows them.
-fn put_cast_note(out: &mut Vec<u8>, shapes: &[Shape], config: &Config) -> Result<(), AllocError>
-    ensures { OnOk result (out.new.items ≡ out.old.items ++ cast_note shapes.now config.now) }
-{
-    if !has_broadcasts(shapes) || lets_broadcasts(shapes, config.rules()) {
+    if distributed.is_empty() || !is_never(found) {
         return Ok(());
     }
     out.extend_from_slice(

@@ -1,54 +1,89 @@
-//! Whether asks of a shape may pass a policy, as far as the ranges of its rules show.
-ghost use Rattle.std.specs.Prelude.{◌≡◌, position};
-ghost use Rattle.gw_policy_review.specs.lint.Passage.{answers, is_cast, is_routed, is_unnamed, opener, opens};
-ghost use Rattle.gw_policy_review.specs.lint.Passage.{opens_beyond, requests, routed, settler, settles, towards};
+//! Asks of which notes say that they pass, or that none does, and what is found of them.
+ghost use Rattle.std.specs.Prelude.{◌≡◌, ◌++◌, ◌∷◌, [], IfOk, OnOk};
+ghost use Rattle.gw_policy_review.specs.lint.Passage.{ArePassages, answers, is_for, is_unnamed, opener, opens, passes, requests, routed};
+ghost use Rattle.gw_policy_review.specs.lint.Passage.{shapes_for, towards, unnamed_of, unnamed_shapes};
+ghost use Rattle.gw_policy_review.specs.permissions.Passing.{IsPassage};
 
-use crate::lint::text::allows_at;
-use crate::permissions::matches_all;
+use crate::permissions::search_allowed;
 use gw_addr::NetNum;
 use gw_ask_sets::shapes::{
-    Origin, Shape, Side, aimed, bound, has_number, is_manager, meets, numbers, only,
+    Origin, Outcome, Shape, Side, aimed, bound, has_number, is_manager, numbers, only,
 };
 use gw_configuration::Port;
-use gw_rules::{Format, Operation, Rule, RuleList};
+use gw_rules::{Format, Operation, RuleList};
+use std::alloc::{AllocError, Global};
 
-/// Whether the rule settles what becomes of the shape's asks: it allows and may match one of them, or
-/// denies and matches each.
-fn settles(shape: &Shape, rule: &Rule) -> bool
-    ensures { result ≡ settles shape.now rule.now }
+/// Whether an ask was found that passes.
+pub(crate) fn passes(found: &Outcome) -> bool
+    ensures { result ≡ passes found.now }
 {
-    if rule.allow {
-        meets(shape, rule)
-    } else {
-        matches_all(shape, rule)
-    }
+    matches!(found, Outcome::Decides(_))
 }
 
-fn settling_place(rules: &[Rule], shape: &Shape) -> Option<usize>
-    ensures { result ≡ position (settles shape.now) rules.now }
+/// The number of the rule by which an ask that was found passes.
+pub(crate) fn opener(rules: &RuleList, found: &Outcome) -> Option<u16>
+    ensures { result ≡ opener rules.now found.now }
 {
-    rules.iter().position(|rule| settles(shape, rule))
-}
-
-/// The number of the first rule that settles it.
-fn settler(rules: &RuleList, shape: &Shape) -> Option<u16>
-    ensures { result ≡ settler rules.now shape.now }
-{
-    match settling_place(rules.rules(), shape) {
-        Some(place) => Some(place as u16 + 1),
-        None => None,
-    }
-}
-
-/// The number of the first rule that settles what becomes of a shape's asks, where it allows: then one
-/// of them may pass by it. `None`: none is allowed.
-pub(crate) fn opener(rules: &RuleList, shape: &Shape) -> Option<u16>
-    ensures { result ≡ opener rules.now shape.now }
-{
-    match settler(rules, shape) {
-        Some(number) if allows_at(rules, number) => Some(number),
+    match found {
+        Outcome::Decides(ask) => rules.first(ask),
         _ => None,
     }
+}
+
+/// Whether it passes by the rule of this number.
+pub(crate) fn opens(rules: &RuleList, number: u16, found: &Outcome) -> bool
+    ensures { result ≡ opens rules.now number found.now }
+{
+    match opener(rules, found) {
+        Some(by) => by == number,
+        None => false,
+    }
+}
+
+/// Searches for an ask of a shape that passes.
+pub(crate) fn passage(alloc: Global, rules: &RuleList, shape: Shape) -> Result<Outcome, AllocError>
+    ensures { IfOk result (IsPassage (shape ∷ []) rules.now) }
+{
+    search_allowed(alloc, rules, &[shape])
+}
+
+/// What is found of each of these shapes, in order.
+pub(crate) fn passages(
+    alloc: Global,
+    rules: &RuleList,
+    shapes: &[Shape],
+) -> Result<Vec<Outcome>, AllocError>
+    ensures { IfOk result (λ found. ArePassages rules.now shapes.now found.items) }
+{
+    let mut found = Vec::new(alloc);
+    for shape in shapes {
+        found.push(passage(alloc, rules, *shape)?)?;
+    }
+    Ok(found)
+}
+
+/// Whether a shape has asks for this operation.
+pub(crate) fn is_for(operation: Operation, shape: &Shape) -> bool
+    ensures { result ≡ is_for operation shape.now }
+{
+    shape.operation.range.holds(operation.number())
+}
+
+/// Those of these shapes.
+pub(crate) fn shapes_for(
+    alloc: Global,
+    operation: Operation,
+    shapes: &[Shape],
+) -> Result<Vec<Shape>, AllocError>
+    ensures { IfOk result (λ made. made.items ≡ shapes_for operation shapes.now) }
+{
+    let mut made = Vec::new(alloc);
+    for shape in shapes {
+        if is_for(operation, shape) {
+            made.push(*shape)?;
+        }
+    }
+    Ok(made)
 }
 
 /// Messages with these services that are routed from the network of a port, of this number, to another
@@ -81,36 +116,12 @@ pub(crate) fn answers(format: Format, number: u16, from: &Port, to: u16) -> Shap
 }
 
 /// Whether it is a shape of reads or writes that name no object.
-pub(crate) fn is_unnamed(shape: &Shape) -> bool
+fn is_unnamed(shape: &Shape) -> bool
     ensures { result ≡ is_unnamed shape.now }
 {
     let operation = shape.operation.range.low;
     (operation == Operation::Read.number() || operation == Operation::Write.number())
         && !has_number(&shape.object_type)
-}
-
-/// Whether it is a shape of messages that are routed.
-pub(crate) fn is_routed(shape: &Shape) -> bool
-    ensures { result ≡ is_routed shape.now }
-{
-    shape.operation.range.low == Operation::Route.number()
-}
-
-/// Whether it is a shape that has broadcasts which are passed on to peers and foreign devices.
-pub(crate) fn is_cast(shape: &Shape) -> bool
-    ensures { result ≡ is_cast shape.now }
-{
-    shape.operation.range.holds(Operation::Cast.number())
-}
-
-/// Whether asks of a shape may pass by the rule of this number.
-fn opens(rules: &RuleList, number: u16, shape: &Shape) -> bool
-    ensures { result ≡ opens rules.now number shape.now }
-{
-    match opener(rules, shape) {
-        Some(by) => by == number,
-        None => false,
-    }
 }
 
 /// The asks of a shape that go to networks of these numbers.
@@ -123,13 +134,31 @@ fn towards(networks: Side, shape: &Shape) -> Shape
     }
 }
 
-/// Whether those to another network than the device's may pass by the rule of this number.
-pub(crate) fn opens_beyond(rules: &RuleList, device: NetNum, number: u16, shape: &Shape) -> bool
-    ensures { result ≡ opens_beyond rules.now device number shape.now }
+/// Puts those that go to another network than the device's after others, if they name no object.
+fn push_unnamed(made: &mut Vec<Shape>, device: NetNum, shape: &Shape) -> Result<(), AllocError>
+    ensures { OnOk result (made.new.items ≡ made.old.items ++ unnamed_of device shape.now) }
 {
+    if !is_unnamed(shape) {
+        return Ok(());
+    }
     let device = u64::from(device.get());
     let networks = shape.destination_network.range;
-    let below = towards(numbers(networks.low, device - 1), shape);
-    let above = towards(numbers(device + 1, networks.high), shape);
-    opens(rules, number, &below) || opens(rules, number, &above)
+    made.push(towards(numbers(networks.low, device - 1), shape))?;
+    made.push(towards(numbers(device + 1, networks.high), shape))?;
+    Ok(())
+}
+
+/// Reads and writes that name no object, to another network than the device's.
+pub(crate) fn unnamed_shapes(
+    alloc: Global,
+    device: NetNum,
+    shapes: &[Shape],
+) -> Result<Vec<Shape>, AllocError>
+    ensures { IfOk result (λ made. made.items ≡ unnamed_shapes device shapes.now) }
+{
+    let mut made = Vec::new(alloc);
+    for shape in shapes {
+        push_unnamed(&mut made, device, shape)?;
+    }
+    Ok(made)
 }

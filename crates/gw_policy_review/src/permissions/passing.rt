@@ -1,19 +1,21 @@
-//! Which rules may allow asks of a shape.
+//! What a policy allows of the asks of some shapes.
 ghost use Rattle.std.specs.Prelude.{◌≡◌, ◌-◌, ◌≤◌, length, position, take, IfOk};
 ghost use Rattle.std.specs.List.{list_any};
 ghost use Rattle.gw_ask_sets.specs.shapes.Meeting.{meets};
 ghost use Rattle.gw_rules.specs.RuleList.{allows_at};
-ghost use Rattle.gw_policy_review.specs.permissions.Passing.{IsAllowedBy, IsPassage, decides_all, is_never, matches_all, may_allow, may_pass, reached};
+ghost use Rattle.gw_policy_review.specs.permissions.Passing.{IsDecision, IsPassage, IsSaidBy, decides_all, default_rule, is_never, is_said};
+ghost use Rattle.gw_policy_review.specs.permissions.Passing.{matches_all, may_allow, may_pass, reached, searched_rules};
 
 use crate::lint::MAX_STEPS;
+use gw_addr::Sequence;
 use gw_ask_sets::regions::all_tidied;
 use gw_ask_sets::shapes::{Outcome, Shape, meets, search_for, takes_side};
-use gw_rules::{FieldName, Rule, RuleList};
+use gw_rules::{FieldName, Fields, Rule, RuleList, RuleName};
 use std::alloc::{AllocError, Global};
 
 /// Whether the rule matches each ask of the shape: in each field that it names one of its ranges holds
 /// all that the shape has there.
-pub(crate) fn matches_all(shape: &Shape, rule: &Rule) -> bool
+fn matches_all(shape: &Shape, rule: &Rule) -> bool
     ensures { result ≡ matches_all shape.now rule.now }
 {
     FieldName::ALL.iter().all(|field| takes_side(
@@ -78,6 +80,40 @@ pub fn decides_all(shape: &Shape, rules: &[Rule], number: usize, rule: &Rule) ->
     matches_all(shape, rule) && !any_meets(shape, &rules[..before])
 }
 
+/// The rule behind all others, which denies each ask.
+fn default_rule(alloc: Global) -> Rule
+    ensures { result ≡ default_rule }
+{
+    Rule {
+        name: RuleName::of_no_rule(),
+        allow: false,
+        quiet: false,
+        ranges: Fields {
+            operation: Sequence::new(alloc),
+            port: Sequence::new(alloc),
+            source_network: Sequence::new(alloc),
+            source_key: Sequence::new(alloc),
+            destination_network: Sequence::new(alloc),
+            service: Sequence::new(alloc),
+            object_type: Sequence::new(alloc),
+            instance: Sequence::new(alloc),
+            property: Sequence::new(alloc),
+            priority: Sequence::new(alloc),
+            sender: Sequence::new(alloc),
+            station: Sequence::new(alloc),
+        },
+    }
+}
+
+/// The rules as they are searched: their ranges are in order, and the default is behind them.
+fn searched_rules(alloc: Global, rules: &[Rule]) -> Result<Vec<Rule>, AllocError>
+    ensures { IfOk result (λ made. made.items ≡ searched_rules rules.now) }
+{
+    let mut made = all_tidied(alloc, rules)?;
+    made.push(default_rule(alloc))?;
+    Ok(made)
+}
+
 /// Whether the rule of this number, from 1, is there and allows.
 fn allows_at(rules: &[Rule], number: u16) -> bool
     ensures { result ≡ allows_at rules.now number }
@@ -88,31 +124,75 @@ fn allows_at(rules: &[Rule], number: u16) -> bool
     }
 }
 
-/// Searches for an ask of these shapes that the rule of this number decides and allows.
-fn search_rule(
-    alloc: Global,
-    rules: &[Rule],
-    number: u16,
-    shapes: &[Shape],
-) -> Result<Outcome, AllocError>
-    ensures { IfOk result (IsAllowedBy shapes.now rules.now number) }
+/// Whether it says so: it allows, or it denies.
+fn is_said(rules: &[Rule], number: u16, says: bool) -> bool
+    ensures { result ≡ is_said rules.now number says }
 {
-    if !allows_at(rules, number) {
+    let allows = allows_at(rules, number);
+    if says { allows } else { !allows }
+}
+
+/// What is looked for: an ask of these shapes that these rules decide so. Each search has at most so many steps.
+#[derive(Clone, Copy)]
+struct Quest<'a> {
+    /// The rules.
+    rules: &'a [Rule],
+    /// The shapes.
+    shapes: &'a [Shape],
+    /// Whether one that is allowed is looked for, or one that is denied.
+    says: bool,
+    /// The steps.
+    steps: u32,
+}
+
+/// Searches for one that the rule of this number decides.
+fn search_rule(alloc: Global, quest: &Quest<'_>, number: u16) -> Result<Outcome, AllocError>
+    ensures { IfOk result (IsSaidBy quest.now.says quest.now.steps quest.now.shapes.now quest.now.rules.now number) }
+{
+    if !is_said(quest.rules, number, quest.says) {
         return Ok(Outcome::Never);
     }
-    let found = search_for(alloc, rules, number, shapes, MAX_STEPS)?;
+    let found = search_for(alloc, quest.rules, number, quest.shapes, quest.steps)?;
     Ok(found)
 }
 
-/// Whether a search found that each ask is denied.
+/// Whether a search found that each ask is decided otherwise.
 pub(crate) fn is_never(found: &Outcome) -> bool
     ensures { result ≡ is_never found.now }
 {
     matches!(found, Outcome::Never)
 }
 
-/// Searches for an ask of these shapes that a policy allows: `Decides` with one, `Never` if it denies each, `Unknown` only if all steps
-/// of a search for one that a rule decides were used. An `Err` only if a growth of memory was refused.
+/// Searches for an ask of these shapes that a policy allows, or for one that it denies: `Decides` with one, `Never` if it decides each
+/// otherwise, `Unknown` only if all steps of a search for one that a rule decides were used. Each has at most so many. An `Err` only
+/// if a growth of memory was refused.
+pub fn search_decided(
+    alloc: Global,
+    policy: &RuleList,
+    shapes: &[Shape],
+    says: bool,
+    steps: u32,
+) -> Result<Outcome, AllocError>
+    ensures { IfOk result (IsDecision says steps shapes.now policy.now) }
+{
+    let rules = policy.rules();
+    let searched = searched_rules(alloc, rules)?;
+    let quest = Quest {
+        rules: &searched,
+        shapes,
+        says,
+        steps,
+    };
+    for place in 0..rules.len() + 1 {
+        let found = search_rule(alloc, &quest, place as u16 + 1)?;
+        if !is_never(&found) {
+            return Ok(found);
+        }
+    }
+    Ok(Outcome::Never)
+}
+
+/// Searches for an ask of these shapes that a policy allows, by searches of at most [`MAX_STEPS`].
 pub fn search_allowed(
     alloc: Global,
     policy: &RuleList,
@@ -120,13 +200,6 @@ pub fn search_allowed(
 ) -> Result<Outcome, AllocError>
     ensures { IfOk result (IsPassage shapes.now policy.now) }
 {
-    let rules = policy.rules();
-    let tidy = all_tidied(alloc, rules)?;
-    for place in 0..rules.len() {
-        let found = search_rule(alloc, &tidy, place as u16 + 1, shapes)?;
-        if !is_never(&found) {
-            return Ok(found);
-        }
-    }
-    Ok(Outcome::Never)
+    let found = search_decided(alloc, policy, shapes, true, MAX_STEPS)?;
+    Ok(found)
 }

@@ -1,7 +1,7 @@
-use Rattle.std.proofs.Common.{◌≡◌, ◌++◌, take}
-use Rattle.gw_policy_review.specs.lint.Notes.{answer_note}
-use Rattle.gw_script.specs.Order.{in_order}
+use Rattle.gw_policy_review.specs.lint.Notes.{IsNoteOnAnswers}
+use Rattle.gw_policy_review.proofs.permissions_lemmas.InOrder.{Appended}
 use Rattle.gw_policy_review.proofs.lint.note.put_answer_notes.Given as goal
 
 abbrev pub invariant-loop-place : goal.invariant-loop-place
-invariant-loop-place l = l.out.items ≡ l.fn.out.items ++ in_order (answer_note l.lint.config.now l.lint.lines.now l.number l.port) 1 (take l.place l.ports)
+invariant-loop-place l =
+    Appended (IsNoteOnAnswers l.lint.config.now l.lint.lines.now l.from.number l.from.port.now) l.lint.config.now.ports l.place l.fn.out.items l.out.items

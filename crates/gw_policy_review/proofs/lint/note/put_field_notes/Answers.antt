@@ -10,5 +10,5 @@ returns c =
     let rule = c.args.rule.now in
     three c.put_object_note.result c.args.out.now.items c.put_network_note.new.out.items c.put_overlap_notes.new.out.items
     c.put_object_note.new.out.items (network_note config lines number rule) (overlap_notes config lines number rule)
-    (object_note c.args.shapes.now config lines number) c.in_ok-put_network_note.ensures
+    (object_note c.args.unnamed.now config lines number) c.in_ok-put_network_note.ensures
     c.in_ok-put_overlap_notes.ensures c.put_object_note.ensures

@@ -1,18 +1,30 @@
-use Rattle.std.proofs.Common.{rules, ◌≡◌, ◌++◌, ◌+◌, get_or, subst, sym}
+use Rattle.std.proofs.Common.{List, length, rules, ◌≡◌, ◌∙◌, ◌<◌, ◌≤◌, ◌+◌, ap, drop, get_or, subst}
+use Rattle.std.proofs.lemmas.List.{drop_all}
 use Rattle.gw_configuration.specs.declared.port.Port.{Port}
-use Rattle.gw_policy_review.specs.lint.Notes.{port_notes}
-use Rattle.gw_script.proofs.Order.{in_order_none, in_order_step}
+use Rattle.gw_policy_review.specs.lint.Notes.{ArePortNotes}
+use Rattle.gw_policy_review.specs.permissions.Texts.{Appends}
+use Rattle.gw_policy_review.proofs.permissions_lemmas.InOrder.{appended_all, appended_more, appended_none}
 use Rattle.gw_policy_review.proofs.lint.note.put_ports_notes.Goals as goal
 
 pub loop-place-init : goal.loop-place-init
-loop-place-init c = in_order_none (port_notes c.args.lint.now.config.now c.args.lint.now.lines.now) c.args.out.now.items
+loop-place-init c = appended_none (ArePortNotes c.args.lint.now.config.now c.args.lint.now.lines.now) c.args.lint.now.config.now.ports c.args.out.now.items
 
 pub loop-place-preserved : goal.loop-place-preserved
 loop-place-preserved c =
-    let text = port_notes c.args.lint.now.config.now c.args.lint.now.lines.now in
+    let config = c.args.lint.now.config.now in
+    let place = c.loop-place.place in
+    let within : place < length config.ports = search rules in
     let item = c.index-ports-place.result in
-    let here : get_or c.ports-ports.result.now c.loop-place.place item ≡ item = search rules in
-    let then : c.put_port_notes.new.out.items ≡ c.loop-place.out.items ++ text (c.loop-place.place + 1) item = search rules in
-    in_order_step text c.args.out.now.items c.loop-place.out.items c.put_port_notes.new.out.items c.ports-ports.result.now c.loop-place.place item
-    c.loop-place-test.true c.loop-place.invariant
-    (subst (λ (x : Port). c.put_port_notes.new.out.items ≡ c.loop-place.out.items ++ text (c.loop-place.place + 1) x) (sym here) then)
+    let here : item ≡ get_or config.ports place item =
+    c.index-ports-place.is ∙ ap (λ (ps : List Port). get_or ps place item) c.ports-ports.ensures.ports in
+    let grown = subst (λ (one : Port). Appends (ArePortNotes c.args.lint.now.config.now c.args.lint.now.lines.now (place + 1) one) c.loop-place.out.items c.put_port_notes.new.out.items)
+    here c.in_ok-put_port_notes.ensures in
+    appended_more (ArePortNotes c.args.lint.now.config.now c.args.lint.now.lines.now) config.ports place item c.args.out.now.items c.loop-place.out.items c.put_port_notes.new.out.items within
+    c.loop-place.invariant grown
+
+pub returns : goal.returns
+returns c =
+    let ports = c.args.lint.now.config.now.ports in
+    let ends : length ports ≤ c.loop-place.place = search rules in
+    appended_all (ArePortNotes c.args.lint.now.config.now c.args.lint.now.lines.now) ports c.loop-place.place c.args.out.now.items c.loop-place.out.items
+    (drop_all c.loop-place.place ports ends) c.loop-place.invariant

@@ -1,7 +1,6 @@
-use Rattle.std.proofs.Common.{◌≡◌, ◌++◌, take}
-use Rattle.gw_policy_review.specs.lint.Notes.{port_notes}
-use Rattle.gw_script.specs.Order.{in_order}
+use Rattle.gw_policy_review.specs.lint.Notes.{ArePortNotes}
+use Rattle.gw_policy_review.proofs.permissions_lemmas.InOrder.{Appended}
 use Rattle.gw_policy_review.proofs.lint.note.put_ports_notes.Given as goal
 
 abbrev pub invariant-loop-place : goal.invariant-loop-place
-invariant-loop-place l = l.out.items ≡ l.fn.out.items ++ in_order (port_notes l.lint.config.now l.lint.lines.now) 1 (take l.place l.ports)
+invariant-loop-place l = Appended (ArePortNotes l.lint.config.now l.lint.lines.now) l.lint.config.now.ports l.place l.fn.out.items l.out.items

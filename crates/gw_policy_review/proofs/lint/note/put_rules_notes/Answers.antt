@@ -5,11 +5,11 @@ use Rattle.gw_script.proofs.Order.{in_order_none, in_order_step}
 use Rattle.gw_policy_review.proofs.lint.note.put_rules_notes.Goals as goal
 
 pub loop-place-init : goal.loop-place-init
-loop-place-init c = in_order_none (rule_notes c.args.shapes.now c.args.lint.now.config.now c.args.lint.now.lines.now) c.args.out.now.items
+loop-place-init c = in_order_none (rule_notes c.args.unnamed.now c.args.lint.now.config.now c.args.lint.now.lines.now) c.args.out.now.items
 
 pub loop-place-preserved : goal.loop-place-preserved
 loop-place-preserved c =
-    let text = rule_notes c.args.shapes.now c.args.lint.now.config.now c.args.lint.now.lines.now in
+    let text = rule_notes c.args.unnamed.now c.args.lint.now.config.now c.args.lint.now.lines.now in
     let item = c.index-rules-place.result in
     let here : get_or c.rules-rules.result.now c.loop-place.place item ≡ item = search rules in
     let then : c.put_rule_notes.new.out.items ≡ c.loop-place.out.items ++ text (c.loop-place.place + 1) item = search rules in

@@ -1,0 +1,31 @@
+use Rattle.std.proofs.Common.{List, OnOk, [], ◌∷◌, ◌++◌, ◌≡◌, ◌∙◌, ℕ, ap, subst}
+use Rattle.gw_rules.specs.declared.format.Format.{Format}
+use Rattle.gw_rules.specs.declared.rule.Rule.{Rule}
+use Rattle.gw_ask_sets.specs.shapes.Shape.{Shape}
+use Rattle.gw_policy_review.specs.lint.Notes.{way_note}
+use Rattle.gw_policy_review.specs.lint.Passage.{requests}
+use Rattle.gw_policy_review.specs.permissions.Passing.{IsPassage}
+use Rattle.gw_policy_review.proofs.lint_lemmas.Notes.{requested}
+use Rattle.gw_policy_review.proofs.lint.note.put_request_note.Goals as goal
+
+pub returns : goal.returns
+returns c =
+    let config = c.args.lint.now.config.now in
+    let lines = c.args.lint.now.lines.now in
+    let number = c.args.from.now.number in
+    let port = c.args.from.now.port.now in
+    let other = c.args.to.now in
+    let found = c.in_ok-found.found in
+    let out = c.args.out.now.items in
+    let new = c.put_way_note.new.out.items in
+    let asked = requests config.format number port other.network in
+    let same : c.requests-asked.result ≡ asked =
+    c.requests-asked.ensures
+    ∙ (ap (λ (f : Format). requests f number port c.get-there.result) c.format.ensures.format
+    ∙ ap (λ (n : ℕ). requests config.format number port n) c.get-there.ensures.value) in
+    requested c.put_way_note.result config lines number port other found out new
+    (subst (λ (rs : List Rule). IsPassage (asked ∷ []) rs found) c.rules.ensures.rules
+    (subst (λ (s : Shape). IsPassage (s ∷ []) c.rules.result.now found) same c.in_ok-found.ensures))
+    (subst (λ (n : ℕ). OnOk c.put_way_note.result (new ≡ out ++ way_note config lines port.network n found)) c.get-there.ensures.value
+    (subst (λ (n : ℕ). OnOk c.put_way_note.result (new ≡ out ++ way_note config lines n c.get-there.result found)) c.get-here.ensures.value
+    c.put_way_note.ensures))
