@@ -324,10 +324,12 @@ def region_of(text):
 
 
 LINE = re.compile(r"now (allowed|denied): (.*), by (.*) \(was (allowed|denied) by (.*)\)")
+# Where a rule's table is, if it has another number than the rule.
+PLACE = re.compile(r" \(table \d+(?:, line \d+)?\)")
 
 
 def line_of(text):
-    found = LINE.fullmatch(text)
+    found = LINE.fullmatch(PLACE.sub("", text))
     assert found and found[1] != found[4], text
     return found[1] == "allowed", region_of(found[2]), set(found[3].split(" or ")), set(found[5].split(" or "))
 
@@ -596,7 +598,7 @@ def judge_hostile(room, length, seed):
         start = time.monotonic()
         status, said, wrong = compare(*files, "--most", "1000000")
         seconds = time.monotonic() - start
-        found = {(it[4], it[2]): (it[1], it[3], asked(it[5])) for it in map(PAIR_LINE.fullmatch, said) if it}
+        found = {(it[4], it[2]): (it[1], it[3], asked(it[5])) for it in (PAIR_LINE.fullmatch(PLACE.sub("", line)) for line in said) if it}
         # If no ask is decided otherwise, only the names of the rules differ.
         assert (status == 1 or status == 3 and not found) and not wrong, (status, wrong)
         for (was, now), (verdict, before, ask) in found.items():

@@ -6,3 +6,4 @@ pub mod Reading
 pub mod Shallow
 pub mod Views
 pub mod Numbered
+pub mod PairShallow

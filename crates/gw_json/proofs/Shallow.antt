@@ -105,7 +105,7 @@ rule_shallow rules place =
     chosen_shallow 0 (place == 0) (string (codes "default")) _ (string_shallow 0 (codes "default"))
     (or_shallow 0 (λ rule. string rule.name) (slice_get rules (place - 1)) null (λ rule. string_shallow 0 rule.name) (null_shallow 0))
 
-rules_shallow : (rules : List Rule) (places : List ℕ) → IsShallow 1 (rules_value rules places)
+pub rules_shallow : (rules : List Rule) (places : List ℕ) → IsShallow 1 (rules_value rules places)
 rules_shallow rules places = mapped_shallow 0 (rule_value rules) places (rule_shallow rules)
 
 found_shallow : (old new : List Rule) (f : Found) → IsShallow 4 (found_value old new f)

@@ -1,6 +1,6 @@
 -- What a reader of JSON (RFC 8259) finds in the lines.
-use Rattle.std.specs.Prelude.{◌≡◌, ℕ, ◌≤◌, ◌<◌, ◌^◌, Bool, true, false, List, [], ◌∷◌, ◌++◌, length, All, Option, Some, codes}
-use Rattle.std.specs.List.{AllByRecursion}
+use Rattle.std.specs.Prelude.{◌≡◌, ℕ, ◌≤◌, ◌<◌, ◌^◌, Bool, true, false, IfSome, List, [], ◌∷◌, ◌++◌, length, take, All, Option, None, Some, codes}
+use Rattle.std.specs.List.{AllByRecursion, flat_map}
 use Rattle.json.specs.Json.{Json, document}
 use Rattle.gw_audit.specs.Entry.{IsLineOf, IsShowable, ask_shown}
 use Rattle.gw_audit.specs.declared.denial.Denial.{Denial}
@@ -11,8 +11,11 @@ use Rattle.gw_json.specs.Check.{checked_value, fault_value}
 use Rattle.gw_json.specs.Comparison.{differences_value, found_value, lines_value, summary_value}
 use Rattle.gw_json.specs.Document.{line_of, object_of}
 use Rattle.gw_json.specs.Log.{AreFrontMembers, IsEntryIn, denial_value, front_members, front_octets_members, octets_value, text_value}
+use Rattle.gw_json.specs.Results.{given_up_value, pair_value, paired_value, results_lines}
 use Rattle.gw_json.specs.Why.{IsAnswerIn, answer_value, place_members, plain_value}
 use Rattle.gw_ask_sets.specs.declared.regions.comparison.Found.{Found}
+use Rattle.gw_ask_sets.specs.declared.regions.pairs.ShownPair.{ShownPair}
+use Rattle.gw_rules.specs.Ask.{Ask}
 use Rattle.gw_rules.specs.RuleList.{first, is_quiet_by}
 use Rattle.gw_rules.specs.declared.rule.Rule.{Rule}
 
@@ -82,6 +85,39 @@ abbrev pub SummariesRead : Type 0
 SummariesRead =
     (kinds steps : ℕ) (finished : Bool) → kinds < 2 ^ 64 → steps < 2 ^ 64
     → IsRead (summary_value kinds finished steps)
+
+-- the numbers of an ask fit 64 bits, as those of each value of the type do
+abbrev pub Fits : Option ℕ → Type 0
+Fits value = IfSome value (λ n. n < 2 ^ 64)
+
+pub record AskFits (ask : Ask) : Type 0 where
+  pub operation : Fits ask.operation
+  pub port : Fits ask.port
+  pub source_network : Fits ask.source_network
+  pub destination_network : Fits ask.destination_network
+  pub service : Fits ask.service
+  pub object_type : Fits ask.object_type
+  pub instance : Fits ask.instance
+  pub property : Fits ask.property
+  pub priority : Fits ask.priority
+
+-- a pair of rules with such an ask
+abbrev pub PairsRead : Type 0
+PairsRead = (old new : List Rule) (shown : ShownPair) → AskFits shown.ask → IsRead (pair_value old new shown)
+
+-- the last lines of pairs
+abbrev pub PairedRead : Type 0
+PairedRead = (pairs steps : ℕ) → pairs < 2 ^ 64 → steps < 2 ^ 64 → IsRead (paired_value pairs steps)
+
+abbrev pub GivenUpRead : Type 0
+GivenUpRead =
+    (kinds steps pairs given_up : ℕ) → kinds < 2 ^ 64 → steps < 2 ^ 64 → pairs < 2 ^ 64 → given_up < 2 ^ 64
+    → IsRead (given_up_value kinds steps pairs given_up)
+
+-- where no pairs are looked for, the lines are those that there were before there were any: of regions alone
+abbrev pub RegionsStay : Type 0
+RegionsStay = (old new : List Rule) (most steps : ℕ) (found : List Found) → results_lines old new most steps found None
+    ≡ flat_map (λ f. line_of (found_value old new f)) (take most found) ++ line_of (summary_value (length found) true steps)
 
 -- the numbers of a configuration fit 64 bits, as those of each value of the type do
 pub record NumbersFit (c : Configuration) : Type 0 where

@@ -4,6 +4,7 @@ pub mod Log
 pub mod Why
 pub mod Unheld
 pub mod Comparison
+pub mod Results
 pub mod Check
 pub mod Laws
 pub mod internal

@@ -25,7 +25,7 @@ use std::alloc::{AllocError, Global};
 /// ```text
 /// {"verdict":"allowed","operation":["write"],"port":null,"source_network":{"absent":false,"ranges":[[2,2]]},"source":null,..,"by":["panel"],"was_by":["no-writes"]}
 /// ```
-pub fn put_found(
+pub(crate) fn put_found(
     alloc: Global,
     out: &mut Vec<u8>,
     old: &[Rule],
@@ -134,13 +134,13 @@ fn texts_value(alloc: Global, texts: &[&str]) -> Result<Value, AllocError>
     Ok(Value::Array(values))
 }
 
-/// Appends the last line of a comparison: how many regions it found, whether these are all, and how many steps it took.
+/// Appends the last line of a comparison by regions: how many it found, whether these are all, and how many steps it took.
 /// An `Err` only if memory was refused; the buffer then holds what it held.
 ///
 /// ```text
 /// {"kinds":2,"finished":true,"steps":44}
 /// ```
-pub fn put_summary(
+pub(crate) fn put_summary(
     alloc: Global,
     out: &mut Vec<u8>,
     kinds: usize,
@@ -210,7 +210,7 @@ fn deciders_members(
     Ok(vec![in alloc; ("by", by), ("was_by", was_by)]?)
 }
 
-fn verdict_word(allows: bool) -> &'static str
+pub(crate) fn verdict_word(allows: bool) -> &'static str
     ensures { result.now ≡ verdict_word allows }
 {
     if allows { "allowed" } else { "denied" }
@@ -235,7 +235,7 @@ fn rules_value(alloc: Global, rules: &[Rule], numbers: &[usize]) -> Result<Value
 }
 
 /// The name of a rule, `default` for 0, or null if no rule has the number.
-fn rule_value(alloc: Global, rules: &[Rule], number: usize) -> Result<Value, AllocError>
+pub(crate) fn rule_value(alloc: Global, rules: &[Rule], number: usize) -> Result<Value, AllocError>
     ensures { IfOk result (λ value. value_view value ≡ rule_value rules.now number) }
 {
     if number == 0 {

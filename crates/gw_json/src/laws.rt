@@ -1,6 +1,6 @@
 //! Laws of the lines. The functions change nothing and answer nothing: their contracts are the laws.
 
-ghost use Rattle.gw_json.specs.Laws.{AnswersRead, AnswersStay, ChecksRead, ComparisonsRead, DenialsRead, DenialsStay, DifferencesRead, DifferencesStay, FaultsRead, OthersRead, RecordsAllowed, SummariesRead};
+ghost use Rattle.gw_json.specs.Laws.{AnswersRead, AnswersStay, ChecksRead, ComparisonsRead, DenialsRead, DenialsStay, DifferencesRead, DifferencesStay, FaultsRead, GivenUpRead, OthersRead, PairedRead, PairsRead, RecordsAllowed, RegionsStay, SummariesRead};
 
 /// A reader of JSON reads each line as the object that it is: nothing that a line of the log, a note or a rule's name has
 /// can end a string or a line, or begin another member. So it is with the lines of a log, of answers, of a comparison and of a
@@ -11,6 +11,9 @@ pub fn reading()
     ensures answers { AnswersRead }
     ensures comparisons { ComparisonsRead }
     ensures summaries { SummariesRead }
+    ensures pairs { PairsRead }
+    ensures paired { PairedRead }
+    ensures given_up { GivenUpRead }
     ensures differences { DifferencesRead }
     ensures checks { ChecksRead }
     ensures faults { FaultsRead }
@@ -24,6 +27,11 @@ pub fn answers()
 /// The first line of a comparison has no member more where nothing is said of assertions.
 pub fn differences()
     ensures { DifferencesStay }
+{}
+
+/// The lines of what is found are those of regions alone where no pairs are looked for.
+pub fn regions()
+    ensures { RegionsStay }
 {}
 
 /// The object of a denial's line with nothing in front has what the line shows and that it was denied, and no more; that of a

@@ -9,12 +9,14 @@ mod check;
 mod comparison;
 pub mod laws;
 mod log;
+mod results;
 mod unheld;
 mod value;
 mod why;
 
 pub use check::{put_check, put_fault};
-pub use comparison::{put_differences, put_found, put_summary};
+pub use comparison::put_differences;
 pub use log::log_in_json;
+pub use results::{Listing, put_results};
 pub use unheld::unheld_line;
 pub use why::why_in_json;

@@ -165,7 +165,7 @@ fn broken_value(
 }
 
 /// The fields of an ask under the keys that a rule has for them.
-fn ask_value(alloc: Global, ask: &Ask) -> Result<Value, AllocError>
+pub(crate) fn ask_value(alloc: Global, ask: &Ask) -> Result<Value, AllocError>
     ensures { IfOk result (λ value. value_view value ≡ ask_value ask.now) }
 {
     let source = key_or_null(alloc, ask.source_key)?;

@@ -1,3 +1,4 @@
+pub mod PlacesLaw
 pub mod permissions_lemmas
 pub mod warnings_lemmas
 pub mod lint_lemmas

@@ -2,6 +2,7 @@ pub mod Appending
 pub mod AskLaw
 pub mod GroupLaw
 pub mod LoggedLaw
+pub mod NamesLaw
 pub mod OneGroup
 pub mod PartsLaw
 pub mod PortionLaw

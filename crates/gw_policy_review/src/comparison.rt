@@ -7,6 +7,7 @@ mod groups;
 pub mod laws;
 mod lines;
 mod listing;
+mod naming;
 mod object_details;
 mod pairs;
 mod parts;
@@ -16,7 +17,7 @@ pub(crate) mod words;
 
 pub use asks::asks_of;
 pub use comparing::{Comparing, put_steps};
-pub use comparison::{Compared, Results, compared_by, judged_by, put_comparison};
+pub use comparison::{Compared, Printing, Results, compared_by, judged_by, put_comparison};
 pub use details::put_details;
 pub use groups::MOST_UNGROUPED;
 pub use parts::{Part, PortPart, differing_parts, put_part_names};

@@ -11,7 +11,13 @@ use std::alloc::AllocError;
 pub fn table_of(tables: &[u16], number: u16) -> Option<u32>
     ensures { result ≡ table_of tables.now number }
 {
-    match tables.get(usize::from(number).saturating_sub(1)) {
+    table_at(tables, usize::from(number))
+}
+
+fn table_at(tables: &[u16], number: usize) -> Option<u32>
+    ensures { result ≡ table_of tables.now number }
+{
+    match tables.get(number.saturating_sub(1)) {
         Some(table) => Some(u32::from(*table) + 1),
         None => None,
     }
@@ -50,19 +56,31 @@ pub fn put_place(
 ) -> Result<(), AllocError>
     ensures { OnOk result (out.new.items ≡ out.old.items ++ place_words tables.now lines.now number) }
 {
-    put_beside(out, lines, number, table_of(tables, number))
+    put_place_at(out, tables, lines, usize::from(number))
+}
+
+/// The same of a number of any size.
+pub(crate) fn put_place_at(
+    out: &mut Vec<u8>,
+    tables: &[u16],
+    lines: &[u32],
+    number: usize,
+) -> Result<(), AllocError>
+    ensures { OnOk result (out.new.items ≡ out.old.items ++ place_words tables.now lines.now number) }
+{
+    put_beside(out, lines, number, table_at(tables, number))
 }
 
 fn put_beside(
     out: &mut Vec<u8>,
     lines: &[u32],
-    number: u16,
+    number: usize,
     table: Option<u32>,
 ) -> Result<(), AllocError>
     ensures { OnOk result (out.new.items ≡ out.old.items ++ words_beside lines.now number table) }
 {
     match table {
-        Some(table) if table != u32::from(number) => put_table(out, table, line_of(lines, table)),
+        Some(table) if table as usize != number => put_table(out, table, line_of(lines, table)),
         _ => Ok(()),
     }
 }

@@ -1,12 +1,15 @@
 -- What a printed comparison leaves, from what is known of its text, and what is reported of it on the way.
-use Rattle.std.proofs.Common.{◌∙◌, ◌++◌, [], ◌∷◌, ap, refl, subst, sym, ℕ, List, Option, Result, Ok, Err}
-use Rattle.std.specs.Prelude.{IfOk}
+use Rattle.std.proofs.Common.{◌≡◌, ◌≤◌, ◌<◌, ◌+◌, ◌∙◌, ◌++◌, [], ◌∷◌, ap, arith, length, refl, subst, sym, ℕ, Bool, true, false, List, Option, Result, Ok, Err}
+use Rattle.std.specs.Prelude.{if◌then◌else◌, nat_lt, IfOk}
 use Rattle.std.specs.Io.KnownBytes.{Appends}
-use Rattle.std.specs.List.{flat_map}
+use Rattle.std.specs.List.{AllByRecursion, flat_map}
+use Rattle.std.proofs.lemmas.Bool.{both_ways, ltb-false, ltb-true}
 use Rattle.std.proofs.lemmas.Grind.{flat_map-append}
 use Rattle.std.specs.declared.alloc.AllocError.{AllocError}
 use Rattle.gw_policy_review.specs.declared.comparison.comparison.Compared.{Compared}
-use Rattle.gw_tools.specs.Comparing.{AreProgress, progress_line}
+use Rattle.gw_configuration.specs.Configuration.{Configuration}
+use Rattle.gw_policy_review.specs.comparison.Comparing.{IsUnderWay, Progress}
+use Rattle.gw_tools.specs.Comparing.{ArePassed, AreProgress, IsPassed, progress_line}
 use Rattle.gw_tools.specs.Program.{LeavesLines, LeavesSome}
 use Rattle.gw_tools.specs.declared.comparing.Lines.{Lines}
 use Rattle.gw_ending.specs.declared.fault.Fault.{Fault}
@@ -59,30 +62,77 @@ module _ (Is : Compared → List ℕ → Type 0) (held holds : Option (List ℕ)
   lines_leave (Err refused) outcome is leaves =
       subst (λ (o : Result (Unit {0}) Fault). LeavesSome Is held holds o) (sym leaves.0) leaves.1
 
--- some lines of progress are reported, if it is sure that no write fails
-abbrev pub Translates : Type 0 → Option (List ℕ) → Option (List ℕ) → Type 0
-Translates Sure held holds = (said : List ℕ) × AreProgress said × (Sure → Appends held holds said)
+-- ---- progress
 
-pub tells_none : (Sure : Type 0) (held : Option (List ℕ)) → Translates Sure held held
-tells_none Sure held = ([], ([], refl), λ sure. appends_nothing held)
+-- each of these lines is after at most so many steps
+abbrev pub UpTo : ℕ → List (ℕ × ℕ) → Type 0
+UpTo steps lines = AllByRecursion (λ (at : ℕ × ℕ). at.0 ≤ steps) lines
 
-pub tells_one : (Sure : Type 0) (held holds : Option (List ℕ)) (steps found : ℕ)
-    → (Sure → Appends held holds (progress_line (steps, found))) → Translates Sure held holds
-tells_one Sure held holds steps found appends =
-    (progress_line (steps, found), ((steps, found) ∷ [], sym (nothing_behind (progress_line (steps, found)))), appends)
+-- a comparison of the two gets so far at each of some lines, up to so many steps, and they are reported if it is sure that no write fails
+pub record Tells (old new : Configuration) (steps : ℕ) (Sure : Type 0) (held holds : Option (List ℕ)) : Type 0 where
+  pub lines : List (ℕ × ℕ)
+  pub passed : ArePassed old new 0 lines
+  pub bound : UpTo steps lines
+  pub appends : Sure → Appends held holds (flat_map progress_line lines)
 
--- lines after lines are lines
-progress_both : (x y : List ℕ) → AreProgress x → AreProgress y → AreProgress (x ++ y)
-progress_both x y first second = (
-  first.0 ++ second.0,
-  ap (λ (t : List ℕ). t ++ y) first.1 ∙ ap (λ (t : List ℕ). flat_map progress_line first.0 ++ t) second.1
-      ∙ sym (flat_map-append progress_line first.0 second.0),
-)
+pub tells_none : (old new : Configuration) (steps : ℕ) (Sure : Type 0) (held : Option (List ℕ)) → Tells old new steps Sure held held
+tells_none old new steps Sure held = record { lines = []; passed = tt; bound = tt; appends = λ sure. appends_nothing held }
 
-pub tells_both : (Sure Still : Type 0) (a b c : Option (List ℕ)) → (Sure → Still) → Translates Sure a b → Translates Still b c
-    → Translates Sure a c
-tells_both Sure Still a b c lasts first second = (
-  first.0 ++ second.0,
-  progress_both first.0 second.0 first.1 second.1,
-  λ sure. appends_two a b c first.0 second.0 (first.2 sure) (second.2 (lasts sure)),
-)
+-- what is reported then
+pub as_progress : (old new : Configuration) (steps : ℕ) (Sure : Type 0) (held holds : Option (List ℕ)) → Tells old new steps Sure held holds
+    → (said : List ℕ) × AreProgress old new said × (Sure → Appends held holds said)
+as_progress old new steps Sure held holds tells =
+    (flat_map progress_line tells.lines, (tells.lines, tells.passed, refl), tells.appends)
+
+passed_more : (old new : Configuration) (first last steps count : ℕ) (lines : List (ℕ × ℕ)) → ArePassed old new first lines → UpTo last lines
+    → first ≤ last → last < steps → IsPassed old new steps count → ArePassed old new first (lines ++ (steps, count) ∷ [])
+passed_more old new first last steps count [] passed bound least grows is = (omega (arith, least, grows), is, tt)
+passed_more old new first last steps count (at ∷ lines) passed bound least grows is =
+    (passed.0, passed.1, passed_more old new at.0 last steps count lines passed.2 bound.1 bound.0 grows is)
+
+up_to_more : (last steps count : ℕ) (lines : List (ℕ × ℕ)) → UpTo last lines → last < steps → UpTo steps (lines ++ (steps, count) ∷ [])
+up_to_more last steps count [] bound grows = (omega arith, tt)
+up_to_more last steps count (at ∷ lines) bound grows = (omega (arith, bound.0, grows), up_to_more last steps count lines bound.1 grows)
+
+up_to : (last steps : ℕ) (lines : List (ℕ × ℕ)) → UpTo last lines → last < steps → UpTo steps lines
+up_to last steps [] bound grows = tt
+up_to last steps (at ∷ lines) bound grows = (omega (arith, bound.0, grows), up_to last steps lines bound.1 grows)
+
+-- one line more, or none
+pub tells_next : (old new : Configuration) (last steps count : ℕ) (Sure Still : Type 0) (a b c : Option (List ℕ)) (more : Bool)
+    → Tells old new last Sure a b → last < steps → IsPassed old new steps count → (Sure → Still)
+    → (Still → Appends b c (if more then progress_line (steps, count) else [])) → Tells old new steps Sure a c
+tells_next old new last steps count Sure Still a b c true tells grows is lasts adds =
+    let line = progress_line (steps, count) in
+    let all : flat_map progress_line tells.lines ++ line ≡ flat_map progress_line (tells.lines ++ (steps, count) ∷ []) =
+    ap (λ (t : List ℕ). flat_map progress_line tells.lines ++ t) (sym (nothing_behind line))
+    ∙ sym (flat_map-append progress_line tells.lines ((steps, count) ∷ [])) in
+    record {
+      lines = tells.lines ++ (steps, count) ∷ [];
+      passed = passed_more old new 0 last steps count tells.lines tells.passed tells.bound (omega arith) grows is;
+      bound = up_to_more last steps count tells.lines tells.bound grows;
+      appends = λ sure. subst (λ (t : List ℕ). Appends a c t) all
+          (appends_two a b c (flat_map progress_line tells.lines) line (tells.appends sure) (adds (lasts sure)));
+    }
+tells_next old new last steps count Sure Still a b c false tells grows is lasts adds = record {
+  lines = tells.lines;
+  passed = tells.passed;
+  bound = up_to last steps tells.lines tells.bound grows;
+  appends = λ sure. subst (λ (t : List ℕ). Appends a c t) (nothing_behind (flat_map progress_line tells.lines))
+      (appends_two a b c (flat_map progress_line tells.lines) [] (tells.appends sure) (adds (lasts sure)));
+}
+
+-- a comparison under way is one of the two so far
+pub passed_at : (p : Progress) (old new : Configuration) → p.old_one ≡ old → p.new_one ≡ new → IsUnderWay p
+    → IsPassed old new p.steps (length p.found)
+passed_at p old new is_old is_new under =
+    subst (λ (one : Configuration). IsPassed one new p.steps (length p.found)) is_old
+    (subst (λ (other : Configuration). IsPassed p.old_one other p.steps (length p.found)) is_new (p.found, p.left, under.reached, refl))
+
+-- a portion that doesn't finish it makes steps
+pub further : (last steps : ℕ) (finished : Bool) → (steps < last + 256 → finished ≡ true) → finished ≡ false → last < steps
+further last steps finished so unfinished = by (nat_lt steps (last + 256)) refl
+  where
+    by : (fewer : Bool) → nat_lt steps (last + 256) ≡ fewer → last < steps
+    by true e = absurd (both_ways finished unfinished (so (ltb-true steps (last + 256) e)))
+    by false e = omega (arith, ltb-false steps (last + 256) e)

@@ -1,9 +1,8 @@
 -- What `check --json`, `compare --json` and `objects --csv` print, over the definitions of `gw_json` and `gw_report::points`.
-use Rattle.std.specs.Prelude.{◌≡◌, ◌⊎◌, ⊤, ℕ, ◌==◌, if◌then◌else◌, List, [], ◌++◌, length, take, Option, Some, None, Result, Ok, Err}
+use Rattle.std.specs.Prelude.{◌≡◌, ◌⊎◌, ⊤, ℕ, if◌then◌else◌, List, [], ◌++◌, length, Option, Some, None, Result, Ok, Err}
 use Rattle.std.specs.List.{flat_map}
 use Rattle.std.specs.Str.{IsUtf8}
-use Rattle.gw_policy_review.specs.comparison.Asks.{asks_of}
-use Rattle.gw_policy_review.specs.comparison.Comparison.{compared_by}
+use Rattle.gw_policy_review.specs.comparison.Comparison.{AreResults, judged_by}
 use Rattle.gw_policy_review.specs.comparison.PartLines.{details as details_of}
 use Rattle.gw_policy_review.specs.comparison.Parts.{AreDifferences, name_line}
 use Rattle.gw_policy_review.specs.declared.comparison.comparison.Compared.{Compared}
@@ -12,11 +11,12 @@ use Rattle.gw_configuration.specs.Configuration.{Configuration}
 use Rattle.gw_configuration.specs.declared.fault.ConfigFault.{ConfigFault}
 use Rattle.gw_policy_text.specs.faults.Explanation.{ExplainsText}
 use Rattle.gw_json.specs.Check.{checked_value, fault_value}
-use Rattle.gw_json.specs.Comparison.{differences_value, found_value, summary_value}
+use Rattle.gw_json.specs.Comparison.{differences_value}
 use Rattle.gw_json.specs.Document.{line_of}
+use Rattle.gw_json.specs.Results.{results_lines}
 use Rattle.gw_json.specs.Unheld.{unheld_value}
 use Rattle.gw_ask_sets.specs.declared.assertions.judging.Judged.{Judged}
-use Rattle.gw_ask_sets.specs.regions.Comparing.{IsSummary}
+use Rattle.gw_ask_sets.specs.regions.Pairs.{Findings}
 use Rattle.gw_ask_sets.specs.regions.Regions.{Region}
 use Rattle.gw_ask_sets.specs.declared.regions.comparison.Found.{Found}
 use Rattle.gw_ending.specs.reading.Assertions.{do_hold}
@@ -69,7 +69,8 @@ pub record IsPartsLine (old new : Configuration) (differ : List Part) (line : Li
   pub are_asserts : IsTextOf said asserts
   pub is : line ≡ line_of (differences_value names details asserts)
 
--- That line, a line for each region in which the old and the new rules decide otherwise, at most so many, and a last line.
+-- That line, and the lines of what is found of what the old and the new rules decide otherwise: regions, pairs of rules where a region
+-- is left, at most so many of each, and a last one with the steps in which that was found.
 pub record AreComparisonLines (old new : Configuration) (most : ℕ) (made : Compared) (text : List ℕ) : Type 0 where
   pub differ : List Part
   pub are_differences : AreDifferences old new differ
@@ -78,7 +79,7 @@ pub record AreComparisonLines (old new : Configuration) (most : ℕ) (made : Com
   pub found : List Found
   pub left : List Region
   pub steps : ℕ
-  pub summary : IsSummary (asks_of old new) old.rules new.rules found left
-  pub verdict : made ≡ compared_by (length differ) (length found) (length left)
-  pub lines : text ≡ ahead ++ (flat_map (λ f. line_of (found_value old.rules new.rules f)) (take most found)
-      ++ line_of (summary_value (length found) (length left == 0) steps))
+  pub pairs : Option Findings
+  pub results : AreResults old new found left steps pairs
+  pub verdict : made ≡ judged_by (length differ) (length found) (length left) pairs
+  pub lines : text ≡ ahead ++ results_lines old.rules new.rules most steps found pairs

@@ -31,7 +31,7 @@ use Rattle.gw_ending.specs.declared.fault.Fault.{Fault}
 use Rattle.gw_ending.specs.declared.fault.Fault.TheVariants as fault
 use Rattle.gw_tools.specs.Asking.{Answers, Counts, ReportsUnread, asks_in}
 use Rattle.gw_tools.specs.Beginning.{LeavesBegun, text_of}
-use Rattle.gw_tools.specs.Comparing.{AreProgress, IsCompared}
+use Rattle.gw_tools.specs.Comparing.{IsCompared, ReportsProgress}
 use Rattle.gw_ask_sets.specs.assertions.Judging.{AreJudged}
 use Rattle.gw_ask_sets.specs.declared.assertions.judging.Judged.{Judged}
 use Rattle.gw_ask_sets.specs.declared.assertions.judging.TheConstants.{JUDGING_STEPS}
@@ -39,7 +39,7 @@ use Rattle.gw_ending.specs.reading.Assertions.{do_hold, outcome_of_judged, unhel
 use Rattle.gw_ending.specs.reading.Configured.{IsConfigurationOf, IsConfigured}
 use Rattle.gw_ending.specs.reading.Printing.{AppendsFront, LeavesEnding, LeavesFault, LeavesPrinted}
 use Rattle.gw_tools.specs.Questioning.{LeavesQuestionIn, asked_text}
-use Rattle.gw_tools.specs.Placed.{IsPlacedIn}
+use Rattle.gw_tools.specs.Placed.{IsPlacedAs, IsPlacedIn}
 use Rattle.gw_tools.specs.declared.placed.Placed.{Placed}
 use Rattle.gw_verdicts.specs.Why.{said_text}
 use Rattle.gw_tools.specs.Reloading.{IsAnswerTo, Replying, octets_or, outcome_of_answer}
@@ -157,13 +157,12 @@ LeavesSome Is held holds (Err fault.Write) = (made : Compared) × (text : List �
 LeavesSome Is held holds (Err fault.Memory) = holds ≡ held
 LeavesSome Is held holds (Err _) = ⊥
 
--- What `compare` leaves of two configurations: what it says of them within these limits.
-abbrev pub LeavesCompared : Limits → Option (List ℕ) → Option (List ℕ) → Configuration → Configuration
-    → Result (Unit {0}) Fault → Type 0
+-- What `compare` leaves of two configurations, each with the lines of its tables: what it says of them within these limits.
+abbrev pub LeavesCompared : Limits → Option (List ℕ) → Option (List ℕ) → Placed → Placed → Result (Unit {0}) Fault → Type 0
 LeavesCompared limits held holds old new outcome = LeavesSome (IsCompared limits old new) held holds outcome
 
 -- What it leaves of the two that were read. If there is no first or no second one, the outcome is why.
-abbrev pub LeavesComparison : Limits → Option (List ℕ) → Option (List ℕ) → (old new : Result Configuration Fault)
+abbrev pub LeavesComparison : Limits → Option (List ℕ) → Option (List ℕ) → (old new : Result Placed Fault)
     → Result (Unit {0}) Fault → Type 0
 LeavesComparison limits held holds (Ok old) (Ok new) outcome = LeavesCompared limits held holds old new outcome
 LeavesComparison limits held holds (Ok old) (Err f) outcome = (outcome ≡ Err (of_other f)) × (holds ≡ held)
@@ -316,7 +315,7 @@ LeavesAfter Answers request text (Err f) mid holds outcome = LeavesAfterFault (i
 -- What `reload --was` leaves of the configurations that were read: what the new one, which has this text, changes of the old one,
 -- and then that.
 abbrev pub LeavesReloadShown : Replying → (request text : List ℕ) → ℕ → Option (List ℕ) → Option (List ℕ)
-    → (old new : Result Configuration Fault) → Result (Unit {0}) Fault → Type 0
+    → (old new : Result Placed Fault) → Result (Unit {0}) Fault → Type 0
 LeavesReloadShown Answers request text most held holds (Ok old) (Ok new) outcome =
     (mid : Option (List ℕ)) × (shown : Result (Unit {0}) Fault)
     × LeavesCompared (record { most = most; steps = false }) held mid old new shown
@@ -336,8 +335,9 @@ LeavesReloadOf Reads Answers request text None held holds said outcome =
 LeavesReloadOf Reads Answers request text (Some shown) held holds said outcome =
     (read : Result Configuration Fault) × IsConfigurationOf text read
     × (mid : Option (List ℕ)) × (c : Result Configuration Fault) × LeavesSound held mid read c
-    × (old : Result Configuration Fault) × IsConfigured Reads (Some (string_bytes shown.old)) old
-    × LeavesReloadShown Answers request (octets_or text) shown.most mid holds old c outcome × AreProgress said
+    × (old : Result Placed Fault) × IsPlacedIn Reads (string_bytes shown.old) old
+    × (new : Result Placed Fault) × IsPlacedAs c text new
+    × LeavesReloadShown Answers request (octets_or text) shown.most mid holds old new outcome × ReportsProgress old new said
 
 -- What it leaves if that is the text of the file of this name.
 abbrev pub LeavesReloadIn : (Reads : List ℕ → Result (List ℕ) Fault → Type 0) → Replying
@@ -407,9 +407,9 @@ LeavesOutput Reads ReadsState ReadsLog Answers input held holds said (Ok (choice
 LeavesOutput Reads ReadsState ReadsLog Answers input held holds said (Ok (choice.Stop request waits)) outcome =
     LeavesStopped Answers (string_bytes request) held holds outcome
 LeavesOutput Reads ReadsState ReadsLog Answers input held holds said (Ok (choice.Compare old new most steps)) outcome =
-    (a : Result Configuration Fault) × IsConfigured Reads (Some (string_bytes old)) a
-    × (b : Result Configuration Fault) × IsConfigured Reads (Some (string_bytes new)) b
-    × LeavesComparison (record { most = most; steps = steps }) held holds a b outcome × AreProgress said
+    (a : Result Placed Fault) × IsPlacedIn Reads (string_bytes old) a
+    × (b : Result Placed Fault) × IsPlacedIn Reads (string_bytes new) b
+    × LeavesComparison (record { most = most; steps = steps }) held holds a b outcome × ReportsProgress a b said
 LeavesOutput Reads ReadsState ReadsLog Answers input held holds said (Ok (choice.CompareJson old new most)) outcome =
     (a : Result Configuration Fault) × IsConfigured Reads (Some (string_bytes old)) a
     × (b : Result Configuration Fault) × IsConfigured Reads (Some (string_bytes new)) b

@@ -1,18 +1,20 @@
 //! Two configurations, compared, and how far that is.
 
-ghost use Rattle.std.specs.Prelude.{◌≡◌, [], ℕ, List, IfOk, IsOk, OnOk};
+ghost use Rattle.std.specs.Prelude.{◌≡◌, [], ℕ, Bool, List, if◌then◌else◌, length, IfOk, IsOk, OnOk};
 ghost use Rattle.std.specs.Io.Buffered.{writer_buffer, writer_contents};
 ghost use Rattle.std.specs.Io.KnownBytes.{Appends};
 ghost use Rattle.gw_policy_review.specs.comparison.Comparing.{IsUnderWay};
-ghost use Rattle.gw_tools.specs.Comparing.{AreProgress, IsCompared, IsComparedBehind, outcome_of_comparison, progress_line};
+ghost use Rattle.gw_policy_review.specs.comparison.Comparison.{manner_of};
+ghost use Rattle.gw_tools.specs.Comparing.{AreProgress, IsCompared, IsComparedBehind, ReportsProgress, outcome_of_comparison, progress_line};
 ghost use Rattle.gw_tools.specs.Program.{LeavesCompared, LeavesComparison, LeavesLines};
 
 use crate::asserting::put_assertions;
+use crate::placed::Placed;
 use gw_configuration::Config;
 use gw_ending::reading::print;
 use gw_ending::{Fault, write_number};
 use gw_log_words::{Calendar, Moment};
-use gw_policy_review::comparison::{Compared, Comparing, put_steps};
+use gw_policy_review::comparison::{Compared, Comparing, Printing, put_steps};
 use gw_script::{OctetSink, WriteFailed};
 use std::alloc::{AllocError, Global};
 use std::io::{BufWriter, Write};
@@ -39,11 +41,11 @@ pub struct Lines {
     pub made: Compared,
 }
 
-/// Two configurations that were read, or why one wasn't.
+/// Two configurations that were read, each with the lines of its text on which the tables of its rules begin, or why one wasn't.
 #[derive(Drop)]
 pub struct Both {
-    pub old: Result<Config, Fault>,
-    pub new: Result<Config, Fault>,
+    pub old: Result<Placed, Fault>,
+    pub new: Result<Placed, Fault>,
 }
 
 /// A calendar that is looked at again and again.
@@ -118,8 +120,8 @@ fn report_second<C: Calendar, E: OctetSink>(
     seconds: &mut Seconds<C>,
     errors: &mut E,
 )
-    ensures said { (said : List ℕ) × AreProgress said
-        × (E.NeverFails errors.old → Appends (E.held errors.old) (E.held errors.new) said) }
+    ensures said { (has_passed : Bool) × (E.NeverFails errors.old → Appends (E.held errors.old) (E.held errors.new)
+        (if has_passed then progress_line (comparing.now.steps, length comparing.now.found) else [])) }
     ensures lasts { E.NeverFails errors.old → E.NeverFails errors.new }
 {
     if seconds.has_passed() {
@@ -137,7 +139,7 @@ fn finish<C: Calendar, E: OctetSink>(
     ensures old { OnOk result (comparing.new.old_one ≡ comparing.old.old_one) }
     ensures new { OnOk result (comparing.new.new_one ≡ comparing.old.new_one) }
     ensures is_right { OnOk result (IsUnderWay comparing.old → IsUnderWay comparing.new) }
-    ensures said { (said : List ℕ) × AreProgress said
+    ensures said { IsUnderWay comparing.old → (said : List ℕ) × AreProgress comparing.old.old_one comparing.old.new_one said
         × (E.NeverFails errors.old → Appends (E.held errors.old) (E.held errors.new) said) }
     ensures lasts { E.NeverFails errors.old → E.NeverFails errors.new }
 {
@@ -151,20 +153,42 @@ fn finish<C: Calendar, E: OctetSink>(
     Ok(())
 }
 
-/// What is printed of a comparison that is at its end, behind what is said of the assertions.
+/// A comparison of two configurations that is at its end. Once a second it is reported how far it is.
+fn finished<'a, C: Calendar, E: OctetSink>(
+    alloc: Global,
+    old: &'a Config,
+    new: &'a Config,
+    seconds: &mut Seconds<C>,
+    errors: &mut E,
+) -> Result<Comparing<'a>, AllocError>
+    ensures old { IfOk result (λ c. c.old_one ≡ old.now) }
+    ensures new { IfOk result (λ c. c.new_one ≡ new.now) }
+    ensures is_right { IfOk result (λ c. IsUnderWay c) }
+    ensures said { (said : List ℕ) × AreProgress old.now new.now said
+        × (E.NeverFails errors.old → Appends (E.held errors.old) (E.held errors.new) said) }
+    ensures lasts { E.NeverFails errors.old → E.NeverFails errors.new }
+{
+    let mut comparing = Comparing::new(alloc, old, new)?;
+    finish(alloc, &mut comparing, seconds, errors)?;
+    Ok(comparing)
+}
+
+/// What is printed of a comparison that is at its end, behind what is said of the assertions, and how many steps it took if that
+/// is asked for.
 fn lines_of(
     alloc: Global,
-    limits: Limits,
+    steps: bool,
+    how: Printing<'_>,
     front: Vec<u8>,
     comparing: Comparing<'_>,
 ) -> Result<Lines, AllocError>
-    ensures { IfOk result (λ lines. IsUnderWay comparing.entry →
-        IsComparedBehind limits front.items comparing.entry.old_one comparing.entry.new_one lines.made lines.text.items) }
+    ensures { IfOk result (λ lines. IsUnderWay comparing.entry → IsComparedBehind steps (manner_of how.entry) front.items
+        comparing.entry.old_one comparing.entry.new_one lines.made lines.text.items) }
 {
     let used = comparing.steps();
     let mut text = front;
-    let made = comparing.put(alloc, limits.most as usize, &mut text)?;
-    if limits.steps {
+    let made = comparing.put(alloc, how, &mut text)?;
+    if steps {
         put_steps(used, &mut text)?;
     }
     Ok(Lines { text, made })
@@ -174,21 +198,25 @@ fn lines_of(
 fn compared<C: Calendar, E: OctetSink>(
     alloc: Global,
     limits: Limits,
-    old: &Config,
-    new: &Config,
+    old: &Placed,
+    new: &Placed,
     seconds: &mut Seconds<C>,
     errors: &mut E,
 ) -> Result<Lines, AllocError>
     ensures compared { IfOk result (λ lines. IsCompared limits old.now new.now lines.made lines.text.items) }
-    ensures said { (said : List ℕ) × AreProgress said
+    ensures said { (said : List ℕ) × AreProgress old.now.config new.now.config said
         × (E.NeverFails errors.old → Appends (E.held errors.old) (E.held errors.new) said) }
     ensures lasts { E.NeverFails errors.old → E.NeverFails errors.new }
 {
-    let mut comparing = Comparing::new(alloc, old, new)?;
-    finish(alloc, &mut comparing, seconds, errors)?;
+    let comparing = finished(alloc, &old.config, &new.config, seconds, errors)?;
     let mut front = Vec::new(alloc);
-    put_assertions(alloc, &mut front, old, new)?;
-    lines_of(alloc, limits, front, comparing)
+    put_assertions(alloc, &mut front, &old.config, &new.config)?;
+    let how = Printing {
+        most: limits.most as usize,
+        old_lines: &old.lines,
+        new_lines: &new.lines,
+    };
+    lines_of(alloc, limits.steps, how, front, comparing)
 }
 
 /// How a comparison ends: `OtherParts` if only other parts differ, and `Different` if an ask may be decided otherwise.
@@ -220,8 +248,8 @@ pub fn print_lines<W: Write + Drop>(
 pub fn print_compared<C: Calendar, W: Write + Drop, E: OctetSink>(
     alloc: Global,
     limits: Limits,
-    old: &Config,
-    new: &Config,
+    old: &Placed,
+    new: &Placed,
     seconds: &mut Seconds<C>,
     output: &mut BufWriter<W>,
     errors: &mut E,
@@ -229,7 +257,7 @@ pub fn print_compared<C: Calendar, W: Write + Drop, E: OctetSink>(
     ensures output { let held = writer_contents W.contents output.old in
         let holds = writer_contents W.contents output.new in
         LeavesCompared limits held holds old.now new.now result }
-    ensures said { (said : List ℕ) × AreProgress said
+    ensures said { (said : List ℕ) × AreProgress old.now.config new.now.config said
         × (E.NeverFails errors.old → Appends (E.held errors.old) (E.held errors.new) said) }
     ensures lasts { E.NeverFails errors.old → E.NeverFails errors.new }
     ensures flush { OnOk result (writer_buffer output.new ≡ []) }
@@ -249,7 +277,7 @@ pub fn compare<C: Calendar, W: Write + Drop, E: OctetSink>(
 ) -> Result<(), Fault>
     ensures output { LeavesComparison limits (writer_contents W.contents output.old)
         (writer_contents W.contents output.new) both.old both.new result }
-    ensures said { (said : List ℕ) × AreProgress said
+    ensures said { (said : List ℕ) × ReportsProgress both.old both.new said
         × (E.NeverFails errors.old → Appends (E.held errors.old) (E.held errors.new) said) }
     ensures lasts { E.NeverFails errors.old → E.NeverFails errors.new }
     ensures flush { OnOk result (writer_buffer output.new ≡ []) }

@@ -1,11 +1,11 @@
 //! What `check` and `compare` say as JSON objects, and the list of a configuration's objects.
 
-ghost use Rattle.std.specs.Prelude.{◌≡◌, ◌⊎◌, ◌++◌, ◌==◌, [], length, take, option_map, IfOk, MatchResult, OnOk};
+ghost use Rattle.std.specs.Prelude.{◌≡◌, ◌⊎◌, [], option_map, IfOk, OnOk};
 ghost use Rattle.std.specs.Io.Buffered.{writer_buffer, writer_contents};
-ghost use Rattle.std.specs.List.{flat_map};
 ghost use Rattle.gw_json.specs.Check.{fault_value};
-ghost use Rattle.gw_json.specs.Comparison.{found_value};
 ghost use Rattle.gw_json.specs.Document.{line_of};
+ghost use Rattle.gw_policy_review.specs.comparison.Comparison.{AreResults};
+ghost use Rattle.gw_policy_review.specs.comparison.PairLines.{known_of};
 ghost use Rattle.gw_report.specs.points.Points.{points_text};
 ghost use Rattle.gw_ending.specs.reading.Files.{result_map};
 ghost use Rattle.gw_tools.specs.Json.{AreComparisonLines, IsPartsLine, IsTextOf, FaultLine, IsFaultLine, IsMade, judged_line};
@@ -14,17 +14,16 @@ ghost use Rattle.gw_tools.specs.Program.{LeavesCheckedJson, LeavesCheckedLine, L
 use crate::asserting::put_assertions;
 use crate::comparing::{Lines, print_lines};
 use gw_ask_sets::assertions::{JUDGING_STEPS, Judged, judge};
-use gw_ask_sets::regions::{Found, MAX_STEPS, summarize};
+use gw_ask_sets::regions::MAX_STEPS;
 use gw_configuration::{Config, ConfigFault};
 use gw_ending::Fault;
 use gw_ending::reading::{configuration_of, do_hold, print, print_judged, print_made};
-use gw_json::{put_check, put_differences, put_fault, put_found, put_summary, unheld_line};
+use gw_json::{Listing, put_check, put_differences, put_fault, put_results, unheld_line};
 use gw_policy_review::comparison::{
-    Part, asks_of, compared_by, differing_parts, put_details, put_part_names,
+    Comparing, Part, Results, differing_parts, judged_by, put_details, put_part_names,
 };
 use gw_policy_text::faults::explain;
 use gw_report::points::put_points;
-use gw_rules::Rule;
 use std::alloc::{AllocError, Global};
 use std::io::{BufWriter, Write};
 use std::str;
@@ -110,23 +109,6 @@ pub fn check_in_json<W: Write + Drop>(
     }
 }
 
-/// Appends a line for each of the first regions.
-fn put_all(
-    alloc: Global,
-    old: &[Rule],
-    new: &[Rule],
-    found: &[Found],
-    out: &mut Vec<u8>,
-) -> Result<(), AllocError>
-    ensures { let lines = flat_map (λ f. line_of (found_value old.now new.now f)) found.now in
-        OnOk result (out.new.items ≡ out.old.items ++ lines) }
-{
-    for each in found {
-        put_found(alloc, out, old, new, each)?;
-    }
-    Ok(())
-}
-
 /// A text of these octets, if they are UTF-8.
 fn text_of(octets: &[u8]) -> Option<&str>
     ensures { IsTextOf octets.now (option_map (λ text. text.now) result) }
@@ -158,8 +140,17 @@ fn parts_line(
     Ok(line)
 }
 
-/// In which parts two configurations differ, and what their rules decide otherwise, in at most so many lines and a last
-/// one.
+/// What is found of what two configurations decide otherwise.
+fn results_of(alloc: Global, old: &Config, new: &Config) -> Result<Results, AllocError>
+    ensures { IfOk result (λ r. AreResults old.now new.now r.summary.found.items r.summary.left.items r.summary.steps (known_of r.pairs)) }
+{
+    let mut comparing = Comparing::new(alloc, old, new)?;
+    comparing.go_on(alloc, MAX_STEPS)?;
+    comparing.into_results(alloc)
+}
+
+/// In which parts two configurations differ, and what their rules decide otherwise, in at most so many lines of regions and of
+/// pairs of rules, and a last one.
 fn comparison_lines(
     alloc: Global,
     most: usize,
@@ -170,14 +161,20 @@ fn comparison_lines(
 {
     let differ = differing_parts(alloc, old, new)?;
     let mut text = parts_line(alloc, old, new, &differ)?;
-    let asks = asks_of(alloc, old, new)?;
-    let (before, after) = (old.rules().rules(), new.rules().rules());
-    let summary = summarize(alloc, before, after, &asks, MAX_STEPS)?;
-    let (kinds, left) = (summary.found.len(), summary.left.len());
-    let shown = &summary.found[..most.min(kinds)];
-    put_all(alloc, before, after, shown, &mut text)?;
-    put_summary(alloc, &mut text, kinds, left == 0, summary.steps)?;
-    let made = compared_by(differ.len(), kinds, left);
+    let results = results_of(alloc, old, new)?;
+    let listing = Listing {
+        old: old.rules().rules(),
+        new: new.rules().rules(),
+        most,
+    };
+    put_results(alloc, &mut text, &listing, &results)?;
+    let summary = &results.summary;
+    let made = judged_by(
+        differ.len(),
+        summary.found.len(),
+        summary.left.len(),
+        &results.pairs,
+    );
     Ok(Lines { text, made })
 }
 

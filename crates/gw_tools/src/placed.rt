@@ -1,7 +1,7 @@
 //! A configuration, with the lines of its text on which the tables of its rules begin.
 
 ghost use Rattle.gw_ending.specs.reading.Files.{result_map};
-ghost use Rattle.gw_tools.specs.Placed.{IsPlaced, IsPlacedIn};
+ghost use Rattle.gw_tools.specs.Placed.{IsPlaced, IsPlacedAs, IsPlacedIn};
 
 use crate::reloading::octets_or;
 use gw_configuration::Config;
@@ -12,7 +12,7 @@ use std::alloc::Global;
 
 /// A configuration, with the lines of its text, from 1, on which the tables of its rules begin, in their order, or none if they
 /// aren't known.
-pub(crate) struct Placed {
+pub struct Placed {
     pub config: Config,
     pub lines: Vec<u32>,
 }
@@ -32,6 +32,19 @@ fn placed_of(alloc: Global, text: &Result<Vec<u8>, Fault>) -> Result<Placed, Fau
     ensures { IsPlaced (result_map (λ octets. octets.items) text.now) result }
 {
     let config = configuration_of(alloc, text)?;
+    let lines = table_lines(alloc, config.written_rules(), octets_or(text))?;
+    Ok(Placed { config, lines })
+}
+
+/// That of a configuration that was read of a text. Faults: why it wasn't read; and `Memory`.
+pub(crate) fn placed_as(
+    alloc: Global,
+    config: Result<Config, Fault>,
+    text: &Result<Vec<u8>, Fault>,
+) -> Result<Placed, Fault>
+    ensures { IsPlacedAs config (result_map (λ octets. octets.items) text.now) result }
+{
+    let config = config?;
     let lines = table_lines(alloc, config.written_rules(), octets_or(text))?;
     Ok(Placed { config, lines })
 }

@@ -329,8 +329,8 @@ fn follow<F: ConfigFiles, M: Machine, R: OctetSource, W: Write + Drop, E: OctetS
             },
         ) => {
             let both = Both {
-                old: configuration_in(alloc, files, old),
-                new: configuration_in(alloc, files, new),
+                old: placed_in(alloc, files, old),
+                new: placed_in(alloc, files, new),
             };
             let limits = Limits {
                 most: *most,

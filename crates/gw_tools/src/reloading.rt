@@ -3,7 +3,7 @@
 ghost use Rattle.std.specs.Prelude.{◌≡◌, [], ℕ, List, MatchResult, OnOk};
 ghost use Rattle.std.specs.Io.Buffered.{writer_buffer, writer_contents};
 ghost use Rattle.std.specs.Io.KnownBytes.{Appends};
-ghost use Rattle.gw_tools.specs.Comparing.{AreProgress};
+ghost use Rattle.gw_tools.specs.Comparing.{ReportsProgress};
 ghost use Rattle.gw_tools.specs.Reloading.{IsAnswerTo, answers_by, octets_or, outcome_of_answer};
 ghost use Rattle.gw_ending.specs.Ending.{IsUnanswered};
 ghost use Rattle.gw_ending.specs.reading.Files.{result_map};
@@ -12,12 +12,11 @@ ghost use Rattle.gw_tools.specs.Program.{LeavesAfter, LeavesAnswer, LeavesAsked,
 
 use crate::comparing::{Both, Limits, Seconds, print_compared};
 use crate::machine::Machine;
+use crate::placed::{placed_as, placed_in};
 use gw_ask_sets::assertions::{JUDGING_STEPS, judge};
 use gw_configuration::Config;
 use gw_ending::Fault;
-use gw_ending::reading::{
-    ConfigFiles, configuration_in, configuration_of, do_hold, print, print_ending, put_unheld,
-};
+use gw_ending::reading::{ConfigFiles, configuration_of, do_hold, print, print_ending, put_unheld};
 use gw_script::OctetSink;
 use gw_system::{ReadFailure, STOP_REQUEST, reload_request};
 use gw_tool_line::Shown;
@@ -218,7 +217,7 @@ fn reload_shown<M: Machine, W: Write + Drop, E: OctetSink>(
 ) -> Result<(), Fault>
     ensures output { LeavesReloadShown (answers_by (M.Asks machine.now) M.Answers) asked.now.request.now asked.now.text.now most
         (writer_contents W.contents output.old) (writer_contents W.contents output.new) both.old both.new result }
-    ensures said { (said : List ℕ) × AreProgress said
+    ensures said { (said : List ℕ) × ReportsProgress both.old both.new said
         × (E.NeverFails errors.old → Appends (E.held errors.old) (E.held errors.new) said) }
     ensures lasts { E.NeverFails errors.old → E.NeverFails errors.new }
     ensures flush { OnOk result (writer_buffer output.new ≡ []) }
@@ -306,7 +305,8 @@ fn reload_of<F: ConfigFiles, M: Machine, W: Write + Drop, E: OctetSink>(
     };
     match asking.was {
         Some(shown) => {
-            let old = configuration_in(alloc, files, &shown.old);
+            let old = placed_in(alloc, files, &shown.old);
+            let new = placed_as(alloc, new, text);
             let both = Both { old, new };
             reload_shown(alloc, both, &asked, shown.most, machine, output, errors)
         }

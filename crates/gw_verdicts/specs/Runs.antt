@@ -4,7 +4,7 @@ use Rattle.std.specs.List.{AllByRecursion}
 use Rattle.gw_configuration.specs.Configuration.{Configuration}
 use Rattle.gw_core.specs.State.{State}
 use Rattle.gw_core_laws.specs.Decisions.{RunAlike, RunSendAlike}
-use Rattle.gw_policy_review.specs.comparison.Comparison.{IsComparisonText}
+use Rattle.gw_policy_review.specs.comparison.Comparison.{IsComparisonText, Manner}
 use Rattle.gw_policy_review.specs.comparison.Laws.{says_alike}
 use Rattle.gw_policy_review.specs.declared.comparison.comparison.Compared.{Compared}
 use Rattle.gw_policy_review.specs.declared.comparison.comparison.Compared.TheVariants as compared
@@ -18,7 +18,7 @@ use Rattle.gw_verdicts.specs.States.{IsStateUnder}
 -- number of its last denial. If neither has a quiet rule, or the text says that no other part differs either, it also denies
 -- the same, if perhaps by a rule of another name, and so that number is the same.
 abbrev pub AlikeRunsAlike : Type 0
-AlikeRunsAlike = (old new : Configuration) (most : ℕ) (made : Compared) (text : List ℕ) → IsComparisonText old new most made text →
+AlikeRunsAlike = (old new : Configuration) (how : Manner) (made : Compared) (text : List ℕ) → IsComparisonText old new how made text →
     says_alike made ≡ true → IsNumbered old → (w : State) → IsStateUnder old w → (l : List Event) →
     AllByRecursion IsCarried l →
     RunSendAlike w new.rules l

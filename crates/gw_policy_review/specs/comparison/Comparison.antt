@@ -11,15 +11,16 @@ use Rattle.gw_ask_sets.specs.regions.Steps.{IsReached, stage}
 use Rattle.gw_ask_sets.specs.regions.Tidying.{all_tidied}
 use Rattle.gw_ask_sets.specs.declared.regions.comparison.Found.{Found}
 use Rattle.gw_ask_sets.specs.declared.regions.pairs.ShownPair.{ShownPair}
-use Rattle.gw_rules.specs.declared.rule.Rule.{Rule}
 use Rattle.gw_policy_review.specs.comparison.Asks.{asks_of}
 use Rattle.gw_policy_review.specs.comparison.Groups.{regions_text}
+use Rattle.gw_policy_review.specs.comparison.Lines.{Naming, naming}
 use Rattle.gw_policy_review.specs.comparison.PairLines.{given_up_text, pairs_text}
 use Rattle.gw_policy_review.specs.comparison.PartLines.{details}
 use Rattle.gw_policy_review.specs.comparison.Parts.{AreDifferences}
 use Rattle.gw_policy_review.specs.declared.comparison.parts.Part.{Part}
 use Rattle.gw_policy_review.specs.declared.comparison.comparison.Compared.{Compared}
 use Rattle.gw_policy_review.specs.declared.comparison.comparison.Compared.TheVariants as compared
+use Rattle.gw_policy_review.specs.declared.comparison.comparison.Printing.{Printing}
 
 -- what is newly allowed comes first
 abbrev pub rank : Found → ℕ
@@ -68,21 +69,21 @@ has_lines None = true
 has_lines (Some known) = not (length known.given_up == 0)
 
 -- what is said of regions alone, and the last line
-abbrev pub by_regions_text : List Rule → List Rule → (most : ℕ) → Compared → List Found → List ℕ
+abbrev pub by_regions_text : Naming → Naming → (most : ℕ) → Compared → List Found → List ℕ
 by_regions_text old new most made found = regions_text old new most found ++ ending_text made (length found)
 
 -- what is said of pairs that are all, and the last line
-abbrev pub by_pairs_text : List Rule → List Rule → (most : ℕ) → Compared → List ShownPair → List ℕ
+abbrev pub by_pairs_text : Naming → Naming → (most : ℕ) → Compared → List ShownPair → List ℕ
 by_pairs_text old new most made pairs = pairs_text old new most pairs ++ ending_text made (length pairs)
 
 -- what is said of regions, and of pairs that aren't all, and the last line
-abbrev pub by_both_text : List Rule → List Rule → (most : ℕ) → Compared → List Found → Findings → List ℕ
+abbrev pub by_both_text : Naming → Naming → (most : ℕ) → Compared → List Found → Findings → List ℕ
 by_both_text old new most made found known =
     regions_text old new most found
     ++ (pairs_text old new most known.found
     ++ (given_up_text (length known.found) (length known.given_up) ++ ending_text made (length found)))
 
-abbrev pub asks_text : List Rule → List Rule → (most : ℕ) → Compared → List Found → Option Findings → List ℕ
+abbrev pub asks_text : Naming → Naming → (most : ℕ) → Compared → List Found → Option Findings → List ℕ
 asks_text old new most made found None = by_regions_text old new most made found
 asks_text old new most made found (Some known) =
     if length known.given_up == 0 then by_pairs_text old new most made known.found else by_both_text old new most made found known
@@ -105,9 +106,20 @@ pub record AreResults (old new : Configuration) (found : List Found) (left : Lis
   pub asked : is_some pairs ≡ not (length left == 0)
   pub are_pairs : IfSome pairs (λ known. AreSought (asks_of old new) old.rules new.rules known)
 
+-- how a comparison is printed: at most so many lines of each group, and by the lines of the old and of the new text on which the
+-- tables of rules begin, or none if they aren't known
+pub record Manner : Type 0 where
+  pub most : ℕ
+  pub old_lines : List ℕ
+  pub new_lines : List ℕ
+
+abbrev pub manner_of : Printing → Manner
+manner_of how = record { most = how.most; old_lines = how.old_lines.now; new_lines = how.new_lines.now }
+
 -- A text compares two configurations: it has the lines of the parts in which they differ, and those of regions and pairs in
--- which what the old and the new rules decide otherwise is summed up.
-pub record IsComparisonText (old new : Configuration) (most : ℕ) (made : Compared) (text : List ℕ) : Type 0 where
+-- which what the old and the new rules decide otherwise is summed up. A rule is named with the place of its table in its own
+-- text.
+pub record IsComparisonText (old new : Configuration) (how : Manner) (made : Compared) (text : List ℕ) : Type 0 where
   pub differ : List Part
   pub are_differences : AreDifferences old new differ
   pub found : List Found
@@ -116,13 +128,14 @@ pub record IsComparisonText (old new : Configuration) (most : ℕ) (made : Compa
   pub pairs : Option Findings
   pub results : AreResults old new found left steps pairs
   pub verdict : made ≡ judged_by (length differ) (length found) (length left) pairs
-  pub written : text ≡ details old new differ ++ asks_text old.rules new.rules most made found pairs
+  pub written : text ≡ details old new differ
+      ++ asks_text (naming old how.old_lines) (naming new how.new_lines) how.most made found pairs
 
 -- Such a text is after what a buffer held, and so many steps were made for it.
-abbrev pub AppendsCounted : Configuration → Configuration → ℕ → Compared → (steps : ℕ) → List ℕ → List ℕ → Type 0
-AppendsCounted old new most made steps before after =
-    (text : List ℕ) × (written : IsComparisonText old new most made text) × (written.steps ≡ steps) × (after ≡ before ++ text)
+abbrev pub AppendsCounted : Configuration → Configuration → Manner → Compared → (steps : ℕ) → List ℕ → List ℕ → Type 0
+AppendsCounted old new how made steps before after =
+    (text : List ℕ) × (written : IsComparisonText old new how made text) × (written.steps ≡ steps) × (after ≡ before ++ text)
 
-abbrev pub AppendsComparison : Configuration → Configuration → ℕ → Compared → List ℕ → List ℕ → Type 0
-AppendsComparison old new most made before after =
-    (text : List ℕ) × IsComparisonText old new most made text × (after ≡ before ++ text)
+abbrev pub AppendsComparison : Configuration → Configuration → Manner → Compared → List ℕ → List ℕ → Type 0
+AppendsComparison old new how made before after =
+    (text : List ℕ) × IsComparisonText old new how made text × (after ≡ before ++ text)

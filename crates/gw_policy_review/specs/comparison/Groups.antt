@@ -6,8 +6,7 @@ use Rattle.std.specs.Cmp.Lexicographic.{pointwise}
 use Rattle.std.specs.List.{filter, flat_map, list_any}
 use Rattle.gw_ask_sets.specs.regions.Comparing.{unlike}
 use Rattle.gw_ask_sets.specs.declared.regions.comparison.Found.{Found}
-use Rattle.gw_rules.specs.declared.rule.Rule.{Rule}
-use Rattle.gw_policy_review.specs.comparison.Lines.{line_text, names_text, verdict_text}
+use Rattle.gw_policy_review.specs.comparison.Lines.{Naming, line_text, names_text, verdict_text}
 
 -- ---- groups
 
@@ -38,7 +37,7 @@ more_text count =
     else codes "and " ++ (decimal count ++ (if count == 1 then codes " more kind" else codes " more kinds") ++ 10 ∷ [])
 
 -- a line each for at most so many regions, and how many are left out
-abbrev pub found_text : List Rule → List Rule → ℕ → List Found → List ℕ
+abbrev pub found_text : Naming → Naming → ℕ → List Found → List ℕ
 found_text old new most found =
     flat_map (line_text old new) (take most found) ++ more_text (length found - most)
 
@@ -49,29 +48,29 @@ count_text count = decimal count ++ (if count == 1 then codes " kind: now " else
 abbrev pub was_text : ℕ → List ℕ
 was_text count = if count == 1 then codes " (was " else codes " (were "
 
-abbrev pub now_text : List Rule → Found → List ℕ
+abbrev pub now_text : Naming → Found → List ℕ
 now_text new f = verdict_text f.allows ++ (codes " by " ++ names_text new f.new_rules.items)
 
-abbrev pub before_text : List Rule → Found → List ℕ
+abbrev pub before_text : Naming → Found → List ℕ
 before_text old f =
     verdict_text (not f.allows) ++ (codes " by " ++ (names_text old f.old_rules.items ++ (codes ")" ++ 10 ∷ [])))
 
-abbrev pub head_text : List Rule → List Rule → ℕ → Found → List ℕ
+abbrev pub head_text : Naming → Naming → ℕ → Found → List ℕ
 head_text old new count f = count_text count ++ (now_text new f ++ (was_text count ++ before_text old f))
 
 -- the line of a group, and the lines of its regions
-abbrev pub group_head : List Rule → List Rule → List Found → Found → List ℕ
+abbrev pub group_head : Naming → Naming → List Found → Found → List ℕ
 group_head old new found f = head_text old new (length (group_of found f)) f
 
-abbrev pub group_text : List Rule → List Rule → ℕ → List Found → Found → List ℕ
+abbrev pub group_text : Naming → Naming → ℕ → List Found → Found → List ℕ
 group_text old new most found f = found_text old new most (group_of found f)
 
 -- a line for each group, and then the lines of each
-abbrev pub groups_text : List Rule → List Rule → ℕ → List Found → List ℕ
+abbrev pub groups_text : Naming → Naming → ℕ → List Found → List ℕ
 groups_text old new most found =
     flat_map (group_head old new found) (firsts found) ++ flat_map (group_text old new most found) (firsts found)
 
 -- more than forty regions are grouped
-abbrev pub regions_text : List Rule → List Rule → ℕ → List Found → List ℕ
+abbrev pub regions_text : Naming → Naming → ℕ → List Found → List ℕ
 regions_text old new most found =
     if nat_lt 40 (length found) then groups_text old new most found else found_text old new most found

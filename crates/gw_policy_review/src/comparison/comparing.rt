@@ -2,11 +2,13 @@
 ghost use Rattle.std.specs.Prelude.{◌≡◌, ◌≤◌, ◌<◌, ◌+◌, [], length, true, IfOk, OnErr, OnOk};
 ghost use Rattle.gw_addr.specs.Appending.{IsAppended, IsAppendedWhole};
 ghost use Rattle.gw_policy_review.specs.comparison.Comparing.{IsUnderWay, is_finished, steps_text};
-ghost use Rattle.gw_policy_review.specs.comparison.Comparison.{AppendsComparison, AppendsCounted, AreResults};
+ghost use Rattle.gw_policy_review.specs.comparison.Comparison.{AppendsComparison, AppendsCounted, AreResults, manner_of};
 ghost use Rattle.gw_policy_review.specs.comparison.PairLines.{known_of};
 
 use crate::comparison::asks::asks_of;
-use crate::comparison::comparison::{Compared, Results, comparison_of, put_whole, summary_if};
+use crate::comparison::comparison::{
+    Compared, Printing, Results, comparison_of, put_whole, summary_if,
+};
 use crate::comparison::pairs::{have_lines, pairs_if};
 use gw_addr::{keep_whole, put_decimal, put_slice};
 use gw_ask_sets::regions::{Comparison, MAX_STEPS, Policies, Region, all_tidied};
@@ -128,19 +130,25 @@ impl<'a> Comparing<'a> {
         self.comparison.found.len()
     }
 
-    /// Appends what is found so far as [`put_comparison`](crate::comparison::put_comparison) does, with at most `most` lines of
+    /// Appends what is found so far as [`put_comparison`](crate::comparison::put_comparison) does, with at most so many lines of
     /// each group; the last line says whether the comparison is finished. An `Err` if there is no memory: the buffer
     /// then holds what it held.
-    pub fn put(self, alloc: Global, most: usize, out: &mut Vec<u8>) -> Result<Compared, AllocError>
+    pub fn put(
+        self,
+        alloc: Global,
+        how: Printing<'_>,
+        out: &mut Vec<u8>,
+    ) -> Result<Compared, AllocError>
         ensures ok { IfOk result (λ made. IsUnderWay self.entry →
-            AppendsComparison self.entry.old_one self.entry.new_one most made out.old.items out.new.items) }
+            AppendsComparison self.entry.old_one self.entry.new_one (manner_of how.entry) made out.old.items out.new.items) }
         ensures counted { IfOk result (λ made. IsUnderWay self.entry →
-            AppendsCounted self.entry.old_one self.entry.new_one most made self.entry.steps out.old.items out.new.items) }
+            AppendsCounted self.entry.old_one self.entry.new_one (manner_of how.entry) made self.entry.steps
+            out.old.items out.new.items) }
         ensures err { OnErr result (out.new.items ≡ out.old.items) }
     {
         let (old, new) = (self.before, self.after);
         let results = self.into_results(alloc)?;
-        let written = comparison_of(alloc, old, new, &results, most)?;
+        let written = comparison_of(alloc, old, new, &results, how)?;
         put_whole(out, &written.text)?;
         Ok(written.made)
     }

@@ -2,7 +2,7 @@
 ghost use Rattle.std.specs.Prelude.{◌≡◌, true, ◌++◌, ◌∷◌, ◌==◌, [], codes, decimal, if◌then◌else◌, length, IfOk, List, OnErr, OnOk};
 ghost use Rattle.std.specs.List.Sorted.{IsNonDecreasingBy, IsPermutation};
 ghost use Rattle.gw_policy_review.specs.comparison.Asks.{asks_of};
-ghost use Rattle.gw_policy_review.specs.comparison.Comparison.{AppendsComparison, AreResults, IsComparisonText, asks_text, by_both_text, by_pairs_text, by_regions_text, compared_by, ending_text, judged_by, kinds_text, paired_by, rank};
+ghost use Rattle.gw_policy_review.specs.comparison.Comparison.{AppendsComparison, AreResults, IsComparisonText, asks_text, by_both_text, by_pairs_text, by_regions_text, compared_by, ending_text, judged_by, kinds_text, manner_of, paired_by, rank};
 ghost use Rattle.gw_ask_sets.specs.regions.Comparing.{IsComparison, IsSummary};
 ghost use Rattle.gw_ask_sets.specs.regions.Presence.{OrNoneIsMeant};
 ghost use Rattle.gw_ask_sets.specs.regions.Pairs.{findings};
@@ -13,6 +13,7 @@ ghost use Rattle.gw_rules.specs.declared.rule.Rule.{Rule as SpecRule};
 use crate::comparison::Comparing;
 use crate::comparison::details::put_details;
 use crate::comparison::groups::{Listing, put_regions};
+use crate::comparison::naming::Names;
 use crate::comparison::pairs::{put_given_up, put_pairs};
 use crate::comparison::parts::{Part, differing_parts};
 use gw_addr::{keep_whole, put_decimal, put_slice};
@@ -33,6 +34,17 @@ pub enum Compared {
     Paired,
     /// The steps were used up: they decide those that were found otherwise, and perhaps others.
     Unfinished,
+}
+
+/// How a comparison is printed.
+#[derive(Clone, Copy)]
+pub struct Printing<'a> {
+    /// How many lines there are at most, or of each group.
+    pub most: usize,
+    /// The lines of the old text, from 1, on which the tables of its rules begin, in their order, or none if they aren't known.
+    pub old_lines: &'a [u32],
+    /// Those of the new text.
+    pub new_lines: &'a [u32],
 }
 
 /// What is found of what two policies decide otherwise.
@@ -58,13 +70,14 @@ impl Drop for ComparisonText {
 
 /// Appends in which parts two configurations differ, and what they decide otherwise, over all asks that a gateway of
 /// either may raise: lines for each part that isn't the same; a line for each kind of asks, what is newly allowed first,
-/// at most `most` lines; and a last line that says whether these are all.
+/// at most so many lines; and a last line that says whether these are all. Each rule is named, with the place of its table in its
+/// own text if that has another number than the rule.
 ///
 /// ```text
 /// port 1: 10.9.0.0/24 is a station now
 /// rule panel is new
 /// now allowed: write, type 5 binary-value, instance 1, property 85 present-value, priority 1..7, from network 2, by panel (was denied by no-writes)
-/// now denied: list, from network 1, by quiet (was allowed by find)
+/// now denied: list, from network 1, by quiet (table 3, line 41) (was allowed by find)
 /// 2 kinds of asks are decided otherwise, and no other
 /// ```
 ///
@@ -80,16 +93,16 @@ pub fn put_comparison(
     alloc: Global,
     old: &Config,
     new: &Config,
-    most: usize,
+    how: Printing<'_>,
     out: &mut Vec<u8>,
 ) -> Result<Compared, AllocError>
     ensures ok { IfOk result (λ made.
-        AppendsComparison old.now new.now most made out.old.items out.new.items) }
+        AppendsComparison old.now new.now (manner_of how.entry) made out.old.items out.new.items) }
     ensures err { OnErr result (out.new.items ≡ out.old.items) }
 {
     let mut comparing = Comparing::new(alloc, old, new)?;
     comparing.go_on(alloc, MAX_STEPS)?;
-    comparing.put(alloc, most, out)
+    comparing.put(alloc, how, out)
 }
 
 /// Appends a text, or nothing.
@@ -122,12 +135,12 @@ pub(crate) fn comparison_of(
     old: &Config,
     new: &Config,
     results: &Results,
-    most: usize,
+    how: Printing<'_>,
 ) -> Result<ComparisonText, AllocError>
     ensures { IfOk result (λ written.
         AreResults old.now new.now results.now.summary.found.items results.now.summary.left.items results.now.summary.steps
         (known_of results.now.pairs) →
-        (is : IsComparisonText old.now new.now most written.made written.text.items)
+        (is : IsComparisonText old.now new.now (manner_of how.entry) written.made written.text.items)
         × (is.steps ≡ results.now.summary.steps)) }
 {
     let differ = differing_parts(alloc, old, new)?;
@@ -138,11 +151,13 @@ pub(crate) fn comparison_of(
         results.summary.left.len(),
         &results.pairs,
     );
+    let before = Names::new(old, how.old_lines);
+    let after = Names::new(new, how.new_lines);
     let listing = Listing {
         found: &results.summary.found,
-        old: old.rules().rules(),
-        new: new.rules().rules(),
-        most,
+        old: &before,
+        new: &after,
+        most: how.most,
     };
     put_asks(alloc, &mut text, &listing, made, &results.pairs)?;
     Ok(ComparisonText { text, made })

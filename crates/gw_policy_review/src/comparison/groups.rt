@@ -9,9 +9,9 @@ ghost use Rattle.gw_policy_review.specs.comparison.Lines.{line_text};
 ghost use Rattle.gw_ask_sets.specs.regions.Comparing.{unlike};
 
 use crate::comparison::lines::{put_line, put_lines, put_names, verdict};
+use crate::comparison::naming::Names;
 use gw_addr::put_decimal;
 use gw_ask_sets::regions::Found;
-use gw_rules::Rule;
 use std::alloc::{AllocError, Global};
 
 /// How many regions are printed without groups at most.
@@ -22,8 +22,8 @@ pub const MOST_UNGROUPED: usize = 40;
 #[derive(Clone, Copy)]
 pub(crate) struct Listing<'a> {
     pub found: &'a [Found],
-    pub old: &'a [Rule],
-    pub new: &'a [Rule],
+    pub old: &'a Names<'a>,
+    pub new: &'a Names<'a>,
     pub most: usize,
 }
 
@@ -207,7 +207,7 @@ fn was_words(count: usize) -> &'static str
     if count == 1 { " (was " } else { " (were " }
 }
 
-fn put_now(out: &mut Vec<u8>, new: &[Rule], found: &Found) -> Result<(), AllocError>
+fn put_now(out: &mut Vec<u8>, new: &Names<'_>, found: &Found) -> Result<(), AllocError>
     ensures { OnOk result (out.new.items ≡ out.old.items ++ now_text new.now found.now) }
 {
     out.extend_from_slice(verdict(found.allows).as_bytes())?;
@@ -215,7 +215,7 @@ fn put_now(out: &mut Vec<u8>, new: &[Rule], found: &Found) -> Result<(), AllocEr
     put_names(out, new, &found.new_rules)
 }
 
-fn put_before(out: &mut Vec<u8>, old: &[Rule], found: &Found) -> Result<(), AllocError>
+fn put_before(out: &mut Vec<u8>, old: &Names<'_>, found: &Found) -> Result<(), AllocError>
     ensures { OnOk result (out.new.items ≡ out.old.items ++ before_text old.now found.now) }
 {
     out.extend_from_slice(verdict(!found.allows).as_bytes())?;

@@ -1,7 +1,7 @@
 //! What the text of a comparison says of the asks of two configurations. The functions do nothing: their
 //! contracts are the laws.
 ghost use Rattle.std.specs.Prelude.{◌≡◌};
-ghost use Rattle.gw_policy_review.specs.comparison.Laws.{AlikeIsAlike, AlikeIsLike, AlikeIsLogged, EachHasOneGroup, FoundIsAll, LikeHasNone, LinesAreTrue, LinesHaveAsks, NoneDiffers, NoneHasAsk, PairsAreAll, PairsHaveAsks};
+ghost use Rattle.gw_policy_review.specs.comparison.Laws.{AlikeIsAlike, AlikeIsLike, AlikeIsLogged, EachHasOneGroup, FoundIsAll, LikeHasNone, LinesAreTrue, LinesHaveAsks, NoPlaceIsNamed, NoneDiffers, NoneHasAsk, PairsAreAll, PairsHaveAsks};
 
 use crate::comparison::MOST_UNGROUPED;
 
@@ -31,6 +31,12 @@ pub fn parts()
     ensures like { LikeHasNone }
     ensures alike { AlikeIsLike }
     ensures logged { AlikeIsLogged }
+{}
+
+/// Where each table of the two configurations is the rule of its own number, as in a text without `both_ways` and `enabled`, the
+/// text of their comparison names rules alone, and no table.
+pub fn places()
+    ensures { NoPlaceIsNamed }
 {}
 
 /// If the regions that were found are grouped by the rules that decide, each is in one group.

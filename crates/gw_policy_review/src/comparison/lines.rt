@@ -1,10 +1,12 @@
 //! The line of a region in which every ask is decided otherwise.
 ghost use Rattle.std.specs.Prelude.{◌≡◌, ◌-◌, ◌++◌, not, codes, take, OnOk};
 ghost use Rattle.std.specs.List.{flat_map};
-ghost use Rattle.gw_policy_review.specs.comparison.Lines.{deciders_text, line_text, names_text, rule_name, verdict_text};
+ghost use Rattle.gw_policy_review.specs.comparison.Lines.{deciders_text, line_text, name_of, names_text, rule_name, verdict_text};
 ghost use Rattle.gw_policy_review.specs.comparison.Words.{any_of};
 
+use crate::comparison::naming::Names;
 use crate::comparison::words::put_region;
+use crate::places::put_place_at;
 use gw_ask_sets::regions::Found;
 use gw_rules::Rule;
 use std::alloc::{AllocError, Global};
@@ -13,8 +15,8 @@ use std::alloc::{AllocError, Global};
 pub(crate) fn put_lines(
     alloc: Global,
     out: &mut Vec<u8>,
-    old: &[Rule],
-    new: &[Rule],
+    old: &Names<'_>,
+    new: &Names<'_>,
     found: &[Found],
 ) -> Result<(), AllocError>
     ensures { OnOk result (out.new.items ≡
@@ -30,8 +32,8 @@ pub(crate) fn put_lines(
 pub(crate) fn put_line(
     alloc: Global,
     out: &mut Vec<u8>,
-    old: &[Rule],
-    new: &[Rule],
+    old: &Names<'_>,
+    new: &Names<'_>,
     found: &Found,
 ) -> Result<(), AllocError>
     ensures { OnOk result (out.new.items ≡ out.old.items ++ line_text old.now new.now found.now) }
@@ -54,8 +56,8 @@ pub(crate) fn verdict(allows: bool) -> &'static str
 /// Appends which rules decide the asks of a region, now and before.
 fn put_deciders(
     out: &mut Vec<u8>,
-    old: &[Rule],
-    new: &[Rule],
+    old: &Names<'_>,
+    new: &Names<'_>,
     found: &Found,
 ) -> Result<(), AllocError>
     ensures { OnOk result (out.new.items ≡
@@ -73,44 +75,55 @@ fn put_deciders(
 /// Appends the names of the rules of these numbers.
 pub(crate) fn put_names(
     out: &mut Vec<u8>,
-    rules: &[Rule],
+    names: &Names<'_>,
     numbers: &[usize],
 ) -> Result<(), AllocError>
-    ensures { OnOk result (out.new.items ≡ out.old.items ++ names_text rules.now numbers.now) }
+    ensures { OnOk result (out.new.items ≡ out.old.items ++ names_text names.now numbers.now) }
 {
     let Some((first, rest)) = numbers.split_first() else {
         return Ok(());
     };
-    put_name(out, rules, *first)?;
-    put_more_names(out, rules, rest)
+    put_name(out, names, *first)?;
+    put_more_names(out, names, rest)
 }
 
-fn put_more_names(out: &mut Vec<u8>, rules: &[Rule], numbers: &[usize]) -> Result<(), AllocError>
+fn put_more_names(out: &mut Vec<u8>, names: &Names<'_>, numbers: &[usize]) -> Result<(), AllocError>
     ensures { OnOk result (out.new.items ≡
-        out.old.items ++ flat_map (λ other. codes " or " ++ rule_name rules.now other) numbers.now) }
+        out.old.items ++ flat_map (λ other. codes " or " ++ rule_name names.now other) numbers.now) }
 {
     for number in numbers {
-        put_other_name(out, rules, *number)?;
+        put_other_name(out, names, *number)?;
     }
     Ok(())
 }
 
-fn put_other_name(out: &mut Vec<u8>, rules: &[Rule], number: usize) -> Result<(), AllocError>
+fn put_other_name(out: &mut Vec<u8>, names: &Names<'_>, number: usize) -> Result<(), AllocError>
     ensures { OnOk result (out.new.items ≡
-        out.old.items ++ (codes " or " ++ rule_name rules.now number)) }
+        out.old.items ++ (codes " or " ++ rule_name names.now number)) }
 {
     out.extend_from_slice(b" or ")?;
-    put_name(out, rules, number)
+    put_name(out, names, number)
 }
 
-/// Appends the name of the rule of a number, or `default` for 0.
-pub(crate) fn put_name(out: &mut Vec<u8>, rules: &[Rule], number: usize) -> Result<(), AllocError>
-    ensures { OnOk result (out.new.items ≡ out.old.items ++ rule_name rules.now number) }
+/// Appends the name of the rule of a number, and the place of its table if that has another number, or `default` for 0.
+pub(crate) fn put_name(
+    out: &mut Vec<u8>,
+    names: &Names<'_>,
+    number: usize,
+) -> Result<(), AllocError>
+    ensures { OnOk result (out.new.items ≡ out.old.items ++ rule_name names.now number) }
 {
     if number == 0 {
         return out.extend_from_slice(b"default");
     }
-    match rules.get(number - 1) {
+    put_name_of(out, names.rules(), number)?;
+    put_place_at(out, names.tables(), names.lines(), number)
+}
+
+fn put_name_of(out: &mut Vec<u8>, rules: &[Rule], number: usize) -> Result<(), AllocError>
+    ensures { OnOk result (out.new.items ≡ out.old.items ++ name_of rules.now number) }
+{
+    match rules.get(number.saturating_sub(1)) {
         Some(rule) => out.extend_from_slice(rule.name.as_str().as_bytes()),
         None => Ok(()),
     }

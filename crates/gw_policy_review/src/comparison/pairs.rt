@@ -7,10 +7,10 @@ ghost use Rattle.gw_policy_review.specs.comparison.Comparison.{has_lines};
 ghost use Rattle.gw_policy_review.specs.comparison.PairLines.{given_up_text, known_of, more_pairs_text, now_by_text, pair_text, pairs_text, was_by_text};
 
 use crate::comparison::lines::{put_name, verdict};
+use crate::comparison::naming::Names;
 use gw_addr::{put_decimal, put_slice};
 use gw_ask_sets::ask_text::put_ask;
 use gw_ask_sets::regions::{Pair, Pairs, Policies, ShownPair, pairs_of};
-use gw_rules::Rule;
 use std::alloc::{AllocError, Global};
 
 /// The pairs of rules that decide an ask otherwise, if so many regions are left.
@@ -43,8 +43,8 @@ pub(crate) fn have_lines(pairs: &Option<Pairs>) -> bool
 /// Appends the lines of at most so many pairs, and how many are left out.
 pub(crate) fn put_pairs(
     out: &mut Vec<u8>,
-    old: &[Rule],
-    new: &[Rule],
+    old: &Names<'_>,
+    new: &Names<'_>,
     most: usize,
     found: &[ShownPair],
 ) -> Result<(), AllocError>
@@ -57,8 +57,8 @@ pub(crate) fn put_pairs(
 
 fn put_each_pair(
     out: &mut Vec<u8>,
-    old: &[Rule],
-    new: &[Rule],
+    old: &Names<'_>,
+    new: &Names<'_>,
     found: &[ShownPair],
 ) -> Result<(), AllocError>
     ensures { OnOk result (out.new.items ≡ out.old.items ++ flat_map (pair_text old.now new.now) found.now) }
@@ -72,8 +72,8 @@ fn put_each_pair(
 /// Appends the line of a pair.
 fn put_pair(
     out: &mut Vec<u8>,
-    old: &[Rule],
-    new: &[Rule],
+    old: &Names<'_>,
+    new: &Names<'_>,
     shown: &ShownPair,
 ) -> Result<(), AllocError>
     ensures { OnOk result (out.new.items ≡ out.old.items ++ pair_text old.now new.now shown.now) }
@@ -85,7 +85,7 @@ fn put_pair(
     put_slice(out, b"\n")
 }
 
-fn put_now_by(out: &mut Vec<u8>, new: &[Rule], pair: Pair) -> Result<(), AllocError>
+fn put_now_by(out: &mut Vec<u8>, new: &Names<'_>, pair: Pair) -> Result<(), AllocError>
     ensures { OnOk result (out.new.items ≡ out.old.items ++ now_by_text new.now pair) }
 {
     out.extend_from_slice(b"now ")?;
@@ -94,7 +94,7 @@ fn put_now_by(out: &mut Vec<u8>, new: &[Rule], pair: Pair) -> Result<(), AllocEr
     put_name(out, new, pair.new)
 }
 
-fn put_was_by(out: &mut Vec<u8>, old: &[Rule], pair: Pair) -> Result<(), AllocError>
+fn put_was_by(out: &mut Vec<u8>, old: &Names<'_>, pair: Pair) -> Result<(), AllocError>
     ensures { OnOk result (out.new.items ≡ out.old.items ++ was_by_text old.now pair) }
 {
     out.extend_from_slice(b" (was ")?;

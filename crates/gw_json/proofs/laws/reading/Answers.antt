@@ -1,4 +1,5 @@
 use Rattle.gw_json.proofs.Checks.{checks_read, faults_read}
+use Rattle.gw_json.proofs.PairShallow.{given_up_read, paired_read, pairs_read}
 use Rattle.gw_json.proofs.Reading.{answers_read, denials_read, others_read}
 use Rattle.gw_json.proofs.Shallow.{comparisons_read, differences_read, summaries_read}
 use Rattle.gw_json.proofs.laws.reading.Goals as goal
@@ -26,3 +27,12 @@ returns-clause-checks c = checks_read
 
 pub returns-clause-faults : goal.returns-clause-faults
 returns-clause-faults c = faults_read
+
+pub returns-clause-pairs : goal.returns-clause-pairs
+returns-clause-pairs c = pairs_read
+
+pub returns-clause-paired : goal.returns-clause-paired
+returns-clause-paired c = paired_read
+
+pub returns-clause-given_up : goal.returns-clause-given_up
+returns-clause-given_up c = given_up_read

@@ -155,12 +155,12 @@ pub returns-in-Ok-Compare-clause-followed : goal.returns-in-Ok-Compare-clause-fo
 returns-in-Ok-Compare-clause-followed g c =
     let chosen = choice.Compare c.in-Ok-Compare.old c.in-Ok-Compare.new c.in-Ok-Compare.most c.in-Ok-Compare.steps in
     let is : c.args.choice.now ≡ Ok chosen = search rules in
-    let old = c.configuration_in.result in
-    let new = c.configuration_in-in-Ok-Compare.result in
-    let first = subst (λ (name : List ℕ). IsConfigured (g.F.ConfigFiles.Reads c.args.files.now) (Some name) old)
-    c.deref-in-Ok-Compare.ensures c.configuration_in.ensures in
-    let second = subst (λ (name : List ℕ). IsConfigured (g.F.ConfigFiles.Reads c.args.files.now) (Some name) new)
-    c.deref-in-Ok-Compare-2.ensures c.configuration_in-in-Ok-Compare.ensures in
+    let old = c.placed_in.result in
+    let new = c.placed_in-in-Ok-Compare.result in
+    let first = subst (λ (name : List ℕ). IsPlacedIn (g.F.ConfigFiles.Reads c.args.files.now) name old)
+    c.deref-in-Ok-Compare.ensures c.placed_in.ensures in
+    let second = subst (λ (name : List ℕ). IsPlacedIn (g.F.ConfigFiles.Reads c.args.files.now) name new)
+    c.deref-in-Ok-Compare-2.ensures c.placed_in-in-Ok-Compare.ensures in
     let done = c.compare.ensures.said in
     reported _ _ c.args.choice.now (Ok chosen) c.compare.result done.0 is tt (old, first, new, second, c.compare.ensures.output, done.1) done.2
 

@@ -3,8 +3,8 @@ use Rattle.std.specs.Global.{Vec}
 use Rattle.std.specs.Io.Buffered.{writer_contents}
 use Rattle.std.specs.Prelude.{string_bytes}
 use Rattle.gw_tool_line.specs.declared.options.Shown.{Shown}
-use Rattle.gw_ending.specs.reading.Configured.{IsConfigured}
 use Rattle.gw_ending.specs.reading.Files.{result_map}
+use Rattle.gw_tools.specs.Placed.{IsPlacedIn}
 use Rattle.gw_tools.specs.Reloading.{answers_by}
 use Rattle.gw_tools.specs.Program.{LeavesReload, LeavesReloadOf, LeavesReloadShown}
 use Rattle.gw_notices.proofs.AppendLemmas.{appends_nothing}
@@ -20,8 +20,8 @@ returns-in-Some-clause-reloaded g c =
     let held = contents c.args.output.now in
     let mid = contents c.sound_of-new.new.output in
     let holds = contents c.reload_shown.new.output in
-    let old = c.configuration_in-old.result in
-    let new = c.sound_of-new.result in
+    let old = c.placed_in-old.result in
+    let new = c.placed_as-new.result in
     let said = c.reload_shown.ensures.said in
     let name : c.deref.result.now ≡ string_bytes c.in-Some.shown.old = search rules in
     let is : c.args.asking.now.was.now ≡ Some c.in-Some.shown = c.in-Some.is in
@@ -32,10 +32,12 @@ returns-in-Some-clause-reloaded g c =
         c.configuration_of-read.result,
         c.configuration_of-read.ensures,
         mid,
-        new,
+        c.sound_of-new.result,
         c.sound_of-new.ensures,
         old,
-        subst (λ (name : List ℕ). IsConfigured reads (Some name) old) name c.configuration_in-old.ensures,
+        subst (λ (name : List ℕ). IsPlacedIn reads name old) name c.placed_in-old.ensures,
+        new,
+        c.placed_as-new.ensures,
         shown,
         said.1,
       ),

@@ -2,7 +2,7 @@ use Rattle.std.proofs.Common.{◌∙◌, subst}
 use Rattle.std.proofs.lemmas.Result.{IfOk-weaker}
 use Rattle.gw_configuration.specs.Configuration.{Configuration}
 use Rattle.gw_policy_review.specs.comparison.Comparing.{IsUnderWay}
-use Rattle.gw_policy_review.specs.comparison.Comparison.{AppendsComparison}
+use Rattle.gw_policy_review.specs.comparison.Comparison.{AppendsComparison, manner_of}
 use Rattle.gw_policy_review.specs.declared.comparison.comparison.Compared.{Compared}
 use Rattle.gw_policy_review.proofs.comparison.comparison.put_comparison.Goals as goal
 
@@ -10,7 +10,7 @@ pub returns-clause-ok : goal.returns-clause-ok
 returns-clause-ok c =
     let old = c.args.old.now in
     let new = c.args.new.now in
-    let most = c.args.most in
+    let most = manner_of c.args.how in
     let before = c.args.out.now.items in
     let after = c.put.new.out.items in
     let at = c.go_on.new.self in
