@@ -15,7 +15,7 @@ use Rattle.gw_policy_review.specs.comparison.PairLines.{given_up_text, more_pair
 use Rattle.gw_policy_review.specs.comparison.PartLines.{details}
 use Rattle.gw_policy_review.specs.comparison.Words.{region_text}
 use Rattle.gw_policy_review.specs.declared.comparison.comparison.Compared.{Compared}
-use Rattle.gw_policy_review.specs.lint.Text.{ask_fields_text}
+use Rattle.gw_ask_sets.specs.AskText.{ask_fields_text}
 use Rattle.gw_policy_review.proofs.PlacesLaw.{left_out}
 
 -- two name each rule alike
