@@ -405,8 +405,9 @@ same 'what stood in the log before a run' "$(cat "$work/log"; echo .)" 'a line o
 "$program" run --config "$work/loopback.toml" --log "$work/made.log" --turns 1 < /dev/null 2> /dev/null
 same 'the status of a run that makes its log' "$?" 0
 "$program" run --config "$work/loopback.toml" --log "$work/stamped.log" --stamp --turns 1 < /dev/null 2> /dev/null
-same 'a log with stamps begins with a note' "$(sed -E 's/^[0-9]{4}(-[0-9]{2}){2}T[0-9]{2}(:[0-9]{2}){2}Z /TIME /' "$work/stamped.log")" \
-    "TIME # $("$program" --version | cut -d, -f1) began"
+same 'a log with stamps begins and ends with a note' "$(sed -E 's/^[0-9]{4}(-[0-9]{2}){2}T[0-9]{2}(:[0-9]{2}){2}Z /TIME /' "$work/stamped.log")" \
+    "TIME # $("$program" --version | cut -d, -f1) began
+TIME # $("$program" --version | cut -d, -f1) ended"
 same 'who may read a log that was made' "$(stat -c %a "$work/made.log")" 600
 ln -s "$work/made.log" "$work/link.log"
 ran 1 "bacgw: log failed: $work/link.log" --config "$work/loopback.toml" --log "$work/link.log" --turns 1
@@ -582,7 +583,9 @@ if "$program" run --help | grep -q -e --metrics; then
     timeout 3 "$program" run --config "$work/served.toml" --metrics "$work/bacgw.prom" --turns 200 < /dev/null > "$work/out" 2> "$work/err"
     same 'the ticks of metrics' "$(sed -n 's/^bacgw_ticks_total //p' "$work/bacgw.prom")" 1
     same 'the ports of metrics' "$(grep -c '^bacgw_foreign_devices{' "$work/bacgw.prom")" 2
-    same 'the families of metrics' "$(grep -c '^# TYPE ' "$work/bacgw.prom")" 18
+    same 'the families of metrics' "$(grep -c '^# TYPE ' "$work/bacgw.prom")" 20
+    same 'the version in metrics' "$(sed -n 's/^bacgw_build_info//p' "$work/bacgw.prom")" '{version="0.1.0"} 1'
+    same 'the age of a configuration' "$(sed -n 's/^bacgw_configuration_age_seconds //p' "$work/bacgw.prom")" 1
     same 'the mode of metrics' "$(stat -c %a "$work/bacgw.prom")" 644
     (umask 077; timeout 3 "$program" run --config "$work/served.toml" --metrics "$work/masked.prom" --turns 3 < /dev/null > "$work/out" 2> "$work/err")
     same 'their mode under another mask' "$(stat -c %a "$work/masked.prom")" 644

@@ -87,6 +87,7 @@ lacks_by (x ∷ xs) h =
     lacks_cons 10 x xs (λ e. false≢true (subst (λ (n : ℕ). not (n == 10) ≡ true) e parts.0)) (lacks_by xs parts.1)
 
 name_lacks : (f : Family) → has_no_feed (family_name f) ≡ true
+name_lacks family.Build = refl
 name_lacks family.Ticks = refl
 name_lacks family.Received = refl
 name_lacks family.Taken = refl
@@ -103,12 +104,14 @@ name_lacks family.ForeignDevices = refl
 name_lacks family.Peers = refl
 name_lacks family.LearnedRoutes = refl
 name_lacks family.Reloads = refl
+name_lacks family.ConfigurationAge = refl
 name_lacks family.StateIsKept = refl
 name_lacks family.UnkeptStates = refl
 name_lacks family.LostLines = refl
 name_lacks family.LostMetrics = refl
 
 help_lacks : (f : Family) → has_no_feed (family_help f) ≡ true
+help_lacks family.Build = refl
 help_lacks family.Ticks = refl
 help_lacks family.Received = refl
 help_lacks family.Taken = refl
@@ -125,6 +128,7 @@ help_lacks family.ForeignDevices = refl
 help_lacks family.Peers = refl
 help_lacks family.LearnedRoutes = refl
 help_lacks family.Reloads = refl
+help_lacks family.ConfigurationAge = refl
 help_lacks family.StateIsKept = refl
 help_lacks family.UnkeptStates = refl
 help_lacks family.LostLines = refl
@@ -135,6 +139,7 @@ kind_lacks Counter = refl
 kind_lacks Gauge = refl
 
 label_lacks : (l : Label) → has_no_feed (label_name l) ≡ true
+label_lacks label.Version = refl
 label_lacks label.Reason = refl
 label_lacks label.Rule = refl
 label_lacks label.Port = refl

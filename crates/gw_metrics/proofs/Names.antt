@@ -4,6 +4,7 @@ use Rattle.gw_metrics.specs.Laws.{CountersAreTotals, NamesDiffer}
 use Rattle.gw_metrics.specs.declared.family.Family.TheVariants as family
 
 pub names_differ : NamesDiffer
+names_differ family.Build = refl
 names_differ family.Ticks = refl
 names_differ family.Received = refl
 names_differ family.Taken = refl
@@ -20,12 +21,14 @@ names_differ family.ForeignDevices = refl
 names_differ family.Peers = refl
 names_differ family.LearnedRoutes = refl
 names_differ family.Reloads = refl
+names_differ family.ConfigurationAge = refl
 names_differ family.StateIsKept = refl
 names_differ family.UnkeptStates = refl
 names_differ family.LostLines = refl
 names_differ family.LostMetrics = refl
 
 pub counters_are_totals : CountersAreTotals
+counters_are_totals family.Build = refl
 counters_are_totals family.Ticks = refl
 counters_are_totals family.Received = refl
 counters_are_totals family.Taken = refl
@@ -42,6 +45,7 @@ counters_are_totals family.ForeignDevices = refl
 counters_are_totals family.Peers = refl
 counters_are_totals family.LearnedRoutes = refl
 counters_are_totals family.Reloads = refl
+counters_are_totals family.ConfigurationAge = refl
 counters_are_totals family.StateIsKept = refl
 counters_are_totals family.UnkeptStates = refl
 counters_are_totals family.LostLines = refl

@@ -10,7 +10,8 @@ use Rattle.gw_metrics.specs.declared.family.Label.TheVariants as label
 -- all of them, in the order of the text
 abbrev pub families : List Family
 families =
-    family.Ticks
+    family.Build
+    ∷ family.Ticks
     ∷ family.Received
     ∷ family.Taken
     ∷ family.Drops
@@ -26,6 +27,7 @@ families =
     ∷ family.Peers
     ∷ family.LearnedRoutes
     ∷ family.Reloads
+    ∷ family.ConfigurationAge
     ∷ family.StateIsKept
     ∷ family.UnkeptStates
     ∷ family.LostLines
@@ -33,6 +35,7 @@ families =
     ∷ []
 
 abbrev pub family_name : Family → List ℕ
+family_name family.Build = codes "bacgw_build_info"
 family_name family.Ticks = codes "bacgw_ticks_total"
 family_name family.Received = codes "bacgw_datagrams_received_total"
 family_name family.Taken = codes "bacgw_datagrams_taken_total"
@@ -49,12 +52,14 @@ family_name family.ForeignDevices = codes "bacgw_foreign_devices"
 family_name family.Peers = codes "bacgw_peers"
 family_name family.LearnedRoutes = codes "bacgw_learned_routes"
 family_name family.Reloads = codes "bacgw_reloads_total"
+family_name family.ConfigurationAge = codes "bacgw_configuration_age_seconds"
 family_name family.StateIsKept = codes "bacgw_state_is_kept"
 family_name family.UnkeptStates = codes "bacgw_unkept_states_total"
 family_name family.LostLines = codes "bacgw_lost_lines_total"
 family_name family.LostMetrics = codes "bacgw_lost_metrics_total"
 
 abbrev pub family_help : Family → List ℕ
+family_help family.Build = codes "1, with the version of the program."
 family_help family.Ticks = codes "Ticks that were taken, one for each second."
 family_help family.Received = codes "Datagrams that came to the ports."
 family_help family.Taken = codes "Datagrams that the gateway took, dropped ones included."
@@ -71,6 +76,7 @@ family_help family.ForeignDevices = codes "Foreign devices that are registered, 
 family_help family.Peers = codes "Other broadcast managers of all ports."
 family_help family.LearnedRoutes = codes "Networks whose router was learned."
 family_help family.Reloads = codes "Configurations that were read again, by whether they were taken over."
+family_help family.ConfigurationAge = codes "Seconds since the configuration in force was read, at the start or the last reload."
 family_help family.StateIsKept = codes "1 if the last try to keep the state succeeded, else 0."
 family_help family.UnkeptStates = codes "Tries to keep the state that failed."
 family_help family.LostLines = codes "Lines that were lost of the log of a trial or of an audit."
@@ -78,6 +84,7 @@ family_help family.LostMetrics = codes "Times that this text could not be writte
 
 -- a counter only grows or begins anew, a gauge also falls
 abbrev pub family_kind : Family → Kind
+family_kind family.Build = Gauge
 family_kind family.Ticks = Counter
 family_kind family.Received = Counter
 family_kind family.Taken = Counter
@@ -94,6 +101,7 @@ family_kind family.ForeignDevices = Gauge
 family_kind family.Peers = Gauge
 family_kind family.LearnedRoutes = Gauge
 family_kind family.Reloads = Counter
+family_kind family.ConfigurationAge = Gauge
 family_kind family.StateIsKept = Gauge
 family_kind family.UnkeptStates = Counter
 family_kind family.LostLines = Counter
@@ -104,6 +112,7 @@ kind_name Counter = codes "counter"
 kind_name Gauge = codes "gauge"
 
 abbrev pub label_name : Label → List ℕ
+label_name label.Version = codes "version"
 label_name label.Reason = codes "reason"
 label_name label.Rule = codes "rule"
 label_name label.Port = codes "port"

@@ -65,6 +65,10 @@ unfoldable pub numbered : {A : Type 0} → (ℕ → A → Sample) → ℕ → Li
 numbered sample number [] = []
 numbered sample number (item ∷ items) = sample number item ∷ numbered sample (number + 1) items
 
+-- a 1 that has the version
+abbrev pub build_samples : List Sample
+build_samples = labelled label.Version (codes "0.1.0") 1 ∷ []
+
 abbrev pub drop_samples : Drops → List Sample
 drop_samples d =
     labelled label.Reason (codes "enter") d.enter
@@ -127,6 +131,7 @@ unkept_samples (Some tries) = single tries.unkept
 
 -- the samples of a family, if it is counted
 abbrev pub samples_of : Counts → Family → Option (List Sample)
+samples_of c family.Build = Some build_samples
 samples_of c family.Ticks = single c.ticks
 samples_of c family.Received = single c.received
 samples_of c family.Taken = single c.taken
@@ -143,6 +148,7 @@ samples_of c family.ForeignDevices = Some (numbered port_sample 1 c.foreign_devi
 samples_of c family.Peers = single c.peers
 samples_of c family.LearnedRoutes = single c.learned_routes
 samples_of c family.Reloads = Some (reload_samples c.reloads)
+samples_of c family.ConfigurationAge = single c.configuration_age
 samples_of c family.StateIsKept = kept_samples c.state
 samples_of c family.UnkeptStates = unkept_samples c.state
 samples_of c family.LostLines = Some (lost_samples c.lost_trial_lines c.lost_audit_lines)

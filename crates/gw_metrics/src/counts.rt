@@ -75,6 +75,8 @@ pub struct Counts<'a> {
     pub learned_routes: u64,
     /// How often the configuration was read again.
     pub reloads: Reloads,
+    /// How many seconds ago the configuration in force was read.
+    pub configuration_age: u64,
     /// How the state is kept, if it is.
     pub state: Option<StateTries>,
     /// How many lines of a policy on trial were lost.

@@ -6,6 +6,8 @@ ghost use Rattle.gw_metrics.specs.Family.{family_help, family_kind, family_name,
 /// A family of metrics: what is counted, with a name of its own.
 #[derive(Clone, Copy)]
 pub enum Family {
+    /// The version of the program, as the label of a 1.
+    Build,
     /// How many ticks were taken.
     Ticks,
     /// How many datagrams came to the ports.
@@ -38,6 +40,8 @@ pub enum Family {
     LearnedRoutes,
     /// How often the configuration was read again, by the outcome.
     Reloads,
+    /// How many seconds ago the configuration in force was read.
+    ConfigurationAge,
     /// Whether the last try to keep the state succeeded: 1, or else 0.
     StateIsKept,
     /// How many tries to keep the state failed.
@@ -60,6 +64,8 @@ pub enum Kind {
 /// What the samples of a family are told apart by.
 #[derive(Clone, Copy)]
 pub enum Label {
+    /// The version of the program.
+    Version,
     /// Why a datagram wasn't passed on.
     Reason,
     /// The name of a rule.
@@ -90,6 +96,7 @@ impl Label {
         ensures { result.now ≡ label_name self }
     {
         match self {
+            Label::Version => "version",
             Label::Reason => "reason",
             Label::Rule => "rule",
             Label::Port => "port",
@@ -101,7 +108,8 @@ impl Label {
 
 impl Family {
     /// All families, in the order of the text.
-    pub const ALL: [Family; 20] = [
+    pub const ALL: [Family; 22] = [
+        Family::Build,
         Family::Ticks,
         Family::Received,
         Family::Taken,
@@ -118,6 +126,7 @@ impl Family {
         Family::Peers,
         Family::LearnedRoutes,
         Family::Reloads,
+        Family::ConfigurationAge,
         Family::StateIsKept,
         Family::UnkeptStates,
         Family::LostLines,
@@ -129,6 +138,7 @@ impl Family {
         ensures { result.now ≡ family_name self }
     {
         match self {
+            Family::Build => "bacgw_build_info",
             Family::Ticks => "bacgw_ticks_total",
             Family::Received => "bacgw_datagrams_received_total",
             Family::Taken => "bacgw_datagrams_taken_total",
@@ -145,6 +155,7 @@ impl Family {
             Family::Peers => "bacgw_peers",
             Family::LearnedRoutes => "bacgw_learned_routes",
             Family::Reloads => "bacgw_reloads_total",
+            Family::ConfigurationAge => "bacgw_configuration_age_seconds",
             Family::StateIsKept => "bacgw_state_is_kept",
             Family::UnkeptStates => "bacgw_unkept_states_total",
             Family::LostLines => "bacgw_lost_lines_total",
@@ -157,8 +168,12 @@ impl Family {
         ensures { result ≡ family_kind self }
     {
         match self {
-            Family::ForeignDevices | Family::Peers | Family::LearnedRoutes | Family::StateIsKept =>
-                Kind::Gauge,
+            Family::Build
+            | Family::ForeignDevices
+            | Family::Peers
+            | Family::LearnedRoutes
+            | Family::ConfigurationAge
+            | Family::StateIsKept => Kind::Gauge,
             _ => Kind::Counter,
         }
     }
@@ -168,6 +183,7 @@ impl Family {
         ensures { result.now ≡ family_help self }
     {
         match self {
+            Family::Build => "1, with the version of the program.",
             Family::Ticks => "Ticks that were taken, one for each second.",
             Family::Received => "Datagrams that came to the ports.",
             Family::Taken => "Datagrams that the gateway took, dropped ones included.",
@@ -187,6 +203,8 @@ impl Family {
             Family::LearnedRoutes => "Networks whose router was learned.",
             Family::Reloads =>
                 "Configurations that were read again, by whether they were taken over.",
+            Family::ConfigurationAge =>
+                "Seconds since the configuration in force was read, at the start or the last reload.",
             Family::StateIsKept => "1 if the last try to keep the state succeeded, else 0.",
             Family::UnkeptStates => "Tries to keep the state that failed.",
             Family::LostLines => "Lines that were lost of the log of a trial or of an audit.",

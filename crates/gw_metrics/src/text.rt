@@ -4,7 +4,7 @@ ghost use Rattle.std.specs.Prelude.{◌≡◌, ◌++◌, ◌+◌, [], ◌∷◌,
 ghost use Rattle.std.specs.List.{flat_map};
 ghost use Rattle.gw_script.specs.Order.{in_order};
 ghost use Rattle.gw_metrics.specs.Family.{families};
-ghost use Rattle.gw_metrics.specs.Text.{Count, Help, KindOf, decided_samples, decision_samples, drop_samples, family_lines, family_text, full_line, kept_samples, labelled, label_text, lines_text, lost_samples, metrics_text, number_if, numbered, plain, port_line, port_sample, reload_samples, rule_line, single, unkept_samples};
+ghost use Rattle.gw_metrics.specs.Text.{Count, Help, KindOf, build_samples, decided_samples, decision_samples, drop_samples, family_lines, family_text, full_line, kept_samples, labelled, label_text, lines_text, lost_samples, metrics_text, number_if, numbered, plain, port_line, port_sample, reload_samples, rule_line, single, unkept_samples};
 
 use crate::counts::{Counts, Drops, Reloads, StateTries};
 use crate::escape::put_escaped;
@@ -14,6 +14,9 @@ use gw_decisions::tally::Tally;
 use gw_rules::{Rule, RuleList};
 use itoa::Buffer;
 use std::alloc::{AllocError, Global};
+
+/// The version of the program.
+const VERSION: &str = "0.1.0";
 
 /// Appends the text of metrics: of each family in order what it is, its kind, and its samples.
 ///
@@ -63,6 +66,7 @@ fn put_family(family: Family, counts: &Counts<'_>, out: &mut Vec<u8>) -> Result<
     ensures { OnOk result (out.new.items ≡ out.old.items ++ family_text counts.now family) }
 {
     match family {
+        Family::Build => put_build(out),
         Family::Ticks => put_single(family, u128::from(counts.ticks), out),
         Family::Received => put_single(family, u128::from(counts.received), out),
         Family::Taken => put_single(family, u128::from(counts.taken), out),
@@ -79,6 +83,9 @@ fn put_family(family: Family, counts: &Counts<'_>, out: &mut Vec<u8>) -> Result<
         Family::Peers => put_single(family, u128::from(counts.peers), out),
         Family::LearnedRoutes => put_single(family, u128::from(counts.learned_routes), out),
         Family::Reloads => put_reloads(counts.reloads, out),
+        Family::ConfigurationAge => {
+            put_single(family, u128::from(counts.configuration_age), out)
+        }
         Family::StateIsKept => put_is_kept(counts.state, out),
         Family::UnkeptStates => put_unkept(counts.state, out),
         Family::LostLines => put_lost_lines(counts.lost_trial_lines, counts.lost_audit_lines, out),
@@ -167,6 +174,13 @@ fn put_single(family: Family, number: u128, out: &mut Vec<u8>) -> Result<(), All
 {
     put_head(family, out)?;
     put_plain(family, number, out)
+}
+
+fn put_build(out: &mut Vec<u8>) -> Result<(), AllocError>
+    ensures { OnOk result (out.new.items ≡ out.old.items ++ lines_text (family_lines Family.Build (Some build_samples))) }
+{
+    put_head(Family::Build, out)?;
+    put_labelled(Family::Build, Label::Version, VERSION.as_bytes(), 1, out)
 }
 
 /// Appends a reason for which datagrams weren't passed on.

@@ -1,5 +1,5 @@
 -- What is known of metrics that are put at a tick.
-use Rattle.std.proofs.Common.{◌≡◌, ℕ, Bool, true, false, if◌then◌else◌, List, Option, Some, None, ap, subst}
+use Rattle.std.proofs.Common.{◌≡◌, ℕ, ◌-◌, Bool, true, false, if◌then◌else◌, List, Option, Some, None, ap, subst}
 use Rattle.gw_core.specs.State.{State}
 use Rattle.gw_core.specs.declared.event.Counts.{Counts}
 use Rattle.gw_metrics.proofs.file_lemmas.Metered.{ticks_are_metered, tries_are_metered}
@@ -20,6 +20,7 @@ abbrev measured_then : Counts → State → Served → Tally → ReloadCounts �
 measured_then start w s t reloads announcing losses tries = record {
   report = report_of start w s t;
   reloads = reloads;
+  age = w.ticks - reloads.since;
   announcing = announcing;
   losses = losses;
   tries = tries;

@@ -28,6 +28,7 @@ measures_of start w s tally reloads announcing losses tries =
     then Some (record {
       report = report_of start w s tally;
       reloads = reloads;
+      age = w.ticks - reloads.since;
       announcing = announcing;
       losses = losses;
       tries = tries;
@@ -72,6 +73,7 @@ pub record AreCounts (m : Measures) (in_force : List Rule) (decided : Option (Li
   pub peers : c.peers ≡ m.report.peers
   pub learned_routes : c.learned_routes ≡ m.report.learned_routes
   pub reloads : c.reloads ≡ reloads_of m.reloads
+  pub configuration_age : c.configuration_age ≡ m.age
   pub state : c.state ≡ m.tries
   pub lost_trial_lines : c.lost_trial_lines ≡ m.losses.trial_lines
   pub lost_audit_lines : c.lost_audit_lines ≡ m.losses.audit_lines

@@ -27,6 +27,8 @@ pub(crate) struct Measures {
     pub report: Report,
     /// How often its configuration was read again.
     pub reloads: ReloadCounts,
+    /// How many ticks ago the configuration in force was read.
+    pub age: u64,
     /// What was announced.
     pub announcing: Announcing,
     /// How much of what is watched was lost.
@@ -85,6 +87,7 @@ fn counts_of<'a>(
     let Measures {
         report,
         reloads,
+        age,
         announcing,
         losses,
         tries,
@@ -107,6 +110,7 @@ fn counts_of<'a>(
         peers: report.peers,
         learned_routes: report.learned_routes,
         reloads: reloads_of(reloads),
+        configuration_age: age,
         state: tries,
         lost_trial_lines: losses.trial_lines,
         lost_audit_lines: losses.audit_lines,

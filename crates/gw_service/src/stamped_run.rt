@@ -9,32 +9,60 @@ ghost use Rattle.gw_system.specs.Host.{OpensAtLine};
 ghost use Rattle.gw_system.specs.StampedHost.{log_if};
 ghost use Rattle.gw_service.specs.Kept.{LeavesService, state_machine, whole_machine};
 ghost use Rattle.gw_service.specs.Serving.{IsFlushedFor, machine};
-ghost use Rattle.gw_service.specs.StampedRun.{LeavesTimed, timed_machine, whole_with_stamps};
+ghost use Rattle.gw_service.specs.StampedRun.{EndsIn, IsEndedIn, LeavesTimed, timed_machine, whole_with_stamps};
 
 use crate::fault::ServiceFault;
 use crate::serving::serve_ports;
 use gw_configuration::{Config, RunOptions};
-use gw_log_words::{Noted, Stamped};
+use gw_log_words::{Calendar, Noted, Stamped};
 use gw_script::OctetSink;
 use gw_system::{Host, StampedHost, into_log};
 use std::alloc::Global;
 use std::io::{BufWriter, Write};
 
+/// The last note of a log, with the version of the program.
+const ENDED: &[u8] = b"bacgw 0.1.0 ended";
+
 /// The sockets and the log that were closed on a machine with stamps, if some were.
 type Closed<S, L, C> = Option<(S, Option<Noted<Stamped<L, C>>>)>;
 
-/// Closes what was closed on a machine with stamps.
+/// Gives a log its last note. If that can't be written the log goes without.
+fn note_end<L: OctetSink + Drop, C: Calendar + Drop>(noted: &mut Noted<Stamped<L, C>>)
+    ensures { IsEndedIn L.held noted.old noted.new }
+{
+    let _ = noted.note(ENDED);
+}
+
+/// The log with its last note, if there is one.
+fn ended<L: OctetSink + Drop, C: Calendar + Drop>(
+    log: Option<Noted<Stamped<L, C>>>,
+) -> Option<Noted<Stamped<L, C>>>
+    ensures { EndsIn L.held log result }
+{
+    match log {
+        Some(log) => {
+            let mut noted = log;
+            note_end(&mut noted);
+            Some(noted)
+        }
+        None => None,
+    }
+}
+
+/// Closes what was closed on a machine with stamps. The log gets its last note first.
 fn close_on<H: Host>(host: &mut H, closed: Closed<H::Sockets, H::Log, H::Calendar>)
     ensures { (sockets : H.Sockets) → (log : Option (Noted (Stamped H.Log H.Calendar))) → closed ≡ Some (sockets, log) →
-        H.Closes host.new sockets (log_if log) }
+        (last : Option (Noted (Stamped H.Log H.Calendar))) × EndsIn H.Log.held log last
+        × H.Closes host.new sockets (log_if last) }
 {
     if let Some((sockets, log)) = closed {
-        host.close(sockets, into_log(log));
+        host.close(sockets, into_log(ended(log)));
     }
 }
 
 /// Serves the ports of a configuration with stamps and notes: each line of a log in a file begins with the time, and each log gets a
-/// note when it is opened. What a log holds without them is what it holds by [`serve_ports`]. A log on standard output has neither.
+/// note when it is opened, and that of the denials another when it is closed. What a log holds without them is what it holds by
+/// [`serve_ports`]. A log on standard output has neither.
 /// Faults: those of [`serve_ports`].
 fn serve_stamped<H: Host, W: Write + Drop, E: OctetSink>(
     alloc: Global,
@@ -64,8 +92,8 @@ fn serve_stamped<H: Host, W: Write + Drop, E: OctetSink>(
 }
 
 /// Serves the ports of a configuration as [`serve_ports`] does. If the options ask for stamps, each line of a log in a file begins with
-/// the time, and each log gets a note when it is opened; without both it holds what it would hold then. A log on standard output has
-/// neither.
+/// the time, and each log gets a note when it is opened, and that of the denials another when it is closed; without both it
+/// holds what it would hold then. A log on standard output has neither.
 ///
 /// # Errors
 ///

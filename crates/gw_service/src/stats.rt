@@ -110,6 +110,7 @@ impl Schedule {
             Some(Measures {
                 report: report_of(self.start, gateway, &state.served, state.tally),
                 reloads: counts.reloads,
+                age: gateway.counts().ticks.saturating_sub(counts.reloads.since),
                 announcing: counts.announcing,
                 losses: keeper.losses(),
                 tries: keeper.tries(),

@@ -1,7 +1,8 @@
 -- What is kept of a gateway in a store: the text of its state, before what lasts is answered, and each ten ticks.
-use Rattle.std.specs.Prelude.{◌≡◌, ◌⊎◌, ℕ, ◌+◌, ◌-◌, ◌<◌, ◌≤◌, ◌^◌, ◌&&◌, Bool, true, false, if◌then◌else◌, nat_eq, nat_le, List, [], map, Option, Some, None, ⊤}
+use Rattle.std.specs.Prelude.{◌≡◌, ◌⊎◌, ℕ, ◌+◌, ◌-◌, ◌<◌, ◌≤◌, ◌^◌, ◌&&◌, ◌||◌, ◌==◌, not, Bool, true, false, if◌then◌else◌, length, nat_eq, nat_le, nat_lt, List, [], map, Option, Some, None, ⊤}
 use Rattle.std.specs.Prelude.{Result, Ok, Err}
 use Rattle.std.specs.Cmp.Lexicographic.{pointwise}
+use Rattle.std.specs.List.{list_any}
 use Rattle.gw_objects.specs.declared.value.PropertyValue.{PropertyValue}
 use Rattle.gw_objects.specs.Values.{same_value}
 use Rattle.gw_tables.specs.declared.routes.route.Route.{Route}
@@ -20,6 +21,7 @@ use Rattle.gw_turns.specs.Pace.{fresh_pace, is_resting, may_try, one_more, paced
 use Rattle.gw_turns.specs.declared.pace.Pace.{Pace}
 use Rattle.gw_turns.specs.declared.alike.Part.{Part}
 use Rattle.gw_turns.specs.declared.alike.Part.TheVariants.{Lasting, AllButTicks}
+use Rattle.gw_turns.specs.declared.alike.TheConstants.{OLDEST_TICKS}
 use Rattle.gw_wire.specs.Store.{Holds}
 use Rattle.gw_wire.specs.declared.store.StoreFault.{StoreFault}
 use Rattle.gw_wire.specs.declared.store.StoreFault.TheVariants.{Memory, TooMany}
@@ -122,6 +124,20 @@ AlikeButTicksIsEqual = (a b : Saved) → alike_but_ticks a b ≡ true → but_ti
 abbrev pub EqualButTicksIsAlike : Type 0
 EqualButTicksIsAlike = (a b : Saved) → but_ticks a ≡ but_ticks b → alike_but_ticks a b ≡ true
 
+-- ---- whether it is fresh
+
+-- foreign devices are registered at the port
+abbrev pub has_devices : SavedPort → Bool
+has_devices p = not (length p.devices == 0)
+
+-- anybody is registered
+abbrev pub is_registering : Saved → Bool
+is_registering s = list_any has_devices s.ports
+
+-- nobody is registered in what is kept, or what is due was made fewer than 600 ticks later
+abbrev pub is_fresh : (kept due : Saved) → Bool
+is_fresh kept due = not (is_registering kept) || nat_lt due.counts.ticks (kept.counts.ticks + OLDEST_TICKS)
+
 -- ---- a keeper
 
 -- the store; what was configured of the gateway; what the store holds the text of, or why the last try failed; how many tries failed
@@ -178,10 +194,10 @@ IsTried held k w l = (kept : Bool) × Tries held k (saved_of k.origin w) l kept
 
 -- ---- what is kept only if it differs
 
--- what of two saved states is compared: what lasts, or all but the ticks
-abbrev pub is_same : Part → Saved → Saved → Bool
-is_same Lasting a b = lasts_alike a b
-is_same AllButTicks a b = alike_but_ticks a b
+-- what of a state that is due is the same as of the one that is kept: what lasts; or all but the ticks, while that is fresh
+abbrev pub is_same : Part → (kept due : Saved) → Bool
+is_same Lasting kept due = lasts_alike kept due
+is_same AllButTicks kept due = alike_but_ticks kept due && is_fresh kept due
 
 -- this of a state is kept
 abbrev pub is_kept : Part → Result Saved StoreFault → Saved → Bool
@@ -235,7 +251,7 @@ abbrev pub TicksBy : {S : Type 0} → Bool → (S → Option (List ℕ)) → Kee
 TicksBy true held k due l = (kept : Bool) × KeepsChanged AllButTicks held k due l kept
 TicksBy false held k due l = l ≡ record k { pace = rested k.pace }
 
--- what is due at a tick, in this state: if one is due, it keeps the state unless only its ticks differ
+-- what is due at a tick, in this state: if one is due, it keeps the state unless only its ticks differ and what is kept is fresh
 abbrev pub KeepsDue : {S : Type 0} → (S → Option (List ℕ)) → Keeping S → State → Keeping S → Type 0
 KeepsDue held k w l = TicksBy (is_due k.kept k.pace w.ticks) held k (saved_of k.origin w) l
 
@@ -243,14 +259,39 @@ KeepsDue held k w l = TicksBy (is_due k.kept k.pace w.ticks) held k (saved_of k.
 abbrev pub KeepsAtTick : {S : Type 0} → (S → Option (List ℕ)) → Keeping S → State → Keeping S → Type 0
 KeepsAtTick {S} held k w l = (done : Keeping S) × KeepsDue held k w done × (l ≡ record done { pace = ticked done.pace })
 
--- The text is that of a state fewer than ten ticks ago, or of one that differs only in its ticks; or the last try failed.
+-- What is kept differs only in its ticks, and is fresh.
+pub record IsAsKept (s due : Saved) : Type 0 where
+  pub same : but_ticks s ≡ but_ticks due
+  pub fresh : is_fresh s due ≡ true
+
+-- The text is that of a state fewer than ten ticks ago, or of one that differs only in its ticks and is fresh; or the last try
+-- failed.
 abbrev pub IsRecent : Result Saved StoreFault → Saved → Type 0
-IsRecent (Ok s) due = (due.counts.ticks < s.counts.ticks + 10) ⊎ (but_ticks s ≡ but_ticks due)
+IsRecent (Ok s) due = (due.counts.ticks < s.counts.ticks + 10) ⊎ IsAsKept s due
 IsRecent (Err fault) due = ⊤
 
 -- so it is after each tick
 abbrev pub TicksKeepRecent : {S : Type 0} → (S → Option (List ℕ)) → Type 0
 TicksKeepRecent {S} held = (k l : Keeping S) (w : State) → KeepsAtTick held k w l → IsRecent l.kept (saved_of l.origin w)
+
+-- While anybody is registered, the text is that of a state fewer than 600 ticks ago, or the last try failed.
+abbrev pub IsYoung : Result Saved StoreFault → Saved → Type 0
+IsYoung (Ok s) due = is_registering due ≡ true → due.counts.ticks < s.counts.ticks + 600
+IsYoung (Err fault) due = ⊤
+
+-- so it is wherever the text is recent
+abbrev pub RecentIsYoung : Type 0
+RecentIsYoung = (kept : Result Saved StoreFault) (due : Saved) → IsRecent kept due → IsYoung kept due
+
+-- and after each tick
+abbrev pub TicksKeepYoung : {S : Type 0} → (S → Option (List ℕ)) → Type 0
+TicksKeepYoung {S} held = (k l : Keeping S) (w : State) → KeepsAtTick held k w l → IsYoung l.kept (saved_of l.origin w)
+
+-- What differs only in its ticks isn't written again before: where nobody is registered never, else for fewer than 600 ticks.
+abbrev pub FreshIsSpared : {S : Type 0} → (S → Option (List ℕ)) → Type 0
+FreshIsSpared {S} held = (k l : Keeping S) (w : State) (s : Saved) →
+    KeepsChanged AllButTicks held k (saved_of k.origin w) l true → k.kept ≡ Ok s → but_ticks s ≡ but_ticks (saved_of k.origin w) →
+    (is_registering s ≡ false) ⊎ (w.ticks < s.counts.ticks + 600) → l ≡ k
 
 -- ---- how often the store is tried
 

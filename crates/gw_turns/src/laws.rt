@@ -3,19 +3,22 @@
 ghost use Rattle.std.specs.Prelude.{◌≡◌};
 ghost use Rattle.gw_turns.specs.Announcing.{NothingDueNothingDone, PortsAreAll, UnannouncedIsSilent};
 ghost use Rattle.gw_turns.specs.Both.{GoOnUnderFirst, GoOnUnderSecond, IsUnderFirst, IsUnderSecond};
-ghost use Rattle.gw_turns.specs.Keeping.{AlikeButTicksIsEqual, AlikeIsEqual, EqualButTicksIsAlike, EqualIsAlike, EventsTryFew, FailingIsSpared, RestsAtTicks, RestsEnd, TicksBeginAnew, TicksKeepRecent};
+ghost use Rattle.gw_turns.specs.Keeping.{AlikeButTicksIsEqual, AlikeIsEqual, EqualButTicksIsAlike, EqualIsAlike, EventsTryFew, FailingIsSpared, FreshIsSpared, RecentIsYoung, RestsAtTicks, RestsEnd, TicksBeginAnew, TicksKeepRecent, TicksKeepYoung};
 ghost use Rattle.gw_turns.specs.Logged.{ServingLogsFirst, StopsLogFirst, StretchesLogFirst};
 ghost use Rattle.gw_turns.specs.Pace.{PausesGrow};
 ghost use Rattle.gw_turns.specs.Served.{StopsAreServed, TurnsAreServed};
 
+use crate::alike::OLDEST_TICKS;
 use crate::pace::{LONGEST_PAUSE, MOST_REPLACES};
 use gw_core::Guard;
 use gw_wire::Store;
 
-/// Between two ticks a store is tried at 64 events at most, and it rests 60 ticks at most.
+/// Between two ticks a store is tried at 64 events at most, and it rests 60 ticks at most. A state in which anybody is registered
+/// is kept again after 600 ticks.
 pub fn limits()
     ensures tries { MOST_REPLACES ≡ 64 }
     ensures pause { LONGEST_PAUSE ≡ 60 }
+    ensures oldest { OLDEST_TICKS ≡ 600 }
 {}
 
 /// What `serve` promises, in the words of a wire: the turns are the receives; the events that were handed in are those
@@ -35,7 +38,7 @@ pub fn logged_first<G: Guard>()
 {}
 
 /// When a keeper doesn't write: of two saved states that it takes for alike the same lasts, and it takes all such for
-/// alike; or they differ only in their ticks, and it takes all such for alike: no registration is new, renewed or gone. And after each
+/// alike; or they differ only in their ticks, and it takes all such for alike: no registration is new, renewed or gone. After each
 /// tick the text is that of a state fewer than ten ticks ago, or of one that differs only in its ticks, unless the last try failed.
 pub fn keeping<S: Store>()
     ensures lasting { AlikeIsEqual }
@@ -43,6 +46,16 @@ pub fn keeping<S: Store>()
     ensures but_ticks { AlikeButTicksIsEqual }
     ensures alike_but_ticks { EqualButTicksIsAlike }
     ensures recent { TicksKeepRecent S.held }
+{}
+
+/// How old the text of a keeper gets: while anybody is registered, after each tick it is that of a state fewer than 600 ticks ago,
+/// unless the last try failed. So a registration that a restart takes over from it runs at most 600 ticks longer than it would
+/// have, besides those in which the gateway was off. What differs only in its ticks isn't written again before that, and where
+/// nobody is registered never.
+pub fn renewing<S: Store>()
+    ensures recent { RecentIsYoung }
+    ensures ticks { TicksKeepYoung S.held }
+    ensures fresh { FreshIsSpared S.held }
 {}
 
 /// How often a keeper tries its store: at most 64 times at events between two ticks. After a try that failed it rests 1, 2, 4, 8, 16,

@@ -6,7 +6,7 @@ use Rattle.gw_system.specs.Host.{OpensAtLine}
 use Rattle.gw_system.specs.StampedHost.{log_if}
 use Rattle.gw_service.specs.Kept.{state_machine}
 use Rattle.gw_service.specs.Serving.{Machine, machine}
-use Rattle.gw_service.specs.StampedRun.{with_stamps}
+use Rattle.gw_service.specs.StampedRun.{EndsIn, with_stamps}
 use Rattle.gw_service.proofs.StampedLemmas.{service_closes}
 use Rattle.gw_service.proofs.stamped_run.serve_stamped.Goals as goal
 
@@ -24,7 +24,9 @@ returns-clause-served g c =
     g.H.StateStore.Store.held g.H.Reloads.Requests.recorded in
     let done = c.serve_ports-outcome.ensures.served in (
       done.0,
-      service_closes closed states (λ sockets log. Closes sockets (log_if log)) c.close_on.ensures c.args.options.now
+      service_closes closed states
+          (λ sockets log. (last : Option (Noted (Stamped g.row.H-Log.Denot g.row.H-Calendar.Denot)))
+          × EndsIn g.H.Log.OctetSink.held log last × Closes sockets (log_if last)) c.close_on.ensures c.args.options.now
           (writer_contents g.W.Write.contents c.args.output.now) (writer_contents g.W.Write.contents c.serve_ports-outcome.new.output) c.args.config
           done.0 c.serve_ports-outcome.result done.1,
       done.2,
