@@ -21,8 +21,10 @@ mod who_has;
 mod who_is;
 mod write;
 
+pub use access::Access;
 pub use answer::{Answer, HEADER_ROOM};
 pub use change::Change;
 pub use context::Context;
 pub use device::Device;
 pub use served::Served;
+pub use short::BUFFER_ROOM;

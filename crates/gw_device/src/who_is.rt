@@ -14,12 +14,10 @@ use gw_addr::put_slice;
 use gw_codecs::services::{I_AM, IAm, Limits, Segmentation, WHO_IS, WhoIs, encode_i_am};
 use gw_objects::{Configured, MAX_APDU, Property};
 use gw_rules::{Ask, Asker, Operation, Service};
-use std::alloc::{AllocError, Global};
+use std::alloc::AllocError;
 
 /// The first octet of an unconfirmed request (clause 20.1.3).
 const UNCONFIRMED_REQUEST: u8 = 0x10;
-/// How many octets an I-Am has at most.
-const MOST_OCTETS: usize = 16;
 
 /// Appends the header of an unconfirmed request. `AllocError` where memory was refused.
 pub(crate) fn put_unconfirmed(out: &mut Vec<u8>, service: u8) -> Result<(), AllocError>
@@ -29,10 +27,10 @@ pub(crate) fn put_unconfirmed(out: &mut Vec<u8>, service: u8) -> Result<(), Allo
 }
 
 /// The I-Am of the device, after the room for headers.
-fn i_am_apdu(alloc: Global, configured: &Configured) -> Result<Vec<u8>, AllocError>
+fn i_am_apdu(spare: &mut Vec<u8>, configured: &Configured) -> Result<Vec<u8>, AllocError>
     ensures { IfOk result (λ octets. octets.items ≡ with_room (i_am_apdu configured.now)) }
 {
-    let mut octets = begin_apdu(alloc, MOST_OCTETS)?;
+    let mut octets = begin_apdu(spare)?;
     put_unconfirmed(&mut octets, I_AM)?;
     let announced = IAm {
         device: configured.device_id(),
@@ -46,7 +44,7 @@ fn i_am_apdu(alloc: Global, configured: &Configured) -> Result<Vec<u8>, AllocErr
 
 impl Access<'_> {
     /// Whether the device is asked.
-    pub fn is_within(&self, limits: &Option<Limits>) -> bool
+    pub(crate) fn is_within(&self, limits: &Option<Limits>) -> bool
         ensures { let limits = option_map limits_view limits.now in
             result ≡ is_within limits self.now.objects.now.configured.device.instance }
     {
@@ -68,9 +66,7 @@ impl Access<'_> {
             Property::ObjectIdentifier.number(),
         )
     }
-}
 
-impl Device {
     /// What the device gives to a Who-Is (clause 16.10). Its ask, if there is one, is put to `asker`; nothing is
     /// changed.
     ///
@@ -79,16 +75,16 @@ impl Device {
     /// 1 Memory. The asker may then have kept a part of what it is to keep.
     pub fn who_is<A: Asker>(
         &self,
-        context: &Context,
         request: &WhoIs,
         asker: &mut A,
+        spare: &mut Vec<u8>,
     ) -> Result<Served, AllocError>
         ensures served { (rules : List Rule) → A.StandsFor asker.old rules →
             let request = who_is_view request.now in IfOk result
-            (IsServed (who_is_response rules self.now context.now request)) }
+            (IsServed (who_is_response rules self.now.objects.now self.now.context.now request)) }
         ensures asks { (rules : List Rule) → A.StandsFor asker.old rules →
             let request = who_is_view request.now in
-            let due = who_is_response rules self.now context.now request in
+            let due = who_is_response rules self.now.objects.now self.now.context.now request in
             OnOk result (A.kept asker.new ≡ A.kept asker.old ++ A.kept_of rules due.asks) }
         ensures stays { (rules : List Rule) → A.StandsFor asker.old rules →
             A.StandsFor asker.new rules }
@@ -96,17 +92,16 @@ impl Device {
         // What asks nothing needs no memory.
         ensures silent { (rules : List Rule) →
             let request = who_is_view request.now in
-            (who_is_response rules self.now context.now request).asks ≡ []
+            (who_is_response rules self.now.objects.now self.now.context.now request).asks ≡ []
             → IsOk result }
     {
-        let access = self.access(context);
-        if !access.is_within(&request.limits) {
+        if !self.is_within(&request.limits) {
             return Ok(Served::silence());
         }
-        if !asker.authorize(&access.who_is_ask())? {
+        if !asker.authorize(&self.who_is_ask())? {
             return Ok(Served::silence());
         }
-        let octets = i_am_apdu(asker.alloc(), self.configured())?;
+        let octets = i_am_apdu(spare, self.objects.configured())?;
         Ok(Served::to_everyone(octets))
     }
 }
