@@ -12,11 +12,9 @@ use gw_rules::{Ask, Operation, Service};
 /// The instance by which a read names the device itself, whatever its instance (clause 12.11).
 const ANY_INSTANCE: u32 = 4_194_303;
 
-/// The objects of the device, and what is known of the APDU that wants access to them. An answer is written into the
-/// spare buffer, if that has the room of [`BUFFER_ROOM`](crate::BUFFER_ROOM), or else into a new one; without an answer
-/// the spare buffer stays.
+/// The objects of the device, and what is known of the APDU that wants access to them.
 #[derive(Clone, Copy)]
-pub struct Access<'a> {
+pub(crate) struct Access<'a> {
     /// The objects.
     pub objects: &'a ObjectDb,
     /// What is known of the APDU beside its octets.
@@ -25,7 +23,7 @@ pub struct Access<'a> {
 
 impl Access<'_> {
     /// The ask for a property of an object.
-    pub(crate) fn property_ask(
+    pub fn property_ask(
         &self,
         operation: Operation,
         service: Service,
@@ -52,7 +50,7 @@ impl Access<'_> {
     }
 
     /// The object that a read names.
-    pub(crate) fn named_object(&self, object: ObjectId) -> ObjectId
+    pub fn named_object(&self, object: ObjectId) -> ObjectId
         ensures { object_view result
             ≡ named_object self.now.objects.now.configured (object_view object) }
     {

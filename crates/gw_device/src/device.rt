@@ -74,7 +74,7 @@ impl Device {
     }
 
     /// The objects, for an APDU of which this is known.
-    pub fn access<'a>(&'a self, context: &'a Context) -> Access<'a>
+    pub(crate) fn access<'a>(&'a self, context: &'a Context) -> Access<'a>
         ensures objects { result.objects.now ≡ self.now }
         ensures context { result.context.now ≡ context.now }
     {

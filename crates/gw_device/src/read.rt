@@ -12,7 +12,7 @@ ghost use Rattle.gw_device.specs.Response.{IsServed, with_room};
 use crate::access::Access;
 use crate::error::{READ_DENIED, read_error};
 use crate::short::{begin_apdu, error, fit};
-use crate::{HEADER_ROOM, Served};
+use crate::{Context, Device, HEADER_ROOM, Served};
 use gw_codecs::apdu::{ConfirmedRequest, write_complex, write_error};
 use gw_codecs::services::{READ_PROPERTY, ReadReq, write_read_answer_head, write_read_answer_tail};
 use gw_rules::{Ask, Asker, Operation, Service};
@@ -98,7 +98,9 @@ impl Access<'_> {
             error(spare, header.invoke, READ_PROPERTY, READ_DENIED)
         }
     }
+}
 
+impl Device {
     /// What the device gives to a ReadProperty (clause 15.5). Its ask is put to `asker`; nothing is changed.
     ///
     /// # Errors
@@ -106,6 +108,7 @@ impl Access<'_> {
     /// 1 Memory. The asker may then have kept a part of what it is to keep.
     pub fn read<A: Asker>(
         &self,
+        context: &Context,
         header: &ConfirmedRequest,
         request: &ReadReq,
         asker: &mut A,
@@ -113,17 +116,18 @@ impl Access<'_> {
     ) -> Result<Served, AllocError>
         ensures served { (rules : List Rule) → A.StandsFor asker.old rules →
             let read = read_view request.now in IfOk result
-            (IsServed (read_response rules self.now.objects.now self.now.context.now header.now read)) }
+            (IsServed (read_response rules self.now context.now header.now read)) }
         ensures asks { (rules : List Rule) → A.StandsFor asker.old rules →
             let read = read_view request.now in
-            let due = read_response rules self.now.objects.now self.now.context.now header.now read in
+            let due = read_response rules self.now context.now header.now read in
             OnOk result (A.kept asker.new ≡ A.kept asker.old ++ A.kept_of rules due.asks) }
         ensures stays { (rules : List Rule) → A.StandsFor asker.old rules →
             A.StandsFor asker.new rules }
         ensures place { IfOk result (λ served. served.change ≡ None) }
     {
-        let request = self.named_read(request);
-        let octets = self.read_apdu(header, &request, asker, spare)?;
+        let access = self.access(context);
+        let request = access.named_read(request);
+        let octets = access.read_apdu(header, &request, asker, spare)?;
         Ok(Served::to_client(octets))
     }
 }

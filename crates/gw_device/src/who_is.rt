@@ -44,7 +44,7 @@ fn i_am_apdu(spare: &mut Vec<u8>, configured: &Configured) -> Result<Vec<u8>, Al
 
 impl Access<'_> {
     /// Whether the device is asked.
-    pub(crate) fn is_within(&self, limits: &Option<Limits>) -> bool
+    pub fn is_within(&self, limits: &Option<Limits>) -> bool
         ensures { let limits = option_map limits_view limits.now in
             result ≡ is_within limits self.now.objects.now.configured.device.instance }
     {
@@ -66,7 +66,9 @@ impl Access<'_> {
             Property::ObjectIdentifier.number(),
         )
     }
+}
 
+impl Device {
     /// What the device gives to a Who-Is (clause 16.10). Its ask, if there is one, is put to `asker`; nothing is
     /// changed.
     ///
@@ -75,16 +77,17 @@ impl Access<'_> {
     /// 1 Memory. The asker may then have kept a part of what it is to keep.
     pub fn who_is<A: Asker>(
         &self,
+        context: &Context,
         request: &WhoIs,
         asker: &mut A,
         spare: &mut Vec<u8>,
     ) -> Result<Served, AllocError>
         ensures served { (rules : List Rule) → A.StandsFor asker.old rules →
             let request = who_is_view request.now in IfOk result
-            (IsServed (who_is_response rules self.now.objects.now self.now.context.now request)) }
+            (IsServed (who_is_response rules self.now context.now request)) }
         ensures asks { (rules : List Rule) → A.StandsFor asker.old rules →
             let request = who_is_view request.now in
-            let due = who_is_response rules self.now.objects.now self.now.context.now request in
+            let due = who_is_response rules self.now context.now request in
             OnOk result (A.kept asker.new ≡ A.kept asker.old ++ A.kept_of rules due.asks) }
         ensures stays { (rules : List Rule) → A.StandsFor asker.old rules →
             A.StandsFor asker.new rules }
@@ -92,16 +95,17 @@ impl Access<'_> {
         // What asks nothing needs no memory.
         ensures silent { (rules : List Rule) →
             let request = who_is_view request.now in
-            (who_is_response rules self.now.objects.now self.now.context.now request).asks ≡ []
+            (who_is_response rules self.now context.now request).asks ≡ []
             → IsOk result }
     {
-        if !self.is_within(&request.limits) {
+        let access = self.access(context);
+        if !access.is_within(&request.limits) {
             return Ok(Served::silence());
         }
-        if !asker.authorize(&self.who_is_ask())? {
+        if !asker.authorize(&access.who_is_ask())? {
             return Ok(Served::silence());
         }
-        let octets = i_am_apdu(spare, self.objects.configured())?;
+        let octets = i_am_apdu(spare, self.configured())?;
         Ok(Served::to_everyone(octets))
     }
 }
