@@ -23,9 +23,9 @@ use gw_addr::NetNum;
 use gw_device::{Answer, Context, HEADER_ROOM};
 use gw_frames::bvll::{BVLC_TYPE, HEADER_LEN, set_length};
 use gw_frames::npdu::{AddressRef, Control, Destination, Npdu, Payload, Priority};
-use gw_relay::{Batch, Message, Sends, sender_of};
+use gw_relay::{Batch, KEPT_ROOM, Message, Sends, sender_of};
 use gw_rules::Format;
-use std::alloc::{AllocError, Global};
+use std::alloc::AllocError;
 
 /// The one station of the device's network.
 const DEVICE_STATION: u8 = 1;
@@ -43,6 +43,8 @@ const LOCAL_HEADER: usize = 6;
 const WAY_BACK: usize = 4;
 /// How many octets most replies have before the APDU, so that a buffer seldom grows.
 const REPLY_HEADERS: usize = 32;
+// The buffer of an answer is used again for any message, and that of a message for an answer.
+const _: () = prove!(gw_device::BUFFER_ROOM == gw_relay::BUFFER_ROOM);
 
 /// Whether a destination is every network, or every station of the device's.
 fn is_broadcast(network: NetNum, destination: &Destination<'_>) -> bool
@@ -191,28 +193,31 @@ fn put_npdu(
     }
 }
 
-/// An empty buffer with memory for an answer to a node behind a router: for its octets, and for those that most
-/// replies have before it.
-fn routed_buffer(alloc: Global, answer: &Answer) -> Result<Vec<u8>, AllocError>
+/// An empty buffer of the sends with memory for an answer to a node behind a router: for its octets, and for those that
+/// most replies have before it.
+fn routed_buffer(sends: &mut Sends, answer: &Answer) -> Result<Vec<u8>, AllocError>
     ensures empty { IfOk result (λ octets. octets.items ≡ []) }
-    ensures room { IfOk result (λ octets. vec_capacity octets ≡ 32 + vec_len answer.now.octets) }
+    ensures room { let most = 32 + vec_len answer.now.octets in
+        IfOk result (λ octets. vec_capacity octets ≤ most + KEPT_ROOM) }
+    ensures stays { sends.new ≡ sends.old }
 {
-    Vec::with_capacity(alloc, REPLY_HEADERS + answer.octets.len())
+    sends.buffer(REPLY_HEADERS + answer.octets.len())
 }
 
-/// The datagram of an answer to a node behind a router, in a buffer of its own. None if the NPDU would be over
+/// The datagram of an answer to a node behind a router, in a buffer of the sends. None if the NPDU would be over
 /// 1497 octets.
 fn routed_octets(
-    alloc: Global,
+    sends: &mut Sends,
     network: NetNum,
     request: &Npdu<'_>,
     answer: &Answer,
 ) -> Result<Option<Vec<u8>>, AllocError>
-    ensures { let npdu = reply_npdu network (npdu_view request.now) (answer_view answer.now) in
+    ensures stays { sends.new ≡ sends.old }
+    ensures octets { let npdu = reply_npdu network (npdu_view request.now) (answer_view answer.now) in
         IfOk result (λ made. option_map (λ v. v.items) made
         ≡ option_map (λ octets. bvll_encoding (original_unicast octets)) (npdu_octets npdu)) }
 {
-    let mut octets = routed_buffer(alloc, answer)?;
+    let mut octets = routed_buffer(sends, answer)?;
     put_frame(&mut octets)?;
     if !put_npdu(&mut octets, network, request, answer)? {
         return Ok(None);
@@ -264,19 +269,20 @@ fn local_octets(network: NetNum, priority: Priority, answer: Answer) -> Option<V
 /// The datagram of an answer to one address: the frame's header, the NPDU and its APDU. None where the NPDU would be
 /// over 1497 octets.
 fn reply_octets(
-    alloc: Global,
+    sends: &mut Sends,
     network: NetNum,
     request: &Npdu<'_>,
     answer: Answer,
 ) -> Result<Option<Vec<u8>>, AllocError>
-    ensures { let npdu = reply_npdu network (npdu_view request.now) (answer_view answer) in
+    ensures stays { sends.new ≡ sends.old }
+    ensures octets { let npdu = reply_npdu network (npdu_view request.now) (answer_view answer) in
         IfOk result (λ made. option_map (λ v. v.items) made
         ≡ option_map (λ octets. bvll_encoding (original_unicast octets)) (npdu_octets npdu)) }
 {
     if request.source.is_none() {
         return Ok(local_octets(network, request.priority, answer));
     }
-    routed_octets(alloc, network, request, &answer)
+    routed_octets(sends, network, request, &answer)
 }
 
 /// Whether an answer goes to everyone on the port's network.
@@ -301,9 +307,8 @@ pub(crate) fn add_answer(
     let Some(answer) = answer else {
         return Ok(());
     };
-    let alloc = sends.alloc();
     let goes_to_all = is_local_broadcast(message.npdu, &answer);
-    let Some(octets) = reply_octets(alloc, network, message.npdu, answer)? else {
+    let Some(octets) = reply_octets(sends, network, message.npdu, answer)? else {
         return Ok(());
     };
     if goes_to_all {

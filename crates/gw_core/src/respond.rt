@@ -196,7 +196,9 @@ fn add_served<A: Asker>(
         return Ok(());
     };
     let context = context_of(format, network, message);
-    let Served { answer, change } = device.answer(&context, apdu, &mut turn.asker)?;
+    let mut spare = turn.sends.spare();
+    let Served { answer, change } = device.answer(&context, apdu, &mut turn.asker, &mut spare)?;
+    turn.sends.keep(spare);
     add_answer(network, message, answer, &mut turn.sends)?;
     put(write, change);
     Ok(())

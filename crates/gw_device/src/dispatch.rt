@@ -27,23 +27,23 @@ use gw_codecs::services::{
     decode_read, decode_who_has, decode_who_is, decode_write,
 };
 use gw_rules::Asker;
-use std::alloc::{AllocError, Global};
+use std::alloc::AllocError;
 
 /// A Reject.
-fn rejected(alloc: Global, invoke: u8, reason: RejectReason) -> Result<Served, AllocError>
+fn rejected(spare: &mut Vec<u8>, invoke: u8, reason: RejectReason) -> Result<Served, AllocError>
     ensures served { IfOk result (IsServed (turned_down (reject invoke reason.0))) }
     ensures place { IfOk result (λ served. served.change ≡ None) }
 {
-    Ok(Served::to_client(reject(alloc, invoke, reason)?))
+    Ok(Served::to_client(reject(spare, invoke, reason)?))
 }
 
 /// An Abort of what is segmented.
-fn aborted(alloc: Global, invoke: u8) -> Result<Served, AllocError>
+fn aborted(spare: &mut Vec<u8>, invoke: u8) -> Result<Served, AllocError>
     ensures served { IfOk result
         (IsServed (turned_down (abort invoke segmentation_not_supported))) }
     ensures place { IfOk result (λ served. served.change ≡ None) }
 {
-    let octets = abort(alloc, invoke, AbortReason::SEGMENTATION_NOT_SUPPORTED)?;
+    let octets = abort(spare, invoke, AbortReason::SEGMENTATION_NOT_SUPPORTED)?;
     Ok(Served::to_client(octets))
 }
 
@@ -54,6 +54,7 @@ impl Device {
         header: &ConfirmedRequest,
         body: &[u8],
         asker: &mut A,
+        spare: &mut Vec<u8>,
     ) -> Result<Served, AllocError>
         ensures served { (rules : List Rule) → A.StandsFor asker.old rules →
             IfOk result (IsServed (or_reject header.now.invoke
@@ -67,8 +68,8 @@ impl Device {
         ensures place { IfOk result (λ served. served.change ≡ None) }
     {
         match decode_read(body) {
-            Ok(request) => self.read(context, header, &request, asker),
-            Err(fault) => rejected(asker.alloc(), header.invoke, reject_reason(fault)?),
+            Ok(request) => self.read(context, header, &request, asker, spare),
+            Err(fault) => rejected(spare, header.invoke, reject_reason(fault)?),
         }
     }
 
@@ -78,6 +79,7 @@ impl Device {
         header: &ConfirmedRequest,
         body: &[u8],
         asker: &mut A,
+        spare: &mut Vec<u8>,
     ) -> Result<Served, AllocError>
         ensures served { (rules : List Rule) → A.StandsFor asker.old rules →
             IfOk result (IsServed (or_reject header.now.invoke
@@ -91,8 +93,8 @@ impl Device {
         ensures place { IfOk result (λ served. served.change ≡ None) }
     {
         match decode_multi(asker.alloc(), body) {
-            Ok(request) => self.read_multiple(context, header, &request, asker),
-            Err(fault) => rejected(asker.alloc(), header.invoke, reject_reason(fault)?),
+            Ok(request) => self.read_multiple(context, header, &request, asker, spare),
+            Err(fault) => rejected(spare, header.invoke, reject_reason(fault)?),
         }
     }
 
@@ -102,6 +104,7 @@ impl Device {
         header: &ConfirmedRequest,
         body: &[u8],
         asker: &mut A,
+        spare: &mut Vec<u8>,
     ) -> Result<Served, AllocError>
         ensures served { (rules : List Rule) → A.StandsFor asker.old rules →
             IfOk result (IsServed (or_reject header.now.invoke
@@ -115,8 +118,8 @@ impl Device {
         ensures place { IfOk result (λ served. HasPlace self.now served.change) }
     {
         match decode_write(body) {
-            Ok(request) => self.write(context, header.invoke, &request, asker),
-            Err(fault) => rejected(asker.alloc(), header.invoke, reject_reason(fault)?),
+            Ok(request) => self.write(context, header.invoke, &request, asker, spare),
+            Err(fault) => rejected(spare, header.invoke, reject_reason(fault)?),
         }
     }
 
@@ -127,6 +130,7 @@ impl Device {
         header: &ConfirmedRequest,
         body: &[u8],
         asker: &mut A,
+        spare: &mut Vec<u8>,
     ) -> Result<Served, AllocError>
         ensures served { (rules : List Rule) → A.StandsFor asker.old rules →
             IfOk result (IsServed
@@ -146,15 +150,17 @@ impl Device {
             return Ok(Served::silence());
         }
         if header.segment.is_some() {
-            return aborted(asker.alloc(), header.invoke);
+            return aborted(spare, header.invoke);
         }
         match header.service {
-            READ_PROPERTY => self.read_property(context, header, body, asker),
-            READ_PROPERTY_MULTIPLE => self.read_property_multiple(context, header, body, asker),
-            WRITE_PROPERTY => self.write_property(context, header, body, asker),
+            READ_PROPERTY => self.read_property(context, header, body, asker, spare),
+            READ_PROPERTY_MULTIPLE => self.read_property_multiple(
+                context, header, body, asker, spare,
+            ),
+            WRITE_PROPERTY => self.write_property(context, header, body, asker, spare),
             _ => {
                 let reason = RejectReason::UNRECOGNIZED_SERVICE;
-                rejected(asker.alloc(), header.invoke, reason)
+                rejected(spare, header.invoke, reason)
             }
         }
     }
@@ -166,6 +172,7 @@ impl Device {
         service: u8,
         body: &[u8],
         asker: &mut A,
+        spare: &mut Vec<u8>,
     ) -> Result<Served, AllocError>
         ensures served { (rules : List Rule) → A.StandsFor asker.old rules →
             IfOk result (IsServed
@@ -183,11 +190,11 @@ impl Device {
     {
         match service {
             WHO_HAS => match decode_who_has(body) {
-                Ok(request) => self.who_has(context, &request, asker),
+                Ok(request) => self.who_has(context, &request, asker, spare),
                 Err(_) => Ok(Served::silence()),
             },
             WHO_IS => match decode_who_is(body) {
-                Ok(request) => self.who_is(context, &request, asker),
+                Ok(request) => self.who_is(context, &request, asker, spare),
                 Err(_) => Ok(Served::silence()),
             },
             _ => Ok(Served::silence()),
@@ -196,7 +203,8 @@ impl Device {
 
     /// What the device gives to the octets of an APDU, by its type: the answer if there is one, and the
     /// change that is granted, if there is one. What is no APDU, or no request, is dropped. Each ask is put to
-    /// `asker`, in order. Nothing is changed.
+    /// `asker`, in order. Nothing is changed. An answer is written into the spare buffer, if that has the room of
+    /// [`BUFFER_ROOM`](crate::BUFFER_ROOM), or else into a new one; without an answer the spare buffer stays.
     ///
     /// # Errors
     ///
@@ -206,6 +214,7 @@ impl Device {
         context: &Context,
         apdu: &[u8],
         asker: &mut A,
+        spare: &mut Vec<u8>,
     ) -> Result<Served, AllocError>
         ensures served { (rules : List Rule) → A.StandsFor asker.old rules → IfOk result
             (IsServed (device_response rules self.now context.now apdu.now)) }
@@ -224,9 +233,11 @@ impl Device {
             return Ok(Served::silence());
         };
         match apdu.header {
-            Header::ConfirmedRequest(header) => self.confirmed(context, &header, apdu.rest, asker),
+            Header::ConfirmedRequest(header) => self.confirmed(
+                context, &header, apdu.rest, asker, spare,
+            ),
             Header::UnconfirmedRequest { service } => self.unconfirmed(
-                context, service, apdu.rest, asker,
+                context, service, apdu.rest, asker, spare,
             ),
             _ => Ok(Served::silence()),
         }

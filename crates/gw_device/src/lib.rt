@@ -26,3 +26,4 @@ pub use change::Change;
 pub use context::Context;
 pub use device::Device;
 pub use served::Served;
+pub use short::BUFFER_ROOM;

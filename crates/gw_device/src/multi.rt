@@ -18,7 +18,7 @@ use crate::error::{READ_DENIED, UNKNOWN_OBJECT};
 use crate::limited::Limited;
 use crate::piece::{Piece, PropertyReference};
 use crate::services::set_of;
-use crate::short::{begin_apdu, first_room, most_octets};
+use crate::short::{begin_apdu, most_octets};
 use crate::{Context, Device, Served};
 use gw_codecs::apdu::{ConfirmedRequest, write_complex};
 use gw_codecs::services::{MultiReq, READ_PROPERTY_MULTIPLE, Reference, list_ends};
@@ -278,6 +278,7 @@ impl Access<'_> {
         header: &ConfirmedRequest,
         references: &[Reference],
         asker: &mut A,
+        spare: &mut Vec<u8>,
     ) -> Result<Vec<u8>, AllocError>
         ensures apdu { (rules : List Rule) → A.StandsFor asker.old rules →
             let references = map reference_view references.now in
@@ -295,7 +296,7 @@ impl Access<'_> {
             A.StandsFor asker.new rules }
         ensures room { IfOk result (λ octets. 10 ≤ vec_len octets) }
     {
-        let mut octets = begin_apdu(asker.alloc(), first_room(header, self.context))?;
+        let mut octets = begin_apdu(spare)?;
         write_complex(&mut octets, header.invoke, READ_PROPERTY_MULTIPLE)?;
         let mut octets = Limited::new(octets, most_octets(header, self.context));
         self.put_references(references, asker, &mut octets)?;
@@ -317,6 +318,7 @@ impl Device {
         header: &ConfirmedRequest,
         request: &MultiReq,
         asker: &mut A,
+        spare: &mut Vec<u8>,
     ) -> Result<Served, AllocError>
         ensures served { (rules : List Rule) → A.StandsFor asker.old rules →
             let references = multi_view request.now in IfOk result
@@ -330,7 +332,9 @@ impl Device {
         ensures place { IfOk result (λ served. served.change ≡ None) }
     {
         let references = request.references.as_slice();
-        let octets = self.access(context).multi_apdu(header, references, asker)?;
+        let octets = self
+            .access(context)
+            .multi_apdu(header, references, asker, spare)?;
         Ok(Served::to_client(octets))
     }
 }

@@ -11,12 +11,12 @@ ghost use Rattle.gw_device.specs.Response.{IsServed, with_room};
 
 use crate::access::Access;
 use crate::error::{READ_DENIED, read_error};
-use crate::short::{begin_apdu, error, first_room, fit};
+use crate::short::{begin_apdu, error, fit};
 use crate::{Context, Device, HEADER_ROOM, Served};
 use gw_codecs::apdu::{ConfirmedRequest, write_complex, write_error};
 use gw_codecs::services::{READ_PROPERTY, ReadReq, write_read_answer_head, write_read_answer_tail};
 use gw_rules::{Ask, Asker, Operation, Service};
-use std::alloc::{AllocError, Global};
+use std::alloc::AllocError;
 
 impl Access<'_> {
     /// The ask that a request raises.
@@ -45,15 +45,15 @@ impl Access<'_> {
     /// The answer to a read that is allowed.
     fn value_apdu(
         &self,
-        alloc: Global,
         header: &ConfirmedRequest,
         request: &ReadReq,
+        spare: &mut Vec<u8>,
     ) -> Result<Vec<u8>, AllocError>
         ensures apdu { let read = read_view request.now in IfOk result (λ octets. octets.items
             ≡ with_room (read_answer header.now self.now.context.now read
             (or_error (read_of self.now.objects.now read.object read.property read.index)))) }
     {
-        let mut octets = begin_apdu(alloc, first_room(header, self.context))?;
+        let mut octets = begin_apdu(spare)?;
         write_complex(&mut octets, header.invoke, READ_PROPERTY)?;
         write_read_answer_head(&mut octets, request)?;
         match self.objects.read(request.object, request.property, request.index, &mut octets) {
@@ -76,6 +76,7 @@ impl Access<'_> {
         header: &ConfirmedRequest,
         request: &ReadReq,
         asker: &mut A,
+        spare: &mut Vec<u8>,
     ) -> Result<Vec<u8>, AllocError>
         ensures apdu { (rules : List Rule) → A.StandsFor asker.old rules →
             let read = read_view request.now in
@@ -92,9 +93,9 @@ impl Access<'_> {
     {
         let ask = self.read_ask(request);
         if asker.authorize(&ask)? {
-            self.value_apdu(asker.alloc(), header, request)
+            self.value_apdu(header, request, spare)
         } else {
-            error(asker.alloc(), header.invoke, READ_PROPERTY, READ_DENIED)
+            error(spare, header.invoke, READ_PROPERTY, READ_DENIED)
         }
     }
 }
@@ -111,6 +112,7 @@ impl Device {
         header: &ConfirmedRequest,
         request: &ReadReq,
         asker: &mut A,
+        spare: &mut Vec<u8>,
     ) -> Result<Served, AllocError>
         ensures served { (rules : List Rule) → A.StandsFor asker.old rules →
             let read = read_view request.now in IfOk result
@@ -125,7 +127,7 @@ impl Device {
     {
         let access = self.access(context);
         let request = access.named_read(request);
-        let octets = access.read_apdu(header, &request, asker)?;
+        let octets = access.read_apdu(header, &request, asker, spare)?;
         Ok(Served::to_client(octets))
     }
 }

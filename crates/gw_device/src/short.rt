@@ -11,71 +11,90 @@ use gw_codecs::apdu::{
     AbortReason, ConfirmedRequest, RejectReason, ServiceError, write_abort, write_error,
     write_reject, write_simple,
 };
-use std::alloc::{AllocError, Global};
+use std::alloc::AllocError;
+use std::mem;
 
-/// How many octets a short answer has at most.
-const MOST_OCTETS: usize = 9;
-/// How many octets an answer with values has room for at first, so that the allocator serves it quickly; it grows
-/// if it has more.
-const FIRST_ROOM: usize = 480;
+/// How many octets a buffer for an answer has room for at least: as many as one for any message that is sent, so that
+/// each is used again for the other.
+pub const BUFFER_ROOM: usize = 1000;
 
-/// An empty buffer with memory for the headers and an APDU of so many octets. `AllocError` if it was refused.
-fn empty_buffer(alloc: Global, apdu_len: usize) -> Result<Vec<u8>, AllocError>
-    requires { apdu_len ≤ 480 }
+/// An empty buffer with the room for an answer: the spare one if it has that room, or else a new one. `AllocError` where
+/// its memory was refused; an answer that is longer makes it grow.
+#[inline(always)]
+fn empty_buffer(spare: &mut Vec<u8>) -> Result<Vec<u8>, AllocError>
     ensures empty { IfOk result (λ octets. octets.items ≡ []) }
-    ensures room { IfOk result (λ octets. vec_capacity octets ≡ 10 + apdu_len) }
+    ensures least { IfOk result (λ octets. BUFFER_ROOM ≤ vec_capacity octets) }
+    ensures most { IfOk result (λ octets. vec_capacity octets ≤ vec_capacity spare.old + BUFFER_ROOM) }
 {
-    Vec::with_capacity(alloc, HEADER_ROOM + apdu_len)
+    let alloc = *spare.allocator();
+    if spare.capacity() < BUFFER_ROOM {
+        return Vec::with_capacity(alloc, BUFFER_ROOM);
+    }
+    let mut octets = mem::replace(spare, Vec::new(alloc));
+    octets.clear();
+    Ok(octets)
 }
 
-/// A buffer with the room for headers, and with memory for an APDU of so many octets. `AllocError` where it was
-/// refused.
-pub(crate) fn begin_apdu(alloc: Global, apdu_len: usize) -> Result<Vec<u8>, AllocError>
-    requires { apdu_len ≤ 480 }
+/// A buffer with the room for headers, and with memory for an APDU: the spare one, if it has that. `AllocError` where
+/// memory was refused.
+#[inline(always)]
+pub(crate) fn begin_apdu(spare: &mut Vec<u8>) -> Result<Vec<u8>, AllocError>
     ensures { IfOk result (λ octets. octets.items ≡ header_room) }
 {
-    let mut octets = empty_buffer(alloc, apdu_len)?;
+    let mut octets = empty_buffer(spare)?;
     put_slice(&mut octets, &[0; HEADER_ROOM])?;
     Ok(octets)
 }
 
-/// The octets of an Error, after the room for headers. `AllocError` if memory was refused.
+/// The octets of an Error, in the spare buffer, after the room for headers. `AllocError` if memory was refused.
 pub(crate) fn error(
-    alloc: Global,
+    spare: &mut Vec<u8>,
     invoke: u8,
     service: u8,
     why: ServiceError,
 ) -> Result<Vec<u8>, AllocError>
     ensures { IfOk result (λ octets. octets.items ≡ with_room (error invoke service why)) }
 {
-    let mut octets = begin_apdu(alloc, MOST_OCTETS)?;
+    let mut octets = begin_apdu(spare)?;
     write_error(&mut octets, invoke, service, why)?;
     Ok(octets)
 }
 
-/// The octets of a Reject, after the room for headers. `AllocError` if memory was refused.
-pub(crate) fn reject(alloc: Global, invoke: u8, reason: RejectReason) -> Result<Vec<u8>, AllocError>
+/// The octets of a Reject, in the spare buffer, after the room for headers. `AllocError` if memory was refused.
+pub(crate) fn reject(
+    spare: &mut Vec<u8>,
+    invoke: u8,
+    reason: RejectReason,
+) -> Result<Vec<u8>, AllocError>
     ensures { IfOk result (λ octets. octets.items ≡ with_room (reject invoke reason.0)) }
 {
-    let mut octets = begin_apdu(alloc, MOST_OCTETS)?;
+    let mut octets = begin_apdu(spare)?;
     write_reject(&mut octets, invoke, reason)?;
     Ok(octets)
 }
 
-/// The octets of an Abort, after the room for headers. `AllocError` if memory was refused.
-pub(crate) fn abort(alloc: Global, invoke: u8, reason: AbortReason) -> Result<Vec<u8>, AllocError>
+/// The octets of an Abort, in the spare buffer, after the room for headers. `AllocError` if memory was refused.
+pub(crate) fn abort(
+    spare: &mut Vec<u8>,
+    invoke: u8,
+    reason: AbortReason,
+) -> Result<Vec<u8>, AllocError>
     ensures { IfOk result (λ octets. octets.items ≡ with_room (abort invoke reason.0)) }
 {
-    let mut octets = begin_apdu(alloc, MOST_OCTETS)?;
+    let mut octets = begin_apdu(spare)?;
     write_abort(&mut octets, invoke, reason)?;
     Ok(octets)
 }
 
-/// The octets of a SimpleACK, after the room for headers. `AllocError` if memory was refused.
-pub(crate) fn simple_ack(alloc: Global, invoke: u8, service: u8) -> Result<Vec<u8>, AllocError>
+/// The octets of a SimpleACK, in the spare buffer, after the room for headers. `AllocError` if memory was refused.
+pub(crate) fn simple_ack(
+    spare: &mut Vec<u8>,
+    invoke: u8,
+    service: u8,
+) -> Result<Vec<u8>, AllocError>
     ensures { IfOk result (λ octets. octets.items ≡ with_room (simple_ack invoke service)) }
 {
-    let mut octets = begin_apdu(alloc, MOST_OCTETS)?;
+    let mut octets = begin_apdu(spare)?;
     write_simple(&mut octets, invoke, service)?;
     Ok(octets)
 }
@@ -86,13 +105,6 @@ pub(crate) fn most_octets(request: &ConfirmedRequest, context: &Context) -> usiz
         nat_le (length ack) result ≡ fits request.now context.now ack }
 {
     request.max_apdu_len().min(context.room)
-}
-
-/// How many octets a ComplexACK has room for at first: as many as most answers have.
-pub(crate) fn first_room(request: &ConfirmedRequest, context: &Context) -> usize
-    ensures { result ≤ 480 }
-{
-    most_octets(request, context).min(FIRST_ROOM)
 }
 
 /// An Abort of what is too long, in its buffer. `AllocError` where memory was refused.

@@ -17,16 +17,14 @@ use gw_codecs::services::{I_HAVE, IHave, Sought, WHO_HAS, WhoHas, encode_i_have}
 use gw_codecs::tags::{CharacterString, ObjectId};
 use gw_objects::{Configured, Property};
 use gw_rules::{Ask, Asker, Operation, Service};
-use std::alloc::{AllocError, Global};
+use std::alloc::AllocError;
 
 /// Character set 0 (clause 20.2.9).
 const UTF_8: u8 = 0;
-/// How many octets an I-Have has without its name, at most.
-const MOST_OCTETS: usize = 16;
 
 /// The I-Have of an object of that name, after the room for headers.
 fn i_have_apdu(
-    alloc: Global,
+    spare: &mut Vec<u8>,
     configured: &Configured,
     object: ObjectId,
     name: &str,
@@ -35,7 +33,7 @@ fn i_have_apdu(
     ensures { IfOk result (λ octets. octets.items
         ≡ with_room (i_have_apdu configured.now (object_view object) name.now)) }
 {
-    let mut octets = begin_apdu(alloc, MOST_OCTETS + name.len())?;
+    let mut octets = begin_apdu(spare)?;
     put_unconfirmed(&mut octets, I_HAVE)?;
     let announced = IHave {
         device: configured.device_id(),
@@ -76,7 +74,7 @@ impl Access<'_> {
     }
 
     /// The I-Have of an object that may be announced, if it is there.
-    fn announce_object(&self, alloc: Global, object: ObjectId) -> Result<Served, AllocError>
+    fn announce_object(&self, object: ObjectId, spare: &mut Vec<u8>) -> Result<Served, AllocError>
         ensures answer { let object = object_view object in
             let name = name_at self.now.objects.now.configured object in
             let due = announcement_of (option_map (i_have_apdu self.now.objects.now.configured object) name) in
@@ -86,12 +84,17 @@ impl Access<'_> {
         let Some(name) = self.objects.name(object) else {
             return Ok(Served::silence());
         };
-        let octets = i_have_apdu(alloc, self.objects.configured(), object, name.as_str())?;
+        let octets = i_have_apdu(spare, self.objects.configured(), object, name.as_str())?;
         Ok(Served::to_everyone(octets))
     }
 
     /// What the device gives to a Who-Has of an object.
-    fn about<A: Asker>(&self, object: ObjectId, asker: &mut A) -> Result<Served, AllocError>
+    fn about<A: Asker>(
+        &self,
+        object: ObjectId,
+        asker: &mut A,
+        spare: &mut Vec<u8>,
+    ) -> Result<Served, AllocError>
         ensures served { (rules : List Rule) → A.StandsFor asker.old rules →
             let sought = Some (object_view object) in IfOk result
             (IsServed (object_response rules self.now.objects.now self.now.context.now sought)) }
@@ -104,7 +107,7 @@ impl Access<'_> {
         ensures place { IfOk result (λ served. served.change ≡ None) }
     {
         if asker.authorize(&self.who_has_ask(object))? {
-            self.announce_object(asker.alloc(), object)
+            self.announce_object(object, spare)
         } else {
             Ok(Served::silence())
         }
@@ -123,6 +126,7 @@ impl Device {
         context: &Context,
         request: &WhoHas<'_>,
         asker: &mut A,
+        spare: &mut Vec<u8>,
     ) -> Result<Served, AllocError>
         ensures served { (rules : List Rule) → A.StandsFor asker.old rules →
             let request = who_has_view request.now in IfOk result
@@ -145,7 +149,7 @@ impl Device {
             return Ok(Served::silence());
         }
         match access.sought_object(&request.sought) {
-            Some(object) => access.about(object, asker),
+            Some(object) => access.about(object, asker, spare),
             None => Ok(Served::silence()),
         }
     }

@@ -14,12 +14,10 @@ use gw_addr::put_slice;
 use gw_codecs::services::{I_AM, IAm, Limits, Segmentation, WHO_IS, WhoIs, encode_i_am};
 use gw_objects::{Configured, MAX_APDU, Property};
 use gw_rules::{Ask, Asker, Operation, Service};
-use std::alloc::{AllocError, Global};
+use std::alloc::AllocError;
 
 /// The first octet of an unconfirmed request (clause 20.1.3).
 const UNCONFIRMED_REQUEST: u8 = 0x10;
-/// How many octets an I-Am has at most.
-const MOST_OCTETS: usize = 16;
 
 /// Appends the header of an unconfirmed request. `AllocError` where memory was refused.
 pub(crate) fn put_unconfirmed(out: &mut Vec<u8>, service: u8) -> Result<(), AllocError>
@@ -29,10 +27,10 @@ pub(crate) fn put_unconfirmed(out: &mut Vec<u8>, service: u8) -> Result<(), Allo
 }
 
 /// The I-Am of the device, after the room for headers.
-fn i_am_apdu(alloc: Global, configured: &Configured) -> Result<Vec<u8>, AllocError>
+fn i_am_apdu(spare: &mut Vec<u8>, configured: &Configured) -> Result<Vec<u8>, AllocError>
     ensures { IfOk result (λ octets. octets.items ≡ with_room (i_am_apdu configured.now)) }
 {
-    let mut octets = begin_apdu(alloc, MOST_OCTETS)?;
+    let mut octets = begin_apdu(spare)?;
     put_unconfirmed(&mut octets, I_AM)?;
     let announced = IAm {
         device: configured.device_id(),
@@ -82,6 +80,7 @@ impl Device {
         context: &Context,
         request: &WhoIs,
         asker: &mut A,
+        spare: &mut Vec<u8>,
     ) -> Result<Served, AllocError>
         ensures served { (rules : List Rule) → A.StandsFor asker.old rules →
             let request = who_is_view request.now in IfOk result
@@ -106,7 +105,7 @@ impl Device {
         if !asker.authorize(&access.who_is_ask())? {
             return Ok(Served::silence());
         }
-        let octets = i_am_apdu(asker.alloc(), self.configured())?;
+        let octets = i_am_apdu(spare, self.configured())?;
         Ok(Served::to_everyone(octets))
     }
 }

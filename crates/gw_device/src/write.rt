@@ -22,12 +22,12 @@ use std::alloc::{AllocError, Global};
 type Decision = Result<Change, ServiceError>;
 
 /// The answer to a write, after the room for headers.
-fn write_apdu(alloc: Global, invoke: u8, decision: &Decision) -> Result<Vec<u8>, AllocError>
+fn write_apdu(spare: &mut Vec<u8>, invoke: u8, decision: &Decision) -> Result<Vec<u8>, AllocError>
     ensures { IfOk result (λ octets. octets.items ≡ with_room (write_answer invoke decision.now)) }
 {
     match decision {
-        Ok(_) => simple_ack(alloc, invoke, WRITE_PROPERTY),
-        Err(why) => error(alloc, invoke, WRITE_PROPERTY, *why),
+        Ok(_) => simple_ack(spare, invoke, WRITE_PROPERTY),
+        Err(why) => error(spare, invoke, WRITE_PROPERTY, *why),
     }
 }
 
@@ -110,6 +110,7 @@ impl Device {
         invoke: u8,
         request: &WriteReq<'_>,
         asker: &mut A,
+        spare: &mut Vec<u8>,
     ) -> Result<Served, AllocError>
         ensures served { (rules : List Rule) → A.StandsFor asker.old rules →
             let write = write_view request.now in IfOk result
@@ -123,7 +124,7 @@ impl Device {
         ensures place { IfOk result (λ served. HasPlace self.now served.change) }
     {
         let decision = self.access(context).decide(request, asker)?;
-        let octets = write_apdu(asker.alloc(), invoke, &decision)?;
+        let octets = write_apdu(spare, invoke, &decision)?;
         Ok(Served {
             answer: Some(Answer {
                 octets,

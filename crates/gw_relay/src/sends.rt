@@ -116,6 +116,12 @@ impl Batch {
         Some(octets)
     }
 
+    /// Puts an empty buffer into the place of its own.
+    #[inline(always)]
+    fn keep_buffer(&mut self, octets: Vec<u8>) {
+        self.octets = octets;
+    }
+
     /// Its list of addresses, emptied, if that has room for so many, and for no more than a broadcast goes to.
     #[inline(always)]
     fn give_targets(&mut self, room: usize) -> Option<Vec<BipAddr>>
@@ -214,6 +220,22 @@ impl Batches {
             Batches::None => None,
             Batches::One(held) => held[place].give_buffer(room),
             Batches::Many(all) => all[place].give_buffer(room),
+        }
+    }
+
+    /// Puts a buffer into the place of that of the message at a place, if there is one. The messages before it stay.
+    #[inline(always)]
+    fn keep_buffer(&mut self, place: usize, octets: Vec<u8>)
+        ensures len { length (batches_of self.new) ≡ length (batches_of self.old) }
+        ensures stay { (n : ℕ) → n ≤ place → take n (batches_of self.new) ≡ take n (batches_of self.old) }
+    {
+        if place >= self.as_slice().len() {
+            return;
+        }
+        match self {
+            Batches::None => {}
+            Batches::One(held) => held[place].keep_buffer(octets),
+            Batches::Many(all) => all[place].keep_buffer(octets),
         }
     }
 
@@ -346,7 +368,7 @@ impl Sends {
     /// An empty buffer for a message, with room for so many octets: one that was kept, if it has that room. The
     /// datagrams stay as they are. An `Err` if there is no memory for it.
     #[inline(always)]
-    pub(crate) fn buffer(&mut self, room: usize) -> Result<Vec<u8>, AllocError>
+    pub fn buffer(&mut self, room: usize) -> Result<Vec<u8>, AllocError>
         ensures empty { IfOk result (λ octets. octets.items ≡ []) }
         ensures least { IfOk result (λ octets. room ≤ vec_capacity octets) }
         ensures most { IfOk result (λ octets. vec_capacity octets ≤ room + KEPT_ROOM) }
@@ -360,6 +382,30 @@ impl Sends {
             return Ok(octets);
         }
         empty_buffer(self.alloc, room)
+    }
+
+    /// A spare buffer for a message, which is empty: one that was kept, or one without memory. The datagrams stay as they
+    /// are. It takes no memory.
+    #[inline(always)]
+    pub fn spare(&mut self) -> Vec<u8>
+        ensures empty { result.items ≡ [] }
+        ensures most { vec_capacity result ≤ KEPT_ROOM }
+        ensures stays { self.new ≡ self.old }
+    {
+        match self.batches.give_buffer(self.used, BUFFER_ROOM) {
+            Some(octets) => octets,
+            None => Vec::new(self.alloc),
+        }
+    }
+
+    /// Keeps a spare buffer that wasn't used, if there is a place for it. The datagrams stay as they are.
+    #[inline(always)]
+    pub fn keep(&mut self, spare: Vec<u8>)
+        ensures stays { self.new ≡ self.old }
+    {
+        if spare.capacity() > 0 {
+            self.batches.keep_buffer(self.used, spare);
+        }
     }
 
     /// An empty list of addresses, with room for so many, at most those that a broadcast goes to: one that was kept, if it

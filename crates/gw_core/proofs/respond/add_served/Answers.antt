@@ -1,7 +1,10 @@
 use Rattle.std.proofs.Common.{◌∙◌, ◌++◌, List, ap, sym}
+use Rattle.std.specs.Option.{option_map}
+use Rattle.gw_device.specs.Response.{answer_view}
 use Rattle.gw_relay.specs.Message.{message_view}
 use Rattle.gw_relay.specs.Sends.{Sending}
 use Rattle.gw_rules.specs.Ask.{Ask}
+use Rattle.gw_core.specs.Effects.{answer_sends}
 use Rattle.gw_core.proofs.DenialLemmas.{asks_put}
 use Rattle.gw_core.proofs.RespondLemmas.{sends_put}
 use Rattle.gw_core.proofs.SilenceLemmas.{none_mapped, silent_message}
@@ -17,8 +20,10 @@ returns-clause-walked g c = λ rules stands.
     let context = c.context_of-context.result in
     let octets = c.in-Some.apdu.now in
     let its = c.network_of-network.ensures in
+    let given = answer_sends network m (option_map answer_view c.in_ok-answer.field-0.answer) in
     let answered = (c.in_ok-answer.ensures.served rules stands).answer in record {
-      sends = c.in_ok-add_answer.ensures.sends ∙ ap (λ (l : List Sending). c.args.turn.now.sends ++ l)
+      sends = c.in_ok-add_answer.ensures.sends
+          ∙ ap (λ (l : List Sending). l ++ given) (c.keep.ensures.stays ∙ c.spare-spare.ensures.stays) ∙ ap (λ (l : List Sending). c.args.turn.now.sends ++ l)
           (sends_put rules format d m network context octets _ its c.in-Some.ensures c.context_of-context.ensures.context answered);
       verdicts = c.in_ok-answer.ensures.asks rules stands
           ∙ ap (λ (l : List Ask). g.A.Asker.kept c.args.turn.now.asker ++ g.A.Asker.kept_of rules l)
