@@ -10,13 +10,13 @@ use Rattle.gw_core.specs.History.{next, state_from}
 use Rattle.gw_core.specs.Lasting.{lasts}
 use Rattle.gw_core.specs.Resumed.{saved_of}
 use Rattle.gw_core.specs.State.{State}
-use Rattle.gw_turns.specs.Keeping.{IsRecent, IsTried, IsUpToDate, KeepsChanged, Keeping, KeptBy, TicksBy, Tries, is_due, is_kept, nothing_kept}
+use Rattle.gw_turns.specs.Keeping.{IsHeld, IsRecent, IsTried, IsUpToDate, IsYoung, KeepsChanged, Keeping, KeptBy, TicksBy, Tries, is_due, is_kept, is_registering, nothing_kept}
 use Rattle.gw_turns.specs.Serve.{Turn, empty_turn, events_of, failed_turn, lost_event, taken_event, turn_events}
 use Rattle.gw_turns.specs.Stretch.{AreGuarded, GoOn, GuardsTurn, Moment}
 use Rattle.gw_turns.specs.declared.alike.Part.TheVariants.{AllButTicks}
 use Rattle.gw_turns.specs.declared.serving.ServeFault.{ServeFault}
 use Rattle.gw_wire.specs.declared.store.StoreFault.{StoreFault}
-use Rattle.gw_turns.proofs.KeepingLemmas.{ticks_keep_recent}
+use Rattle.gw_turns.proofs.KeepingLemmas.{recent_is_young, ticks_keep_recent}
 use Rattle.gw_turns.proofs.ServeLemmas.{state_along}
 use Rattle.gw_service.specs.Chain.{AreLinks, Begins, IsLink, IsLooked, IsTicked, Link, Look, Manner, Runs, Stage, Standing}
 use Rattle.gw_service.specs.Chain.{ended, passed_over, refused, served, stopping, taken_over, ticked, unrequested, withheld}
@@ -27,7 +27,7 @@ use Rattle.gw_service.specs.Kept.{Given, KeepsFirst, manner_of, reporting_of, wa
 use Rattle.gw_service.specs.Stats.{Reporting}
 use Rattle.gw_service.specs.declared.keeping.Kept.{Kept}
 use Rattle.gw_service.specs.declared.keeping.Kept.TheVariants.{Nowhere, In}
-use Rattle.gw_state_laws.specs.keeping.Laws.{FirstIsCurrent, IsCurrent, IsCurrentIn, IsRecentIn, KeepsAt, KeepsAtEnd, KeepsCurrent, KeptIsUpToDate, RunsEndCurrent, RunsKeepCurrent, RunsKeepLast, RunsKeepRecent, WatchedRunsEndCurrent, WatchedRunsKeepCurrent, WatchedRunsKeepLast, WatchedRunsKeepRecent, second_part, itself}
+use Rattle.gw_state_laws.specs.keeping.Laws.{FirstIsCurrent, IsCurrent, IsCurrentIn, IsRecentIn, KeepsAt, KeepsAtEnd, KeepsCurrent, KeptIsUpToDate, KeptIsYoung, RunsEndCurrent, RunsKeepCurrent, RunsKeepLast, RunsKeepRecent, WatchedRunsEndCurrent, WatchedRunsKeepCurrent, WatchedRunsKeepLast, WatchedRunsKeepRecent, second_part, itself}
 use Rattle.gw_state_laws.proofs.keeping_lemmas.Currency.{current_is_up_to_date, event_current, passed_has, ticks_keep_current, tried_is_current}
 
 -- ---- a keeper of the configuration in force
@@ -379,3 +379,14 @@ pub watched_runs_keep_recent : {S L : Type 0} (held : S → Option (List ℕ)) (
     → WatchedRunsKeepRecent held log_held
 watched_runs_keep_recent held log_held how stops s t turns look text p =
     tick_recent held second_part (watched_manner_of held log_held how) (second held log_held how) stops s t turns look text p
+
+-- ---- while anybody is registered
+
+pub kept_is_young : {S : Type 0} (held : S → Option (List ℕ)) → KeptIsYoung held
+kept_is_young held kept c w now recent lasts registering =
+    let k = now.keeper in
+    let there = kept_so k k.kept refl (ap failing_in (sym now.is) ∙ lasts) in
+    let text = subst (λ (r : Result Saved StoreFault). IsHeld (held k.store) r) there.1 now.current.text in
+    let young = subst (λ (r : Result Saved StoreFault). IsYoung r (saved_of k.origin w)) there.1
+    (recent_is_young k.kept (saved_of k.origin w) (recent k now.is)) in
+    (there.0, text, young (subst (λ (o : Origin). is_registering (saved_of o w) ≡ true) (sym now.origin) registering))

@@ -1,5 +1,5 @@
 -- That a keeper keeps what lasts of a gateway.
-use Rattle.std.specs.Prelude.{◌≡◌, ℕ, Bool, true, false, List, Option, Some, None, Result, Ok, Err, ⊤}
+use Rattle.std.specs.Prelude.{◌≡◌, ℕ, ◌+◌, ◌<◌, Bool, true, false, List, Option, Some, None, Result, Ok, Err, ⊤}
 use Rattle.gw_configuration.specs.Configuration.{Configuration}
 use Rattle.gw_state.specs.Saved.{Saved, origin_of}
 use Rattle.gw_script.specs.Event.{Event}
@@ -7,11 +7,13 @@ use Rattle.gw_core.specs.History.{next}
 use Rattle.gw_core.specs.Lasting.{lasts}
 use Rattle.gw_core.specs.Resumed.{saved_of}
 use Rattle.gw_core.specs.State.{State}
-use Rattle.gw_turns.specs.Keeping.{HasPassed, IsHeld, IsRecent, IsTried, IsUnkept, IsUpToDate, KeepsAtTick, Keeping, lasting_of}
+use Rattle.gw_turns.specs.Keeping.{HasPassed, IsHeld, IsRecent, IsTried, IsUnkept, IsUpToDate, KeepsAtTick, Keeping, is_registering, lasting_of}
 use Rattle.gw_turns.specs.Serve.{Turn}
 use Rattle.gw_turns.specs.Stretch.{EndsFaulty, EndsStretch, Moment}
 use Rattle.gw_core.specs.declared.guard.Both.{Both}
 use Rattle.gw_turns.specs.declared.serving.ServeFault.{ServeFault}
+use Rattle.gw_state_text.specs.Text.{state_text}
+use Rattle.gw_wire.specs.Store.{Holds}
 use Rattle.gw_wire.specs.declared.store.StoreFault.{StoreFault}
 use Rattle.gw_turns.specs.declared.stretch.Pause.{Pause}
 use Rattle.gw_watchers.specs.Watching.{Watching}
@@ -162,8 +164,8 @@ abbrev pub KeptIsUpToDate : {S : Type 0} → (S → Option (List ℕ)) → Type 
 KeptIsUpToDate {S} held = (kept : Kept S) (c : Configuration) (w : State) → (now : KeepsCurrent held kept c w) →
     failing_in kept ≡ None → IsUpToDate (origin_of c) w (held now.keeper.store)
 
--- After each tick of a run the text is that of a state fewer than ten ticks ago, or of one that differs only in its ticks; or the last
--- try failed.
+-- After each tick of a run the text is that of a state fewer than ten ticks ago, or of one that differs only in its ticks and is
+-- fresh; or the last try failed.
 abbrev pub IsRecentIn : {S : Type 0} → Kept S → State → Type 0
 IsRecentIn {S} kept w = (k : Keeping S) → kept ≡ In k → IsRecent k.kept (saved_of k.origin w)
 
@@ -175,3 +177,12 @@ abbrev pub WatchedRunsKeepRecent : {S L : Type 0} → (S → Option (List ℕ)) 
 WatchedRunsKeepRecent {S} {L} held log_held = (how : Reporting) (stops : Bool) (s t : Stage (Both (Watching L L) (Kept S))) (turns : List Turn)
     (look : Look) (text : List ℕ) → IsTicked (watched_manner_of held log_held how) stops s turns look text t →
     IsRecentIn t.now.guard.second t.now.scene.gateway
+
+-- The store holds the text of a state fewer than 600 ticks ago.
+abbrev pub HoldsYoung : Option (List ℕ) → State → Type 0
+HoldsYoung held w = (s : Saved) × Holds held (state_text s) × (w.ticks < s.counts.ticks + 600)
+
+-- So it is after each tick while anybody is registered, where no last try failed: what a kill leaves isn't older.
+abbrev pub KeptIsYoung : {S : Type 0} → (S → Option (List ℕ)) → Type 0
+KeptIsYoung {S} held = (kept : Kept S) (c : Configuration) (w : State) → (now : KeepsCurrent held kept c w) → IsRecentIn kept w →
+    failing_in kept ≡ None → is_registering (saved_of (origin_of c) w) ≡ true → HoldsYoung (held now.keeper.store) w

@@ -1,4 +1,4 @@
-use Rattle.gw_state_laws.proofs.keeping_lemmas.Runs.{first_is_current, kept_is_up_to_date, runs_keep_current, runs_keep_recent, watched_runs_keep_current, watched_runs_keep_recent}
+use Rattle.gw_state_laws.proofs.keeping_lemmas.Runs.{first_is_current, kept_is_up_to_date, kept_is_young, runs_keep_current, runs_keep_recent, watched_runs_keep_current, watched_runs_keep_recent}
 use Rattle.gw_state_laws.proofs.keeping.laws.over_a_run.Goals as goal
 
 pub returns-clause-first : goal.returns-clause-first
@@ -18,3 +18,6 @@ returns-clause-recent g c = runs_keep_recent g.S.Store.held
 
 pub returns-clause-watched_recent : goal.returns-clause-watched_recent
 returns-clause-watched_recent g c = watched_runs_keep_recent g.S.Store.held g.L.OctetSink.held
+
+pub returns-clause-young : goal.returns-clause-young
+returns-clause-young g c = kept_is_young g.S.Store.held
