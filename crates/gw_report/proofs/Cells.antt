@@ -1,14 +1,12 @@
 -- What the cells of the table say of each ask.
-use Rattle.std.proofs.Common.{◌≡◌, ℕ, Bool, true, false, List, [], ◌∷◌, ◌++◌, Option, Some, None, ap, inl, inr, refl, subst, sym, ◌∙◌}
+use Rattle.std.proofs.Common.{◌≡◌, ℕ, true, false, List, [], ◌++◌, Option, ap, inl, inr, refl, subst, sym, ◌∙◌}
 use Rattle.std.proofs.Common.{Result, Ok, Err, OnOk}
 use Rattle.std.proofs.lemmas.Bool.{both_ways}
-use Rattle.std.specs.Prelude.{◌⊎◌}
-use Rattle.gw_rules.specs.Ask.{Ask}
 use Rattle.gw_rules.specs.RuleList.{allows}
 use Rattle.gw_rules.specs.declared.rule.Rule.{Rule}
 use Rattle.gw_ask_sets.specs.declared.shapes.search.Outcome.{Outcome}
 use Rattle.gw_ask_sets.specs.declared.shapes.search.Outcome.TheVariants as outcome
-use Rattle.gw_ask_sets.specs.shapes.Shape.{LiesInOne, Shape}
+use Rattle.gw_ask_sets.specs.shapes.Shape.{Shape}
 use Rattle.gw_policy_review.specs.permissions.Passing.{IsDecision}
 use Rattle.gw_rules.specs.declared.operation.Operation.{Operation}
 use Rattle.gw_policy_review.specs.permissions.Texts.{Appends}

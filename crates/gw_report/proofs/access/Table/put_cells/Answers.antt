@@ -1,4 +1,4 @@
-use Rattle.std.proofs.Common.{length, rules, ◌≡◌, ◌≤◌}
+use Rattle.std.proofs.Common.{length, rules, ◌≤◌}
 use Rattle.std.proofs.lemmas.List.{drop_all}
 use Rattle.gw_policy_review.proofs.permissions_lemmas.InOrder.{appended_all, appended_more, appended_none}
 use Rattle.gw_rules.specs.declared.operation.TheConstants.Operation.{ALL}
