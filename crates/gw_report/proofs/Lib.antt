@@ -1,4 +1,4 @@
-pub mod Deciding
+pub mod Cells
 pub mod Owning
 pub mod page_lemmas
 pub mod points_lemmas

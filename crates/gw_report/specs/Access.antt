@@ -1,43 +1,23 @@
 -- Who may do what: how much of the asks of each kind a policy allows, in a table by network and operation.
-use Rattle.std.specs.Prelude.{◌≡◌, ⊤, ℕ, ◌+◌, ◌==◌, Bool, true, false, ◌&&◌, ◌||◌, not, if◌then◌else◌, List, [], ◌∷◌, position, slice_get}
-use Rattle.std.specs.Prelude.{Option, Some, None}
-use Rattle.std.specs.List.{AllByRecursion, list_all, list_any}
-use Rattle.std.specs.Option.{option_map_or}
+use Rattle.std.specs.Prelude.{◌≡◌, ◌⊎◌, ℕ, ◌==◌, Bool, true, false, ◌&&◌, not, List, Option, Some, None}
+use Rattle.std.specs.List.{filter, list_any}
 use Rattle.gw_rules.specs.Ask.{Ask}
 use Rattle.gw_rules.specs.Operation.{operation_number}
 use Rattle.gw_rules.specs.RuleList.{allows}
 use Rattle.gw_rules.specs.declared.operation.Operation.{Operation}
 use Rattle.gw_rules.specs.declared.range.Range.{Range}
 use Rattle.gw_rules.specs.declared.rule.Rule.{Rule}
-use Rattle.gw_ask_sets.specs.shapes.Shape.{LiesIn, Shape}
-use Rattle.gw_policy_review.specs.permissions.Passing.{decides_all, matches_all, may_allow, may_pass}
+use Rattle.gw_ask_sets.specs.declared.shapes.search.Outcome.{Outcome}
+use Rattle.gw_ask_sets.specs.declared.shapes.search.Outcome.TheVariants as outcome
+use Rattle.gw_ask_sets.specs.shapes.Search.{IsUsedUp}
+use Rattle.gw_ask_sets.specs.shapes.Shape.{LiesInOne, Shape}
+use Rattle.gw_policy_review.specs.permissions.Passing.{IsDecision, searched_rules}
 use Rattle.gw_report.specs.declared.access.Whence.{Whence}
 use Rattle.gw_report.specs.declared.access.Whence.TheVariants.{Port, Beyond}
 use Rattle.gw_report.specs.declared.passing.Extent.{Extent}
 use Rattle.gw_report.specs.declared.passing.Extent.TheVariants as extent
 
--- ---- a shape
-
--- every ask of the shape is decided so
-abbrev pub AreDecided : Bool → Shape → List Rule → Type 0
-AreDecided decision shape rules = (ask : Ask) → LiesIn shape ask → allows rules ask ≡ decision
-
--- what an extent says of the asks of a shape: nothing that is said to be so of all or of none is otherwise
-abbrev pub IsExtent : Shape → List Rule → Extent → Type 0
-IsExtent shape rules extent.All = AreDecided true shape rules
-IsExtent shape rules extent.Nothing = AreDecided false shape rules
-IsExtent shape rules extent.Some = ⊤
-
--- the rule at a place allows the asks of the shape, and decides each of them
-abbrev pub allows_at : Shape → List Rule → ℕ → Bool
-allows_at shape rules place =
-    option_map_or (λ rule. may_allow shape rule && decides_all shape rules (place + 1) rule) (slice_get rules place) false
-
--- the first rule that matches each ask of the shape allows them all
-abbrev pub are_allowed : Shape → List Rule → Bool
-are_allowed shape rules = option_map_or (λ place. allows_at shape rules place) (position (matches_all shape) rules) false
-
--- ---- a cell
+-- ---- of which asks a cell is
 
 abbrev pub is_only : ℕ → Range → Bool
 is_only number range = (range.low == number) && (range.high == number)
@@ -56,23 +36,58 @@ comes_from own port shape = is_at port shape
 abbrev pub is_asked : List Whence → Whence → Operation → Shape → Bool
 is_asked own whence operation shape = (shape.operation.range.low == operation_number operation) && comes_from own whence shape
 
--- how much the rules allow of the asks for an operation from there, or `None` if there is no such ask
-unfoldable pub extent_among : List Rule → List Whence → List Shape → Whence → Operation → Option Extent
-extent_among rules own shapes whence operation =
-    if not (list_any (is_asked own whence operation) shapes) then None
-    else if list_all (λ shape. not (is_asked own whence operation shape) || not (may_pass shape rules)) shapes then Some extent.Nothing
-    else if list_all (λ shape. not (is_asked own whence operation shape) || are_allowed shape rules) shapes then Some extent.All
-    else Some extent.Some
+abbrev pub asked_shapes : List Whence → List Shape → Whence → Operation → List Shape
+asked_shapes own shapes whence operation = filter (is_asked own whence operation) shapes
+
+-- ---- what is found of them
+
+-- how much of them the rules allow, by what a search for one that they allow comes to, and one for one that they deny; `None` if
+-- there is no ask
+abbrev pub extent_of : (allowed denied : Outcome) → Option Extent
+extent_of outcome.Never outcome.Never = None
+extent_of outcome.Never (outcome.Decides ask) = Some extent.Nothing
+extent_of outcome.Never outcome.Unknown = Some extent.Nothing
+extent_of (outcome.Decides ask) outcome.Never = Some extent.All
+extent_of outcome.Unknown outcome.Never = Some extent.All
+extent_of (outcome.Decides ask) (outcome.Decides other) = Some extent.Some
+extent_of (outcome.Decides ask) outcome.Unknown = Some extent.Unknown
+extent_of outcome.Unknown (outcome.Decides ask) = Some extent.Unknown
+extent_of outcome.Unknown outcome.Unknown = Some extent.Unknown
+
+-- what a cell shows of the asks of some shapes, where each search has so many steps for a rule
+pub record IsCell (steps : ℕ) (shapes : List Shape) (rules : List Rule) (cell : Option Extent) : Type 0 where
+  pub allowed : Outcome
+  pub is_allowed : IsDecision true steps shapes rules allowed
+  pub denied : Outcome
+  pub is_denied : IsDecision false steps shapes rules denied
+  pub shown : cell ≡ extent_of allowed denied
 
 -- ---- what a cell says
 
--- of each shape of which its asks are
-abbrev pub SaysOf : List Rule → List Whence → Whence → Operation → Option Extent → Shape → Type 0
-SaysOf rules own whence operation None shape = is_asked own whence operation shape ≡ false
-SaysOf rules own whence operation (Some found) shape = is_asked own whence operation shape ≡ true → IsExtent shape rules found
+-- one of the asks is decided so
+abbrev pub OneIsDecided : Bool → List Shape → List Rule → Type 0
+OneIsDecided says shapes rules = (ask : Ask) × LiesInOne shapes ask × (allows rules ask ≡ says)
 
--- Each cell of the table is true: if it says all or none, each ask of each of its shapes is decided so; if it has a dash, no
--- shape is of its asks.
+-- each of them is
+abbrev pub EachIsDecided : Bool → List Shape → List Rule → Type 0
+EachIsDecided says shapes rules = (ask : Ask) → LiesInOne shapes ask → allows rules ask ≡ says
+
+-- a search for one that the rule of a number decides has used up its steps
+abbrev pub IsUnfinished : ℕ → List Shape → List Rule → Type 0
+IsUnfinished steps shapes rules = (number : ℕ) × IsUsedUp shapes (searched_rules rules) number steps
+
+-- None and all are said of each ask, and some of one of each kind. That it isn't known is said only where steps were used up. A dash
+-- says that there is no ask.
+abbrev pub Says : ℕ → List Shape → List Rule → Option Extent → Type 0
+Says steps shapes rules None = (ask : Ask) → ¬ (LiesInOne shapes ask)
+Says steps shapes rules (Some extent.Nothing) =
+    EachIsDecided false shapes rules × (OneIsDecided false shapes rules ⊎ IsUnfinished steps shapes rules)
+Says steps shapes rules (Some extent.All) =
+    EachIsDecided true shapes rules × (OneIsDecided true shapes rules ⊎ IsUnfinished steps shapes rules)
+Says steps shapes rules (Some extent.Some) = OneIsDecided true shapes rules × OneIsDecided false shapes rules
+Says steps shapes rules (Some extent.Unknown) = IsUnfinished steps shapes rules
+
+-- Each cell of the table is true.
 abbrev pub CellsAreTrue : Type 0
-CellsAreTrue = (rules : List Rule) (own : List Whence) (shapes : List Shape) (whence : Whence) (operation : Operation) →
-    AllByRecursion (SaysOf rules own whence operation (extent_among rules own shapes whence operation)) shapes
+CellsAreTrue = (steps : ℕ) (shapes : List Shape) (rules : List Rule) (cell : Option Extent) → IsCell steps shapes rules cell →
+    Says steps shapes rules cell

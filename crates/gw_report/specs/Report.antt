@@ -1,5 +1,5 @@
 -- The page that shows a configuration.
-use Rattle.std.specs.Prelude.{◌≡◌, ℕ, ◌+◌, ◌-◌, ◌==◌, ◌&&◌, Bool, true, false, if◌then◌else◌, List, [], ◌∷◌, ◌++◌, length, codes, decimal}
+use Rattle.std.specs.Prelude.{◌≡◌, ℕ, ◌+◌, ◌-◌, ◌==◌, Bool, false, if◌then◌else◌, List, [], ◌∷◌, ◌++◌, length, codes, decimal}
 use Rattle.std.specs.Prelude.{Option, Some, None, slice_get, unwrap_or}
 use Rattle.std.specs.List.{flat_map, list_all}
 use Rattle.std.specs.Option.{option_and_then, option_map_or}
@@ -24,11 +24,12 @@ use Rattle.gw_ask_sets.specs.shapes.Shape.{Shape}
 use Rattle.gw_ask_sets.specs.shapes.Shapes.{shapes}
 use Rattle.gw_policy_drafts.specs.migration.Items.{field_text}
 use Rattle.gw_policy_review.specs.Places.{is_derived, place_words}
-use Rattle.gw_report.specs.Access.{extent_among}
-use Rattle.gw_report.specs.declared.access.Whence.{Whence}
-use Rattle.gw_report.specs.declared.access.Whence.TheVariants.{Port, Beyond}
+use Rattle.gw_policy_review.specs.permissions.Texts.{AreInOrder}
+use Rattle.gw_report.specs.Access.{IsCell, asked_shapes}
 use Rattle.gw_report.specs.declared.passing.Extent.{Extent}
 use Rattle.gw_report.specs.declared.passing.Extent.TheVariants as extent
+use Rattle.gw_report.specs.declared.access.Whence.{Whence}
+use Rattle.gw_report.specs.declared.access.Whence.TheVariants.{Port, Beyond}
 use Rattle.gw_report.specs.declared.page.element.Element.TheVariants as element
 use Rattle.gw_report.specs.declared.page.mark.Mark.TheVariants as mark
 use Rattle.gw_report.specs.page.Elements.{begin_text, close_text, element_text, number_cell, open_text}
@@ -87,15 +88,23 @@ extent_cell None = element_text element.Cell (codes "-")
 extent_cell (Some extent.Nothing) = element_text element.Nothing (codes "none")
 extent_cell (Some extent.Some) = element_text element.Some (codes "some")
 extent_cell (Some extent.All) = element_text element.All (codes "all")
+extent_cell (Some extent.Unknown) = element_text element.Some (codes "some?")
 
--- the cell of a row and an operation
-unfoldable pub cell_of : List Rule → List Whence → List Shape → Whence → Operation → List ℕ
-cell_of rules own those whence operation = extent_cell (extent_among rules own those whence operation)
+-- the cell of a row and an operation, whose number in the row is of no account
+abbrev pub IsCellText : List Rule → List Whence → List Shape → Whence → ℕ → Operation → List ℕ → Type 0
+IsCellText rules own those whence number operation text =
+    (cell : Option Extent) × IsCell 256 (asked_shapes own those whence operation) rules cell × (text ≡ extent_cell cell)
 
-unfoldable pub access_row : List Rule → List Whence → List Shape → Whence → List ℕ
-access_row rules own those whence =
-    open_text element.Row ++ (element_text element.Head (whence_text whence)
-    ++ (flat_map (cell_of rules own those whence) all_operations ++ close_text element.Row))
+abbrev pub AreCells : List Rule → List Whence → List Shape → Whence → List ℕ → Type 0
+AreCells rules own those whence text = AreInOrder (IsCellText rules own those whence) 1 all_operations text
+
+unfoldable pub row_text : Whence → (cells : List ℕ) → List ℕ
+row_text whence cells =
+    open_text element.Row ++ (element_text element.Head (whence_text whence) ++ (cells ++ close_text element.Row))
+
+abbrev pub IsRow : List Rule → List Whence → List Shape → ℕ → Whence → List ℕ → Type 0
+IsRow rules own those number whence text =
+    (cells : List ℕ) × AreCells rules own those whence cells × (text ≡ row_text whence cells)
 
 unfoldable pub operation_head : Operation → List ℕ
 operation_head operation = element_text element.Head (operation_name operation)
@@ -105,16 +114,25 @@ access_head =
     open_text element.Row ++ (element_text element.Head (codes "from") ++ (flat_map operation_head all_operations ++ close_text element.Row))
 
 -- a row for the network of each port, and one for all others; a column for each operation
-unfoldable pub access_table : Configuration → List ℕ
-access_table c =
-    open_text element.Table ++ (access_head ++ (flat_map (access_row c.rules (own_of c) (shapes c)) (own_of c)
-    ++ (access_row c.rules (own_of c) (shapes c) Beyond ++ close_text element.Table)))
+unfoldable pub table_text : (rows last : List ℕ) → List ℕ
+table_text rows last = open_text element.Table ++ (access_head ++ (rows ++ (last ++ close_text element.Table)))
 
 abbrev pub legend_text : List ℕ
-legend_text = element_text element.Aside (codes "Each row is a network from which asks come, each column an operation. all: each such ask is allowed; some: maybe some of them; none: each is denied; a dash: the gateway raises no such ask.")
+legend_text = element_text element.Aside (codes "Each row is a network from which asks come, each column an operation. all: each such ask is allowed; some: one is allowed, and one denied; none: each is denied; some?: not known, since the search used up its steps; a dash: the gateway raises no such ask.")
 
-unfoldable pub access_text : Configuration → List ℕ
-access_text c = element_text element.Heading (codes "Who may do what") ++ (legend_text ++ access_table c)
+-- the table, each cell of which shows what is found of its asks
+pub record IsTable (rules : List Rule) (own : List Whence) (those : List Shape) (text : List ℕ) : Type 0 where
+  pub rows : List ℕ
+  pub are_rows : AreInOrder (IsRow rules own those) 1 own rows
+  pub last : List ℕ
+  pub is_last : IsRow rules own those 0 Beyond last
+  pub whole : text ≡ table_text rows last
+
+unfoldable pub access_text : (table : List ℕ) → List ℕ
+access_text table = element_text element.Heading (codes "Who may do what") ++ (legend_text ++ table)
+
+abbrev pub IsAccess : Configuration → List ℕ → Type 0
+IsAccess c text = (table : List ℕ) × IsTable c.rules (own_of c) (shapes c) table × (text ≡ access_text table)
 
 -- ---- the rules
 
@@ -286,8 +304,8 @@ objects_text objects = if length objects == 0 then [] else objects_table objects
 
 -- ---- the whole
 
-unfoldable pub first_text : Configuration → (picture lines : List ℕ) → List ℕ
-first_text c picture lines = head_text c ++ (picture ++ (access_text c ++ lines))
+unfoldable pub first_text : Configuration → (picture access lines : List ℕ) → List ℕ
+first_text c picture access lines = head_text c ++ (picture ++ (access ++ lines))
 
 unfoldable pub last_text : Configuration → (lines : List ℕ) → (shows : Bool) → (times : List ℕ) → List Judged → (plots : List ℕ) → List ℕ
 last_text c lines shows times judged plots =
@@ -300,10 +318,12 @@ last_text c lines shows times judged plots =
 pub record IsReport (c : Configuration) (tables : List ℕ) (shows : Bool) (times octets : List ℕ) : Type 0 where
   pub picture : List ℕ
   pub is_picture : IsPage picture
+  pub access : List ℕ
+  pub is_access : IsAccess c access
   pub lines : List ℕ
   pub are_lines : IsPage lines
   pub plots : List ℕ
   pub are_plots : IsPage plots
   pub judged : List Judged
   pub are_judged : AreJudged c 4096 judged
-  pub whole : octets ≡ first_text c picture lines ++ last_text c tables shows times judged plots
+  pub whole : octets ≡ first_text c picture access lines ++ last_text c tables shows times judged plots

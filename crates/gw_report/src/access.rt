@@ -1,19 +1,21 @@
 //! Who may do what: a table by network and operation, and the lines that `bacgwctl explain` has.
-ghost use Rattle.std.specs.Prelude.{◌≡◌, ◌+◌, ◌-◌, ◌<◌, ◌^◌, ◌||◌, ◌++◌, codes, decimal, not, IfOk, OnOk};
-ghost use Rattle.std.specs.List.{flat_map, list_all, list_any};
+ghost use Rattle.std.specs.Prelude.{◌≡◌, ◌+◌, ◌-◌, ◌<◌, ◌^◌, ◌++◌, codes, decimal, IfOk, OnOk};
+ghost use Rattle.std.specs.List.{flat_map, list_any};
 ghost use Rattle.gw_rules.specs.declared.operation.TheConstants.Operation.{ALL as all_operations};
-ghost use Rattle.gw_policy_review.specs.permissions.Passing.{may_pass};
-ghost use Rattle.gw_report.specs.Access.{are_allowed, comes_from, extent_among, is_asked, is_at, is_only};
-ghost use Rattle.gw_report.specs.Report.{access_head, access_row, access_table, access_text, cell_of, extent_cell, legend_text, operation_head, own_from, whence_text};
+ghost use Rattle.gw_policy_review.specs.permissions.Texts.{Appends, AreInOrder};
+ghost use Rattle.gw_report.specs.Access.{IsCell, asked_shapes, comes_from, is_asked, is_at, is_only};
+ghost use Rattle.gw_report.specs.Report.{AreCells, IsAccess, IsCellText, IsRow, IsTable, access_head, access_text, extent_cell, legend_text};
+ghost use Rattle.gw_report.specs.Report.{operation_head, own_from, own_of, row_text, table_text, whence_text};
+ghost use Rattle.gw_ask_sets.specs.shapes.Shapes.{shapes};
 ghost use Rattle.gw_report.specs.page.Elements.{element_text};
 
 use crate::page::{Element, Page};
-use crate::passing::{Extent, are_allowed};
+use crate::passing::{Extent, found_extent};
 use gw_addr::put_decimal;
 use gw_ask_sets::shapes::{Shape, shapes_of};
 use gw_configuration::{Config, Port};
-use gw_policy_review::permissions::{may_pass, put_permissions};
-use gw_rules::{Operation, Range, Rule};
+use gw_policy_review::permissions::put_permissions;
+use gw_rules::{Operation, Range, RuleList};
 use std::alloc::{AllocError, Global};
 
 /// Whence asks come.
@@ -70,7 +72,7 @@ fn is_at_any(own: &[Whence], shape: &Shape) -> bool
 /// What the cells of the table are made of.
 #[derive(Clone, Copy)]
 struct Table<'a> {
-    rules: &'a [Rule],
+    rules: &'a RuleList,
     own: &'a [Whence],
     shapes: &'a [Shape],
 }
@@ -83,85 +85,74 @@ impl Table<'_> {
         shape.operation.range.low == operation.number() && whence.holds(self.own, shape)
     }
 
-    /// Whether there is an ask for the operation from there.
-    fn has_asked(&self, whence: Whence, operation: Operation) -> bool
-        ensures { result ≡ list_any (is_asked self.now.own.now whence operation) self.now.shapes.now }
+    /// The shapes of the asks for an operation from there.
+    fn asked(
+        &self,
+        alloc: Global,
+        whence: Whence,
+        operation: Operation,
+    ) -> Result<Vec<Shape>, AllocError>
+        ensures { IfOk result (λ made. made.items ≡ asked_shapes self.now.own.now self.now.shapes.now whence operation) }
     {
-        self.shapes
-            .iter()
-            .any(|shape| self.is_asked(whence, operation, shape))
-    }
-
-    /// Whether each of these asks is denied.
-    fn denies(&self, whence: Whence, operation: Operation) -> bool
-        ensures { result ≡ list_all (λ shape. not (is_asked self.now.own.now whence operation shape)
-            || not (may_pass shape self.now.rules.now)) self.now.shapes.now }
-    {
-        self.shapes.iter().all(|shape| !self.is_asked(whence, operation, shape)
-            || !may_pass(shape, self.rules))
-    }
-
-    /// Whether each of these asks is allowed.
-    fn allows(&self, whence: Whence, operation: Operation) -> bool
-        ensures { result ≡ list_all (λ shape. not (is_asked self.now.own.now whence operation shape)
-            || are_allowed shape self.now.rules.now) self.now.shapes.now }
-    {
-        self.shapes.iter().all(|shape| !self.is_asked(whence, operation, shape)
-            || are_allowed(shape, self.rules))
+        let mut made = Vec::new(alloc);
+        for shape in self.shapes {
+            if self.is_asked(whence, operation, shape) {
+                made.push(*shape)?;
+            }
+        }
+        Ok(made)
     }
 
     /// How much the rules allow of the asks for an operation from there, or `None` if there is no such ask.
-    #[tactic(auto, unfolding(crate::specs::Access::extent_among))]
-    fn extent(&self, whence: Whence, operation: Operation) -> Option<Extent>
-        ensures { result ≡ extent_among self.now.rules.now self.now.own.now self.now.shapes.now whence operation }
+    fn extent(
+        &self,
+        alloc: Global,
+        whence: Whence,
+        operation: Operation,
+    ) -> Result<Option<Extent>, AllocError>
+        ensures { IfOk result
+            (IsCell 256 (asked_shapes self.now.own.now self.now.shapes.now whence operation) self.now.rules.now) }
     {
-        if !self.has_asked(whence, operation) {
-            None
-        } else if self.denies(whence, operation) {
-            Some(Extent::Nothing)
-        } else if self.allows(whence, operation) {
-            Some(Extent::All)
-        } else {
-            Some(Extent::Some)
-        }
+        let asked = self.asked(alloc, whence, operation)?;
+        let found = found_extent(alloc, self.rules, &asked)?;
+        Ok(found)
     }
 
-    #[tactic(auto, unfolding(crate::specs::Report::access_row))]
     fn put_row(&self, alloc: Global, page: &mut Page, whence: Whence) -> Result<(), AllocError>
-        ensures { OnOk result (page.new ≡ page.old ++ access_row self.now.rules.now self.now.own.now self.now.shapes.now whence) }
+        ensures { OnOk result (Appends (IsRow self.now.rules.now self.now.own.now self.now.shapes.now 0 whence) page.old page.new) }
     {
-        page.open(Element::Row)?;
-        put_whence(alloc, page, whence)?;
-        self.put_cells(page, whence)?;
-        page.close(Element::Row)
+        let mut cells = Page::new(alloc);
+        self.put_cells(alloc, &mut cells, whence)?;
+        put_whole_row(alloc, page, whence, &cells)
     }
 
-    fn put_cells(&self, page: &mut Page, whence: Whence) -> Result<(), AllocError>
-        ensures { OnOk result (page.new ≡ page.old
-            ++ flat_map (cell_of self.now.rules.now self.now.own.now self.now.shapes.now whence) all_operations) }
+    fn put_cells(&self, alloc: Global, page: &mut Page, whence: Whence) -> Result<(), AllocError>
+        ensures { OnOk result
+            (Appends (AreCells self.now.rules.now self.now.own.now self.now.shapes.now whence) page.old page.new) }
     {
         for operation in Operation::ALL.iter() {
-            self.put_cell(page, whence, *operation)?;
+            self.put_cell(alloc, page, whence, *operation)?;
         }
         Ok(())
     }
 
-    #[tactic(auto, unfolding(crate::specs::Report::cell_of))]
     fn put_cell(
         &self,
+        alloc: Global,
         page: &mut Page,
         whence: Whence,
         operation: Operation,
     ) -> Result<(), AllocError>
-        ensures { OnOk result (page.new ≡ page.old
-            ++ cell_of self.now.rules.now self.now.own.now self.now.shapes.now whence operation) }
+        ensures { OnOk result (Appends (IsCellText self.now.rules.now self.now.own.now self.now.shapes.now whence 0 operation)
+            page.old page.new) }
     {
-        put_extent(page, self.extent(whence, operation))
+        let found = self.extent(alloc, whence, operation)?;
+        put_extent(page, found)
     }
 
     fn put_rows(&self, alloc: Global, page: &mut Page) -> Result<(), AllocError>
-        ensures { OnOk result (page.new ≡ page.old
-            ++ flat_map (access_row self.now.rules.now self.now.own.now self.now.shapes.now) self.now.own.now) }
+        ensures { OnOk result (Appends
+            (AreInOrder (IsRow self.now.rules.now self.now.own.now self.now.shapes.now) 1 self.now.own.now) page.old page.new) }
     {
         for whence in self.own {
             self.put_row(alloc, page, *whence)?;
@@ -170,14 +161,39 @@ impl Table<'_> {
     }
 }
 
-/// Appends who may do what under a configuration: the table.
+/// Appends a row of these cells.
+#[tactic(auto, unfolding(crate::specs::Report::row_text))]
+fn put_whole_row(
+    alloc: Global,
+    page: &mut Page,
+    whence: Whence,
+    cells: &Page,
+) -> Result<(), AllocError>
+    ensures { OnOk result (page.new ≡ page.old ++ row_text whence cells.now) }
+{
+    page.open(Element::Row)?;
+    put_whence(alloc, page, whence)?;
+    page.append(cells)?;
+    page.close(Element::Row)
+}
+
+/// Who may do what under a configuration: the table.
+pub(crate) fn access_of(alloc: Global, config: &Config) -> Result<Page, AllocError>
+    ensures { IfOk result (λ page. IsAccess config.now page) }
+{
+    let table = table_of(alloc, config)?;
+    let mut page = Page::new(alloc);
+    put_access(&mut page, &table)?;
+    Ok(page)
+}
+
 #[tactic(auto, unfolding(crate::specs::Report::access_text))]
-pub(crate) fn put_access(alloc: Global, page: &mut Page, config: &Config) -> Result<(), AllocError>
-    ensures { OnOk result (page.new ≡ page.old ++ access_text config.now) }
+fn put_access(page: &mut Page, table: &Page) -> Result<(), AllocError>
+    ensures { OnOk result (page.new ≡ page.old ++ access_text table.now) }
 {
     page.element(Element::Heading, "Who may do what")?;
     put_legend(page)?;
-    put_table(alloc, page, config)
+    page.append(table)
 }
 
 fn put_legend(page: &mut Page) -> Result<(), AllocError>
@@ -186,25 +202,44 @@ fn put_legend(page: &mut Page) -> Result<(), AllocError>
     page.element(
         Element::Aside,
         "Each row is a network from which asks come, each column an operation. all: each such ask is allowed; \
-        some: maybe some of them; none: each is denied; a dash: the gateway raises no such ask.",
+        some: one is allowed, and one denied; none: each is denied; some?: not known, since the search used up its steps; \
+        a dash: the gateway raises no such ask.",
     )
 }
 
-#[tactic(auto, unfolding(crate::specs::Report::access_table))]
-fn put_table(alloc: Global, page: &mut Page, config: &Config) -> Result<(), AllocError>
-    ensures { OnOk result (page.new ≡ page.old ++ access_table config.now) }
+fn table_of(alloc: Global, config: &Config) -> Result<Page, AllocError>
+    ensures { IfOk result (λ page. IsTable config.now.rules (own_of config.now) (shapes config.now) page) }
 {
     let shapes = shapes_of(alloc, config)?;
     let own = own_of(alloc, config.ports())?;
     let table = Table {
-        rules: config.rules().rules(),
+        rules: config.rules(),
         own: &own,
         shapes: &shapes,
     };
+    whole_table(alloc, &table)
+}
+
+fn whole_table(alloc: Global, table: &Table<'_>) -> Result<Page, AllocError>
+    ensures { IfOk result (λ page. IsTable table.now.rules.now table.now.own.now table.now.shapes.now page) }
+{
+    let mut rows = Page::new(alloc);
+    table.put_rows(alloc, &mut rows)?;
+    let mut last = Page::new(alloc);
+    table.put_row(alloc, &mut last, Whence::Beyond)?;
+    let mut page = Page::new(alloc);
+    put_table(&mut page, &rows, &last)?;
+    Ok(page)
+}
+
+#[tactic(auto, unfolding(crate::specs::Report::table_text))]
+fn put_table(page: &mut Page, rows: &Page, last: &Page) -> Result<(), AllocError>
+    ensures { OnOk result (page.new ≡ page.old ++ table_text rows.now last.now) }
+{
     page.open(Element::Table)?;
     put_head(page)?;
-    table.put_rows(alloc, page)?;
-    table.put_row(alloc, page, Whence::Beyond)?;
+    page.append(rows)?;
+    page.append(last)?;
     page.close(Element::Table)
 }
 
@@ -295,6 +330,7 @@ fn put_extent(page: &mut Page, extent: Option<Extent>) -> Result<(), AllocError>
         Some(Extent::Nothing) => page.element(Element::Nothing, "none"),
         Some(Extent::Some) => page.element(Element::Some, "some"),
         Some(Extent::All) => page.element(Element::All, "all"),
+        Some(Extent::Unknown) => page.element(Element::Some, "some?"),
     }
 }
 

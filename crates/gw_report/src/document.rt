@@ -4,11 +4,11 @@ ghost use Rattle.std.specs.List.{flat_map};
 ghost use Rattle.gw_ask_sets.specs.assertions.Judging.{AreJudged};
 ghost use Rattle.gw_codecs.specs.names.Names.{object_type_name};
 ghost use Rattle.gw_configuration.specs.Kinds.{type_number};
-ghost use Rattle.gw_report.specs.Report.{IsReport, announced_text, first_text, head_text, last_text, object_row, objects_head};
+ghost use Rattle.gw_report.specs.Report.{IsAccess, IsReport, announced_text, first_text, head_text, last_text, object_row, objects_head};
 ghost use Rattle.gw_report.specs.Report.{objects_table, objects_text, paragraph, policy_text, sizes_text, title_of, ways_text};
 ghost use Rattle.gw_report.specs.page.Page.{IsPage};
 
-use crate::access::{lines_of, put_access};
+use crate::access::{access_of, lines_of};
 use crate::assertions::put_assertions;
 use crate::fault::ReportFault;
 use crate::log::{Denials, read_log};
@@ -72,10 +72,11 @@ fn times_of(alloc: Global, config: &Config, denials: &Denials) -> Result<Times, 
 }
 
 /// What is made before the page. Of the picture of the site, the lines that say who may do what, and the plots of what a log
-/// denied no more is said than that they are pages; what is found of each assertion is right.
+/// denied no more is said than that they are pages; the table of who may do what, and what is found of each assertion, are right.
 #[derive(Drop)]
 struct Parts {
     picture: Page,
+    access: Page,
     lines: Page,
     plots: Page,
     judged: Vec<Judged>,
@@ -88,11 +89,13 @@ fn parts_of(
     denials: Option<&Denials>,
 ) -> Result<Parts, AllocError>
     ensures picture { IfOk result (λ parts. IsPage parts.picture) }
+    ensures access { IfOk result (λ parts. IsAccess config.now parts.access) }
     ensures lines { IfOk result (λ parts. IsPage parts.lines) }
     ensures plots { IfOk result (λ parts. IsPage parts.plots) }
     ensures judged { IfOk result (λ parts. AreJudged config.now 4096 parts.judged.items) }
 {
     let picture = picture_of(alloc, config)?;
+    let access = access_of(alloc, config)?;
     let lines = lines_of(alloc, config, lines)?;
     let plots = plots_of(alloc, denials)?;
     let judged = judge(alloc, config, JUDGING_STEPS)?;
@@ -101,6 +104,7 @@ fn parts_of(
     plots.is_page();
     Ok(Parts {
         picture,
+        access,
         lines,
         plots,
         judged,
@@ -139,11 +143,11 @@ fn put_first(
     config: &Config,
     parts: &Parts,
 ) -> Result<(), AllocError>
-    ensures { OnOk result (page.new ≡ page.old ++ first_text config.now parts.now.picture parts.now.lines) }
+    ensures { OnOk result (page.new ≡ page.old ++ first_text config.now parts.now.picture parts.now.access parts.now.lines) }
 {
     put_head(alloc, page, config)?;
     page.append(&parts.picture)?;
-    put_access(alloc, page, config)?;
+    page.append(&parts.access)?;
     page.append(&parts.lines)
 }
 

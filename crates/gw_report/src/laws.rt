@@ -1,9 +1,18 @@
 //! What is true of the page. The functions do nothing: their contracts are the laws.
 
+ghost use Rattle.std.specs.Prelude.{◌≡◌};
 ghost use Rattle.gw_report.specs.Access.{CellsAreTrue};
 
-/// Each cell of the table of who may do what is true: where it says all or none, each ask of each shape of which its asks are
-/// is allowed, or denied; where it has a dash, no shape is of such asks.
+use crate::passing::CELL_STEPS;
+
+/// Each cell of the table of who may do what is true: none or all, if each ask of the shapes of which its asks are is denied, or
+/// allowed; some, if one is allowed and one denied; that it isn't known, only if a search used up its steps; a dash, if there is no
+/// such ask.
 pub fn cells()
     ensures { CellsAreTrue }
+{}
+
+/// A search for an ask of a cell that a rule decides makes 256 steps at most.
+pub fn limits()
+    ensures { CELL_STEPS ≡ 256 }
 {}

@@ -9,6 +9,8 @@ returns c =
     let times = c.args.times.now in record {
       picture = parts.picture;
       is_picture = c.in_ok-parts.ensures.picture;
+      access = parts.access;
+      is_access = c.in_ok-parts.ensures.access;
       lines = parts.lines;
       are_lines = c.in_ok-parts.ensures.lines;
       plots = parts.plots;
@@ -18,5 +20,5 @@ returns c =
       whole =
           c.in_ok-put_last.ensures
           ∙ ap (λ (t : List ℕ). t ++ last_text config c.args.lines.now times.are_shown times.counts.items parts.judged.items parts.plots)
-          (c.in_ok-put_first.ensures ∙ ap (λ (t : List ℕ). t ++ first_text config parts.picture parts.lines) c.new-page.ensures);
+          (c.in_ok-put_first.ensures ∙ ap (λ (t : List ℕ). t ++ first_text config parts.picture parts.access parts.lines) c.new-page.ensures);
     }
