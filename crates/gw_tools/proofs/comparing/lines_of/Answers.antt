@@ -13,17 +13,17 @@ returns c = λ right.
     let text = c.if-steps.text in
     elim c.if-steps.branch [
       | then-steps+in_ok-put_steps w ↦ (
-          counted.0,
-          counted.1,
-          subst (λ (steps : Bool). IsWithSteps steps used whole text.items) (sym w.if-steps.true)
-              (ap (λ (v : Vec ℕ). v.items) w.text-is ∙ w.in_ok-put_steps.ensures.ok
-              ∙ ap (λ (t : List ℕ). t ++ steps_text c.steps-used.result) counted.3
-              ∙ ap (λ (n : ℕ). whole ++ steps_text n) (c.steps-used.ensures ∙ sym counted.2)),
-        )
+        counted.0,
+        counted.1,
+        subst (λ (steps : Bool). IsWithSteps steps used whole text.items) (sym w.if-steps.true)
+            (ap (λ (v : Vec ℕ). v.items) w.text-is ∙ w.in_ok-put_steps.ensures.ok
+            ∙ ap (λ (t : List ℕ). t ++ steps_text c.steps-used.result) counted.3
+            ∙ ap (λ (n : ℕ). whole ++ steps_text n) (c.steps-used.ensures ∙ sym counted.2)),
+      )
       | else-steps w ↦ (
-          counted.0,
-          counted.1,
-          subst (λ (steps : Bool). IsWithSteps steps used whole text.items) (sym w.if-steps.false)
-              (ap (λ (v : Vec ℕ). v.items) w.text-is ∙ counted.3),
-        )
+        counted.0,
+        counted.1,
+        subst (λ (steps : Bool). IsWithSteps steps used whole text.items) (sym w.if-steps.false)
+            (ap (λ (v : Vec ℕ). v.items) w.text-is ∙ counted.3),
+      )
     ]
