@@ -112,6 +112,8 @@ pub fn replay<R: OctetSource, W: OctetSink>(
         R.left reader.old ≡ Some script → 2 * length script + 1 < 4294967295 →
         ¬ (IsErrOf result RunFault.Read) }
     ensures sure_writer { W.NeverFails writer.old → ¬ (IsErrOf result RunFault.Write) }
+    // It ends after so many reads at the latest.
+    ensures few { R.reads reader.new ≤ R.reads reader.old + 4294967295 }
 {
     let mut flaw = LineFlaw::Form;
     let taken = Taken::nothing(alloc);
@@ -148,6 +150,8 @@ pub fn replay_explaining<R: OctetSource, W: OctetSink>(
         R.left reader.old ≡ Some script → 2 * length script + 1 < 4294967295 →
         ¬ (IsErrOf result RunFault.Read) }
     ensures sure_writer { W.NeverFails writer.old → ¬ (IsErrOf result RunFault.Write) }
+    // It ends after so many reads at the latest.
+    ensures few { R.reads reader.new ≤ R.reads reader.old + 4294967295 }
 {
     let taken = Taken::nothing(alloc);
     replay_with(&mut Explaining { taken }, config, reader, writer, flaw)
@@ -172,6 +176,8 @@ fn replay_with<T: EventText, R: OctetSource, W: OctetSink>(
         R.left reader.old ≡ Some script → 2 * length script + 1 < 4294967295 →
         ¬ (IsErrOf result RunFault.Read) }
     ensures sure_writer { W.NeverFails writer.old → ¬ (IsErrOf result RunFault.Write) }
+    // It ends after so many reads at the latest.
+    ensures few { R.reads reader.new ≤ R.reads reader.old + 4294967295 }
 {
     let alloc = event_writer.alloc();
     let counts = Counts {
@@ -217,6 +223,7 @@ impl ScriptRun {
             R.left reader.old ≡ Some script → 2 * length script + 1 < 4294967295 →
             ¬ (IsErrOf result RunFault.Read) }
         ensures sure_writer { W.NeverFails writer.old → ¬ (IsErrOf result RunFault.Write) }
+        ensures few { R.reads reader.new ≤ R.reads reader.old + 4294967295 }
     {
         for number in 1..u64::MAX {
             if !self.replay_line(event_writer, number, reader, writer)? {
@@ -251,6 +258,8 @@ impl ScriptRun {
         ensures sure_writer { W.NeverFails writer.old → ¬ (IsErrOf result RunFault.Write) }
         ensures lasting_reader { R.NeverFails reader.old → R.NeverFails reader.new }
         ensures lasting_writer { W.NeverFails writer.old → W.NeverFails writer.new }
+        ensures counted { R.reads reader.new + self.old.lines.calls ≤ R.reads reader.old + self.new.lines.calls }
+        ensures most { self.old.lines.calls ≤ 4294967295 → self.new.lines.calls ≤ 4294967295 }
     {
         let (len, span) = match self.lines.find_line(reader) {
             Ok(NextLine::Line { len, span }) => (len, span),

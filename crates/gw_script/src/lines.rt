@@ -1,6 +1,6 @@
 //! A text for each line of a text.
 
-ghost use Rattle.std.specs.Prelude.{◌≡◌, ◌+◌, ◌*◌, ◌<◌, ℕ, List, [], length, Ok, Some, vec_capacity, IfOk, IsErrOf, true};
+ghost use Rattle.std.specs.Prelude.{◌≡◌, ◌+◌, ◌*◌, ◌≤◌, ◌<◌, ℕ, List, [], length, Ok, Some, vec_capacity, IfOk, IsErrOf, true};
 ghost use Rattle.std.specs.Io.KnownBytes.{prepend_known};
 ghost use Rattle.gw_script.specs.Known.{IsShorter, OnKnown};
 ghost use Rattle.gw_script.specs.Lines.{LeavesLines, OnKnownLine};
@@ -58,6 +58,7 @@ pub fn translate_lines<T: LineTranslator, R: OctetSource, W: OctetSink>(
         R.left reader.old ≡ Some text → 2 * length text + 1 < 4294967295 →
         ¬ (IsErrOf result LinesFault.Read) }
     ensures sure_writer { W.NeverFails writer.old → ¬ (IsErrOf result LinesFault.Write) }
+    ensures few { R.reads reader.new ≤ R.reads reader.old + 4294967295 }
 {
     let Ok(text) = empty_text(alloc) else {
         return Err(LinesFault::Memory);
@@ -93,6 +94,7 @@ impl Translating {
             R.left reader.old ≡ Some text → 2 * length text + 1 < 4294967295 →
             ¬ (IsErrOf result LinesFault.Read) }
         ensures sure_writer { W.NeverFails writer.old → ¬ (IsErrOf result LinesFault.Write) }
+        ensures few { R.reads reader.new ≤ R.reads reader.old + 4294967295 }
     {
         for number in 1..u64::MAX {
             if !self.translate_next(alloc, translator, number, reader, writer)? {
@@ -125,6 +127,8 @@ impl Translating {
         ensures sure_writer { W.NeverFails writer.old → ¬ (IsErrOf result LinesFault.Write) }
         ensures lasting_reader { R.NeverFails reader.old → R.NeverFails reader.new }
         ensures lasting_writer { W.NeverFails writer.old → W.NeverFails writer.new }
+        ensures counted { R.reads reader.new + self.old.lines.calls ≤ R.reads reader.old + self.new.lines.calls }
+        ensures most { self.old.lines.calls ≤ 4294967295 → self.new.lines.calls ≤ 4294967295 }
     {
         let (len, span) = match self.lines.find_line(reader) {
             Ok(NextLine::Line { len, span }) => (len, span),

@@ -170,6 +170,7 @@ impl LineReader {
             IsGiven self.old.calls (S.left source.old) self.new.calls (S.left source.new)) }
         ensures sure { S.NeverFails source.old → IsOk result }
         ensures lasts { S.NeverFails source.old → S.NeverFails source.new }
+        ensures few { S.reads source.new ≤ S.reads source.old + 1 }
     {
         let (start, end) = (self.start, self.end);
         move_to_front(&mut self.octets, start, end);
@@ -197,6 +198,9 @@ impl LineReader {
             (S.left source.new) }
         ensures sure { S.NeverFails source.old → OnErr result (self.new.calls ≡ 4294967295) }
         ensures lasts { S.NeverFails source.old → S.NeverFails source.new }
+        // No read is left out of the count, which has an end.
+        ensures counted { S.reads source.new + self.old.calls ≤ S.reads source.old + self.new.calls }
+        ensures most { self.old.calls ≤ 4294967295 → self.new.calls ≤ 4294967295 }
         // If what is unread shows it, it is returned: nothing is asked of the source, and nothing changes.
         ensures translated { IsAtHand self.old.unread → IsOk result }
         ensures same { IsAtHand self.old.unread → self.new ≡ self.old }

@@ -26,6 +26,8 @@ impl<R: OctetSource> OctetSource for Lent<'_, R> {
 
     ghost NeverFails = { λ lent. R.NeverFails lent.source.now };
 
+    ghost reads = { λ lent. R.reads lent.source.now };
+
     fn read_octets(&mut self, buffer: &mut [u8]) -> Result<usize, ReadFailed> {
         self.source.read_octets(buffer)
     }

@@ -13,6 +13,8 @@ impl OctetSource for Nothing {
 
     ghost NeverFails = { λ _. ⊤ };
 
+    ghost reads = { λ _. 0 };
+
     fn read_octets(&mut self, _buffer: &mut [u8]) -> Result<usize, ReadFailed> {
         Ok(0)
     }

@@ -1,6 +1,6 @@
 //! A source of a text's asks, over a source of the text.
 
-ghost use Rattle.std.specs.Prelude.{◌≡◌, ◌≤◌, ◌<◌, ℕ, List, Option, length, min, IfOk, IfSome, IsOk, option_map, ◌-◌, ◌^◌, Some};
+ghost use Rattle.std.specs.Prelude.{◌≡◌, ◌+◌, ◌≤◌, ◌<◌, ℕ, List, Option, length, min, IfOk, IfSome, IsOk, option_map, ◌-◌, ◌^◌, Some};
 ghost use Rattle.std.specs.Io.KnownBytes.{Keeps, ReadConsumes};
 ghost use Rattle.gw_script.specs.Script.{lines_of};
 ghost use Rattle.gw_verdicts.specs.asks.Asks.{ask_lines, unread_of};
@@ -55,11 +55,14 @@ impl<R: OctetSource> OctetSource for AskLines<R> {
 
     ghost NeverFails = { λ _. ⊥ };
 
+    ghost reads = { λ _. 0 };
+
     fn read_octets(&mut self, buffer: &mut [u8]) -> Result<usize, ReadFailed>
         ensures bound { IfOk result (λ n. n ≤ length buffer.new) }
         ensures octets { ReadConsumes (asks_left R.left self.old) (asks_left R.left self.new) result buffer.new }
         ensures sure { ⊥ → IsOk result }
         ensures lasts { ⊥ → ⊥ }
+        ensures few { 0 ≤ 0 + 1 }
         // How many lines show no ask stays the same, and at the end so many were counted.
         ensures all { IfSome (unread_in_all R.left self.old) (λ n. unread_in_all R.left self.new ≡ Some n) }
         ensures counted { IfOk result (λ n. n ≡ 0 → 0 < length buffer.new →

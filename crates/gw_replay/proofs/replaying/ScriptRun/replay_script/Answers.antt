@@ -15,6 +15,8 @@ loop-number-init g c = record {
   calls = λ script known. bound_at_first script _ _ _ c.requires.calls known (nothing_held _ _ script c.requires.unread known);
   lasting_reader = λ never. never;
   lasting_writer = λ never. never;
+  counted = omega arith;
+  most = omega (arith, c.requires.calls);
 }
 
 pub loop-number-preserved : goal.loop-number-preserved
@@ -36,6 +38,8 @@ loop-number-preserved g c =
           (c.in_ok-replay_line.ensures.shorter bound.remains bound.text_is (ap Ok c.if-not-branch.false)) c.in_ok-replay_line.ensures.paid;
       lasting_reader = λ never. c.in_ok-replay_line.ensures.lasting_reader (c.loop-number.invariant.lasting_reader never);
       lasting_writer = λ never. c.in_ok-replay_line.ensures.lasting_writer (c.loop-number.invariant.lasting_writer never);
+      counted = omega (arith, c.loop-number.invariant.counted, c.in_ok-replay_line.ensures.counted);
+      most = c.in_ok-replay_line.ensures.most c.loop-number.invariant.most;
     }
 
 pub returns-then-not-branch-clause-run : goal.returns-then-not-branch-clause-run

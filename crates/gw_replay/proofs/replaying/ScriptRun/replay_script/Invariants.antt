@@ -1,4 +1,4 @@
-use Rattle.std.proofs.Common.{◌≡◌, ℕ, List, [], Some}
+use Rattle.std.proofs.Common.{◌≡◌, ◌+◌, ◌≤◌, ℕ, List, [], Some}
 use Rattle.std.specs.Io.KnownBytes.{prepend_known}
 use Rattle.gw_configuration.specs.Configuration.{Configuration}
 use Rattle.gw_core.specs.History.{IsStateAfter, no_counts}
@@ -17,4 +17,6 @@ invariant-loop-number g l =
           → CallBound script l.number l.self.lines.calls (left l.reader) (prepend_known l.self.lines.unread (left l.reader));
       lasting_reader : g.R.OctetSource.NeverFails l.fn.reader → g.R.OctetSource.NeverFails l.reader;
       lasting_writer : g.W.OctetSink.NeverFails l.fn.writer → g.W.OctetSink.NeverFails l.writer;
+      counted : g.R.OctetSource.reads l.reader ≤ g.R.OctetSource.reads l.fn.reader + l.self.lines.calls;
+      most : l.self.lines.calls ≤ 4294967295;
     }

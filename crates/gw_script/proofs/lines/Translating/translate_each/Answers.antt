@@ -15,6 +15,8 @@ loop-number-init g c = record {
   calls = λ script known. bound_at_first script _ _ _ c.requires.calls known (nothing_held _ _ script c.requires.unread known);
   lasting_reader = λ never. never;
   lasting_writer = λ never. never;
+  counted = omega arith;
+  most = omega (arith, c.requires.calls);
 }
 
 pub loop-number-preserved : goal.loop-number-preserved
@@ -35,6 +37,8 @@ loop-number-preserved g c =
           (c.in_ok-translate_next.ensures.shorter bound.remains bound.text_is (ap Ok c.if-not-branch.false)) c.in_ok-translate_next.ensures.paid;
       lasting_reader = λ never. c.in_ok-translate_next.ensures.lasting_reader (c.loop-number.invariant.lasting_reader never);
       lasting_writer = λ never. c.in_ok-translate_next.ensures.lasting_writer (c.loop-number.invariant.lasting_writer never);
+      counted = omega (arith, c.loop-number.invariant.counted, c.in_ok-translate_next.ensures.counted);
+      most = c.in_ok-translate_next.ensures.most c.loop-number.invariant.most;
     }
 
 pub returns-then-not-branch-clause-translated : goal.returns-then-not-branch-clause-translated

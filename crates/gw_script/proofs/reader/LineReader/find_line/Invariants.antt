@@ -1,4 +1,4 @@
-use Rattle.std.proofs.Common.{◌-◌, ◌≤◌, length}
+use Rattle.std.proofs.Common.{◌+◌, ◌-◌, ◌≤◌, length}
 use Rattle.std.specs.Io.KnownBytes.{Keeps, prepend_known}
 use Rattle.gw_addr.specs.Text.{Lacks}
 use Rattle.gw_script.specs.Reader.{IsGiven}
@@ -13,6 +13,7 @@ invariant-loop-self g l =
       calls : l.fn.self.calls ≤ l.self.calls;
       given : IsGiven l.fn.self.calls (source.left l.fn.source) l.self.calls (source.left l.source);
       lasts : source.NeverFails l.fn.source → source.NeverFails l.source;
+      counted : source.reads l.source + l.fn.self.calls ≤ source.reads l.fn.source + l.self.calls;
     }
 
 abbrev pub decreases-loop-self : goal.decreases-loop-self
