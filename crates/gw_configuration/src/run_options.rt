@@ -16,14 +16,19 @@ pub struct RunOptions {
     pub verbose: bool,
     /// How many seconds lie between two reports of what was done. Without it there are none.
     pub stats: Option<u64>,
+    /// Whether each report says of each rule how often it decided, and not only the first of each hour and the last. Then `stats` is
+    /// there.
+    pub stats_rules: bool,
     /// The file that the state is kept in. Without one nothing outlives the run.
     pub state: Option<String>,
     /// The file whose being there asks for the configuration to be read again. Without one it is read once.
     pub reload: Option<String>,
     /// The configuration whose rules are on trial. It is there if `trial_log` is.
     pub trial: Option<String>,
-    /// The file that what the rules on trial deny is appended to.
+    /// The file that the asks are appended to on which the rules on trial and those in force differ.
     pub trial_log: Option<String>,
+    /// Whether that file has each ask that the rules on trial deny, also where those in force deny it. Then `trial` is there.
+    pub trial_all: bool,
     /// The file that allowed asks are appended to whose deciding rule says so.
     pub audit: Option<String>,
     /// Whether each line of the log begins with the time at which it was written. Then `log` is there.
