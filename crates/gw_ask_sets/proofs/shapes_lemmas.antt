@@ -4,3 +4,4 @@ pub mod Listing
 pub mod Lying
 pub mod Narrowing
 pub mod RegionLaw
+pub mod Seeking

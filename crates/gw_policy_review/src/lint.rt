@@ -10,5 +10,5 @@ mod text;
 mod trust;
 mod trust_note;
 
-pub use finding::{Finding, MAX_STEPS, findings_of};
+pub use finding::{ALL_STEPS, Finding, MAX_STEPS, findings_of};
 pub use lint::put_lint;

@@ -1,5 +1,5 @@
 -- Who may do what: how much of the asks of each kind a policy allows, in a table by network and operation.
-use Rattle.std.specs.Prelude.{◌≡◌, ◌⊎◌, ℕ, ◌==◌, Bool, true, false, ◌&&◌, not, List, Option, Some, None}
+use Rattle.std.specs.Prelude.{◌≡◌, ◌⊎◌, ℕ, ◌+◌, ◌-◌, ◌≤◌, ◌==◌, Bool, true, false, ◌&&◌, not, List, Option, Some, None}
 use Rattle.std.specs.List.{filter, list_any}
 use Rattle.gw_rules.specs.Ask.{Ask}
 use Rattle.gw_rules.specs.Operation.{operation_number}
@@ -7,11 +7,11 @@ use Rattle.gw_rules.specs.RuleList.{allows}
 use Rattle.gw_rules.specs.declared.operation.Operation.{Operation}
 use Rattle.gw_rules.specs.declared.range.Range.{Range}
 use Rattle.gw_rules.specs.declared.rule.Rule.{Rule}
+use Rattle.gw_ask_sets.specs.regions.Ranges.{lesser}
 use Rattle.gw_ask_sets.specs.declared.shapes.search.Outcome.{Outcome}
 use Rattle.gw_ask_sets.specs.declared.shapes.search.Outcome.TheVariants as outcome
-use Rattle.gw_ask_sets.specs.shapes.Search.{IsUsedUp}
 use Rattle.gw_ask_sets.specs.shapes.Shape.{LiesInOne, Shape}
-use Rattle.gw_policy_review.specs.permissions.Passing.{IsDecision, searched_rules}
+use Rattle.gw_policy_review.specs.permissions.Passing.{AreMade, IsDecision, searched_rules}
 use Rattle.gw_report.specs.declared.access.Whence.{Whence}
 use Rattle.gw_report.specs.declared.access.Whence.TheVariants.{Port, Beyond}
 use Rattle.gw_report.specs.declared.passing.Extent.{Extent}
@@ -54,12 +54,19 @@ extent_of (outcome.Decides ask) outcome.Unknown = Some extent.Unknown
 extent_of outcome.Unknown (outcome.Decides ask) = Some extent.Unknown
 extent_of outcome.Unknown outcome.Unknown = Some extent.Unknown
 
--- what a cell shows of the asks of some shapes, where each search has so many steps for a rule
-pub record IsCell (steps : ℕ) (shapes : List Shape) (rules : List Rule) (cell : Option Extent) : Type 0 where
+-- how many steps a search of a cell is given: 4,096, or those that are left for the table
+abbrev pub steps_given : (left : ℕ) → ℕ
+steps_given left = lesser 4096 left
+
+-- what a cell shows of the asks of some shapes; so many steps are left before, and after
+pub record IsCell (shapes : List Shape) (rules : List Rule) (left rest : ℕ) (cell : Option Extent) : Type 0 where
   pub allowed : Outcome
-  pub is_allowed : IsDecision true steps shapes rules allowed
+  pub first : ℕ
+  pub is_allowed : IsDecision true shapes rules (steps_given left) first allowed
   pub denied : Outcome
-  pub is_denied : IsDecision false steps shapes rules denied
+  pub second : ℕ
+  pub is_denied : IsDecision false shapes rules (steps_given (left - first)) second denied
+  pub counted : left ≡ rest + first + second
   pub shown : cell ≡ extent_of allowed denied
 
 -- ---- what a cell says
@@ -72,22 +79,25 @@ OneIsDecided says shapes rules = (ask : Ask) × LiesInOne shapes ask × (allows 
 abbrev pub EachIsDecided : Bool → List Shape → List Rule → Type 0
 EachIsDecided says shapes rules = (ask : Ask) → LiesInOne shapes ask → allows rules ask ≡ says
 
--- a search for one that the rule of a number decides has used up its steps
-abbrev pub IsUnfinished : ℕ → List Shape → List Rule → Type 0
-IsUnfinished steps shapes rules = (number : ℕ) × IsUsedUp shapes (searched_rules rules) number steps
+-- a search for one that is decided so made all steps that it was given, of those that were left, and nothing is known
+pub record IsUnfinished (shapes : List Shape) (rules : List Rule) (left : ℕ) : Type 0 where
+  pub says : Bool
+  pub now : ℕ
+  pub of_those : now ≤ left
+  pub made : AreMade says shapes (searched_rules rules) (steps_given now) (steps_given now) outcome.Unknown
 
 -- None and all are said of each ask, and some of one of each kind. That it isn't known is said only where steps were used up. A dash
 -- says that there is no ask.
-abbrev pub Says : ℕ → List Shape → List Rule → Option Extent → Type 0
-Says steps shapes rules None = (ask : Ask) → ¬ (LiesInOne shapes ask)
-Says steps shapes rules (Some extent.Nothing) =
-    EachIsDecided false shapes rules × (OneIsDecided false shapes rules ⊎ IsUnfinished steps shapes rules)
-Says steps shapes rules (Some extent.All) =
-    EachIsDecided true shapes rules × (OneIsDecided true shapes rules ⊎ IsUnfinished steps shapes rules)
-Says steps shapes rules (Some extent.Some) = OneIsDecided true shapes rules × OneIsDecided false shapes rules
-Says steps shapes rules (Some extent.Unknown) = IsUnfinished steps shapes rules
+abbrev pub Says : List Shape → List Rule → (left : ℕ) → Option Extent → Type 0
+Says shapes rules left None = (ask : Ask) → ¬ (LiesInOne shapes ask)
+Says shapes rules left (Some extent.Nothing) =
+    EachIsDecided false shapes rules × (OneIsDecided false shapes rules ⊎ IsUnfinished shapes rules left)
+Says shapes rules left (Some extent.All) =
+    EachIsDecided true shapes rules × (OneIsDecided true shapes rules ⊎ IsUnfinished shapes rules left)
+Says shapes rules left (Some extent.Some) = OneIsDecided true shapes rules × OneIsDecided false shapes rules
+Says shapes rules left (Some extent.Unknown) = IsUnfinished shapes rules left
 
 -- Each cell of the table is true.
 abbrev pub CellsAreTrue : Type 0
-CellsAreTrue = (steps : ℕ) (shapes : List Shape) (rules : List Rule) (cell : Option Extent) → IsCell steps shapes rules cell →
-    Says steps shapes rules cell
+CellsAreTrue = (shapes : List Shape) (rules : List Rule) (left rest : ℕ) (cell : Option Extent) → IsCell shapes rules left rest cell →
+    Says shapes rules left cell

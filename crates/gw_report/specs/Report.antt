@@ -90,21 +90,27 @@ extent_cell (Some extent.Some) = element_text element.Some (codes "some")
 extent_cell (Some extent.All) = element_text element.All (codes "all")
 extent_cell (Some extent.Unknown) = element_text element.Some (codes "some?")
 
--- the cell of a row and an operation, whose number in the row is of no account
-abbrev pub IsCellText : List Rule → List Whence → List Shape → Whence → ℕ → Operation → List ℕ → Type 0
-IsCellText rules own those whence number operation text =
-    (cell : Option Extent) × IsCell 256 (asked_shapes own those whence operation) rules cell × (text ≡ extent_cell cell)
+-- the texts of items in their order, one after the other, each made with steps of those that are left: so many before, and after
+abbrev pub AreInTurn : {A : Type 0} → (A → (left rest : ℕ) → List ℕ → Type 0) → List A → (left rest : ℕ) → List ℕ → Type 0
+AreInTurn Is [] left rest text = (rest ≡ left) × (text ≡ [])
+AreInTurn Is (item ∷ items) left rest text =
+    (between : ℕ) × (first others : List ℕ) × Is item left between first × AreInTurn Is items between rest others × (text ≡ first ++ others)
 
-abbrev pub AreCells : List Rule → List Whence → List Shape → Whence → List ℕ → Type 0
-AreCells rules own those whence text = AreInOrder (IsCellText rules own those whence) 1 all_operations text
+-- the cell of a row and an operation
+abbrev pub IsCellText : List Rule → List Whence → List Shape → Whence → Operation → (left rest : ℕ) → List ℕ → Type 0
+IsCellText rules own those whence operation left rest text =
+    (cell : Option Extent) × IsCell (asked_shapes own those whence operation) rules left rest cell × (text ≡ extent_cell cell)
+
+abbrev pub AreCells : List Rule → List Whence → List Shape → Whence → (left rest : ℕ) → List ℕ → Type 0
+AreCells rules own those whence left rest text = AreInTurn (IsCellText rules own those whence) all_operations left rest text
 
 unfoldable pub row_text : Whence → (cells : List ℕ) → List ℕ
 row_text whence cells =
     open_text element.Row ++ (element_text element.Head (whence_text whence) ++ (cells ++ close_text element.Row))
 
-abbrev pub IsRow : List Rule → List Whence → List Shape → ℕ → Whence → List ℕ → Type 0
-IsRow rules own those number whence text =
-    (cells : List ℕ) × AreCells rules own those whence cells × (text ≡ row_text whence cells)
+abbrev pub IsRow : List Rule → List Whence → List Shape → Whence → (left rest : ℕ) → List ℕ → Type 0
+IsRow rules own those whence left rest text =
+    (cells : List ℕ) × AreCells rules own those whence left rest cells × (text ≡ row_text whence cells)
 
 unfoldable pub operation_head : Operation → List ℕ
 operation_head operation = element_text element.Head (operation_name operation)
@@ -120,12 +126,14 @@ table_text rows last = open_text element.Table ++ (access_head ++ (rows ++ (last
 abbrev pub legend_text : List ℕ
 legend_text = element_text element.Aside (codes "Each row is a network from which asks come, each column an operation. all: each such ask is allowed; some: one is allowed, and one denied; none: each is denied; some?: not known, since the search used up its steps; a dash: the gateway raises no such ask.")
 
--- the table, each cell of which shows what is found of its asks
+-- The table, each cell of which shows what is found of its asks. All searches for them share 65,536 steps.
 pub record IsTable (rules : List Rule) (own : List Whence) (those : List Shape) (text : List ℕ) : Type 0 where
+  pub between : ℕ
   pub rows : List ℕ
-  pub are_rows : AreInOrder (IsRow rules own those) 1 own rows
+  pub are_rows : AreInTurn (IsRow rules own those) own 65536 between rows
+  pub rest : ℕ
   pub last : List ℕ
-  pub is_last : IsRow rules own those 0 Beyond last
+  pub is_last : IsRow rules own those Beyond between rest last
   pub whole : text ≡ table_text rows last
 
 unfoldable pub access_text : (table : List ℕ) → List ℕ

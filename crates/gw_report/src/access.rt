@@ -2,15 +2,15 @@
 ghost use Rattle.std.specs.Prelude.{◌≡◌, ◌+◌, ◌-◌, ◌<◌, ◌^◌, ◌++◌, codes, decimal, IfOk, OnOk};
 ghost use Rattle.std.specs.List.{flat_map, list_any};
 ghost use Rattle.gw_rules.specs.declared.operation.TheConstants.Operation.{ALL as all_operations};
-ghost use Rattle.gw_policy_review.specs.permissions.Texts.{Appends, AreInOrder};
+ghost use Rattle.gw_policy_review.specs.permissions.Texts.{Appends};
 ghost use Rattle.gw_report.specs.Access.{IsCell, asked_shapes, comes_from, is_asked, is_at, is_only};
-ghost use Rattle.gw_report.specs.Report.{AreCells, IsAccess, IsCellText, IsRow, IsTable, access_head, access_text, extent_cell, legend_text};
+ghost use Rattle.gw_report.specs.Report.{AreCells, AreInTurn, IsAccess, IsRow, IsTable, access_head, access_text, extent_cell, legend_text};
 ghost use Rattle.gw_report.specs.Report.{operation_head, own_from, own_of, row_text, table_text, whence_text};
 ghost use Rattle.gw_ask_sets.specs.shapes.Shapes.{shapes};
 ghost use Rattle.gw_report.specs.page.Elements.{element_text};
 
 use crate::page::{Element, Page};
-use crate::passing::{Extent, found_extent};
+use crate::passing::{Cell, Extent, TABLE_STEPS, cell_of};
 use gw_addr::put_decimal;
 use gw_ask_sets::shapes::{Shape, shapes_of};
 use gw_configuration::{Config, Port};
@@ -103,61 +103,67 @@ impl Table<'_> {
         Ok(made)
     }
 
-    /// How much the rules allow of the asks for an operation from there, or `None` if there is no such ask.
-    fn extent(
+    /// What the cell shows of the asks for an operation from there, where so many steps are left.
+    fn cell(
         &self,
         alloc: Global,
         whence: Whence,
         operation: Operation,
-    ) -> Result<Option<Extent>, AllocError>
-        ensures { IfOk result
-            (IsCell 256 (asked_shapes self.now.own.now self.now.shapes.now whence operation) self.now.rules.now) }
+        left: u32,
+    ) -> Result<Cell, AllocError>
+        ensures { IfOk result (λ cell. IsCell (asked_shapes self.now.own.now self.now.shapes.now whence operation) self.now.rules.now
+            left cell.left cell.extent) }
     {
         let asked = self.asked(alloc, whence, operation)?;
-        let found = found_extent(alloc, self.rules, &asked)?;
+        let found = cell_of(alloc, self.rules, &asked, left)?;
         Ok(found)
     }
 
-    fn put_row(&self, alloc: Global, page: &mut Page, whence: Whence) -> Result<(), AllocError>
-        ensures { OnOk result (Appends (IsRow self.now.rules.now self.now.own.now self.now.shapes.now 0 whence) page.old page.new) }
-    {
-        let mut cells = Page::new(alloc);
-        self.put_cells(alloc, &mut cells, whence)?;
-        put_whole_row(alloc, page, whence, &cells)
-    }
-
-    fn put_cells(&self, alloc: Global, page: &mut Page, whence: Whence) -> Result<(), AllocError>
-        ensures { OnOk result
-            (Appends (AreCells self.now.rules.now self.now.own.now self.now.shapes.now whence) page.old page.new) }
-    {
-        for operation in Operation::ALL.iter() {
-            self.put_cell(alloc, page, whence, *operation)?;
-        }
-        Ok(())
-    }
-
-    fn put_cell(
+    /// Appends the row of what comes from there, and says how many steps are left.
+    fn put_row(
         &self,
         alloc: Global,
         page: &mut Page,
         whence: Whence,
-        operation: Operation,
-    ) -> Result<(), AllocError>
-        ensures { OnOk result (Appends (IsCellText self.now.rules.now self.now.own.now self.now.shapes.now whence 0 operation)
+        left: u32,
+    ) -> Result<u32, AllocError>
+        ensures { IfOk result (λ rest. Appends (IsRow self.now.rules.now self.now.own.now self.now.shapes.now whence left rest)
             page.old page.new) }
     {
-        let found = self.extent(alloc, whence, operation)?;
-        put_extent(page, found)
+        let mut cells = Page::new(alloc);
+        let rest = self.put_cells(alloc, &mut cells, whence, left)?;
+        put_whole_row(alloc, page, whence, &cells)?;
+        Ok(rest)
     }
 
-    fn put_rows(&self, alloc: Global, page: &mut Page) -> Result<(), AllocError>
-        ensures { OnOk result (Appends
-            (AreInOrder (IsRow self.now.rules.now self.now.own.now self.now.shapes.now) 1 self.now.own.now) page.old page.new) }
+    fn put_cells(
+        &self,
+        alloc: Global,
+        page: &mut Page,
+        whence: Whence,
+        left: u32,
+    ) -> Result<u32, AllocError>
+        ensures { IfOk result (λ rest. Appends (AreCells self.now.rules.now self.now.own.now self.now.shapes.now whence left rest)
+            page.old page.new) }
     {
-        for whence in self.own {
-            self.put_row(alloc, page, *whence)?;
+        let mut rest = left;
+        for operation in Operation::ALL.iter() {
+            let cell = self.cell(alloc, whence, *operation, rest)?;
+            put_extent(page, cell.extent)?;
+            rest = cell.left;
         }
-        Ok(())
+        Ok(rest)
+    }
+
+    fn put_rows(&self, alloc: Global, page: &mut Page, left: u32) -> Result<u32, AllocError>
+        ensures { IfOk result (λ rest. Appends
+            (AreInTurn (IsRow self.now.rules.now self.now.own.now self.now.shapes.now) self.now.own.now left rest) page.old page.new) }
+    {
+        let mut rest = left;
+        for whence in self.own {
+            rest = self.put_row(alloc, page, *whence, rest)?;
+        }
+        Ok(rest)
     }
 }
 
@@ -224,9 +230,9 @@ fn whole_table(alloc: Global, table: &Table<'_>) -> Result<Page, AllocError>
     ensures { IfOk result (λ page. IsTable table.now.rules.now table.now.own.now table.now.shapes.now page) }
 {
     let mut rows = Page::new(alloc);
-    table.put_rows(alloc, &mut rows)?;
+    let between = table.put_rows(alloc, &mut rows, TABLE_STEPS)?;
     let mut last = Page::new(alloc);
-    table.put_row(alloc, &mut last, Whence::Beyond)?;
+    let _rest = table.put_row(alloc, &mut last, Whence::Beyond, between)?;
     let mut page = Page::new(alloc);
     put_table(&mut page, &rows, &last)?;
     Ok(page)

@@ -3,7 +3,7 @@
 ghost use Rattle.std.specs.Prelude.{◌≡◌};
 ghost use Rattle.gw_report.specs.Access.{CellsAreTrue};
 
-use crate::passing::CELL_STEPS;
+use crate::passing::{CELL_STEPS, TABLE_STEPS};
 
 /// Each cell of the table of who may do what is true: none or all, if each ask of the shapes of which its asks are is denied, or
 /// allowed; some, if one is allowed and one denied; that it isn't known, only if a search used up its steps; a dash, if there is no
@@ -12,7 +12,8 @@ pub fn cells()
     ensures { CellsAreTrue }
 {}
 
-/// A search for an ask of a cell that a rule decides makes 256 steps at most.
+/// Each of the two searches of a cell makes 4,096 steps at most, and those of all cells 65,536.
 pub fn limits()
-    ensures { CELL_STEPS ≡ 256 }
+    ensures cell { CELL_STEPS ≡ 4096 }
+    ensures table { TABLE_STEPS ≡ 65536 }
 {}

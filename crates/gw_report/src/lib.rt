@@ -20,4 +20,4 @@ mod words;
 pub use counts::MAX_LABELS;
 pub use document::{report, report_with_log};
 pub use fault::ReportFault;
-pub use passing::{CELL_STEPS, Extent};
+pub use passing::{CELL_STEPS, Extent, TABLE_STEPS};

@@ -1,14 +1,17 @@
 //! How much of some asks a policy allows.
 ghost use Rattle.std.specs.Prelude.{◌≡◌, IfOk};
-ghost use Rattle.gw_report.specs.Access.{IsCell, extent_of};
+ghost use Rattle.gw_report.specs.Access.{IsCell, extent_of, steps_given};
 
 use gw_ask_sets::shapes::{Outcome, Shape};
 use gw_policy_review::permissions::search_decided;
 use gw_rules::RuleList;
 use std::alloc::{AllocError, Global};
 
-/// How many steps each search for an ask that a rule decides has: more than any list of 512 rules needed that was tried.
-pub const CELL_STEPS: u32 = 256;
+/// How many steps each of the two searches for a cell has at most, however many rules there are.
+pub const CELL_STEPS: u32 = 4096;
+
+/// How many those for all cells of the table have.
+pub const TABLE_STEPS: u32 = 65_536;
 
 /// How much of some asks a policy allows.
 #[derive(Clone, Copy)]
@@ -36,15 +39,36 @@ fn extent_of(allowed: &Outcome, denied: &Outcome) -> Option<Extent>
     }
 }
 
-/// How much of the asks of these shapes it allows, or `None` if there is no such ask.
-pub(crate) fn found_extent(
+/// What a cell shows, and how many steps are left for the others.
+#[derive(Clone, Copy)]
+pub(crate) struct Cell {
+    /// How much of its asks the rules allow, or `None` if there is no such ask.
+    pub(crate) extent: Option<Extent>,
+    /// The steps.
+    pub(crate) left: u32,
+}
+
+/// How many steps a search is given, where so many are left for the table.
+fn steps_given(left: u32) -> u32
+    ensures { result ≡ steps_given left }
+{
+    CELL_STEPS.min(left)
+}
+
+/// What the cell shows of the asks of these shapes, where so many steps are left.
+pub(crate) fn cell_of(
     alloc: Global,
     rules: &RuleList,
     shapes: &[Shape],
-) -> Result<Option<Extent>, AllocError>
-    ensures { IfOk result (IsCell 256 shapes.now rules.now) }
+    left: u32,
+) -> Result<Cell, AllocError>
+    ensures { IfOk result (λ cell. IsCell shapes.now rules.now left cell.left cell.extent) }
 {
-    let allowed = search_decided(alloc, rules, shapes, true, CELL_STEPS)?;
-    let denied = search_decided(alloc, rules, shapes, false, CELL_STEPS)?;
-    Ok(extent_of(&allowed, &denied))
+    let allowed = search_decided(alloc, rules, shapes, true, steps_given(left))?;
+    let between = left - allowed.steps;
+    let denied = search_decided(alloc, rules, shapes, false, steps_given(between))?;
+    Ok(Cell {
+        extent: extent_of(&allowed.outcome, &denied.outcome),
+        left: between - denied.steps,
+    })
 }

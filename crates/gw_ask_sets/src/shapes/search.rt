@@ -1,13 +1,13 @@
 //! Whether any ask of some shapes reaches a rule.
-ghost use Rattle.std.specs.Prelude.{◌≡◌, ◌-◌, ◌&&◌, ◌||◌, IfOk, OnOk, Ok};
+ghost use Rattle.std.specs.Prelude.{◌≡◌, ◌-◌, ◌≤◌, ◌&&◌, ◌||◌, IfOk, OnOk};
 ghost use Rattle.std.specs.Prelude.{option_copied, slice_get};
 ghost use Rattle.gw_ask_sets.specs.regions.Regions.{lies, lies_in_one};
 ghost use Rattle.gw_rules.specs.Ask.{Ask as SpecAsk};
 ghost use Rattle.gw_rules.specs.Rule.{matches};
 ghost use Rattle.gw_ask_sets.specs.shapes.Regions.{region_of};
-ghost use Rattle.gw_ask_sets.specs.shapes.Search.{AreMatched, IsFirstFor, IsNeverFirst, IsUsedUp};
+ghost use Rattle.gw_ask_sets.specs.shapes.Search.{AreMatched, IsFound, IsSought, unmatched_of};
 
-use crate::regions::{Region, Unmatched, part, search_unmatched};
+use crate::regions::{Region, Unmatched, part, search_counted};
 use crate::shapes::Shape;
 use crate::shapes::regions::region_of;
 use crate::shapes::side::meets;
@@ -23,6 +23,13 @@ pub enum Outcome {
     Never,
     /// All steps of the search were used.
     Unknown,
+}
+
+/// That, and how many steps the search made.
+#[derive(Clone, Copy)]
+pub struct Sought {
+    pub outcome: Outcome,
+    pub steps: u32,
 }
 
 /// The rule of a number, counted from 1.
@@ -63,30 +70,43 @@ fn matched(alloc: Global, shapes: &[Shape], rule: &Rule) -> Result<Vec<Region>, 
     Ok(regions)
 }
 
+/// What the search among the asks that the rule matches says of the rule.
+fn outcome_of(found: Unmatched) -> Outcome
+    ensures { unmatched_of result ≡ found }
+{
+    match found {
+        Unmatched::Found(ask) => Outcome::Decides(ask),
+        Unmatched::Nothing => Outcome::Never,
+        Unmatched::Unknown => Outcome::Unknown,
+    }
+}
+
 /// Searches these shapes for an ask that the rule of this number, from 1, decides, in at most so many steps:
 /// `Never` if no ask of them has it as its first rule, `Decides` with one that has, `Unknown` only if all steps were
-/// used. The rules' ranges are best in order ([`all_tidied`](crate::regions::all_tidied)). An `Err` if there is no
-/// memory.
+/// used; and says how many it made, so that several searches can share a number of steps. The rules' ranges are best
+/// in order ([`all_tidied`](crate::regions::all_tidied)). An `Err` if there is no memory.
 pub fn search_for(
     alloc: Global,
     rules: &[Rule],
     number: u16,
     shapes: &[Shape],
     steps: u32,
-) -> Result<Outcome, AllocError>
-    ensures never { result ≡ Ok Outcome.Never → IsNeverFirst shapes.now rules.now number }
-    ensures decides { (ask : SpecAsk) → result ≡ Ok (Outcome.Decides ask) →
-        IsFirstFor shapes.now rules.now number ask }
-    ensures unknown { result ≡ Ok Outcome.Unknown → IsUsedUp shapes.now rules.now number steps }
+) -> Result<Sought, AllocError>
+    ensures found { IfOk result (λ s. IsFound shapes.now rules.now number s.outcome) }
+    ensures made { IfOk result (λ s. IsSought shapes.now rules.now number steps s.steps s.outcome) }
+    ensures most { IfOk result (λ s. s.steps ≤ steps) }
 {
     let count = usize::from(number);
     if count == 0 || rules.len() < count {
-        return Ok(Outcome::Never);
+        return Ok(Sought {
+            outcome: Outcome::Never,
+            steps: 0,
+        });
     }
     let regions = matched(alloc, shapes, &rules[count - 1])?;
-    match search_unmatched(alloc, &rules[..count - 1], regions, steps)? {
-        Unmatched::Found(ask) => Ok(Outcome::Decides(ask)),
-        Unmatched::Nothing => Ok(Outcome::Never),
-        Unmatched::Unknown => Ok(Outcome::Unknown),
-    }
+    let searched = search_counted(alloc, &rules[..count - 1], regions, steps)?;
+    Ok(Sought {
+        outcome: outcome_of(searched.outcome),
+        steps: searched.steps,
+    })
 }

@@ -1,11 +1,12 @@
 -- What findings say of the rules.
-use Rattle.std.proofs.Common.{◌≡◌, ◌∙◌, inl, inr, ℕ, ◌+◌, ◌-◌, ◌<◌, List, [], ◌∷◌, ◌++◌, Some, None, get_or, length, sym, ap, subst, arith, slice_get}
-use Rattle.std.proofs.lemmas.Bool.{cases_order}
+use Rattle.std.proofs.Common.{◌≡◌, ◌∙◌, inl, inr, refl, ℕ, ◌+◌, ◌-◌, ◌<◌, ◌≤◌, Bool, true, false, cond, nat_lt, List, [], ◌∷◌, ◌++◌, Some, None, get_or, length, sym, ap, subst, arith, slice_get}
+use Rattle.std.proofs.lemmas.Bool.{cases_order, ltb-false}
 use Rattle.std.proofs.lemmas.List.{get_or_append_left, get_or_at, length-append}
 use Rattle.std.proofs.lemmas.Option.{slice_get-get_or, slice_get_past}
 use Rattle.gw_rules.specs.RuleList.{HasNumber}
 use Rattle.gw_rules.specs.declared.rule.Rule.{Rule}
-use Rattle.gw_policy_review.specs.lint.Finding.{Finds}
+use Rattle.gw_ask_sets.specs.regions.Ranges.{lesser}
+use Rattle.gw_policy_review.specs.lint.Finding.{AreCounted, Finds, IsCounted, IsFinding, steps_given}
 use Rattle.gw_ask_sets.specs.shapes.Shape.{Shape}
 use Rattle.gw_policy_review.specs.declared.lint.finding.Finding.{Finding}
 
@@ -39,8 +40,14 @@ one_rule rules number one other a b =
     let both : Some one ≡ Some other = sym a.there ∙ b.there in
     cc
 
+no_finding : (place : ℕ) (found : Finding) → slice_get [] place ≡ Some found → ⊥
+no_finding place found there =
+    let none : slice_get [] place ≡ None = slice_get_past [] place (omega arith) in
+    let both : None ≡ Some found = sym none ∙ there in
+    absurd cc
+
 -- one finding more
-pub each_next : (shapes : List Shape) (rules : List Rule) (findings : List Finding) (place : ℕ) (rule : Rule) (found : Finding)
+each_next : (shapes : List Shape) (rules : List Rule) (findings : List Finding) (place : ℕ) (rule : Rule) (found : Finding)
     → length findings ≡ place → HasNumber rules (place + 1) rule → Finds shapes rules (place + 1) rule found → Each shapes rules findings
     → Each shapes rules (findings ++ found ∷ [])
 each_next shapes rules findings place rule found ends has tells each n r f numbered there =
@@ -59,14 +66,55 @@ each_next shapes rules findings place rule found ends has tells each n r f numbe
       ]
     ]
 
--- one finding more, and how many there are
-pub all_next : (shapes : List Shape) (rules : List Rule) (findings more : List Finding) (place : ℕ) (rule : Rule) (found : Finding)
-    → more ≡ findings ++ found ∷ [] → HasNumber rules (place + 1) rule → Finds shapes rules (place + 1) rule found
-    → (length findings ≡ place) × Each shapes rules findings → (length more ≡ place + 1) × Each shapes rules more
-all_next shapes rules findings more place rule found grown has tells (count, each) = (
-  omega (arith, count, ap length grown, length-append findings (found ∷ [])),
-  subst (λ (xs : List Finding). Each shapes rules xs) (sym grown) (each_next shapes rules findings place rule found count has tells each),
+-- what the searches for the rules of a list leave, and one more
+one_counted : (shapes : List Shape) (rules : List Rule) (number : ℕ) (findings : List Finding) (found : Finding) (left between rest count last : ℕ)
+    → AreCounted shapes rules number findings left between → last ≡ number + length findings
+    → IsCounted shapes rules last (steps_given between) count found → between ≡ rest + count
+    → AreCounted shapes rules number (findings ++ found ∷ []) left rest
+one_counted shapes rules number [] found left between rest count last so_far at one are = (
+  count,
+  rest,
+  subst (λ (n : ℕ). IsCounted shapes rules n (steps_given left) count found) (at ∙ omega arith)
+      (subst (λ (u : ℕ). IsCounted shapes rules last (steps_given u) count found) so_far one),
+  sym so_far ∙ are,
+  refl,
 )
+one_counted shapes rules number (one ∷ findings) found left between rest count last so_far at more are = (
+  so_far.0,
+  so_far.1,
+  so_far.2,
+  so_far.3,
+  one_counted shapes rules (number + 1) findings found so_far.1 between rest count last so_far.4 (at ∙ omega arith) more are,
+)
+
+lesser_right : (a b : ℕ) → lesser a b ≤ b
+lesser_right a b = by (nat_lt b a) refl
+  where
+    by : (c : Bool) → nat_lt b a ≡ c → cond c b a ≤ b
+    by true e = omega arith
+    by false e =
+        let over = ltb-false b a e in
+        omega (arith, over)
+
+-- a search is given no more than is left
+pub given_left : (left here : ℕ) → here ≤ steps_given left → here ≤ left
+given_left left here few =
+    let less = lesser_right 1024 left in
+    omega (arith, few, less)
+
+-- what is found of the first so many rules, and how many steps are left
+pub record AreFound (shapes : List Shape) (rules : List Rule) (findings : List Finding) (place left : ℕ) : Type 0 where
+  pub count : length findings ≡ place
+  pub each : Each shapes rules findings
+  pub counted : AreCounted shapes rules 1 findings 65536 left
+
+pub none_found : (shapes : List Shape) (rules : List Rule) (findings : List Finding) → findings ≡ [] → AreFound shapes rules findings 0 65536
+none_found shapes rules findings none =
+    subst (λ (fs : List Finding). AreFound shapes rules fs 0 65536) (sym none) (record {
+      count = refl;
+      each = λ number rule found has there. absurd (no_finding (number - 1) found there);
+      counted = refl;
+    })
 
 -- there is a rule at a place before the end
 rule_at : (rules : List Rule) (place : ℕ) → place < length rules → (rule : Rule) × (slice_get rules place ≡ Some rule)
@@ -74,13 +122,19 @@ rule_at [] place within = absurd (omega (arith, within))
 rule_at (r ∷ rs) place within = (get_or (r ∷ rs) place r, slice_get-get_or (r ∷ rs) place r within)
 
 -- one finding more, of the rule of a number
-pub next_found : (shapes : List Shape) (rules all : List Rule) (findings more : List Finding) (place : ℕ) (found : Finding) → all ≡ rules
-    → place < length all → more ≡ findings ++ found ∷ []
-    → ((rule : Rule) → HasNumber all (place + 1) rule → Finds shapes all (place + 1) rule found)
-    → (length findings ≡ place) × Each shapes rules findings → (length more ≡ place + 1) × Each shapes rules more
-next_found shapes rules all findings more place found same within grown tells before =
+pub next_found : (shapes : List Shape) (rules all : List Rule) (findings more : List Finding) (place left rest here : ℕ) (found : Finding)
+    → all ≡ rules → place < length all → more ≡ findings ++ found ∷ [] → IsFinding shapes all (place + 1) (steps_given left) here found
+    → left ≡ rest + here → AreFound shapes rules findings place left → AreFound shapes rules more (place + 1) rest
+next_found shapes rules all findings more place left rest here found same within grown told are before =
     let back : place + 1 - 1 ≡ place = omega arith in
     let one = rule_at all place within in
-    let has : HasNumber all (place + 1) one.0 = record { counted = omega arith; there = ap (slice_get all) back ∙ one.1 } in
-    all_next shapes rules findings more place one.0 found grown (subst (λ (rs : List Rule). HasNumber rs (place + 1) one.0) same has)
-    (subst (λ (rs : List Rule). Finds shapes rs (place + 1) one.0 found) same (tells one.0 has)) before
+    let there : HasNumber all (place + 1) one.0 = record { counted = omega arith; there = ap (slice_get all) back ∙ one.1 } in
+    let has = subst (λ (rs : List Rule). HasNumber rs (place + 1) one.0) same there in
+    let is = subst (λ (rs : List Rule). IsFinding shapes rs (place + 1) (steps_given left) here found) same told in
+    let count = before.count in
+    let long = length-append findings (found ∷ []) in
+    subst (λ (fs : List Finding). AreFound shapes rules fs (place + 1) rest) (sym grown) (record {
+      count = omega (arith, count, long);
+      each = each_next shapes rules findings place one.0 found count has (is.each one.0 has) before.each;
+      counted = one_counted shapes rules 1 findings found 65536 left rest here (place + 1) before.counted (omega (arith, count)) is.counted are;
+    })

@@ -26,7 +26,7 @@ alone shape ask (inr none) = absurd none
 
 pub hidden_is_not_read : HiddenIsNotRead
 hidden_is_not_read c network kind instance property ask hides read =
-    let lies = alone _ ask read.0 in
+    let lies = alone _ ask read.1.right.0 in
     let reads : Reads network ask.source_key kind instance ask = record {
       operation = one_number (operation_number operations.Read) ask.operation (lies Operation);
       source_network = one_number network ask.source_network (lies SourceNetwork);
@@ -34,4 +34,4 @@ hidden_is_not_read c network kind instance property ask hides read =
       object_type = one_number kind ask.object_type (lies ObjectType);
       instance = one_number instance ask.instance (lies Instance);
     } in
-    both_ways (allows c.rules ask) (hidden_from_network c.rules network kind instance hides ask.source_key ask reads) read.1
+    both_ways (allows c.rules ask) (hidden_from_network c.rules network kind instance hides ask.source_key ask reads) read.1.right.1

@@ -1,5 +1,5 @@
 -- What a search, rule by rule, for an ask that a policy decides so comes to.
-use Rattle.std.proofs.Common.{◌≡◌, ◌∙◌, ℕ, ◌+◌, ◌-◌, ◌≤◌, Bool, true, false, not, if◌then◌else◌, List, [], ◌∷◌, ◌++◌, Option, Some, None, ap, arith, inl, inr, length}
+use Rattle.std.proofs.Common.{◌≡◌, ◌∙◌, ℕ, ◌+◌, ◌-◌, ◌≤◌, Bool, true, false, not, if◌then◌else◌, List, [], ◌∷◌, ◌++◌, Option, Some, None, add-one, ap, arith, inl, inr, length}
 use Rattle.std.proofs.Common.{map, refl, slice_get, subst, sym}
 use Rattle.std.specs.Option.{option_map_or}
 use Rattle.std.proofs.lemmas.Bool.{both_ways, cases_order}
@@ -13,11 +13,13 @@ use Rattle.gw_rules.proofs.First.{first_iff}
 use Rattle.gw_rules.proofs.Matching.{matches_iff}
 use Rattle.gw_ask_sets.specs.regions.Deciding.{decided}
 use Rattle.gw_ask_sets.specs.regions.Tidying.{all_tidied, tidied}
-use Rattle.gw_ask_sets.specs.shapes.Search.{IsFirstFor, IsNeverFirst, IsUsedUp}
+use Rattle.gw_ask_sets.specs.shapes.Search.{IsFound, IsSought}
 use Rattle.gw_ask_sets.specs.shapes.Shape.{LiesInOne, Shape}
 use Rattle.gw_ask_sets.proofs.regions_lemmas.AllowsLaw.{decided_allows}
 use Rattle.gw_ask_sets.proofs.regions_lemmas.TidyLaw.{tidied_allows}
-use Rattle.gw_policy_review.specs.permissions.Passing.{IsDecision, IsSaidBy, default_rule, is_never, is_said, searched_rules}
+use Rattle.gw_ask_sets.proofs.shapes_lemmas.Narrowing.{no_rule}
+use Rattle.gw_ask_sets.proofs.shapes_lemmas.Seeking.{is_found}
+use Rattle.gw_policy_review.specs.permissions.Passing.{AreVain, IsDecision, IsSaidBy, IsSoughtIf, default_rule, is_never, is_said, searched_rules}
 use Rattle.gw_policy_review.proofs.permissions_lemmas.Excepting.{some_first}
 use Rattle.gw_ask_sets.specs.declared.shapes.search.Outcome.{Outcome}
 use Rattle.gw_ask_sets.specs.declared.shapes.search.Outcome.TheVariants as outcome
@@ -39,20 +41,74 @@ so allows true e = e
 so true false e = absurd cc
 so false false e = refl
 
--- a rule that says the other thing decides no ask so
-pub not_said : (says : Bool) (steps : ℕ) (shapes : List Shape) (rules : List Rule) (number : ℕ) → is_said rules number says ≡ false
-    → IsSaidBy says steps shapes rules number outcome.Never
-not_said says steps shapes rules number other ask lies is = says_first rules ask number is ∙ otherwise (allows_at rules number) says other
+-- no search is made for a rule that says the other thing
+pub not_said : (says : Bool) (shapes : List Shape) (rules : List Rule) (number given : ℕ) → is_said rules number says ≡ false
+    → IsSaidBy says shapes rules number given 0 outcome.Never
+not_said says shapes rules number given other =
+    subst (λ (b : Bool). IsSoughtIf b shapes rules number given 0 outcome.Never) (sym other) (refl, refl)
 
--- one that says so decides so what it decides
-pub said_by : (says : Bool) (steps : ℕ) (shapes : List Shape) (rules : List Rule) (number : ℕ) (found : Outcome) → is_said rules number says ≡ true
-    → (found ≡ outcome.Never → IsNeverFirst shapes rules number) → ((ask : Ask) → found ≡ outcome.Decides ask → IsFirstFor shapes rules number ask)
-    → (found ≡ outcome.Unknown → IsUsedUp shapes rules number steps) → IsSaidBy says steps shapes rules number found
-said_by says steps shapes rules number outcome.Never is never decides unknown = λ ask lies firstly. absurd (never refl ask lies firstly)
-said_by says steps shapes rules number (outcome.Decides ask) is never decides unknown =
-    let firstly = decides ask refl in
-    (firstly.0, says_first rules ask number firstly.1 ∙ so (allows_at rules number) says is)
-said_by says steps shapes rules number outcome.Unknown is never decides unknown = unknown refl
+-- one is made for a rule that says so
+pub said_by : (says : Bool) (shapes : List Shape) (rules : List Rule) (number given count : ℕ) (found : Outcome) → is_said rules number says ≡ true
+    → IsSought shapes rules number given count found → count ≤ given → IsSaidBy says shapes rules number given count found
+said_by says shapes rules number given count found is made few =
+    subst (λ (b : Bool). IsSoughtIf b shapes rules number given count found) (sym is) (made, few)
+
+sought_found : (shapes : List Shape) (rules : List Rule) (number given count : ℕ) (found : Outcome) → IsSought shapes rules number given count found
+    → IsFound shapes rules number found
+sought_found shapes rules number given count found (inl made) = is_found shapes rules number given count found made
+sought_found shapes rules number given count found (inr spared) =
+    subst (λ (o : Outcome). IsFound shapes rules number o) (sym spared.never) (no_rule shapes rules number spared.no_rule)
+
+-- so, of its asks of the shapes, none is decided so where it finds none
+never_said : (says : Bool) (shapes : List Shape) (rules : List Rule) (number given count : ℕ) → IsSaidBy says shapes rules number given count outcome.Never
+    → (ask : Ask) → LiesInOne shapes ask → first rules ask ≡ Some number → allows rules ask ≡ not says
+never_said says shapes rules number given count told ask lies is = by (is_said rules number says) refl told
+  where
+    by : (b : Bool) → is_said rules number says ≡ b → IsSoughtIf b shapes rules number given count outcome.Never → allows rules ask ≡ not says
+    by true e made = absurd (sought_found shapes rules number given count outcome.Never made.0 ask lies is)
+    by false e none = says_first rules ask number is ∙ otherwise (allows_at rules number) says e
+
+-- one that it finds is
+one_said : (says : Bool) (shapes : List Shape) (rules : List Rule) (number given count : ℕ) (ask : Ask)
+    → IsSaidBy says shapes rules number given count (outcome.Decides ask) → LiesInOne shapes ask × (allows rules ask ≡ says)
+one_said says shapes rules number given count ask told = by (is_said rules number says) refl told
+  where
+    by : (b : Bool) → is_said rules number says ≡ b → IsSoughtIf b shapes rules number given count (outcome.Decides ask)
+        → LiesInOne shapes ask × (allows rules ask ≡ says)
+    by true e made =
+        let firstly = sought_found shapes rules number given count (outcome.Decides ask) made.0 in
+        (firstly.0, says_first rules ask number firstly.1 ∙ so (allows_at rules number) says e)
+    by false e none =
+        let never : outcome.Decides ask ≡ outcome.Never = none.1 in
+        absurd cc
+
+-- it makes no more steps than it is given
+few_said : (says : Bool) (shapes : List Shape) (rules : List Rule) (number given count : ℕ) (found : Outcome)
+    → IsSaidBy says shapes rules number given count found → count ≤ given
+few_said says shapes rules number given count found told = by (is_said rules number says) told
+  where
+    by : (b : Bool) → IsSoughtIf b shapes rules number given count found → count ≤ given
+    by true made = made.1
+    by false none =
+        let zero = none.0 in
+        omega (arith, zero)
+
+-- and all of them where nothing is known
+all_used : (shapes : List Shape) (rules : List Rule) (number given count : ℕ) → IsSought shapes rules number given count outcome.Unknown → count ≡ given
+all_used shapes rules number given count (inl made) = made.ended.0
+all_used shapes rules number given count (inr spared) =
+    let never : outcome.Unknown ≡ outcome.Never = spared.never in
+    absurd cc
+
+all_said : (says : Bool) (shapes : List Shape) (rules : List Rule) (number given count : ℕ)
+    → IsSaidBy says shapes rules number given count outcome.Unknown → count ≡ given
+all_said says shapes rules number given count told = by (is_said rules number says) told
+  where
+    by : (b : Bool) → IsSoughtIf b shapes rules number given count outcome.Unknown → count ≡ given
+    by true made = all_used shapes rules number given count made.0
+    by false none =
+        let never : outcome.Unknown ≡ outcome.Never = none.1 in
+        absurd cc
 
 -- ---- the first so many rules
 
@@ -66,22 +122,40 @@ say_none says shapes rules ask number lies is few =
     let counted = ((first_iff rules ask number).0 is).numbered.counted in
     absurd (omega (arith, counted, few))
 
-say_none_more : (says : Bool) (steps : ℕ) (shapes : List Shape) (rules : List Rule) (count : ℕ) → SayNone says shapes rules count
-    → IsSaidBy says steps shapes rules (count + 1) outcome.Never → SayNone says shapes rules (count + 1)
-say_none_more says steps shapes rules count so_far one ask number lies is few =
-    elim (cases_order number (count + 1)) [
-      | inl same ↦ one ask lies (subst (λ (n : ℕ). first rules ask ≡ Some n) same is)
+say_none_more : (says : Bool) (shapes : List Shape) (rules : List Rule) (number given count : ℕ) → SayNone says shapes rules number
+    → IsSaidBy says shapes rules (number + 1) given count outcome.Never → SayNone says shapes rules (number + 1)
+say_none_more says shapes rules number given count so_far told ask other lies is few =
+    elim (cases_order other (number + 1)) [
+      | inl same ↦ never_said says shapes rules (number + 1) given count told ask lies (subst (λ (n : ℕ). first rules ask ≡ Some n) same is)
       | inr apart ↦ elim apart [
-        | inl below ↦ so_far ask number lies is (omega (arith, below))
+        | inl below ↦ so_far ask other lies is (omega (arith, below))
         | inr above ↦ absurd (omega (arith, few, above))
       ]
     ]
 
-pub one_more : (says : Bool) (steps : ℕ) (shapes : List Shape) (rules : List Rule) (count : ℕ) (found : Outcome) → is_never found ≡ true
-    → IsSaidBy says steps shapes rules (count + 1) found → SayNone says shapes rules count → SayNone says shapes rules (count + 1)
-one_more says steps shapes rules count outcome.Never is tells so_far = say_none_more says steps shapes rules count so_far tells
-one_more says steps shapes rules count (outcome.Decides ask) is tells so_far = absurd cc
-one_more says steps shapes rules count outcome.Unknown is tells so_far = absurd cc
+-- and the searches for an ask that one of them decides have so many steps
+pub record AreNone (says : Bool) (shapes : List Shape) (rules : List Rule) (given number used : ℕ) : Type 0 where
+  pub none : SayNone says shapes rules number
+  pub vain : AreVain says shapes rules given number used
+  pub most : used ≤ given
+
+pub are_none : (says : Bool) (shapes : List Shape) (rules : List Rule) (given : ℕ) → AreNone says shapes rules given 0 0
+are_none says shapes rules given = record { none = say_none says shapes rules; vain = refl; most = omega arith }
+
+-- one more that finds none
+pub one_more : (says : Bool) (shapes : List Shape) (rules : List Rule) (given number used here : ℕ) (found : Outcome) → is_never found ≡ true
+    → IsSaidBy says shapes rules (number + 1) (given - used) here found → AreNone says shapes rules given number used
+    → AreNone says shapes rules given (number + 1) (used + here)
+one_more says shapes rules given number used here outcome.Never is told so_far =
+    let few = few_said says shapes rules (number + 1) (given - used) here outcome.Never told in
+    let most = so_far.most in
+    record {
+      none = say_none_more says shapes rules number (given - used) here so_far.none told;
+      vain = subst (λ (n : ℕ). AreVain says shapes rules given n (used + here)) (sym (add-one number)) (used, here, so_far.vain, told, refl);
+      most = omega (arith, few, most);
+    }
+one_more says shapes rules given number used here (outcome.Decides ask) is told so_far = absurd cc
+one_more says shapes rules given number used here outcome.Unknown is told so_far = absurd cc
 
 -- ---- the default
 
@@ -127,20 +201,55 @@ some_number rules ask =
 
 -- ---- the whole policy
 
-pub none_decided : (says : Bool) (steps : ℕ) (shapes : List Shape) (rules searched : List Rule) (count : ℕ) → searched ≡ searched_rules rules
-    → length rules + 1 ≤ count → SayNone says shapes searched count → IsDecision says steps shapes rules outcome.Never
-none_decided says steps shapes rules searched count is all none ask lies =
-    let by = some_number rules ask in
-    let few = by.2 in
-    let firstly : first searched ask ≡ Some by.0 = ap (λ (rs : List Rule). first rs ask) is ∙ by.1 in
-    sym (searched_allows rules ask)
-    ∙ (ap (λ (rs : List Rule). allows rs ask) (sym is) ∙ none ask by.0 lies firstly (omega (arith, few, all)))
+pub none_decided : (says : Bool) (shapes : List Shape) (rules searched : List Rule) (given number used : ℕ) → searched ≡ searched_rules rules
+    → number ≡ length rules + 1 → AreNone says shapes searched given number used → IsDecision says shapes rules given used outcome.Never
+none_decided says shapes rules searched given number used is all none = record {
+  right = λ ask lies.
+      let by = some_number rules ask in
+      let few = by.2 in
+      let firstly : first searched ask ≡ Some by.0 = ap (λ (rs : List Rule). first rs ask) is ∙ by.1 in
+      sym (searched_allows rules ask)
+          ∙ (ap (λ (rs : List Rule). allows rs ask) (sym is) ∙ none.none ask by.0 lies firstly (omega (arith, few, all)));
+  made =
+      let count : length (searched_rules rules) ≡ length rules + 1 =
+      length-append (all_tidied rules) (default_rule ∷ []) ∙ ap (λ (n : ℕ). n + 1) (length-map rules tidied) in
+      subst (λ (n : ℕ). AreVain says shapes (searched_rules rules) given n used) (all ∙ sym count)
+      (subst (λ (rs : List Rule). AreVain says shapes rs given number used) is none.vain);
+  most = none.most;
+  all = λ never. absurd cc;
+}
 
-pub one_decided : (says : Bool) (steps : ℕ) (shapes : List Shape) (rules searched : List Rule) (number : ℕ) (found : Outcome)
-    → searched ≡ searched_rules rules → IsSaidBy says steps shapes searched number found → is_never found ≡ false
-    → IsDecision says steps shapes rules found
-one_decided says steps shapes rules searched number outcome.Never same tells some = absurd cc
-one_decided says steps shapes rules searched number (outcome.Decides ask) same tells some =
-    (tells.0, sym (searched_allows rules ask) ∙ (ap (λ (rs : List Rule). allows rs ask) (sym same) ∙ tells.1))
-one_decided says steps shapes rules searched number outcome.Unknown same tells some =
-    (number, subst (λ (rs : List Rule). IsUsedUp shapes rs number steps) same tells)
+pub one_decided : (says : Bool) (shapes : List Shape) (rules searched : List Rule) (given number used here : ℕ) (found : Outcome)
+    → searched ≡ searched_rules rules → IsSaidBy says shapes searched (number + 1) (given - used) here found → is_never found ≡ false
+    → AreNone says shapes searched given number used → IsDecision says shapes rules given (used + here) found
+one_decided says shapes rules searched given number used here outcome.Never same told some none = absurd cc
+one_decided says shapes rules searched given number used here (outcome.Decides ask) same told some none =
+    let few = few_said says shapes searched (number + 1) (given - used) here (outcome.Decides ask) told in
+    let most = none.most in
+    let is = one_said says shapes searched (number + 1) (given - used) here ask told in
+    record {
+      right = (is.0, sym (searched_allows rules ask) ∙ (ap (λ (rs : List Rule). allows rs ask) (sym same) ∙ is.1));
+      made = (
+        number, used, here,
+        subst (λ (rs : List Rule). AreVain says shapes rs given number used) same none.vain,
+        subst (λ (rs : List Rule). IsSaidBy says shapes rs (number + 1) (given - used) here (outcome.Decides ask)) same told,
+        refl,
+      );
+      most = omega (arith, few, most);
+      all = λ unknown. absurd cc;
+    }
+one_decided says shapes rules searched given number used here outcome.Unknown same told some none =
+    let few = few_said says shapes searched (number + 1) (given - used) here outcome.Unknown told in
+    let most = none.most in
+    let full = all_said says shapes searched (number + 1) (given - used) here told in
+    record {
+      right = tt;
+      made = (
+        number, used, here,
+        subst (λ (rs : List Rule). AreVain says shapes rs given number used) same none.vain,
+        subst (λ (rs : List Rule). IsSaidBy says shapes rs (number + 1) (given - used) here outcome.Unknown) same told,
+        refl,
+      );
+      most = omega (arith, few, most);
+      all = λ unknown. omega (arith, full, most);
+    }

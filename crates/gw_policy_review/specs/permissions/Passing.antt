@@ -1,21 +1,21 @@
 -- Which rules may allow asks of a shape.
-use Rattle.std.specs.Prelude.{◌≡◌, ℕ, ◌+◌, ◌-◌, Bool, true, false, not, ◌&&◌, if◌then◌else◌, List, [], ◌∷◌, ◌++◌, Some, codes, length}
+use Rattle.std.specs.Prelude.{◌≡◌, ⊤, ℕ, zero, suc, ◌+◌, ◌-◌, ◌≤◌, Bool, true, false, not, ◌&&◌, if◌then◌else◌, List, [], ◌∷◌, ◌++◌, codes, length}
 use Rattle.std.specs.Prelude.{position, slice_get, take, unwrap_or}
 use Rattle.std.specs.List.{list_any}
 use Rattle.std.specs.Option.{option_map_or}
 use Rattle.gw_rules.specs.Ask.{Ask}
 use Rattle.gw_rules.specs.Fields.{in_each, value_of}
 use Rattle.gw_rules.specs.Rule.{each_field, ranges_of}
-use Rattle.gw_rules.specs.RuleList.{allows, allows_at, first}
+use Rattle.gw_rules.specs.RuleList.{allows, allows_at}
 use Rattle.gw_rules.specs.declared.rule.Rule.{Rule}
 use Rattle.gw_ask_sets.specs.regions.Tidying.{all_tidied}
 use Rattle.gw_ask_sets.specs.shapes.Cover.{takes_side}
 use Rattle.gw_ask_sets.specs.shapes.Meeting.{meets}
-use Rattle.gw_ask_sets.specs.shapes.Search.{IsUsedUp}
+use Rattle.gw_ask_sets.specs.shapes.Search.{IsSought}
 use Rattle.gw_ask_sets.specs.shapes.Shape.{LiesInOne, Shape}
 use Rattle.gw_ask_sets.specs.declared.shapes.search.Outcome.{Outcome}
 use Rattle.gw_ask_sets.specs.declared.shapes.search.Outcome.TheVariants as outcome
-use Rattle.gw_policy_review.specs.declared.lint.finding.TheConstants.{MAX_STEPS}
+use Rattle.gw_policy_review.specs.declared.permissions.passing.TheConstants.{PASSAGE_STEPS}
 use Rattle.gw_policy_review.specs.declared.lint.finding.Finding.{Finding}
 use Rattle.gw_policy_review.specs.declared.lint.finding.Finding.TheVariants as finding
 
@@ -64,23 +64,48 @@ searched_rules rules = all_tidied rules ++ default_rule ∷ []
 abbrev pub is_said : List Rule → ℕ → Bool → Bool
 is_said rules number says = if says then allows_at rules number else not (allows_at rules number)
 
--- what a search for an ask of these shapes that the rule of this number decides so comes to
-abbrev pub IsSaidBy : Bool → ℕ → List Shape → List Rule → ℕ → Outcome → Type 0
-IsSaidBy says steps shapes rules number outcome.Never =
-    (ask : Ask) → LiesInOne shapes ask → first rules ask ≡ Some number → allows rules ask ≡ not says
-IsSaidBy says steps shapes rules number (outcome.Decides ask) = LiesInOne shapes ask × (allows rules ask ≡ says)
-IsSaidBy says steps shapes rules number outcome.Unknown = IsUsedUp shapes rules number steps
+-- the search for an ask of these shapes that the rule of this number decides, if one is made, has so many steps of those that it
+-- is given, and comes to this
+abbrev pub IsSoughtIf : (is_made : Bool) → List Shape → List Rule → (number given count : ℕ) → Outcome → Type 0
+IsSoughtIf true shapes rules number given count found = IsSought shapes rules number given count found × (count ≤ given)
+IsSoughtIf false shapes rules number given count found = (count ≡ 0) × (found ≡ outcome.Never)
 
--- what a search for an ask of these shapes that the policy decides so comes to: one, or that each is decided otherwise, or that all
--- steps were used of the search for one that the rule of a number decides
-abbrev pub IsDecision : Bool → ℕ → List Shape → List Rule → Outcome → Type 0
-IsDecision says steps shapes rules outcome.Never = (ask : Ask) → LiesInOne shapes ask → allows rules ask ≡ not says
-IsDecision says steps shapes rules (outcome.Decides ask) = LiesInOne shapes ask × (allows rules ask ≡ says)
-IsDecision says steps shapes rules outcome.Unknown = (number : ℕ) × IsUsedUp shapes (searched_rules rules) number steps
+-- none is made for a rule that says the other thing
+abbrev pub IsSaidBy : Bool → List Shape → List Rule → (number given count : ℕ) → Outcome → Type 0
+IsSaidBy says shapes rules number given count found = IsSoughtIf (is_said rules number says) shapes rules number given count found
 
--- what a search for one that the policy allows comes to
+-- the searches for the first so many rules find none, and have so many steps in all: each is given those that are left
+abbrev pub AreVain : Bool → List Shape → List Rule → (given number count : ℕ) → Type 0
+AreVain says shapes rules given zero count = count ≡ 0
+AreVain says shapes rules given (suc number) count =
+    (before here : ℕ) × AreVain says shapes rules given number before
+    × IsSaidBy says shapes rules (number + 1) (given - before) here outcome.Never × (count ≡ before + here)
+
+-- rule by rule: all find none, or one finds an ask, or uses up the steps that are left, and is the last
+abbrev pub AreMade : Bool → List Shape → List Rule → (given count : ℕ) → Outcome → Type 0
+AreMade says shapes rules given count outcome.Never = AreVain says shapes rules given (length rules) count
+AreMade says shapes rules given count found =
+    (number before here : ℕ) × AreVain says shapes rules given number before
+    × IsSaidBy says shapes rules (number + 1) (given - before) here found × (count ≡ before + here)
+
+-- what is found is right: one that the policy decides so, or that it decides each otherwise
+abbrev pub IsRight : Bool → List Shape → List Rule → Outcome → Type 0
+IsRight says shapes rules outcome.Never = (ask : Ask) → LiesInOne shapes ask → allows rules ask ≡ not says
+IsRight says shapes rules (outcome.Decides ask) = LiesInOne shapes ask × (allows rules ask ≡ says)
+IsRight says shapes rules outcome.Unknown = ⊤
+
+-- A search for an ask of these shapes that the policy decides so is given so many steps, which the searches for its rules share,
+-- and has so many of them.
+pub record IsDecision (says : Bool) (shapes : List Shape) (rules : List Rule) (given count : ℕ) (found : Outcome) : Type 0 where
+  pub right : IsRight says shapes rules found
+  pub made : AreMade says shapes (searched_rules rules) given count found
+  pub most : count ≤ given
+  -- nothing is known only if all were used
+  pub all : found ≡ outcome.Unknown → count ≡ given
+
+-- one for an ask that the policy allows, for a line or a note
 abbrev pub IsPassage : List Shape → List Rule → Outcome → Type 0
-IsPassage shapes rules found = IsDecision true MAX_STEPS shapes rules found
+IsPassage shapes rules found = (count : ℕ) × IsDecision true shapes rules PASSAGE_STEPS count found
 
 -- each ask is decided otherwise
 abbrev pub is_never : Outcome → Bool

@@ -1,9 +1,7 @@
 //! What is found of each rule of a policy.
 ghost use Rattle.std.specs.Prelude.{◌≡◌, ◌<◌, ◌≤◌, IfOk, IfSome, length};
-ghost use Rattle.gw_rules.specs.RuleList.{HasNumber};
-ghost use Rattle.gw_rules.specs.declared.rule.Rule.{Rule as SpecRule};
 ghost use Rattle.gw_ask_sets.specs.regions.Tidying.{all_tidied};
-ghost use Rattle.gw_policy_review.specs.lint.Finding.{AreTrue, Finds, IsSearched, taker};
+ghost use Rattle.gw_policy_review.specs.lint.Finding.{AreTrue, IsFinding, IsSearched, finding_by, steps_given, taker};
 
 use gw_ask_sets::regions::all_tidied;
 use gw_ask_sets::shapes::{Outcome, Shape, matches_nothing, search_for, takes_all};
@@ -12,6 +10,9 @@ use std::alloc::{AllocError, Global};
 
 /// How many steps a search for an ask that one rule decides has at most.
 pub const MAX_STEPS: u32 = 1024;
+
+/// How many the searches for all rules have.
+pub const ALL_STEPS: u32 = 65_536;
 
 /// What is found of a rule, over the asks of some shapes.
 #[derive(Clone, Copy)]
@@ -38,51 +39,93 @@ fn taker(shapes: &[Shape], rules: &[Rule], later: &Rule) -> Option<usize>
         .position(|earlier| takes_all(shapes, earlier, later))
 }
 
+/// What is found of a rule, and how many steps the search for it made.
+#[derive(Clone, Copy)]
+struct Counted {
+    finding: Finding,
+    steps: u32,
+}
+
+/// The rules that are looked at, over the asks of some shapes.
+#[derive(Clone, Copy)]
+struct Looked<'a> {
+    /// The shapes.
+    shapes: &'a [Shape],
+    /// The rules.
+    rules: &'a [Rule],
+    /// The same with their ranges in order.
+    tidy: &'a [Rule],
+}
+
+/// What is said of a rule by what its search comes to.
+fn finding_by(found: Outcome) -> Finding
+    ensures { result ≡ finding_by found }
+{
+    match found {
+        Outcome::Decides(ask) => Finding::Decides(ask),
+        Outcome::Never => Finding::TakenTogether,
+        Outcome::Unknown => Finding::Unknown,
+    }
+}
+
 /// What a search for an ask that the rule of this number decides comes to. The rules' ranges are in order.
 fn searched(
     alloc: Global,
     shapes: &[Shape],
     tidy: &[Rule],
     number: u16,
-) -> Result<Finding, AllocError>
-    ensures { IfOk result (IsSearched shapes.now tidy.now number) }
+    steps: u32,
+) -> Result<Counted, AllocError>
+    ensures { IfOk result (λ c. IsSearched shapes.now tidy.now number steps c.steps c.finding) }
 {
-    match search_for(alloc, tidy, number, shapes, MAX_STEPS)? {
-        Outcome::Decides(ask) => Ok(Finding::Decides(ask)),
-        Outcome::Never => Ok(Finding::TakenTogether),
-        Outcome::Unknown => Ok(Finding::Unknown),
-    }
+    let found = search_for(alloc, tidy, number, shapes, steps)?;
+    Ok(Counted {
+        finding: finding_by(found.outcome),
+        steps: found.steps,
+    })
 }
 
-/// What is found of the rule of this number, over these shapes; and the same rules with their ranges in order. An
-/// `Err` only where a growth of memory was refused.
+/// What is found of the rule of this number, with at most so many steps. An `Err` only where a growth of memory was
+/// refused.
 fn finding_of(
     alloc: Global,
-    shapes: &[Shape],
-    rules: &[Rule],
-    tidy: &[Rule],
+    looked: &Looked<'_>,
     number: u16,
-) -> Result<Finding, AllocError>
+    steps: u32,
+) -> Result<Counted, AllocError>
     requires least { 1 ≤ number }
-    requires within { number ≤ length rules.now }
-    requires tidy { tidy.now ≡ all_tidied rules.now }
-    ensures { IfOk result (λ found. (rule : SpecRule) → HasNumber rules.now number rule →
-        Finds shapes.now rules.now number rule found) }
+    requires within { number ≤ length looked.now.rules.now }
+    requires tidy { looked.now.tidy.now ≡ all_tidied looked.now.rules.now }
+    ensures found { IfOk result (λ c. IsFinding looked.now.shapes.now looked.now.rules.now number steps c.steps c.finding) }
+    ensures most { IfOk result (λ c. c.steps ≤ steps) }
 {
     let place = usize::from(number) - 1;
-    let rule = &rules[place];
-    if matches_nothing(shapes, rule) {
-        return Ok(Finding::MatchesNothing);
+    let rule = &looked.rules[place];
+    if matches_nothing(looked.shapes, rule) {
+        return Ok(Counted {
+            finding: Finding::MatchesNothing,
+            steps: 0,
+        });
     }
-    if let Some(place) = taker(shapes, &rules[..place], rule) {
-        return Ok(Finding::TakenBy(place as u16 + 1));
+    if let Some(place) = taker(looked.shapes, &looked.rules[..place], rule) {
+        return Ok(Counted {
+            finding: Finding::TakenBy(place as u16 + 1),
+            steps: 0,
+        });
     }
-    let found = searched(alloc, shapes, tidy, number)?;
+    let found = searched(alloc, looked.shapes, looked.tidy, number, steps)?;
     Ok(found)
 }
 
-/// What is found of each rule, in order, over these shapes. An `Err` only where a growth of memory was
-/// refused.
+/// How many steps the search for an ask of a rule is given, where so many are left for all.
+fn steps_given(left: u32) -> u32
+    ensures { result ≡ steps_given left }
+{
+    MAX_STEPS.min(left)
+}
+
+/// What is found of each rule, in order, over these shapes: each search is given [`MAX_STEPS`], or what is left of
+/// [`ALL_STEPS`]. An `Err` only where a growth of memory was refused.
 pub fn findings_of(
     alloc: Global,
     shapes: &[Shape],
@@ -92,9 +135,17 @@ pub fn findings_of(
 {
     let all = rules.rules();
     let tidy = all_tidied(alloc, all)?;
+    let looked = Looked {
+        shapes,
+        rules: all,
+        tidy: &tidy,
+    };
     let mut findings = Vec::new(alloc);
+    let mut left = ALL_STEPS;
     for place in 0..all.len() {
-        findings.push(finding_of(alloc, shapes, all, &tidy, place as u16 + 1)?)?;
+        let found = finding_of(alloc, &looked, place as u16 + 1, steps_given(left))?;
+        left -= found.steps;
+        findings.push(found.finding)?;
     }
     Ok(findings)
 }

@@ -1,18 +1,19 @@
-//! What a note on broadcasts says, which rules are left out, and the limit of a search. The functions do nothing: their contracts are the laws.
+//! What a note on broadcasts says, which rules are left out, and the limits of a search. The functions do nothing: their contracts are the laws.
 ghost use Rattle.std.specs.Prelude.{◌≡◌};
 ghost use Rattle.gw_policy_review.specs.lint.Laws.{NoBroadcastIsAllowed};
 ghost use Rattle.gw_policy_review.specs.lint.Text.{OwnRulesAreSaid};
 
-use crate::lint::finding::MAX_STEPS;
+use crate::lint::finding::{ALL_STEPS, MAX_STEPS};
 
 /// Where the note on broadcasts is made, no ask of the shapes to pass a broadcast on is allowed.
 pub fn broadcasts()
     ensures { NoBroadcastIsAllowed }
 {}
 
-/// A search for an ask that a rule decides makes 1,024 steps at most.
+/// A search for an ask that a rule decides makes 1,024 steps at most, and those for all rules 65,536.
 pub fn limits()
-    ensures { MAX_STEPS ≡ 1024 }
+    ensures rule { MAX_STEPS ≡ 1024 }
+    ensures all { ALL_STEPS ≡ 65536 }
 {}
 
 /// A lint leaves out no rule of a table of its own.

@@ -1,6 +1,9 @@
 //! What the lines on rules say of asks. The functions do nothing: their contracts are the laws.
+ghost use Rattle.std.specs.Prelude.{◌≡◌};
 ghost use Rattle.gw_policy_review.specs.permissions.Laws.{EachAskIsAllowed, HiddenIsNotRead, NoAskIsAllowed, NoneIsLet};
 ghost use Rattle.gw_policy_review.specs.permissions.Laws.{OnlyExceptionsDeny, OnlyLettingAllow, OnlyListedAllow, SomeAreAllowed};
+
+use crate::permissions::passing::PASSAGE_STEPS;
 
 /// An ask that is looked at by ranges alone is allowed only by a rule that may allow some: if there is none, no such ask is allowed.
 pub fn others()
@@ -32,4 +35,9 @@ pub fn exceptions()
 /// An object that the policy hides from every source of a network has its line, unless the search used up its steps.
 pub fn hidden()
     ensures { HiddenIsNotRead }
+{}
+
+/// The search for an ask of which a line or a note speaks makes 256 steps at most, however many rules there are.
+pub fn limits()
+    ensures { PASSAGE_STEPS ≡ 256 }
 {}

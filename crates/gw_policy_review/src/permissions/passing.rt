@@ -6,10 +6,9 @@ ghost use Rattle.gw_rules.specs.RuleList.{allows_at};
 ghost use Rattle.gw_policy_review.specs.permissions.Passing.{IsDecision, IsPassage, IsSaidBy, decides_all, default_rule, is_never, is_said};
 ghost use Rattle.gw_policy_review.specs.permissions.Passing.{matches_all, may_allow, may_pass, reached, searched_rules};
 
-use crate::lint::MAX_STEPS;
 use gw_addr::Sequence;
 use gw_ask_sets::regions::all_tidied;
-use gw_ask_sets::shapes::{Outcome, Shape, meets, search_for, takes_side};
+use gw_ask_sets::shapes::{Outcome, Shape, Sought, meets, search_for, takes_side};
 use gw_rules::{FieldName, Fields, Rule, RuleList, RuleName};
 use std::alloc::{AllocError, Global};
 
@@ -132,7 +131,7 @@ fn is_said(rules: &[Rule], number: u16, says: bool) -> bool
     if says { allows } else { !allows }
 }
 
-/// What is looked for: an ask of these shapes that these rules decide so. Each search has at most so many steps.
+/// What is looked for: an ask of these shapes that these rules decide so.
 #[derive(Clone, Copy)]
 struct Quest<'a> {
     /// The rules.
@@ -141,18 +140,25 @@ struct Quest<'a> {
     shapes: &'a [Shape],
     /// Whether one that is allowed is looked for, or one that is denied.
     says: bool,
-    /// The steps.
-    steps: u32,
 }
 
-/// Searches for one that the rule of this number decides.
-fn search_rule(alloc: Global, quest: &Quest<'_>, number: u16) -> Result<Outcome, AllocError>
-    ensures { IfOk result (IsSaidBy quest.now.says quest.now.steps quest.now.shapes.now quest.now.rules.now number) }
+/// Searches for one that the rule of this number decides, in at most so many steps.
+fn search_rule(
+    alloc: Global,
+    quest: &Quest<'_>,
+    number: u16,
+    steps: u32,
+) -> Result<Sought, AllocError>
+    ensures said { IfOk result (λ s. IsSaidBy quest.now.says quest.now.shapes.now quest.now.rules.now number steps s.steps s.outcome) }
+    ensures most { IfOk result (λ s. s.steps ≤ steps) }
 {
     if !is_said(quest.rules, number, quest.says) {
-        return Ok(Outcome::Never);
+        return Ok(Sought {
+            outcome: Outcome::Never,
+            steps: 0,
+        });
     }
-    let found = search_for(alloc, quest.rules, number, quest.shapes, quest.steps)?;
+    let found = search_for(alloc, quest.rules, number, quest.shapes, steps)?;
     Ok(found)
 }
 
@@ -164,16 +170,16 @@ pub(crate) fn is_never(found: &Outcome) -> bool
 }
 
 /// Searches for an ask of these shapes that a policy allows, or for one that it denies: `Decides` with one, `Never` if it decides each
-/// otherwise, `Unknown` only if all steps of a search for one that a rule decides were used. Each has at most so many. An `Err` only
-/// if a growth of memory was refused.
+/// otherwise, `Unknown` only if all steps were used. So many steps are shared by the searches for an ask that one of its rules decides.
+/// Says how many were made. An `Err` only if a growth of memory was refused.
 pub fn search_decided(
     alloc: Global,
     policy: &RuleList,
     shapes: &[Shape],
     says: bool,
     steps: u32,
-) -> Result<Outcome, AllocError>
-    ensures { IfOk result (IsDecision says steps shapes.now policy.now) }
+) -> Result<Sought, AllocError>
+    ensures { IfOk result (λ s. IsDecision says shapes.now policy.now steps s.steps s.outcome) }
 {
     let rules = policy.rules();
     let searched = searched_rules(alloc, rules)?;
@@ -181,18 +187,28 @@ pub fn search_decided(
         rules: &searched,
         shapes,
         says,
-        steps,
     };
+    let mut used = 0;
     for place in 0..rules.len() + 1 {
-        let found = search_rule(alloc, &quest, place as u16 + 1)?;
-        if !is_never(&found) {
-            return Ok(found);
+        let found = search_rule(alloc, &quest, place as u16 + 1, steps - used)?;
+        used += found.steps;
+        if !is_never(&found.outcome) {
+            return Ok(Sought {
+                outcome: found.outcome,
+                steps: used,
+            });
         }
     }
-    Ok(Outcome::Never)
+    Ok(Sought {
+        outcome: Outcome::Never,
+        steps: used,
+    })
 }
 
-/// Searches for an ask of these shapes that a policy allows, by searches of at most [`MAX_STEPS`].
+/// How many steps the search for an ask has of which a line or a note speaks: more than any list of 512 rules needed that was tried.
+pub const PASSAGE_STEPS: u32 = 256;
+
+/// Searches for an ask of these shapes that a policy allows, in at most [`PASSAGE_STEPS`].
 pub fn search_allowed(
     alloc: Global,
     policy: &RuleList,
@@ -200,6 +216,6 @@ pub fn search_allowed(
 ) -> Result<Outcome, AllocError>
     ensures { IfOk result (IsPassage shapes.now policy.now) }
 {
-    let found = search_decided(alloc, policy, shapes, true, MAX_STEPS)?;
-    Ok(found)
+    let found = search_decided(alloc, policy, shapes, true, PASSAGE_STEPS)?;
+    Ok(found.outcome)
 }

@@ -1,8 +1,9 @@
-use Rattle.std.proofs.Common.{◌≡◌, ◌∙◌, ◌-◌, List, None, Option, Some, ap, sym, take, true, ℕ}
+use Rattle.std.proofs.Common.{◌≡◌, ◌∙◌, ◌-◌, ◌×◌, List, None, Option, Some, ap, refl, sym, take, true, ℕ}
+use Rattle.gw_rules.specs.RuleList.{HasNumber}
 use Rattle.gw_rules.specs.declared.rule.Rule.{Rule}
 use Rattle.gw_ask_sets.specs.shapes.Cover.{is_met}
 use Rattle.gw_ask_sets.specs.shapes.Shape.{Shape}
-use Rattle.gw_policy_review.specs.lint.Finding.{taker}
+use Rattle.gw_policy_review.specs.lint.Finding.{IsTakenByNone, taker}
 use Rattle.gw_policy_review.proofs.lint_lemmas.Ordered.{rule_there, searched_found}
 use Rattle.gw_policy_review.proofs.lint_lemmas.Taking.{denied, taken_by}
 use Rattle.gw_policy_review.proofs.lint.finding.finding_of.Goals as goal
@@ -13,25 +14,36 @@ taken_of : (shapes : List Shape) (rules : List Rule) (number count : ℕ) (rule 
 taken_of shapes rules number count rule one place e same is =
     ap (λ (r : Rule). taker shapes (take (number - 1) rules) r) (sym same) ∙ ap (λ (n : ℕ). taker shapes (take (n - 1) rules) one) (sym e) ∙ sym is
 
-pub returns-in-Some : goal.returns-in-Some
-returns-in-Some c = λ rule has.
-    let shapes = c.args.shapes.now in
-    let rules = c.args.rules.now in
-    let same = rule_there rules c.args.number c.from-place.result rule c.index-rules-place.result c.from-place.ensures has c.index-rules-place.is in
-    let found : taker shapes (take (c.args.number - 1) rules) rule ≡ Some c.in-Some.place =
-    taken_of shapes rules c.args.number c.from-place.result rule c.index-rules-place.result (Some c.in-Some.place) c.from-place.ensures same
-    c.in-Some.ensures.place in (
-      ap (is_met shapes) (sym same) ∙ denied (is_met shapes c.index-rules-place.result) c.matches_nothing.result c.matches_nothing.ensures.exact c.if-matches_nothing.false,
-      taken_by shapes rules c.args.number c.in-Some.place rule has found,
-    )
+pub returns-in-Some-clause-found : goal.returns-in-Some-clause-found
+returns-in-Some-clause-found c =
+    let shapes = c.args.looked.now.shapes.now in
+    let rules = c.args.looked.now.rules.now in
+    record {
+      each = λ rule has.
+          let same = rule_there rules c.args.number c.from-place.result rule c.index-rules-place.result c.from-place.ensures has c.index-rules-place.is in
+          let found : taker shapes (take (c.args.number - 1) rules) rule ≡ Some c.in-Some.place =
+          taken_of shapes rules c.args.number c.from-place.result rule c.index-rules-place.result (Some c.in-Some.place) c.from-place.ensures same
+          c.in-Some.ensures.place in (
+            ap (is_met shapes) (sym same) ∙ denied (is_met shapes c.index-rules-place.result) c.matches_nothing.result c.matches_nothing.ensures.exact c.if-matches_nothing.false,
+            taken_by shapes rules c.args.number c.in-Some.place rule has found,
+          );
+      counted = refl;
+    }
 
-pub returns : goal.returns
-returns c = λ rule has.
-    let shapes = c.args.shapes.now in
-    let rules = c.args.rules.now in
+pub returns-clause-found : goal.returns-clause-found
+returns-clause-found c =
+    let shapes = c.args.looked.now.shapes.now in
+    let rules = c.args.looked.now.rules.now in
+    searched_found shapes rules c.args.looked.now.tidy.now c.args.number c.args.steps c.in_ok-found.found.steps c.in_ok-found.found.finding
+    c.requires.tidy c.in_ok-found.ensures (
+    λ rule has.
     let same = rule_there rules c.args.number c.from-place.result rule c.index-rules-place.result c.from-place.ensures has c.index-rules-place.is in
     let none : taker shapes (take (c.args.number - 1) rules) rule ≡ None =
     taken_of shapes rules c.args.number c.from-place.result rule c.index-rules-place.result None c.from-place.ensures same (sym c.in_default.is ∙ c.taker.ensures.place) in
     let met : is_met shapes rule ≡ true =
     ap (is_met shapes) (sym same) ∙ denied (is_met shapes c.index-rules-place.result) c.matches_nothing.result c.matches_nothing.ensures.exact c.if-matches_nothing.false in
-    searched_found shapes rules c.args.tidy.now c.args.number rule c.in_ok-found.found c.requires.tidy c.in_ok-found.ensures met none
+    (met, none)
+    )
+
+pub returns-clause-most : goal.returns-clause-most
+returns-clause-most c = c.in_ok-found.ensures.most

@@ -1,8 +1,21 @@
-use Rattle.gw_policy_review.proofs.lint_lemmas.Found.{next_found}
+use Rattle.std.proofs.Common.{◌≡◌, ◌∙◌, ◌+◌, ◌-◌, ◌≤◌, [], arith, length, rules}
+use Rattle.gw_policy_review.proofs.lint_lemmas.Found.{given_left, next_found, none_found}
 use Rattle.gw_policy_review.proofs.lint.finding.findings_of.Goals as goal
+
+pub loop-place-init : goal.loop-place-init
+loop-place-init c = none_found c.args.shapes.now c.args.rules.now c.new.result.items (search rules)
 
 pub loop-place-preserved : goal.loop-place-preserved
 loop-place-preserved c =
+    let left = c.loop-place.left in
+    let here = c.in_ok-found.found.steps in
+    let few : here ≤ left = search rules in
     next_found c.args.shapes.now c.args.rules.now c.rules-all.result.now c.loop-place.findings.items c.push.new.self.items c.loop-place.place
-    c.in_ok-finding_of.field-0 c.rules-all.ensures.rules c.loop-place-test.true c.in_ok-push.ensures.items c.in_ok-finding_of.ensures
-    c.loop-place.invariant
+    left (left - here) here c.in_ok-found.found.finding c.rules-all.ensures.rules c.loop-place-test.true
+    c.in_ok-push.ensures.items c.in_ok-found.ensures.found (omega (arith, few)) c.loop-place.invariant
+
+pub returns : goal.returns
+returns c =
+    let are = c.loop-place.invariant in
+    let all : c.loop-place.place ≡ length c.args.rules.now = search rules in
+    record { count = are.count ∙ all; each = are.each; left = c.loop-place.left; counted = are.counted }

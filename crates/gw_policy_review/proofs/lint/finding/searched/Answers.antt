@@ -1,5 +1,10 @@
-use Rattle.std.proofs.Common.{◌∙◌, Ok, ap}
 use Rattle.gw_policy_review.proofs.lint.finding.searched.Goals as goal
 
-pub returns-in-Unknown : goal.returns-in-Unknown
-returns-in-Unknown c = c.search_for.ensures.unknown (c.in_ok-ask.was ∙ ap Ok c.in-Unknown.is)
+pub returns : goal.returns
+returns c = record {
+  outcome = c.in_ok-found.found.outcome;
+  right = c.in_ok-found.ensures.found;
+  sought = c.in_ok-found.ensures.made;
+  most = c.in_ok-found.ensures.most;
+  shown = c.finding_by.ensures;
+}

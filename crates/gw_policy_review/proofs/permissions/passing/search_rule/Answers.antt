@@ -1,14 +1,13 @@
-use Rattle.std.proofs.Common.{◌∙◌, Ok, ap, sym}
+use Rattle.std.proofs.Common.{sym}
 use Rattle.gw_policy_review.proofs.permissions_lemmas.Passage.{not_said, said_by}
 use Rattle.gw_policy_review.proofs.permissions.passing.search_rule.Goals as goal
 
-pub returns-then-not-is_said : goal.returns-then-not-is_said
-returns-then-not-is_said c =
-    not_said c.args.quest.now.says c.args.quest.now.steps c.args.quest.now.shapes.now c.args.quest.now.rules.now c.args.number
+pub returns-then-not-is_said-clause-said : goal.returns-then-not-is_said-clause-said
+returns-then-not-is_said-clause-said c =
+    not_said c.args.quest.now.says c.args.quest.now.shapes.now c.args.quest.now.rules.now c.args.number c.args.steps
     (sym c.if-not-is_said.ensures)
 
-pub returns : goal.returns
-returns c =
-    said_by c.args.quest.now.says c.args.quest.now.steps c.args.quest.now.shapes.now c.args.quest.now.rules.now c.args.number c.in_ok-found.found
-    (sym c.if-not-is_said.ensures) (λ e. c.search_for.ensures.never (c.in_ok-found.was ∙ ap Ok e))
-    (λ ask e. c.search_for.ensures.decides ask (c.in_ok-found.was ∙ ap Ok e)) (λ e. c.search_for.ensures.unknown (c.in_ok-found.was ∙ ap Ok e))
+pub returns-clause-said : goal.returns-clause-said
+returns-clause-said c =
+    said_by c.args.quest.now.says c.args.quest.now.shapes.now c.args.quest.now.rules.now c.args.number c.args.steps c.in_ok-found.found.steps
+    c.in_ok-found.found.outcome (sym c.if-not-is_said.ensures) c.in_ok-found.ensures.made c.in_ok-found.ensures.most

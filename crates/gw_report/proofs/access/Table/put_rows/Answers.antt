@@ -1,23 +1,23 @@
 use Rattle.std.proofs.Common.{length, rules, ◌≤◌}
 use Rattle.std.proofs.lemmas.List.{drop_all}
-use Rattle.gw_policy_review.proofs.permissions_lemmas.InOrder.{appended_all, appended_more, appended_none}
 use Rattle.gw_report.specs.Report.{IsRow}
+use Rattle.gw_report.proofs.Turns.{turned_all, turned_more, turned_none}
 use Rattle.gw_report.proofs.access.Table.put_rows.Goals as goal
 
 pub loop-whence-init : goal.loop-whence-init
 loop-whence-init c =
     let self = c.args.self.now in
-    appended_none (IsRow self.rules.now self.own.now self.shapes.now) self.own.now c.args.page.now
+    turned_none (IsRow self.rules.now self.own.now self.shapes.now) self.own.now c.args.left c.args.page.now
 
 pub loop-whence-preserved : goal.loop-whence-preserved
 loop-whence-preserved c =
     let self = c.args.self.now in
-    appended_more (IsRow self.rules.now self.own.now self.shapes.now) self.own.now c.loop-whence.whence-index _ c.args.page.now
-    c.loop-whence.page c.put_row.new.page c.loop-whence-test.true c.loop-whence.invariant c.in_ok-put_row.ensures
+    turned_more (IsRow self.rules.now self.own.now self.shapes.now) self.own.now c.loop-whence.whence-index _ c.args.left c.loop-whence.rest
+    c.in_ok-rest.rest c.args.page.now c.loop-whence.page c.put_row.new.page c.loop-whence-test.true c.loop-whence.invariant c.in_ok-rest.ensures
 
 pub returns : goal.returns
 returns c =
     let self = c.args.self.now in
     let ends : length self.own.now ≤ c.loop-whence.whence-index = search rules in
-    appended_all (IsRow self.rules.now self.own.now self.shapes.now) self.own.now c.loop-whence.whence-index c.args.page.now
-    c.loop-whence.page (drop_all c.loop-whence.whence-index self.own.now ends) c.loop-whence.invariant
+    turned_all (IsRow self.rules.now self.own.now self.shapes.now) self.own.now c.loop-whence.whence-index c.args.left c.loop-whence.rest
+    c.args.page.now c.loop-whence.page (drop_all c.loop-whence.whence-index self.own.now ends) c.loop-whence.invariant
