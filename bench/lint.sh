@@ -9,15 +9,22 @@
 #     widest    random ranges of 90 to 99 % of a field
 #     pieces    rules whose ranges one earlier rule takes in pieces alone, so that their searches use up all their steps; the rules
 #               between them differ only in the last field but one
+#     slits     rules that each leave out a slit of a thousandth of each field: which asks all of them leave out is a puzzle, so that
+#               nearly all searches use up all their steps
+#     64 slits  64 of these
+#     tiles     rules that together deny each source, and rules behind them that allow: each of these is searched in vain
+#
+# And how long `bacgwctl report` takes over the same and over a shipped policy, and how many cells of each kind its table has.
 #
 #     bench/lint.sh              # prints a line for each: seconds, the least of three runs, and how many lines of each kind; or over 60 s
 #     bench/lint.sh FOLDER       # and keeps the texts there
 #
-# It wants python3 and the program built, as `./bacgw prove` leaves it; LINT names another program, with its words.
+# It wants python3 and the program built, as `./bacgw prove` leaves it; LINT and REPORT name another program, with its words.
 set -euo pipefail
 
 top=$(cd "$(dirname "$0")/.." && pwd)
-exec python3 - "$top" "${LINT:-$top/crates/bacgwctl/out/bacgwctl lint --config}" "$@" <<'PYTHON'
+program=$top/crates/bacgwctl/out/bacgwctl
+exec python3 - "$top" "${LINT:-$program lint --config}" "${REPORT:-$program report --config}" "$@" <<'PYTHON'
 import collections
 import random
 import re
@@ -27,7 +34,7 @@ import tempfile
 import time
 from pathlib import Path
 
-top, words = Path(sys.argv[1]), sys.argv[2].split()
+top, lint, report = Path(sys.argv[1]), sys.argv[2].split(), sys.argv[3].split()
 RULES = 512
 RANGES = 4
 RUNS = 3
@@ -129,6 +136,41 @@ def pieces_rules():
     return out
 
 
+def slit_rules(count):
+    """Rules that each leave out a slit of every field."""
+    dice = random.Random(45)
+    out = []
+    for number in range(1, count + 1):
+        ranges = {}
+        for key, (low, high) in LIMITS.items():
+            slit = max(1, (high - low) // 1000)
+            at = dice.randrange(low + 1, high - slit + 1)
+            ranges[key] = [(low, at - 1), (min(at + slit, high), high)]
+        out.append(rule(number, dice.random() < 0.5, [], ranges))
+    return out
+
+
+def tile_rules():
+    """120 rules that deny all sources in pieces, and then rules that allow, no two of which are the same."""
+    low, high = LIMITS["source"]
+    step = (high - low + 1) // 120
+    out = []
+    for number in range(1, RULES + 1):
+        if number <= 120:
+            ranges = {"source": [(low + step * (number - 1), high if number == 120 else low + step * number - 1)]}
+        else:
+            ranges = {"source": [(low, high)], "source_network": [(1, 65000 + number)]}
+        out.append(rule(number, number > 120, [], ranges))
+    return out
+
+
+def cells(page):
+    """How many cells of each kind the table of a report has."""
+    table = page.split("Who may do what")[1].split("</table>")[0]
+    found = collections.Counter(re.findall(r">(all|some|none|some\?|-)</td>", table))
+    return ", ".join(f"{count} {kind}" for kind, count in sorted(found.items()))
+
+
 def kinds(text):
     """How many lines of each kind."""
     found = collections.Counter()
@@ -140,7 +182,7 @@ def kinds(text):
     return ", ".join(f"{count} {kind}" for kind, count in sorted(found.items()))
 
 
-def seconds(path):
+def seconds(words, path):
     least, out = float("inf"), ""
     for _ in range(RUNS):
         start = time.perf_counter()
@@ -150,7 +192,7 @@ def seconds(path):
 
 
 with tempfile.TemporaryDirectory() as folder:
-    room = Path(sys.argv[3]) if len(sys.argv) > 3 else Path(folder)
+    room = Path(sys.argv[4]) if len(sys.argv) > 4 else Path(folder)
     lists = [
         ("narrow", random_rules(0.01)),
         ("wide", random_rules(1.0)),
@@ -158,13 +200,20 @@ with tempfile.TemporaryDirectory() as folder:
         ("wider", random_rules(0.97, 0.85)),
         ("widest", random_rules(0.99, 0.9)),
         ("pieces", pieces_rules()),
+        ("slits", slit_rules(RULES)),
+        ("64 slits", slit_rules(64)),
+        ("tiles", tile_rules()),
     ]
+    paths = []
     for name, rules in lists:
-        path = room / f"{name}.toml"
-        path.write_text(head() + "\n" + "\n".join(rules), encoding="utf-8")
-        try:
-            taken, said = seconds(path)
-            print(f"{name}: {taken:.2f} s ({kinds(said)})", flush=True)
-        except subprocess.TimeoutExpired:
-            print(f"{name}: over {MOST} s", flush=True)
+        paths.append(room / f"{name}.toml")
+        paths[-1].write_text(head() + "\n" + "\n".join(rules), encoding="utf-8")
+    policy = top / "examples" / "plant_room.toml"
+    for tool, words, told, of in [("lint", lint, kinds, paths), ("report", report, cells, [*paths, policy])]:
+        for path in of:
+            try:
+                taken, said = seconds(words, path)
+                print(f"{tool}, {path.stem}: {taken:.2f} s ({told(said)})", flush=True)
+            except subprocess.TimeoutExpired:
+                print(f"{tool}, {path.stem}: over {MOST} s", flush=True)
 PYTHON

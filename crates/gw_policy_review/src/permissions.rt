@@ -13,6 +13,8 @@ mod reach;
 mod words;
 
 pub(crate) use passing::is_never;
-pub use passing::{PASSAGE_STEPS, decides_all, may_allow, may_pass, place_of_all, search_allowed, search_decided};
+pub use passing::{
+    PASSAGE_STEPS, decides_all, may_allow, may_pass, place_of_all, search_allowed, search_decided,
+};
 pub use permissions::put_permissions;
 pub(crate) use words::Placed;

@@ -18,7 +18,7 @@ unfinished : (says : Bool) (shapes : List Shape) (rules : List Rule) (left now c
     → IsDecision says shapes rules (steps_given now) count outcome.Unknown → IsUnfinished shapes rules left
 unfinished says shapes rules left now count few is = record {
   says = says;
-  now = now;
+  begun = now;
   of_those = few;
   made = subst (λ (n : ℕ). AreMade says shapes (searched_rules rules) (steps_given now) n outcome.Unknown) (is.all refl) is.made;
 }
@@ -48,12 +48,12 @@ cells_are_true shapes rules left rest cell is =
 
 -- a search is given no more than is left
 pub given_left : (left count : ℕ) → count ≤ steps_given left → count ≤ left
-given_left left count few = by (nat_lt left 4096) refl few
+given_left left count few = by (nat_lt left 16384) refl few
   where
-    by : (c : Bool) → nat_lt left 4096 ≡ c → count ≤ cond c left 4096 → count ≤ left
+    by : (c : Bool) → nat_lt left 16384 ≡ c → count ≤ cond c left 16384 → count ≤ left
     by true e few = few
     by false e few =
-        let over = ltb-false left 4096 e in
+        let over = ltb-false left 16384 e in
         omega (arith, over, few)
 
 -- ---- how the table grows

@@ -54,9 +54,9 @@ extent_of (outcome.Decides ask) outcome.Unknown = Some extent.Unknown
 extent_of outcome.Unknown (outcome.Decides ask) = Some extent.Unknown
 extent_of outcome.Unknown outcome.Unknown = Some extent.Unknown
 
--- how many steps a search of a cell is given: 4,096, or those that are left for the table
+-- how many steps a search of a cell is given: 16,384, or those that are left for the table
 abbrev pub steps_given : (left : ℕ) → ℕ
-steps_given left = lesser 4096 left
+steps_given left = lesser 16384 left
 
 -- what a cell shows of the asks of some shapes; so many steps are left before, and after
 pub record IsCell (shapes : List Shape) (rules : List Rule) (left rest : ℕ) (cell : Option Extent) : Type 0 where
@@ -79,12 +79,12 @@ OneIsDecided says shapes rules = (ask : Ask) × LiesInOne shapes ask × (allows 
 abbrev pub EachIsDecided : Bool → List Shape → List Rule → Type 0
 EachIsDecided says shapes rules = (ask : Ask) → LiesInOne shapes ask → allows rules ask ≡ says
 
--- a search for one that is decided so made all steps that it was given, of those that were left, and nothing is known
+-- a search for one that is decided so made all steps that it was given, of those that were left when it began, and nothing is known
 pub record IsUnfinished (shapes : List Shape) (rules : List Rule) (left : ℕ) : Type 0 where
   pub says : Bool
-  pub now : ℕ
-  pub of_those : now ≤ left
-  pub made : AreMade says shapes (searched_rules rules) (steps_given now) (steps_given now) outcome.Unknown
+  pub begun : ℕ
+  pub of_those : begun ≤ left
+  pub made : AreMade says shapes (searched_rules rules) (steps_given begun) (steps_given begun) outcome.Unknown
 
 -- None and all are said of each ask, and some of one of each kind. That it isn't known is said only where steps were used up. A dash
 -- says that there is no ask.

@@ -126,11 +126,11 @@ table_text rows last = open_text element.Table ++ (access_head ++ (rows ++ (last
 abbrev pub legend_text : List ℕ
 legend_text = element_text element.Aside (codes "Each row is a network from which asks come, each column an operation. all: each such ask is allowed; some: one is allowed, and one denied; none: each is denied; some?: not known, since the search used up its steps; a dash: the gateway raises no such ask.")
 
--- The table, each cell of which shows what is found of its asks. All searches for them share 65,536 steps.
+-- The table, each cell of which shows what is found of its asks. All searches for them share 262,144 steps.
 pub record IsTable (rules : List Rule) (own : List Whence) (those : List Shape) (text : List ℕ) : Type 0 where
   pub between : ℕ
   pub rows : List ℕ
-  pub are_rows : AreInTurn (IsRow rules own those) own 65536 between rows
+  pub are_rows : AreInTurn (IsRow rules own those) own 262144 between rows
   pub rest : ℕ
   pub last : List ℕ
   pub is_last : IsRow rules own those Beyond between rest last

@@ -12,8 +12,8 @@ pub fn cells()
     ensures { CellsAreTrue }
 {}
 
-/// Each of the two searches of a cell makes 4,096 steps at most, and those of all cells 65,536.
+/// Each of the two searches of a cell makes 16,384 steps at most, and those of all cells 262,144.
 pub fn limits()
-    ensures cell { CELL_STEPS ≡ 4096 }
-    ensures table { TABLE_STEPS ≡ 65536 }
+    ensures cell { CELL_STEPS ≡ 16384 }
+    ensures table { TABLE_STEPS ≡ 262144 }
 {}

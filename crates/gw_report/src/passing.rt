@@ -8,10 +8,10 @@ use gw_rules::RuleList;
 use std::alloc::{AllocError, Global};
 
 /// How many steps each of the two searches for a cell has at most, however many rules there are.
-pub const CELL_STEPS: u32 = 4096;
+pub const CELL_STEPS: u32 = 16_384;
 
 /// How many those for all cells of the table have.
-pub const TABLE_STEPS: u32 = 65_536;
+pub const TABLE_STEPS: u32 = 262_144;
 
 /// How much of some asks a policy allows.
 #[derive(Clone, Copy)]
@@ -64,9 +64,11 @@ pub(crate) fn cell_of(
 ) -> Result<Cell, AllocError>
     ensures { IfOk result (λ cell. IsCell shapes.now rules.now left cell.left cell.extent) }
 {
-    let allowed = search_decided(alloc, rules, shapes, true, steps_given(left))?;
+    let first = steps_given(left);
+    let allowed = search_decided(alloc, rules, shapes, true, first)?;
     let between = left - allowed.steps;
-    let denied = search_decided(alloc, rules, shapes, false, steps_given(between))?;
+    let second = steps_given(between);
+    let denied = search_decided(alloc, rules, shapes, false, second)?;
     Ok(Cell {
         extent: extent_of(&allowed.outcome, &denied.outcome),
         left: between - denied.steps,

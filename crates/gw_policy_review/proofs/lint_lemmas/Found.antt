@@ -106,11 +106,11 @@ given_left left here few =
 pub record AreFound (shapes : List Shape) (rules : List Rule) (findings : List Finding) (place left : ℕ) : Type 0 where
   pub count : length findings ≡ place
   pub each : Each shapes rules findings
-  pub counted : AreCounted shapes rules 1 findings 65536 left
+  pub counted : AreCounted shapes rules 1 findings 262144 left
 
-pub none_found : (shapes : List Shape) (rules : List Rule) (findings : List Finding) → findings ≡ [] → AreFound shapes rules findings 0 65536
+pub none_found : (shapes : List Shape) (rules : List Rule) (findings : List Finding) → findings ≡ [] → AreFound shapes rules findings 0 262144
 none_found shapes rules findings none =
-    subst (λ (fs : List Finding). AreFound shapes rules fs 0 65536) (sym none) (record {
+    subst (λ (fs : List Finding). AreFound shapes rules fs 0 262144) (sym none) (record {
       count = refl;
       each = λ number rule found has there. absurd (no_finding (number - 1) found there);
       counted = refl;
@@ -136,5 +136,5 @@ next_found shapes rules all findings more place left rest here found same within
     subst (λ (fs : List Finding). AreFound shapes rules fs (place + 1) rest) (sym grown) (record {
       count = omega (arith, count, long);
       each = each_next shapes rules findings place one.0 found count has (is.each one.0 has) before.each;
-      counted = one_counted shapes rules 1 findings found 65536 left rest here (place + 1) before.counted (omega (arith, count)) is.counted are;
+      counted = one_counted shapes rules 1 findings found 262144 left rest here (place + 1) before.counted (omega (arith, count)) is.counted are;
     })

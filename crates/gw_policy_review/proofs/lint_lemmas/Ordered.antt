@@ -52,7 +52,7 @@ in_order shapes rules number given count rule outcome.Never is sought met none =
     (met, none, λ ask lies first. is ask lies (first_in_order rules number ask first))
 in_order shapes rules number given count rule (outcome.Decides ask) is sought met none = (met, none, (is.0, first_as_given rules number ask is.1))
 in_order shapes rules number given count rule outcome.Unknown is (inl made) met none =
-    (met, none, given, subst (λ (n : ℕ). IsMade shapes (all_tidied rules) number given n outcome.Unknown) made.ended.0 made)
+    (met, none, (given, subst (λ (n : ℕ). IsMade shapes (all_tidied rules) number given n outcome.Unknown) made.ended.0 made))
 in_order shapes rules number given count rule outcome.Unknown is (inr spared) met none =
     let never : outcome.Unknown ≡ outcome.Never = spared.never in
     absurd cc

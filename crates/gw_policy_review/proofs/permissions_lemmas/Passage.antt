@@ -209,7 +209,7 @@ none_decided says shapes rules searched given number used is all none = record {
       let few = by.2 in
       let firstly : first searched ask ≡ Some by.0 = ap (λ (rs : List Rule). first rs ask) is ∙ by.1 in
       sym (searched_allows rules ask)
-          ∙ (ap (λ (rs : List Rule). allows rs ask) (sym is) ∙ none.none ask by.0 lies firstly (omega (arith, few, all)));
+      ∙ (ap (λ (rs : List Rule). allows rs ask) (sym is) ∙ none.none ask by.0 lies firstly (omega (arith, few, all)));
   made =
       let count : length (searched_rules rules) ≡ length rules + 1 =
       length-append (all_tidied rules) (default_rule ∷ []) ∙ ap (λ (n : ℕ). n + 1) (length-map rules tidied) in
@@ -230,7 +230,9 @@ one_decided says shapes rules searched given number used here (outcome.Decides a
     record {
       right = (is.0, sym (searched_allows rules ask) ∙ (ap (λ (rs : List Rule). allows rs ask) (sym same) ∙ is.1));
       made = (
-        number, used, here,
+        number,
+        used,
+        here,
         subst (λ (rs : List Rule). AreVain says shapes rs given number used) same none.vain,
         subst (λ (rs : List Rule). IsSaidBy says shapes rs (number + 1) (given - used) here (outcome.Decides ask)) same told,
         refl,
@@ -245,7 +247,9 @@ one_decided says shapes rules searched given number used here outcome.Unknown sa
     record {
       right = tt;
       made = (
-        number, used, here,
+        number,
+        used,
+        here,
         subst (λ (rs : List Rule). AreVain says shapes rs given number used) same none.vain,
         subst (λ (rs : List Rule). IsSaidBy says shapes rs (number + 1) (given - used) here outcome.Unknown) same told,
         refl,

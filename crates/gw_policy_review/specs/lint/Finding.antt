@@ -69,13 +69,13 @@ AreCounted shapes rules number (found ∷ findings) left rest =
 
 -- ---- all of them
 
--- There is one finding for each rule, in their order, and each says what is true. The searches for them share 65,536 steps.
+-- There is one finding for each rule, in their order, and each says what is true. The searches for them share 262,144 steps.
 pub record AreTrue (shapes : List Shape) (rules : List Rule) (findings : List Finding) : Type 0 where
   pub count : length findings ≡ length rules
   pub each : (number : ℕ) (rule : Rule) (found : Finding) → HasNumber rules number rule →
       slice_get findings (number - 1) ≡ Some found → Finds shapes rules number rule found
   pub left : ℕ
-  pub counted : AreCounted shapes rules 1 findings 65536 left
+  pub counted : AreCounted shapes rules 1 findings 262144 left
 
 -- ---- of a search alone
 

@@ -12,7 +12,7 @@ use std::alloc::{AllocError, Global};
 pub const MAX_STEPS: u32 = 1024;
 
 /// How many the searches for all rules have.
-pub const ALL_STEPS: u32 = 65_536;
+pub const ALL_STEPS: u32 = 262_144;
 
 /// What is found of a rule, over the asks of some shapes.
 #[derive(Clone, Copy)]

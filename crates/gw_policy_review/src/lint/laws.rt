@@ -10,10 +10,10 @@ pub fn broadcasts()
     ensures { NoBroadcastIsAllowed }
 {}
 
-/// A search for an ask that a rule decides makes 1,024 steps at most, and those for all rules 65,536.
+/// A search for an ask that a rule decides makes 1,024 steps at most, and those for all rules 262,144.
 pub fn limits()
     ensures rule { MAX_STEPS ≡ 1024 }
-    ensures all { ALL_STEPS ≡ 65536 }
+    ensures all { ALL_STEPS ≡ 262144 }
 {}
 
 /// A lint leaves out no rule of a table of its own.

@@ -37,7 +37,7 @@ pub fn hidden()
     ensures { HiddenIsNotRead }
 {}
 
-/// The search for an ask of which a line or a note speaks makes 256 steps at most, however many rules there are.
+/// The search for an ask of which a line or a note speaks makes 1,024 steps at most, however many rules there are.
 pub fn limits()
-    ensures { PASSAGE_STEPS ≡ 256 }
+    ensures { PASSAGE_STEPS ≡ 1024 }
 {}

@@ -205,8 +205,8 @@ pub fn search_decided(
     })
 }
 
-/// How many steps the search for an ask has of which a line or a note speaks: more than any list of 512 rules needed that was tried.
-pub const PASSAGE_STEPS: u32 = 256;
+/// How many steps the search for an ask has of which a line or a note speaks.
+pub const PASSAGE_STEPS: u32 = 1024;
 
 /// Searches for an ask of these shapes that a policy allows, in at most [`PASSAGE_STEPS`].
 pub fn search_allowed(

@@ -13,7 +13,7 @@ returns c =
     let last = c.put_row.new.page in record {
       between = between;
       rows = rows;
-      are_rows = alone (AreInTurn (IsRow t.rules.now t.own.now t.shapes.now) t.own.now 65536 between) c.new-rows.result rows c.new-rows.ensures
+      are_rows = alone (AreInTurn (IsRow t.rules.now t.own.now t.shapes.now) t.own.now 262144 between) c.new-rows.result rows c.new-rows.ensures
           c.in_ok-between.ensures;
       rest = rest;
       last = last;
