@@ -1,11 +1,10 @@
 -- What findings say of the rules.
-use Rattle.std.proofs.Common.{◌≡◌, ◌∙◌, inl, inr, refl, ℕ, ◌+◌, ◌-◌, ◌<◌, ◌≤◌, Bool, true, false, cond, nat_lt, List, [], ◌∷◌, ◌++◌, Some, None, get_or, length, sym, ap, subst, arith, slice_get}
-use Rattle.std.proofs.lemmas.Bool.{cases_order, ltb-false}
+use Rattle.std.proofs.Common.{◌≡◌, ◌∙◌, inl, inr, refl, ℕ, ◌+◌, ◌-◌, ◌<◌, List, [], ◌∷◌, ◌++◌, Some, None, get_or, length, sym, ap, subst, arith, slice_get}
+use Rattle.std.proofs.lemmas.Bool.{cases_order}
 use Rattle.std.proofs.lemmas.List.{get_or_append_left, get_or_at, length-append}
 use Rattle.std.proofs.lemmas.Option.{slice_get-get_or, slice_get_past}
 use Rattle.gw_rules.specs.RuleList.{HasNumber}
 use Rattle.gw_rules.specs.declared.rule.Rule.{Rule}
-use Rattle.gw_ask_sets.specs.regions.Ranges.{lesser}
 use Rattle.gw_policy_review.specs.lint.Finding.{AreCounted, Finds, IsCounted, IsFinding, steps_given}
 use Rattle.gw_ask_sets.specs.shapes.Shape.{Shape}
 use Rattle.gw_policy_review.specs.declared.lint.finding.Finding.{Finding}
@@ -86,21 +85,6 @@ one_counted shapes rules number (one ∷ findings) found left between rest count
   so_far.3,
   one_counted shapes rules (number + 1) findings found so_far.1 between rest count last so_far.4 (at ∙ omega arith) more are,
 )
-
-lesser_right : (a b : ℕ) → lesser a b ≤ b
-lesser_right a b = by (nat_lt b a) refl
-  where
-    by : (c : Bool) → nat_lt b a ≡ c → cond c b a ≤ b
-    by true e = omega arith
-    by false e =
-        let over = ltb-false b a e in
-        omega (arith, over)
-
--- a search is given no more than is left
-pub given_left : (left here : ℕ) → here ≤ steps_given left → here ≤ left
-given_left left here few =
-    let less = lesser_right 1024 left in
-    omega (arith, few, less)
 
 -- what is found of the first so many rules, and how many steps are left
 pub record AreFound (shapes : List Shape) (rules : List Rule) (findings : List Finding) (place left : ℕ) : Type 0 where

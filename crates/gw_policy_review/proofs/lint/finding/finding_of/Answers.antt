@@ -1,4 +1,4 @@
-use Rattle.std.proofs.Common.{◌≡◌, ◌∙◌, ◌-◌, ◌×◌, List, None, Option, Some, ap, refl, sym, take, true, ℕ}
+use Rattle.std.proofs.Common.{◌≡◌, ◌∙◌, ◌-◌, List, None, Option, Some, ap, refl, sym, take, true, ℕ}
 use Rattle.gw_rules.specs.RuleList.{HasNumber}
 use Rattle.gw_rules.specs.declared.rule.Rule.{Rule}
 use Rattle.gw_ask_sets.specs.shapes.Cover.{is_met}
@@ -20,11 +20,11 @@ returns-in-Some-clause-found c =
     let rules = c.args.looked.now.rules.now in
     record {
       each = λ rule has.
-          let same = rule_there rules c.args.number c.from-place.result rule c.index-rules-place.result c.from-place.ensures has c.index-rules-place.is in
+          let same = rule_there rules c.args.number c.from-place.result rule c.index-looked-place.result c.from-place.ensures has c.index-looked-place.is in
           let found : taker shapes (take (c.args.number - 1) rules) rule ≡ Some c.in-Some.place =
-          taken_of shapes rules c.args.number c.from-place.result rule c.index-rules-place.result (Some c.in-Some.place) c.from-place.ensures same
+          taken_of shapes rules c.args.number c.from-place.result rule c.index-looked-place.result (Some c.in-Some.place) c.from-place.ensures same
           c.in-Some.ensures.place in (
-            ap (is_met shapes) (sym same) ∙ denied (is_met shapes c.index-rules-place.result) c.matches_nothing.result c.matches_nothing.ensures.exact c.if-matches_nothing.false,
+            ap (is_met shapes) (sym same) ∙ denied (is_met shapes c.index-looked-place.result) c.matches_nothing.result c.matches_nothing.ensures.exact c.if-matches_nothing.false,
             taken_by shapes rules c.args.number c.in-Some.place rule has found,
           );
       counted = refl;
@@ -37,11 +37,11 @@ returns-clause-found c =
     searched_found shapes rules c.args.looked.now.tidy.now c.args.number c.args.steps c.in_ok-found.found.steps c.in_ok-found.found.finding
     c.requires.tidy c.in_ok-found.ensures (
     λ rule has.
-    let same = rule_there rules c.args.number c.from-place.result rule c.index-rules-place.result c.from-place.ensures has c.index-rules-place.is in
+    let same = rule_there rules c.args.number c.from-place.result rule c.index-looked-place.result c.from-place.ensures has c.index-looked-place.is in
     let none : taker shapes (take (c.args.number - 1) rules) rule ≡ None =
-    taken_of shapes rules c.args.number c.from-place.result rule c.index-rules-place.result None c.from-place.ensures same (sym c.in_default.is ∙ c.taker.ensures.place) in
+    taken_of shapes rules c.args.number c.from-place.result rule c.index-looked-place.result None c.from-place.ensures same (sym c.in_default.is ∙ c.taker.ensures.place) in
     let met : is_met shapes rule ≡ true =
-    ap (is_met shapes) (sym same) ∙ denied (is_met shapes c.index-rules-place.result) c.matches_nothing.result c.matches_nothing.ensures.exact c.if-matches_nothing.false in
+    ap (is_met shapes) (sym same) ∙ denied (is_met shapes c.index-looked-place.result) c.matches_nothing.result c.matches_nothing.ensures.exact c.if-matches_nothing.false in
     (met, none)
     )
 
