@@ -39,10 +39,10 @@ one_rule rules number one other a b =
     let both : Some one ≡ Some other = sym a.there ∙ b.there in
     cc
 
-no_finding : (place : ℕ) (found : Finding) → slice_get [] place ≡ Some found → ⊥
-no_finding place found there =
-    let none : slice_get [] place ≡ None = slice_get_past [] place (omega arith) in
-    let both : None ≡ Some found = sym none ∙ there in
+no_finding : (findings : List Finding) (place : ℕ) (found : Finding) → findings ≡ [] → slice_get findings place ≡ Some found → ⊥
+no_finding findings place found none there =
+    let past : slice_get findings place ≡ None = slice_get_past findings place (omega (arith, ap length none)) in
+    let both : None ≡ Some found = sym past ∙ there in
     absurd cc
 
 -- one finding more
@@ -96,7 +96,7 @@ pub none_found : (shapes : List Shape) (rules : List Rule) (findings : List Find
 none_found shapes rules findings none =
     subst (λ (fs : List Finding). AreFound shapes rules fs 0 262144) (sym none) (record {
       count = refl;
-      each = λ number rule found has there. absurd (no_finding (number - 1) found there);
+      each = λ number rule found has there. absurd (no_finding [] (number - 1) found refl there);
       counted = refl;
     })
 

@@ -1,6 +1,5 @@
 -- No ask to pass a broadcast on is allowed, if none is found in the shapes that have such.
-use Rattle.std.proofs.Common.{◌≡◌, ◌∙◌, inl, inr, ℕ, ◌≤◌, Bool, true, false, if◌then◌else◌, List, [], ◌∷◌, Option, ap, nat_le, refl, subst, sym}
-use Rattle.std.specs.List.{filter}
+use Rattle.std.proofs.Common.{◌≡◌, inl, inr, ℕ, ◌≤◌, Bool, true, false, if◌then◌else◌, List, [], ◌∷◌, Option, nat_le, subst}
 use Rattle.std.proofs.lemmas.Bool.{and_from, le-leb}
 use Rattle.gw_rules.specs.Ask.{Ask, IsFor}
 use Rattle.gw_rules.specs.Operation.{operation_number}
@@ -8,14 +7,11 @@ use Rattle.gw_rules.specs.Range.{holds}
 use Rattle.gw_rules.specs.declared.field.FieldName.TheVariants.{Operation}
 use Rattle.gw_rules.specs.declared.operation.Operation.TheVariants.{Cast}
 use Rattle.gw_rules.specs.declared.range.Range.{Range}
-use Rattle.gw_rules.specs.declared.rule.Rule.{Rule}
-use Rattle.gw_ask_sets.specs.declared.shapes.search.Outcome.{Outcome}
 use Rattle.gw_ask_sets.specs.declared.shapes.search.Outcome.TheVariants as outcome
 use Rattle.gw_ask_sets.specs.shapes.Shape.{IsWithin, LiesIn, LiesInOne, Shape}
 use Rattle.gw_ask_sets.proofs.shapes_lemmas.Lying.{in_range}
 use Rattle.gw_policy_review.specs.lint.Laws.{NoBroadcastIsAllowed}
 use Rattle.gw_policy_review.specs.lint.Passage.{is_for, shapes_for}
-use Rattle.gw_policy_review.specs.permissions.Passing.{IsPassage, is_never}
 
 held : (range : Range) (number : ℕ) → (range.low ≤ number) × (number ≤ range.high) → holds number range ≡ true
 held range number is = and_from (nat_le range.low number) (nat_le number range.high) (le-leb range.low number is.0) (le-leb number range.high is.1)

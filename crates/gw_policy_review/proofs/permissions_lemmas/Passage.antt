@@ -1,13 +1,13 @@
 -- What a search, rule by rule, for an ask that a policy decides so comes to.
-use Rattle.std.proofs.Common.{◌≡◌, ◌∙◌, ℕ, ◌+◌, ◌-◌, ◌≤◌, Bool, true, false, not, if◌then◌else◌, List, [], ◌∷◌, ◌++◌, Option, Some, None, add-one, ap, arith, inl, inr, length}
-use Rattle.std.proofs.Common.{map, refl, slice_get, subst, sym}
+use Rattle.std.proofs.Common.{◌≡◌, ◌∙◌, ℕ, ◌+◌, ◌-◌, ◌≤◌, Bool, true, false, not, if◌then◌else◌, List, [], ◌∷◌, ◌++◌, Some, add-one, ap, arith, inl, inr, length}
+use Rattle.std.proofs.Common.{refl, slice_get, subst, sym}
 use Rattle.std.specs.Option.{option_map_or}
-use Rattle.std.proofs.lemmas.Bool.{both_ways, cases_order}
+use Rattle.std.proofs.lemmas.Bool.{cases_order}
 use Rattle.std.proofs.lemmas.List.{length-append, length-map}
 use Rattle.std.proofs.lemmas.Option.{slice_get_within}
 use Rattle.gw_rules.specs.Ask.{Ask}
 use Rattle.gw_rules.specs.Rule.{matches}
-use Rattle.gw_rules.specs.RuleList.{HasNumber, IsFirst, allows, allows_at, first}
+use Rattle.gw_rules.specs.RuleList.{HasNumber, allows, allows_at, first}
 use Rattle.gw_rules.specs.declared.rule.Rule.{Rule}
 use Rattle.gw_rules.proofs.First.{first_iff}
 use Rattle.gw_rules.proofs.Matching.{matches_iff}

@@ -1,4 +1,4 @@
-use Rattle.std.proofs.Common.{◌≡◌, ◌∙◌, ◌+◌, ◌-◌, ◌≤◌, [], arith, length, rules, subst, ℕ}
+use Rattle.std.proofs.Common.{◌≡◌, ◌∙◌, ◌+◌, ◌-◌, ◌≤◌, arith, length, rules, subst, ℕ}
 use Rattle.gw_policy_review.specs.lint.Finding.{IsFinding}
 use Rattle.gw_policy_review.proofs.lint_lemmas.Found.{next_found, none_found}
 use Rattle.gw_policy_review.proofs.lint.finding.findings_of.Goals as goal
