@@ -214,7 +214,7 @@ impl<'a> Cut<'a> {
 
     /// The lines that were found.
     fn into_found(self) -> Vec<u32>
-        ensures { result ≡ self.found }
+        ensures { result ≡ self.entry.found }
     {
         let Cut {
             key: _,
