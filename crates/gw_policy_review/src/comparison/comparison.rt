@@ -6,6 +6,7 @@ ghost use Rattle.gw_policy_review.specs.comparison.Comparison.{AppendsComparison
 ghost use Rattle.gw_ask_sets.specs.regions.Comparing.{IsComparison, IsSummary};
 ghost use Rattle.gw_ask_sets.specs.regions.Presence.{OrNoneIsMeant};
 ghost use Rattle.gw_ask_sets.specs.regions.Pairs.{findings};
+ghost use Rattle.gw_policy_review.specs.comparison.Operations.{OperationsAreMeant};
 ghost use Rattle.gw_policy_review.specs.comparison.PairLines.{known_of};
 ghost use Rattle.gw_policy_review.specs.comparison.PartLines.{details};
 ghost use Rattle.gw_rules.specs.declared.rule.Rule.{Rule as SpecRule};
@@ -14,6 +15,7 @@ use crate::comparison::Comparing;
 use crate::comparison::details::put_details;
 use crate::comparison::groups::{Listing, put_regions};
 use crate::comparison::naming::Names;
+use crate::comparison::operations::narrow_all;
 use crate::comparison::pairs::{put_given_up, put_pairs};
 use crate::comparison::parts::{Part, differing_parts};
 use gw_addr::{keep_whole, put_decimal, put_slice};
@@ -254,13 +256,19 @@ pub(crate) fn summary_of(
         IsComparison asks.now old new comparison.found.items comparison.left.items →
         IsSummary asks.now old new s.found.items s.left.items) }
     ensures or_none { IfOk result (λ s. OrNoneIsMeant asks.now s.found.items) }
+    ensures operations { IfOk result (λ s. OperationsAreMeant asks.now s.found.items) }
     ensures in_order { IfOk result (λ s. IsNonDecreasingBy rank s.found.items) }
     ensures left { IfOk result (λ s. s.left.items ≡ comparison.left.items) }
     ensures steps { IfOk result (λ s. s.steps ≡ comparison.steps) }
 {
-    let mut summary = gw_ask_sets::regions::summary_of(alloc, asks, comparison)?;
-    sort_found(&mut summary.found)?;
-    Ok(summary)
+    let Summary { found, left, steps } = gw_ask_sets::regions::summary_of(alloc, asks, comparison)?;
+    let mut narrow = narrow_all(alloc, asks, found)?;
+    sort_found(&mut narrow)?;
+    Ok(Summary {
+        found: narrow,
+        left,
+        steps,
+    })
 }
 
 /// The same, summed up only if the regions have lines.
@@ -274,6 +282,7 @@ pub(crate) fn summary_if(
         IsComparison asks.now old new comparison.found.items comparison.left.items →
         IsSummary asks.now old new s.found.items s.left.items) }
     ensures or_none { IfOk result (λ s. has_lines ≡ true → OrNoneIsMeant asks.now s.found.items) }
+    ensures operations { IfOk result (λ s. has_lines ≡ true → OperationsAreMeant asks.now s.found.items) }
     ensures in_order { IfOk result (λ s. has_lines ≡ true → IsNonDecreasingBy rank s.found.items) }
     ensures left { IfOk result (λ s. s.left.items ≡ comparison.left.items) }
     ensures steps { IfOk result (λ s. s.steps ≡ comparison.steps) }
