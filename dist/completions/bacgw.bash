@@ -25,7 +25,7 @@ _bacgw() {
         case ${COMP_WORDS[1]} in
             check) options='--config --help' ;;
             replay) options='--config --explain --stats --help' ;;
-            run) options='--config --log --turns --stats --verbose --state --reload --trial --trial-log --audit --stamp --metrics --help' ;;
+            run) options='--config --log --turns --stats --stats-rules --verbose --state --reload --trial --trial-log --trial-all --audit --stamp --metrics --help' ;;
             help) options='check replay run' ;;
             *) return ;;
         esac

@@ -20,7 +20,9 @@ pub calls_are_refused : CallsAreRefused
 unfolding clap_on_literals commands
 calls_are_refused = record {
   trial = λ program. (refl, refl);
+  all = λ program. (refl, refl);
   stamp = λ program. (refl, refl);
+  rules = λ program. (refl, refl);
   metrics = λ program. (refl, refl);
   answer = λ program. (refl, refl);
   turns = λ program. refl;

@@ -38,29 +38,34 @@ pub record CallsAreTaken : Type 0 where
     turns = most_count;
     verbose = false;
     stats = None;
+    stats_rules = false;
     state = None;
     reload = None;
     trial = None;
     trial_log = None;
+    trial_all = false;
     audit = None;
     stamp = false;
     metrics = None;
   })
   pub run_whole : Calls
       (codes "run" ∷ on_site (codes "--log" ∷ codes "denials.log" ∷ codes "--turns" ∷ codes "100" ∷ codes "--verbose"
-      ∷ codes "--stats" ∷ codes "60" ∷ codes "--state" ∷ codes "state.txt" ∷ codes "--reload" ∷ codes "again"
-      ∷ codes "--trial" ∷ codes "new.toml" ∷ codes "--trial-log" ∷ codes "new.log" ∷ codes "--audit" ∷ codes "writes.log"
-      ∷ codes "--stamp" ∷ codes "--metrics" ∷ codes "bacgw.prom" ∷ []))
+      ∷ codes "--stats" ∷ codes "60" ∷ codes "--stats-rules" ∷ codes "--state" ∷ codes "state.txt"
+      ∷ codes "--reload" ∷ codes "again" ∷ codes "--trial" ∷ codes "new.toml" ∷ codes "--trial-log" ∷ codes "new.log"
+      ∷ codes "--trial-all" ∷ codes "--audit" ∷ codes "writes.log" ∷ codes "--stamp" ∷ codes "--metrics" ∷ codes "bacgw.prom"
+      ∷ []))
       (Serves record {
         config = site;
         log = Some (codes "denials.log");
         turns = 100;
         verbose = true;
         stats = Some 60;
+        stats_rules = true;
         state = Some (codes "state.txt");
         reload = Some (codes "again");
         trial = Some (codes "new.toml");
         trial_log = Some (codes "new.log");
+        trial_all = true;
         audit = Some (codes "writes.log");
         stamp = true;
         metrics = Some (codes "bacgw.prom");
@@ -69,7 +74,9 @@ pub record CallsAreTaken : Type 0 where
 pub record CallsAreRefused : Type 0 where
   pub trial : Mistakes (codes "run" ∷ on_site (codes "--trial" ∷ codes "new.toml" ∷ []))
       (codes "--trial and --trial-log go together\n")
+  pub all : Mistakes (codes "run" ∷ on_site (codes "--trial-all" ∷ [])) (codes "--trial-all needs --trial\n")
   pub stamp : Mistakes (codes "run" ∷ on_site (codes "--stamp" ∷ [])) (codes "--stamp needs --log\n")
+  pub rules : Mistakes (codes "run" ∷ on_site (codes "--stats-rules" ∷ [])) (codes "--stats-rules needs --stats\n")
   pub metrics : Mistakes (codes "run" ∷ on_site (codes "--metrics" ∷ codes "site.toml" ∷ []))
       (codes "--config and --metrics use one file: site.toml\n")
   pub answer : Mistakes (codes "run" ∷ on_site (codes "--reload" ∷ codes "again" ∷ codes "--log" ∷ codes "again.answer" ∷ []))

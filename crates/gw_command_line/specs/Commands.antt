@@ -15,19 +15,31 @@ replay_of_explanation = with_rule (with_rule (new_app (codes "replay")) (option 
 abbrev pub replay : App
 replay = with_rule replay_of_explanation (flag (codes "stats"))
 
--- `run --config FILE [--log FILE] [--turns N] [--verbose] [--stats SECONDS] [--state FILE] [--reload FILE] [--trial FILE]
--- [--trial-log FILE] [--audit FILE] [--stamp] [--metrics FILE]`
+-- `run --config FILE [--log FILE] [--turns N] [--verbose] [--stats SECONDS] [--stats-rules] [--state FILE] [--reload FILE]
+-- [--trial FILE] [--trial-log FILE] [--trial-all] [--audit FILE] [--stamp] [--metrics FILE]`
 abbrev pub run_of_turns : App
 run_of_turns = with_rule (with_rule (of_file (codes "run")) (option (codes "log"))) (number (codes "turns") most_count)
 
 abbrev pub run_of_reports : App
-run_of_reports = with_rule (with_rule run_of_turns (flag (codes "verbose"))) (number (codes "stats") most_seconds)
+run_of_reports =
+    with_rule
+    (with_rule
+    (with_rule run_of_turns
+    (flag (codes "verbose")))
+    (number (codes "stats") most_seconds))
+    (flag (codes "stats-rules"))
 
 abbrev pub run_of_state : App
 run_of_state = with_rule (with_rule run_of_reports (option (codes "state"))) (option (codes "reload"))
 
 abbrev pub run_of_trial : App
-run_of_trial = with_rule (with_rule run_of_state (option (codes "trial"))) (option (codes "trial-log"))
+run_of_trial =
+    with_rule
+    (with_rule
+    (with_rule run_of_state
+    (option (codes "trial")))
+    (option (codes "trial-log")))
+    (flag (codes "trial-all"))
 
 abbrev pub run_of_audit : App
 run_of_audit = with_rule (with_rule run_of_trial (option (codes "audit"))) (flag (codes "stamp"))

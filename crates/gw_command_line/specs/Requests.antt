@@ -1,5 +1,5 @@
 -- What a call of the program asks for, by the name of its command and the values of its options.
-use Rattle.std.specs.Prelude.{not, ℕ, Bool, true, false, List, [], ◌++◌, nat_eq, if◌then◌else◌, Option, Some, None, Result, Ok, Err, codes}
+use Rattle.std.specs.Prelude.{not, ◌&&◌, ℕ, Bool, true, false, List, [], ◌++◌, nat_eq, if◌then◌else◌, is_none, is_some, Option, Some, None, Result, Ok, Err, codes}
 use Rattle.std.specs.Cmp.Lexicographic.{pointwise}
 use Rattle.clap.specs.Words.{Row, Text, first_of, subcommand_of}
 use Rattle.gw_command_line.specs.Commands.{commands}
@@ -14,10 +14,12 @@ pub record Service : Type 0 where
   pub turns : ℕ
   pub verbose : Bool
   pub stats : Option ℕ
+  pub stats_rules : Bool
   pub state : Option Text
   pub reload : Option Text
   pub trial : Option Text
   pub trial_log : Option Text
+  pub trial_all : Bool
   pub audit : Option Text
   pub stamp : Bool
   pub metrics : Option Text
@@ -34,10 +36,15 @@ are_paired (Some one) (Some two) = true
 are_paired None None = true
 are_paired _ _ = false
 
--- the stamps of a log need a log in a file
-abbrev pub can_stamp : Bool → Option Text → Bool
-can_stamp stamp (Some log) = true
-can_stamp stamp None = not stamp
+-- Which option lacks one that it needs, as a line: a trial its log, or a log its trial; all asks of a trial the trial; stamps a
+-- log in a file; the lines of rules the reports.
+abbrev pub lacking_of : Service → Option Text
+lacking_of s =
+    if not (are_paired s.trial s.trial_log) then Some (codes "--trial and --trial-log go together\n")
+    else if s.trial_all && is_none s.trial then Some (codes "--trial-all needs --trial\n")
+    else if s.stamp && is_none s.log then Some (codes "--stamp needs --log\n")
+    else if s.stats_rules && is_none s.stats then Some (codes "--stats-rules needs --stats\n")
+    else None
 
 -- the logs that `run` writes
 abbrev pub logs_of : Service → List FileUse
@@ -51,13 +58,10 @@ kept_of s = replaces option.State s.state ++ (replaces option.Metrics s.metrics 
 abbrev pub files_of : Service → List FileUse
 files_of s = (reads option.Config (Some s.config) ++ reads option.Trial s.trial) ++ (logs_of s ++ kept_of s)
 
--- Why what `run` is asked for doesn't go together, as a line: a trial without its log, or a log without its trial; stamps
--- without a log in a file; or two options that use one file, which one of them writes.
+-- Why what `run` is asked for doesn't go together, as a line: an option lacks one that it needs, or two use one file, which
+-- one of them writes.
 abbrev pub mistake_of : Service → Option Text
-mistake_of s =
-    if not (are_paired s.trial s.trial_log) then Some (codes "--trial and --trial-log go together\n")
-    else if not (can_stamp s.stamp s.log) then Some (codes "--stamp needs --log\n")
-    else clash_of (files_of s)
+mistake_of s = if is_some (lacking_of s) then lacking_of s else clash_of (files_of s)
 
 -- to serve so, or why not
 abbrev pub judged : Service → Result Request Text
@@ -71,10 +75,12 @@ service_at file value turns stats = record {
   turns = turns;
   verbose = is_true (value (codes "verbose"));
   stats = stats;
+  stats_rules = is_true (value (codes "stats-rules"));
   state = value (codes "state");
   reload = value (codes "reload");
   trial = value (codes "trial");
   trial_log = value (codes "trial-log");
+  trial_all = is_true (value (codes "trial-all"));
   audit = value (codes "audit");
   stamp = is_true (value (codes "stamp"));
   metrics = value (codes "metrics");

@@ -3,7 +3,7 @@
 ghost use Rattle.std.specs.Prelude.{◌≡◌, ◌++◌, ◌<◌, ◌^◌, map, option_map, string_bytes, IfOk, IfSome, OnOk};
 ghost use Rattle.clap.specs.Words.{first_value, found_of, kind_of, subcommand_rows_of};
 ghost use Rattle.gw_command_line.specs.CommandLine.{AskFor, Chooses, IsAnswer, IsChosen, IsRefusal, service};
-ghost use Rattle.gw_command_line.specs.Requests.{Request, are_paired, asked, asked_by, asked_of_file, can_stamp, files_of, judged, mistake_of};
+ghost use Rattle.gw_command_line.specs.Requests.{Request, are_paired, asked, asked_by, asked_of_file, files_of, judged, lacking_of, mistake_of};
 ghost use Rattle.gw_command_line.specs.Requests.{kept_of, logs_of, run_asked, service_at};
 
 use crate::commands::make_commands;
@@ -77,14 +77,23 @@ fn are_paired(one: &Option<String>, two: &Option<String>) -> bool
     }
 }
 
-/// Whether the lines of a log can be stamped, if that is asked for: a log in a file.
-fn can_stamp(stamp: bool, log: &Option<String>) -> bool
-    ensures { result ≡ can_stamp stamp (option_map string_bytes log.now) }
+/// Which option lacks one that it needs, as a line, if one does.
+fn lacking_of(options: &RunOptions) -> Option<&'static str>
+    ensures { option_map (λ line. line.now) result ≡ lacking_of (service options.now) }
 {
-    match log {
-        Some(_) => true,
-        None => !stamp,
+    if !are_paired(&options.trial, &options.trial_log) {
+        return Some("--trial and --trial-log go together\n");
     }
+    if options.trial_all && options.trial.is_none() {
+        return Some("--trial-all needs --trial\n");
+    }
+    if options.stamp && options.log.is_none() {
+        return Some("--stamp needs --log\n");
+    }
+    if options.stats_rules && options.stats.is_none() {
+        return Some("--stats-rules needs --stats\n");
+    }
+    None
 }
 
 /// The name in an option.
@@ -147,11 +156,8 @@ fn files_of(alloc: Global, options: &RunOptions) -> Result<Vec<FileUse>, AllocEr
 fn mistake_of(alloc: Global, options: &RunOptions) -> Result<Option<String>, AllocError>
     ensures { IfOk result (λ line. option_map string_bytes line ≡ mistake_of (service options.now)) }
 {
-    if !are_paired(&options.trial, &options.trial_log) {
-        return Ok(Some(String::from_str(alloc, "--trial and --trial-log go together\n")?));
-    }
-    if !can_stamp(options.stamp, &options.log) {
-        return Ok(Some(String::from_str(alloc, "--stamp needs --log\n")?));
+    if let Some(line) = lacking_of(options) {
+        return Ok(Some(String::from_str(alloc, line)?));
     }
     let files = files_of(alloc, options)?;
     clash_of(alloc, &files)
@@ -186,10 +192,12 @@ fn options_of(
         turns,
         verbose: is_given(matches, "verbose"),
         stats,
+        stats_rules: is_given(matches, "stats-rules"),
         state: file_of(alloc, matches, "state")?,
         reload: file_of(alloc, matches, "reload")?,
         trial: file_of(alloc, matches, "trial")?,
         trial_log: file_of(alloc, matches, "trial-log")?,
+        trial_all: is_given(matches, "trial-all"),
         audit: file_of(alloc, matches, "audit")?,
         stamp: is_given(matches, "stamp"),
         metrics: file_of(alloc, matches, "metrics")?,

@@ -80,7 +80,10 @@ fn make_run_of_trial<'a>(alloc: Global) -> Result<Command<'a>, AllocError>
     let trial = make_option(alloc, "trial", FILE, help);
     let help = "What the asks are appended to that the rules of --trial deny";
     let log = make_option(alloc, "trial-log", FILE, help);
-    make_run_of_state(alloc)?.arg(trial)?.arg(log)
+    let help =
+        "Appends each ask that they deny, also where the rules in force deny it; with --trial";
+    let all = make_flag(alloc, "trial-all", help);
+    make_run_of_state(alloc)?.arg(trial)?.arg(log)?.arg(all)
 }
 
 fn make_run_of_state<'a>(alloc: Global) -> Result<Command<'a>, AllocError>
@@ -102,7 +105,13 @@ fn make_run_of_reports<'a>(alloc: Global) -> Result<Command<'a>, AllocError>
     let verbose = make_flag(alloc, "verbose", help);
     let help = "Reports what was done, each so many seconds, from 1 to 4294967295, and at the end";
     let stats = make_number(alloc, "stats", "SECONDS", MAX_SECONDS, help);
-    make_run_of_turns(alloc)?.arg(verbose)?.arg(stats)
+    let help =
+        "Counts the asks of each rule in each report, not only in the first of an hour; with --stats";
+    let rules = make_flag(alloc, "stats-rules", help);
+    make_run_of_turns(alloc)?
+        .arg(verbose)?
+        .arg(stats)?
+        .arg(rules)
 }
 
 fn make_run_of_turns<'a>(alloc: Global) -> Result<Command<'a>, AllocError>

@@ -51,11 +51,13 @@ fn put_options(options: &RunOptions, out: &mut Vec<u8>) -> Result<(), AllocError
     if let Some(seconds) = options.stats {
         put(out, &[" stats=", Buffer::new().format(seconds)])?;
     }
+    put_flag(out, " stats-rules", options.stats_rules)?;
     put_flag(out, " verbose", options.verbose)?;
     put_file(out, " state=", &options.state)?;
     put_file(out, " reload=", &options.reload)?;
     put_file(out, " trial=", &options.trial)?;
     put_file(out, " trial-log=", &options.trial_log)?;
+    put_flag(out, " trial-all", options.trial_all)?;
     put_file(out, " audit=", &options.audit)?;
     put_flag(out, " stamp", options.stamp)?;
     put_file(out, " metrics=", &options.metrics)
