@@ -1,8 +1,10 @@
 -- The operations of the asks of the shapes that lie in a region, and the region with these alone.
-use Rattle.std.proofs.Common.{◌≡◌, ◌∙◌, sym, ap, refl, subst, ℕ, Bool, true, false, ◌&&◌, ◌||◌, List, [], ◌∷◌, ◌++◌, Option, Some, None, inl, inr, tt}
-use Rattle.std.specs.List.{AllByRecursion, list_any}
+use Rattle.std.proofs.Common.{◌≡◌, ◌∙◌, sym, ap, refl, subst, ℕ, ◌+◌, ◌<◌, zero, suc, add-one, arith, get_or, length, take, Bool, true, false, ◌&&◌, ◌||◌, List, [], ◌∷◌, ◌++◌, Option, Some, None, inl, inr}
+use Rattle.std.specs.Prelude.{not}
+use Rattle.std.specs.List.{AllByRecursion, list_all, list_any}
+use Rattle.std.proofs.Math.Seq.{take-suc}
 use Rattle.std.proofs.lemmas.Bool.{and_from, and_parts, both_ways, or_cases, or_left, or_right}
-use Rattle.std.proofs.lemmas.List.Folds.{list_any-append}
+use Rattle.std.proofs.lemmas.List.Folds.{list_all-append, list_any-append}
 use Rattle.gw_rules.specs.Ask.{Ask}
 use Rattle.gw_rules.specs.Fields.{value_of, with_value}
 use Rattle.gw_rules.specs.Range.{holds}
@@ -18,7 +20,7 @@ use Rattle.gw_ask_sets.specs.regions.Values.{common, has, shares}
 use Rattle.gw_ask_sets.specs.declared.regions.comparison.Found.{Found}
 use Rattle.gw_ask_sets.specs.declared.regions.values.Values.{Values}
 use Rattle.gw_ask_sets.proofs.regions_lemmas.MeetingLaw.{common_lies, nothing_common}
-use Rattle.gw_ask_sets.proofs.regions_lemmas.RangeLaw.{or_none, same, shared_law}
+use Rattle.gw_ask_sets.proofs.regions_lemmas.RangeLaw.{and_none, or_none, same, shared_law}
 use Rattle.gw_ask_sets.proofs.regions_lemmas.RegionLaw.{lies_apart, lies_with}
 use Rattle.gw_policy_review.specs.comparison.Operations.{AreAsked, IsAsking, OperationIsMeant, is_open, values_of_both}
 
@@ -61,7 +63,7 @@ asked_of_both region shape ask operations there is =
     })
 
 -- in each field a value of both
-ask_of : Region → Region → Ask
+abbrev ask_of : Region → Region → Ask
 ask_of a b = record {
   operation = common a.operation b.operation;
   port = common a.port b.port;
@@ -224,6 +226,22 @@ open_wide shapes region ask in_shape = refl
 
 pub open_meant : (shapes : List Region) (region : Region) → is_open region ≡ true → OperationIsMeant shapes region
 open_meant shapes region is shut = absurd (both_ways (is_open region) shut is)
+
+-- ---- fields one after the other
+
+pub all_grown : {A : Type 0} (test : A → Bool) (items : List A) (place : ℕ) (d : A) → place < length items → list_all test (take place items) ≡ true
+    → test (get_or items place d) ≡ true → list_all test (take (place + 1) items) ≡ true
+all_grown test items place d within before now =
+    ap (list_all test) (ap (λ n. take n items) (add-one place) ∙ take-suc items place d within)
+    ∙ list_all-append test (take place items) (get_or items place d ∷ [])
+    ∙ and_from (list_all test (take place items)) (list_all test (get_or items place d ∷ [])) before
+    (and_from (test (get_or items place d)) true now refl)
+
+pub all_broken : {A : Type 0} (test : A → Bool) (items : List A) (place : ℕ) (d : A) → place < length items → test (get_or items place d) ≡ false
+    → list_all test items ≡ false
+all_broken test [] place d within e = absurd (omega arith)
+all_broken test (x ∷ xs) zero d within e = ap (λ b. b && list_all test xs) e
+all_broken test (x ∷ xs) (suc k) d within e = ap (λ b. test x && b) (all_broken test xs k d (omega arith) e) ∙ and_none (test x)
 
 -- ---- all regions
 

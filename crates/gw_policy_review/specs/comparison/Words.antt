@@ -1,5 +1,5 @@
 -- The words for the asks of a region. They are this project's own, the names in them the standard's.
-use Rattle.std.specs.Prelude.{ℕ, ◌-◌, ◌==◌, ◌&&◌, Bool, true, false, not, if◌then◌else◌, List, [], ◌∷◌, ◌++◌, drop, find, length, map}
+use Rattle.std.specs.Prelude.{ℕ, ◌-◌, ◌==◌, ◌&&◌, Bool, true, false, not, nat_le, if◌then◌else◌, List, [], ◌∷◌, ◌++◌, drop, find, length, map}
 use Rattle.std.specs.Prelude.{take, codes, decimal, Option}
 use Rattle.std.specs.Int.{to_be_bytes, w64}
 use Rattle.std.specs.List.{flat_map, list_all, range_with_len}
@@ -68,18 +68,28 @@ end_text Sender number = station_text number
 end_text Station number = station_text number
 end_text _ number = decimal number
 
--- the standard's name of a number, after a space, if it has one
-abbrev pub named_text : FieldName → ℕ → List ℕ
-named_text Service number = name_text (service_name number)
-named_text ObjectType number = name_text (object_type_name number)
-named_text Property number = name_text (property_name number)
-named_text _ number = []
-
 -- the field is the key of a station of any length
 abbrev pub is_keyed : FieldName → Bool
 is_keyed SourceKey = true
 is_keyed Station = true
 is_keyed _ = false
+
+-- the standard's name of a number, after a space, if it has one
+abbrev pub standard_text : FieldName → ℕ → List ℕ
+standard_text Service number = name_text (service_name number)
+standard_text ObjectType number = name_text (object_type_name number)
+standard_text Property number = name_text (property_name number)
+standard_text _ number = []
+
+-- ` (20)` after the key of a station of one octet: that in decimal, as users of MS/TP write it
+abbrev pub octet_text : ℕ → List ℕ
+octet_text key =
+    if nat_le 72057594037927936 key && nat_le key 72057594037928191
+    then codes " (" ++ (decimal (key - 72057594037927936) ++ codes ")") else []
+
+-- what follows a single number
+abbrev pub named_text : FieldName → ℕ → List ℕ
+named_text field number = if is_keyed field then octet_text number else standard_text field number
 
 -- the numbers that a field can have: those of its bounds, or the keys of stations
 abbrev pub numbers_of : FieldName → List Range

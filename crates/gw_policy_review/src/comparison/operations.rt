@@ -1,5 +1,6 @@
 //! The operations that the asks of a region have.
 ghost use Rattle.std.specs.Prelude.{◌≡◌, ◌||◌, ◌∷◌, [], ℕ, false, Option, IfOk, List, OnOk};
+ghost use Rattle.std.specs.List.{list_all};
 ghost use Rattle.gw_ask_sets.specs.regions.Comparing.{IsSummary};
 ghost use Rattle.gw_ask_sets.specs.regions.Meeting.{have_common};
 ghost use Rattle.gw_ask_sets.specs.regions.Merging.{IsWide};
@@ -7,6 +8,7 @@ ghost use Rattle.gw_ask_sets.specs.regions.Presence.{NoneIsMeant, OrNoneIsMeant}
 ghost use Rattle.gw_ask_sets.specs.regions.Regions.{Region as SpecRegion};
 ghost use Rattle.gw_ask_sets.specs.regions.Ranges.{first_number};
 ghost use Rattle.gw_ask_sets.specs.regions.Values.{has, shares};
+ghost use Rattle.gw_rules.specs.Fields.{value_of};
 ghost use Rattle.gw_rules.specs.declared.rule.Rule.{Rule as SpecRule};
 ghost use Rattle.gw_policy_review.specs.comparison.Operations.{AreAsked, OperationIsMeant, OperationsAreMeant, is_open, values_of_both};
 
@@ -30,7 +32,14 @@ const WHAT: [FieldName; 7] = [
 fn is_open(region: &Region) -> bool
     ensures { result ≡ is_open region.now }
 {
-    region.operation.has_each_operation() && WHAT.iter().all(|field| region.get(*field).absent)
+    region.operation.has_each_operation() && may_lack(region, &WHAT)
+}
+
+/// Whether each of these fields may be absent.
+fn may_lack(region: &Region, fields: &[FieldName]) -> bool
+    ensures { result ≡ list_all (λ field. (value_of field region.now).absent) fields.now }
+{
+    fields.iter().all(|field| region.get(*field).absent)
 }
 
 fn values_of_both(alloc: Global, a: &Values, b: &Values) -> Result<Values, AllocError>
@@ -60,12 +69,19 @@ fn shares(alloc: Global, a: &Values, b: &Values) -> Result<bool, AllocError>
     Ok(a.has(value) && b.has(value))
 }
 
+/// Whether both regions have a value in a field.
+fn share(alloc: Global, a: &Region, b: &Region, field: FieldName) -> Result<bool, AllocError>
+    ensures { IfOk result (λ yes. yes ≡ shares (value_of field a.now) (value_of field b.now)) }
+{
+    shares(alloc, a.get(field), b.get(field))
+}
+
 /// Whether both regions have a value in each field: then an ask lies in both.
 fn have_common(alloc: Global, a: &Region, b: &Region) -> Result<bool, AllocError>
     ensures { IfOk result (λ yes. yes ≡ have_common a.now b.now) }
 {
     for field in FieldName::ALL.iter() {
-        if !shares(alloc, a.get(*field), b.get(*field))? {
+        if !share(alloc, a, b, *field)? {
             return Ok(false);
         }
     }

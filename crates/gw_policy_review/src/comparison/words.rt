@@ -8,10 +8,10 @@ ghost use Rattle.gw_ask_sets.specs.regions.Values.{has_operation};
 ghost use Rattle.gw_rules.specs.Operation.{operation_name};
 ghost use Rattle.gw_rules.specs.declared.operation.TheConstants.Operation.{ALL};
 ghost use Rattle.gw_policy_review.specs.comparison.Words.{any_of, are_subnets, end_text, host_of, is_keyed, is_same_range, is_subnet};
-ghost use Rattle.gw_policy_review.specs.comparison.Words.{item_text, items, last_of, named_text, names_stations, noun_of, numbers_of};
+ghost use Rattle.gw_policy_review.specs.comparison.Words.{item_text, items, last_of, named_text, names_stations, noun_of, numbers_of, octet_text};
 ghost use Rattle.gw_policy_review.specs.comparison.Words.{numbers_text, operations_of, operations_text, other_text, others_text, possible};
-ghost use Rattle.gw_policy_review.specs.comparison.Words.{prefix_of, prefixes, range_text, region_text, rest_of, span_text, subnet_from};
-ghost use Rattle.gw_policy_review.specs.comparison.Words.{subnet_words, these_text, values_text, word_of};
+ghost use Rattle.gw_policy_review.specs.comparison.Words.{prefix_of, prefixes, range_text, region_text, rest_of, span_text, standard_text};
+ghost use Rattle.gw_policy_review.specs.comparison.Words.{subnet_from, subnet_words, these_text, values_text, word_of};
 
 use gw_addr::{Mask, Sequence, put_decimal};
 use gw_ask_sets::ask_text::put_station;
@@ -37,6 +37,9 @@ const ITEMS: [FieldName; 11] = [
     FieldName::Sender,
     FieldName::Port,
 ];
+
+/// The key of the station whose address is the one octet 0.
+const ONE_OCTET: u64 = 1 << 56;
 
 /// How many bits of an IPv4 address there are: one that shares all is one address.
 const WHOLE_PREFIX: u8 = 32;
@@ -474,7 +477,7 @@ fn put_end(out: &mut Vec<u8>, field: FieldName, number: u64) -> Result<(), Alloc
 
 /// The standard's name of a number of a field, if it has one.
 fn name_of(field: FieldName, number: u64) -> Option<&'static str>
-    ensures { name_text (option_map (λ name. name.now) result) ≡ named_text field number }
+    ensures { name_text (option_map (λ name. name.now) result) ≡ standard_text field number }
 {
     match field {
         FieldName::Service => service_name(number),
@@ -487,10 +490,25 @@ fn name_of(field: FieldName, number: u64) -> Option<&'static str>
 fn put_named(out: &mut Vec<u8>, field: FieldName, number: u64) -> Result<(), AllocError>
     ensures { OnOk result (out.new.items ≡ out.old.items ++ named_text field number) }
 {
+    if is_keyed(field) {
+        return put_octet(out, number);
+    }
     match name_of(field, number) {
         Some(name) => put_spaced(out, name),
         None => Ok(()),
     }
+}
+
+/// Appends the octet of a station of one, in decimal.
+fn put_octet(out: &mut Vec<u8>, key: u64) -> Result<(), AllocError>
+    ensures { OnOk result (out.new.items ≡ out.old.items ++ octet_text key) }
+{
+    if ONE_OCTET <= key && key <= ONE_OCTET + 255 {
+        out.extend_from_slice(b" (")?;
+        put_decimal(out, key - ONE_OCTET)?;
+        return out.extend_from_slice(b")");
+    }
+    Ok(())
 }
 
 fn put_spaced(out: &mut Vec<u8>, name: &str) -> Result<(), AllocError>
