@@ -1,7 +1,7 @@
 //! The words for the asks of a region.
 ghost use Rattle.std.specs.Prelude.{◌≡◌, ◌&&◌, ◌++◌, ◌∷◌, [], codes, not, option_map, if◌then◌else◌, IfOk, OnOk, Some};
-ghost use Rattle.std.specs.List.{flat_map};
-ghost use Rattle.std.specs.Option.{option_map_or};
+ghost use Rattle.std.specs.List.{flat_map, list_all};
+ghost use Rattle.std.specs.Option.{is_some, option_map_or};
 ghost use Rattle.gw_log_words.specs.Words.{name_text};
 ghost use Rattle.gw_ask_sets.specs.regions.Ranges.{shared};
 ghost use Rattle.gw_ask_sets.specs.regions.Values.{has_operation};
@@ -265,7 +265,21 @@ fn is_rest(field: FieldName, ranges: &[Range], rest: &[Range]) -> bool
 fn are_subnets(ranges: &[Range]) -> bool
     ensures { result ≡ are_subnets ranges.now }
 {
-    !ranges.is_empty() && ranges.iter().all(|range| prefix_of(range).is_some())
+    !ranges.is_empty() && is_each_whole(ranges)
+}
+
+/// Whether each of the ranges is a subnet.
+fn is_each_whole(ranges: &[Range]) -> bool
+    ensures { result ≡ list_all (λ range. is_some (prefix_of range)) ranges.now }
+{
+    ranges.iter().all(|range| is_whole(range))
+}
+
+/// Whether the range is a subnet.
+fn is_whole(range: &Range) -> bool
+    ensures { result ≡ is_some (prefix_of range.now) }
+{
+    prefix_of(range).is_some()
 }
 
 /// Appends that the field may be anything but these ranges, also absent or not.
