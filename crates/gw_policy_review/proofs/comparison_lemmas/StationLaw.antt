@@ -19,11 +19,14 @@ use Rattle.gw_policy_review.specs.comparison.Words.{host_of, is_same_range, is_s
 -- what is found passes the test
 found : {A : Type 0} (test : A → Bool) (xs : List A) (x : A) → find test xs ≡ Some x → test x ≡ true
 found test [] x e = absurd cc
-found test (y ∷ ys) x e = by (test y) refl e
+found test (y ∷ ys) x e = by (test y) refl e (found test ys x)
   where
-    by : (b : Bool) → test y ≡ b → find test (y ∷ ys) ≡ Some x → test x ≡ true
-    by true t f = let one : Some y ≡ Some x = sym (ap (λ c. if c then Some y else find test ys) t) ∙ f in absurd cc
-    by false t f = found test ys x (sym (ap (λ c. if c then Some y else find test ys) t) ∙ f)
+    by : (b : Bool) → test y ≡ b → find test (y ∷ ys) ≡ Some x → (find test ys ≡ Some x → test x ≡ true) → test x ≡ true
+    by true t f later =
+        let one : Some y ≡ Some x = sym (ap (λ c. if c then Some y else find test ys) t) ∙ f in
+        let same : y ≡ x = cc in
+        ap test (sym same) ∙ t
+    by false t f later = later (sym (ap (λ c. if c then Some y else find test ys) t) ∙ f)
 
 -- ranges of the same ends are one
 one_range : (a b : Range) → is_same_range a b ≡ true → a ≡ b

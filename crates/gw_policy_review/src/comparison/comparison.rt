@@ -261,14 +261,26 @@ pub(crate) fn summary_of(
     ensures left { IfOk result (λ s. s.left.items ≡ comparison.left.items) }
     ensures steps { IfOk result (λ s. s.steps ≡ comparison.steps) }
 {
-    let Summary { found, left, steps } = gw_ask_sets::regions::summary_of(alloc, asks, comparison)?;
-    let mut narrow = narrow_all(alloc, asks, found)?;
-    sort_found(&mut narrow)?;
-    Ok(Summary {
-        found: narrow,
-        left,
-        steps,
-    })
+    let wide = gw_ask_sets::regions::summary_of(alloc, asks, comparison)?;
+    let mut summary = narrowed(alloc, asks, wide)?;
+    sort_found(&mut summary.found)?;
+    Ok(summary)
+}
+
+/// The same, with the operations that the asks of its regions have.
+fn narrowed(alloc: Global, asks: &[Region], wide: Summary) -> Result<Summary, AllocError>
+    requires { OrNoneIsMeant asks.now wide.found.items }
+    ensures summary { IfOk result (λ s. (old new : List SpecRule) →
+        IsSummary asks.now old new wide.found.items wide.left.items →
+        IsSummary asks.now old new s.found.items s.left.items) }
+    ensures or_none { IfOk result (λ s. OrNoneIsMeant asks.now s.found.items) }
+    ensures operations { IfOk result (λ s. OperationsAreMeant asks.now s.found.items) }
+    ensures left { IfOk result (λ s. s.left.items ≡ wide.left.items) }
+    ensures steps { IfOk result (λ s. s.steps ≡ wide.steps) }
+{
+    let Summary { found, left, steps } = wide;
+    let found = narrow_all(alloc, asks, found)?;
+    Ok(Summary { found, left, steps })
 }
 
 /// The same, summed up only if the regions have lines.
