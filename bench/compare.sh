@@ -5,7 +5,7 @@
 #
 #     - it lies in a line exactly if the two policies decide it otherwise;
 #     - the line says what becomes of it, and names the two rules that decide it;
-#     - each line has such an ask, and one without each field of which it says that it may be absent;
+#     - each line has such an ask, one of each operation that it names, and one without each field of which it says that it may be absent;
 #     - the last line and the exit status are right;
 #     - more than 40 lines are in groups by the rules that decide, and the line of each group counts them.
 #
@@ -294,7 +294,35 @@ def number_of(text):
     return int.from_bytes(bytes([a, b, c, d]), "big") * 65536 + port
 
 
+def host_of(text):
+    return int.from_bytes(bytes(map(int, text.split("."))), "big")
+
+
+def subnet_of(text):
+    """The keys of an IPv4 address or a subnet at every UDP port, or none if the text is neither."""
+    found = re.fullmatch(r"(\d+\.\d+\.\d+\.\d+)(?:/(\d+))?", text)
+    if not found:
+        return None
+    size = 2 ** (32 - int(found[2] or 32))
+    low = host_of(found[1])
+    assert low % size == 0 and found[2] != "32", text
+    return low * 65536, (low + size) * 65536 - 1
+
+
+def others_of(ranges):
+    """The numbers of none of these."""
+    out, low = [], 0
+    for one in sorted(ranges):
+        out.append((low, one[0] - 1))
+        low = one[1] + 1
+    return [it for it in [*out, (low, MOST)] if it[0] <= it[1]]
+
+
 def values_of(text):
+    if text.startswith("not "):
+        return True, others_of(map(subnet_of, text[4:].split(" and not ")))
+    if text.startswith("any but "):
+        return False, others_of(map(subnet_of, text[8:].split(" and ")))
     absent, ranges = False, []
     for part in re.sub(r"(\S+) or more", r"\1..more", text).split(" or "):
         part = part.split(" ")[0]
@@ -303,6 +331,8 @@ def values_of(text):
         elif ".." in part:
             low, high = part.split("..")
             ranges.append((number_of(low), MOST if high == "more" else number_of(high)))
+        elif subnet_of(part):
+            ranges.append(subnet_of(part))
         else:
             ranges.append((number_of(part), number_of(part)))
     return absent, ranges
@@ -392,7 +422,7 @@ def judge(room, dice, number):
     lines = [line_of(it) for it in without_heads(said[:-1])]
     assert said[-1] == ending(len(lines), parts) and status == (1 if lines else 3 if parts else 0), f"{where}: {said[-1]}"
     assert [it[0] for it in lines] == sorted((it[0] for it in lines), reverse=True), f"{where}: the order"
-    has, lacked, count = [False] * len(lines), set(), 0
+    has, lacked, asked, count = [False] * len(lines), set(), set(), 0
     for ask in asks_of(form, [it[1] for it in lines], old, new):
         count += 1
         (was, by_old), (now, by_new) = decide(old, ask), decide(new, ask)
@@ -400,11 +430,14 @@ def judge(room, dice, number):
         assert bool(found) == (was != now), f"{where}: {ask} was {was} by {by_old}, now {now} by {by_new}, lies in {found}\n" + "\n".join(said)
         for it in found:
             has[it] = True
+            asked.add((it, ask["operation"]))
             allowed, region, news, olds = lines[it]
             lacked |= {(it, field) for field in region if ask[field] is None}
             assert allowed == now and by_new in news and by_old in olds, f"{where}: {ask}: {said[it]}"
     assert all(has), f"{where}: a line without an ask\n" + "\n".join(said)
     absent = {(it, field) for it, line in enumerate(lines) for field, values in line[1].items() if values[0]}
+    named = {(it, low) for it, line in enumerate(lines) for low, _ in line[1].get("operation", (False, []))[1]}
+    assert named <= asked, f"{where}: no ask of an operation {named - asked}\n" + "\n".join(said)
     assert absent <= lacked, f"{where}: no ask lacks {absent - lacked}\n" + "\n".join(said)
     return count, len(lines)
 

@@ -642,8 +642,10 @@ same 'the log beside a trial and an audit' "$(sed -E 's/ [0-9]+ 1 1:/ . 1 1:/' "
     "1 . 1 $asked,2 prop=85 prio=- rule=hide $sent
 1 . 1 $asked,2 prop=85 prio=- rule=hide $sent"
 same 'the log of a trial' "$(sed -E 's/ [0-9]+ 1 1:/ . 1 1:/' "$work/log.trial")" \
-    "1 . 1 $asked,1 prop=85 prio=- rule=keep $sent
-2 . 1 $asked,1 prop=85 prio=- rule=keep $sent"
+    "allow all -> deny 1 . 1 $asked,1 prop=85 prio=- rule=keep $sent
+deny hide -> allow 2 . 1 $asked,2 prop=85 prio=- rule=all $sent
+allow all -> deny 3 . 1 $asked,1 prop=85 prio=- rule=keep $sent
+deny hide -> allow 4 . 1 $asked,2 prop=85 prio=- rule=all $sent"
 same 'an audit' "$(sed -E 's/ [0-9]+ 1 1:/ . 1 1:/' "$work/log.audit")" \
     "allow 1 . 1 $asked,1 prop=85 prio=- rule=all $sent
 allow 2 . 1 $asked,1 prop=85 prio=- rule=all $sent"
@@ -651,7 +653,9 @@ allow 2 . 1 $asked,1 prop=85 prio=- rule=all $sent"
 rm -f "$work/state"
 python3 "$here/loopback.py" watched "$program" "$work/audited.toml" "$work/trial.toml" "$work/stamped" --stamp --state "$work/state" > "$work/out" 2>&1
 for name in stamped stamped.trial stamped.audit; do
-    same "the numbers of $name" "$(sed -En 's/^[^ ]+ (allow )?([0-9]+) [0-9]+ 1 1:.*/\2/p' "$work/$name" | xargs)" '1 2'
+    numbers='1 2'
+    [ "$name" != stamped.trial ] || numbers='1 2 3 4'
+    same "the numbers of $name" "$(sed -En 's/^[^ ]+ (.* )?([0-9]+) [0-9]+ 1 1:.*/\2/p' "$work/$name" | xargs)" "$numbers"
     same "the notes of $name" "$(grep -c ' # bacgw .* began$' "$work/$name")" 2
 done
 same 'the modes of both' "$(stat -c %a "$work/log.trial" "$work/log.audit" | xargs)" '600 600'

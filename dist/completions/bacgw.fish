@@ -19,7 +19,7 @@ complete -c bacgw -n '__fish_seen_subcommand_from run' -l verbose -d 'Reports wh
 complete -c bacgw -n '__fish_seen_subcommand_from run' -l state -r -F -d 'The file in which run keeps the state'
 complete -c bacgw -n '__fish_seen_subcommand_from run' -l reload -r -F -d 'The file that asks to read the configuration again'
 complete -c bacgw -n '__fish_seen_subcommand_from run' -l trial -r -F -d 'A configuration whose rules are only tried'
-complete -c bacgw -n '__fish_seen_subcommand_from run' -l trial-log -r -F -d 'What the asks are appended to that the rules of --trial deny'
+complete -c bacgw -n '__fish_seen_subcommand_from run' -l trial-log -r -F -d 'What the asks are appended to that the rules of --trial decide otherwise'
 complete -c bacgw -n '__fish_seen_subcommand_from run' -l trial-all -d 'Also those that the rules in force deny; with --trial'
 complete -c bacgw -n '__fish_seen_subcommand_from run' -l audit -r -F -d 'What audited asks are appended to'
 complete -c bacgw -n '__fish_seen_subcommand_from run' -l stamp -d 'Begins each line of the log with the time; with --log'

@@ -78,7 +78,7 @@ fn make_run_of_trial<'a>(alloc: Global) -> Result<Command<'a>, AllocError>
 {
     let help = "A configuration whose rules are only tried; with --trial-log";
     let trial = make_option(alloc, "trial", FILE, help);
-    let help = "What the asks are appended to that the rules of --trial deny";
+    let help = "What the asks are appended to that the rules of --trial decide otherwise";
     let log = make_option(alloc, "trial-log", FILE, help);
     let help =
         "Appends each ask that they deny, also where the rules in force deny it; with --trial";

@@ -11,7 +11,7 @@ use gw_decisions::tally::Tally;
 use gw_rule_index::Policy;
 use gw_rules::RuleList;
 use gw_turns::{ServeFault, ServeState};
-use gw_watchers::{Beside, Marks, Watcher};
+use gw_watchers::{Beside, Marks, Trial, Watcher};
 use gw_wire::Wire;
 use std::alloc::Global;
 use std::io;
@@ -62,22 +62,39 @@ fn serve_under<G: Guard>(
     Ok(Ok(()))
 }
 
-/// The rules on trial: `none`, which denies all, or `same`, those in force.
+/// The rules on trial: `none`, which denies all, `same`, those in force, or `open`, which differ from these in that each allows.
 fn rules_of(alloc: Global, config: &str, word: &str) -> io::Result<RuleList> {
-    if word != "none" {
-        return Ok(read(alloc, config)?.into_rules());
+    match word {
+        "none" => match RuleList::new(Vec::new(alloc)) {
+            Ok(rules) => Ok(rules),
+            Err(_) => Err(ErrorKind::OutOfMemory.into()),
+        },
+        "open" => {
+            let open = config.replace(alloc, "allow = false", "allow = true")?;
+            Ok(read(alloc, open.as_str())?.into_rules())
+        }
+        _ => Ok(read(alloc, config)?.into_rules()),
     }
-    match RuleList::new(Vec::new(alloc)) {
-        Ok(rules) => Ok(rules),
-        Err(_) => Err(ErrorKind::OutOfMemory.into()),
-    }
+}
+
+/// A trial by its word: of rules, with all that they deny, or, after `otherwise-`, with what they decide otherwise.
+fn trial_of(alloc: Global, config: &str, word: &str) -> io::Result<Trial> {
+    let (word, has_all_denied) = match word.strip_prefix("otherwise-") {
+        Some(rules) => (rules, false),
+        None => (word, true),
+    };
+    let rules = rules_of(alloc, config, word)?;
+    Ok(Trial {
+        policy: Policy::new(alloc, rules)?,
+        has_all_denied,
+    })
 }
 
 /// A watcher with a trial, an audit of all rules, and counts.
 fn make_watcher(
     alloc: Global,
     config: &str,
-    rules: RuleList,
+    tried: Trial,
     trial: MemWriter,
     audit: MemWriter,
 ) -> io::Result<Watcher<MemWriter, MemWriter>> {
@@ -85,7 +102,7 @@ fn make_watcher(
     let format = config.format();
     let in_force = config.into_rules();
     let marks = Vec::from_elem(alloc, true, in_force.rules().len())?;
-    let trial = Beside::new(Policy::new(alloc, rules)?, trial);
+    let trial = Beside::new(tried, trial);
     let audit = Beside::new(Marks::new(alloc, &marks)?, audit);
     let counts = Tally::new(alloc, &in_force)?;
     Ok(Watcher::new(alloc, format, Some(trial), Some(audit), Some(counts)))
@@ -118,14 +135,14 @@ fn put_watched(
 pub fn watched(alloc: Global, config: &str, line: &str, out: &mut Vec<u8>) -> io::Result<()> {
     let mut words = line.splitn(5, ' ');
     let turns: u64 = number(words.next())?;
-    let rules = rules_of(alloc, config, words.next().unwrap_or(""))?;
+    let tried = trial_of(alloc, config, words.next().unwrap_or(""))?;
     let trial = MemWriter::new(alloc, number_or_none(words.next())?, AMPLE)?;
     let audit = MemWriter::new(alloc, number_or_none(words.next())?, AMPLE)?;
     let script = unfolded(alloc, words.next().unwrap_or(""))?;
     if turns >= 1 << 63 {
         return Err(ErrorKind::InvalidData.into());
     }
-    let mut watcher = make_watcher(alloc, config, rules, trial, audit)?;
+    let mut watcher = make_watcher(alloc, config, tried, trial, audit)?;
     let mut gateway = make_gateway(alloc, config, Counts::default())?;
     let mut edges = Edges {
         wire: MemWire::new(alloc, &script, None),

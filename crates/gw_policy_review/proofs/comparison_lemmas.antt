@@ -4,7 +4,9 @@ pub mod GroupLaw
 pub mod LoggedLaw
 pub mod NamesLaw
 pub mod OneGroup
+pub mod OperationLaw
 pub mod PartsLaw
 pub mod PortionLaw
+pub mod StationLaw
 pub mod SummaryLaw
 pub mod TextLaw

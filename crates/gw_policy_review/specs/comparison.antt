@@ -5,6 +5,7 @@ pub mod Groups
 pub mod Laws
 pub mod Lines
 pub mod Details
+pub mod Operations
 pub mod PairLines
 pub mod PartLines
 pub mod Parts

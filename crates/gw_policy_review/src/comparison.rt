@@ -9,6 +9,7 @@ mod lines;
 mod listing;
 mod naming;
 mod object_details;
+mod operations;
 mod pairs;
 mod parts;
 mod port_details;

@@ -473,8 +473,8 @@ fn text_with(
     Ok(Some(made))
 }
 
-/// The configuration that is on trial: that of the section; one with another broadcast address, with fewer stations, or of another
-/// format; one that is none; or nothing.
+/// The configuration that is on trial: that of the section; one with another broadcast address, with fewer stations, of another
+/// format, or with rules that all deny or all allow; one that is none; or nothing.
 fn trial_of(
     alloc: Global,
     section: &Section<'_>,
@@ -491,6 +491,9 @@ fn trial_of(
     }
     if section.has("trial denies") {
         return text_with(alloc, config, "allow = true", "allow = false");
+    }
+    if section.has("trial allows") {
+        return text_with(alloc, config, "allow = false", "allow = true");
     }
     if section.has("trial faulty") {
         return text_if(alloc, true, "format = 4\n");

@@ -1,10 +1,9 @@
 -- What a watcher's logs and counts are after a run.
 use Rattle.std.proofs.Common.{◌≡◌, ◌⊎◌, inl, inr, ◌∙◌, refl, sym, ap, subst, ℕ, ◌+◌, ◌-◌, ◌^◌, ◌<◌, suc, Bool, true, false, List, [], ◌∷◌, ◌++◌, length, Option, Some, None, arith}
-use Rattle.std.specs.Prelude.{codes, is_some, ◌||◌, min, if◌then◌else◌, slice_index}
+use Rattle.std.specs.Prelude.{is_some, ◌||◌, min, if◌then◌else◌, slice_index}
 use Rattle.std.specs.Io.KnownBytes.{Appends}
 use Rattle.std.proofs.KnownBytes.{Appends-nil, Appends-trans}
 use Rattle.std.proofs.lemmas.List.Concat.{flat_map-cons}
-use Rattle.gw_audit.specs.declared.denial.Denial.{Denial}
 use Rattle.gw_core.specs.Asked.{asked_at, run_asked}
 use Rattle.gw_core.specs.History.{next, state_from}
 use Rattle.gw_core.specs.State.{State}
@@ -16,10 +15,11 @@ use Rattle.gw_turns.specs.Stretch.{AreGuarded, GoOn, GuardsTurn, Moment}
 use Rattle.gw_watchers.specs.Beside.{IsEnded, IsRecorded, IsWritten, IsLost, ended}
 use Rattle.gw_service.specs.WatchedRuns.{AuditIsWhole, CountsAreWhole, TrialIsWhole}
 use Rattle.gw_watchers.specs.Laws.{run_records}
-use Rattle.gw_watchers.specs.Records.{audited_by, denied_by, last_number, lines_behind, records}
+use Rattle.gw_watchers.specs.Records.{Line, audit_front, audited_by, last_number, lines_of, records, trial_front, tried_by}
 use Rattle.gw_decisions.specs.Counted.{AreCounted, counted_on}
 use Rattle.gw_watchers.specs.Watching.{HasWatched, IsAudited, IsCounted, IsTried, Missed, Watches, Watching, is_watching}
 use Rattle.gw_watchers.specs.declared.beside.Beside.{Beside}
+use Rattle.gw_watchers.specs.declared.trial.Trial.{Trial}
 use Rattle.gw_core.specs.Effects.{NeedsNoMemory}
 use Rattle.gw_decisions.proofs.CountedLemmas.{counted_along}
 use Rattle.gw_watchers.proofs.RecordLemmas.{lines_along}
@@ -27,38 +27,38 @@ use Rattle.gw_watchers.proofs.RecordLemmas.{lines_along}
 -- ---- one log, event by event
 
 -- what a log records of an event
-abbrev Step : {C S : Type 0} → (S → Option (List ℕ)) → List ℕ → (C → Asked → Option (Option ℕ)) → (C → List Rule → List Rule)
+abbrev Step : {C S : Type 0} → (S → Option (List ℕ)) → (C → List Rule → Asked → List ℕ) → (C → Asked → Option (Option ℕ)) → (C → List Rule → List Rule)
     → Beside C S → State → Event → Beside C S → Type 0
 Step held front chosen naming b w e c =
-    IsRecorded held front
-    (records (chosen b.choice) (naming b.choice (next w e).rules) b.number (next w e).ticks (asked_at w e)) b c
+    IsRecorded held
+    (records (chosen b.choice) (front b.choice (next w e).rules) (naming b.choice (next w e).rules) b.number (next w e).ticks (asked_at w e)) b c
 
 -- and of events
-unfoldable Steps : {C S : Type 0} → (S → Option (List ℕ)) → List ℕ → (C → Asked → Option (Option ℕ)) → (C → List Rule → List Rule)
+unfoldable Steps : {C S : Type 0} → (S → Option (List ℕ)) → (C → List Rule → Asked → List ℕ) → (C → Asked → Option (Option ℕ)) → (C → List Rule → List Rule)
     → Beside C S → State → List Event → Beside C S → Type 0
 Steps held front chosen naming b w [] c = c ≡ b
 Steps {C} {S} held front chosen naming b w (e ∷ events) c =
     (m : Beside C S) × Step held front chosen naming b w e m × Steps held front chosen naming m (next w e) events c
 
 -- nothing is lost of records if nothing was lost after them
-recorded_lost : {C S : Type 0} (held : S → Option (List ℕ)) (front : List ℕ) (due : List Denial) (b c : Beside C S)
-    → IsRecorded held front due b c → c.lost ≡ 0 → b.lost ≡ 0
-recorded_lost held front [] b c p none = ap (λ (x : Beside _ _). x.lost) (sym p) ∙ none
-recorded_lost held front (d ∷ due) b c p none = by p.text
+recorded_lost : {C S : Type 0} (held : S → Option (List ℕ)) (due : List Line) (b c : Beside C S)
+    → IsRecorded held due b c → c.lost ≡ 0 → b.lost ≡ 0
+recorded_lost held [] b c p none = ap (λ (x : Beside _ _). x.lost) (sym p) ∙ none
+recorded_lost held (d ∷ due) b c p none = by p.text
   where
-    by : IsWritten held (ended b.is_cut ++ lines_behind front (d ∷ due)) b c
-        ⊎ IsLost held (ended b.is_cut ++ lines_behind front (d ∷ due)) (length (d ∷ due)) b c → b.lost ≡ 0
+    by : IsWritten held (ended b.is_cut ++ lines_of (d ∷ due)) b c
+        ⊎ IsLost held (ended b.is_cut ++ lines_of (d ∷ due)) (length (d ∷ due)) b c → b.lost ≡ 0
     by (inl written) = sym written.lost ∙ none
     by (inr lost) = absurd (omega (arith, lost.lost, none))
 
-steps_lost : {C S : Type 0} (held : S → Option (List ℕ)) (front : List ℕ) (chosen : C → Asked → Option (Option ℕ))
+steps_lost : {C S : Type 0} (held : S → Option (List ℕ)) (front : C → List Rule → Asked → List ℕ) (chosen : C → Asked → Option (Option ℕ))
     (naming : C → List Rule → List Rule) (b c : Beside C S) (w : State) (events : List Event)
     → Steps held front chosen naming b w events c → c.lost ≡ 0 → b.lost ≡ 0
 unfolding Steps
 steps_lost held front chosen naming b c w [] p none = ap (λ (x : Beside _ _). x.lost) (sym p) ∙ none
 steps_lost held front chosen naming b c w (e ∷ events) p none =
-    recorded_lost held front
-    (records (chosen b.choice) (naming b.choice (next w e).rules) b.number (next w e).ticks (asked_at w e)) b p.0 p.1
+    recorded_lost held
+    (records (chosen b.choice) (front b.choice (next w e).rules) (naming b.choice (next w e).rules) b.number (next w e).ticks (asked_at w e)) b p.0 p.1
     (steps_lost held front chosen naming p.0 c (next w e) events p.2 none)
 
 -- records that aren't lost are there whole
@@ -67,45 +67,45 @@ record IsWhole {C S : Type 0} (held : S → Option (List ℕ)) (text : List ℕ)
   cut : c.is_cut ≡ false
   lines : Appends (held b.sink) (held c.sink) text
 
-recorded_whole : {C S : Type 0} (held : S → Option (List ℕ)) (front : List ℕ) (due : List Denial) (b c : Beside C S)
-    → IsRecorded held front due b c → c.lost ≡ 0 → b.is_cut ≡ false
-    → IsWhole held (lines_behind front due) b c × (c.number ≡ last_number b.number due)
-recorded_whole held front [] b c p none uncut =
+recorded_whole : {C S : Type 0} (held : S → Option (List ℕ)) (due : List Line) (b c : Beside C S)
+    → IsRecorded held due b c → c.lost ≡ 0 → b.is_cut ≡ false
+    → IsWhole held (lines_of due) b c × (c.number ≡ last_number b.number due)
+recorded_whole held [] b c p none uncut =
     subst (λ (x : Beside _ _). IsWhole held [] b x × (x.number ≡ b.number)) (sym p)
     (record { choice = refl; cut = uncut; lines = Appends-nil (held b.sink) }, refl)
-recorded_whole held front (d ∷ due) b c p none uncut = by p.text
+recorded_whole held (d ∷ due) b c p none uncut = by p.text
   where
-    by : IsWritten held (ended b.is_cut ++ lines_behind front (d ∷ due)) b c
-        ⊎ IsLost held (ended b.is_cut ++ lines_behind front (d ∷ due)) (length (d ∷ due)) b c
-        → IsWhole held (lines_behind front (d ∷ due)) b c × (c.number ≡ last_number b.number (d ∷ due))
+    by : IsWritten held (ended b.is_cut ++ lines_of (d ∷ due)) b c
+        ⊎ IsLost held (ended b.is_cut ++ lines_of (d ∷ due)) (length (d ∷ due)) b c
+        → IsWhole held (lines_of (d ∷ due)) b c × (c.number ≡ last_number b.number (d ∷ due))
     by (inl written) = (
       record {
         choice = p.choice;
         cut = written.cut;
-        lines = subst (λ (cut : Bool). Appends (held b.sink) (held c.sink) (ended cut ++ lines_behind front (d ∷ due))) uncut written.text;
+        lines = subst (λ (cut : Bool). Appends (held b.sink) (held c.sink) (ended cut ++ lines_of (d ∷ due))) uncut written.text;
       },
       p.number,
     )
     by (inr lost) = absurd (omega (arith, lost.lost, none))
 
-steps_whole : {C S : Type 0} (held : S → Option (List ℕ)) (front : List ℕ) (chosen : C → Asked → Option (Option ℕ))
+steps_whole : {C S : Type 0} (held : S → Option (List ℕ)) (front : C → List Rule → Asked → List ℕ) (chosen : C → Asked → Option (Option ℕ))
     (naming : C → List Rule → List Rule) (b c : Beside C S) (w : State) (events : List Event)
     → Steps held front chosen naming b w events c → c.lost ≡ 0 → b.is_cut ≡ false
-    → Appends (held b.sink) (held c.sink) (lines_behind front (run_records (chosen b.choice) (naming b.choice) b.number w events))
+    → Appends (held b.sink) (held c.sink) (lines_of (run_records (chosen b.choice) (front b.choice) (naming b.choice) b.number w events))
 unfolding Steps run_records
 steps_whole held front chosen naming b c w [] p none uncut =
     subst (λ (x : Beside _ _). Appends (held b.sink) (held x.sink) []) (sym p) (Appends-nil (held b.sink))
 steps_whole {C} {S} held front chosen naming b c w (e ∷ events) p none uncut =
-    let due = records (chosen b.choice) (naming b.choice (next w e).rules) b.number (next w e).ticks (asked_at w e) in
-    let now = recorded_whole held front due b p.0 p.1 (steps_lost held front chosen naming p.0 c (next w e) events p.2 none) uncut in
+    let due = records (chosen b.choice) (front b.choice (next w e).rules) (naming b.choice (next w e).rules) b.number (next w e).ticks (asked_at w e) in
+    let now = recorded_whole held due b p.0 p.1 (steps_lost held front chosen naming p.0 c (next w e) events p.2 none) uncut in
     let later = steps_whole held front chosen naming p.0 c (next w e) events p.2 none now.0.cut in
-    let rest = run_records (chosen b.choice) (naming b.choice) (last_number b.number due) (next w e) events in
-    let same : run_records (chosen p.0.choice) (naming p.0.choice) p.0.number (next w e) events ≡ rest =
-    ap (λ (x : C). run_records (chosen x) (naming x) p.0.number (next w e) events) now.0.choice
-    ∙ ap (λ (n : ℕ). run_records (chosen b.choice) (naming b.choice) n (next w e) events) now.1 in
-    subst (λ (t : List ℕ). Appends (held b.sink) (held c.sink) t) (sym (lines_along front due rest))
-    (Appends-trans (held b.sink) (held p.0.sink) (held c.sink) (lines_behind front due) (lines_behind front rest) now.0.lines
-    (subst (λ (l : List Denial). Appends (held p.0.sink) (held c.sink) (lines_behind front l)) same later))
+    let rest = run_records (chosen b.choice) (front b.choice) (naming b.choice) (last_number b.number due) (next w e) events in
+    let same : run_records (chosen p.0.choice) (front p.0.choice) (naming p.0.choice) p.0.number (next w e) events ≡ rest =
+    ap (λ (x : C). run_records (chosen x) (front x) (naming x) p.0.number (next w e) events) now.0.choice
+    ∙ ap (λ (n : ℕ). run_records (chosen b.choice) (front b.choice) (naming b.choice) n (next w e) events) now.1 in
+    subst (λ (t : List ℕ). Appends (held b.sink) (held c.sink) t) (sym (lines_along due rest))
+    (Appends-trans (held b.sink) (held p.0.sink) (held c.sink) (lines_of due) (lines_of rest) now.0.lines
+    (subst (λ (l : List Line). Appends (held p.0.sink) (held c.sink) (lines_of l)) same later))
 
 -- ---- a watcher, event by event
 
@@ -117,7 +117,7 @@ AreWatched {T} {A} trial audit g w (e ∷ events) h =
     (m : Watching T A) × Watches trial audit g (next w e) (asked_at w e) m × AreWatched trial audit m (next w e) events h
 
 -- something is watched before exactly if it is after
-tried_on : {T : Type 0} (held : T → Option (List ℕ)) (w : State) (asked : List Asked) (b c : Option (Beside (List Rule) T))
+tried_on : {T : Type 0} (held : T → Option (List ℕ)) (w : State) (asked : List Asked) (b c : Option (Beside Trial T))
     → IsTried held w asked b c → is_some c ≡ is_some b
 tried_on held w asked None None p = refl
 tried_on held w asked (Some b) (Some c) p = refl
@@ -206,35 +206,35 @@ run_watched {T} {A} trial audit g h w (turn ∷ turns) p on none =
 
 -- ---- each part of it
 
-tried_some : {T : Type 0} (held : T → Option (List ℕ)) (w : State) (asked : List Asked) (b : Beside (List Rule) T)
-    (c : Option (Beside (List Rule) T)) → IsTried held w asked (Some b) c
-    → (d : Beside (List Rule) T) × (c ≡ Some d)
-    × IsRecorded held [] (records (denied_by b.choice) b.choice b.number w.ticks asked) b d
+tried_some : {T : Type 0} (held : T → Option (List ℕ)) (w : State) (asked : List Asked) (b : Beside Trial T)
+    (c : Option (Beside Trial T)) → IsTried held w asked (Some b) c
+    → (d : Beside Trial T) × (c ≡ Some d)
+    × IsRecorded held (records (tried_by b.choice) (trial_front b.choice w.rules) b.choice.policy b.number w.ticks asked) b d
 tried_some held w asked b (Some d) p = (d, refl, p)
 tried_some held w asked b None p = absurd p
 
 trial_steps : {T A : Type 0} (trial : T → Option (List ℕ)) (audit : A → Option (List ℕ)) (g h : Watching T A) (w : State) (events : List Event)
-    (b c : Beside (List Rule) T) → AreWatched trial audit g w events h → g.trial ≡ Some b → h.trial ≡ Some c
-    → Steps trial [] denied_by (λ rules _. rules) b w events c
+    (b c : Beside Trial T) → AreWatched trial audit g w events h → g.trial ≡ Some b → h.trial ≡ Some c
+    → Steps trial trial_front tried_by (λ t _. t.policy) b w events c
 unfolding AreWatched Steps
 trial_steps trial audit g h w [] b c p first last =
     let same : Some c ≡ Some b = sym last ∙ ap (λ (x : Watching _ _). x.trial) p ∙ first in
     cc
 trial_steps {T} trial audit g h w (e ∷ events) b c p first last =
     let now = tried_some trial (next w e) (asked_at w e) b p.0.trial
-    (subst (λ (x : Option (Beside (List Rule) T)). IsTried trial (next w e) (asked_at w e) x p.0.trial) first p.1.tried) in
+    (subst (λ (x : Option (Beside Trial T)). IsTried trial (next w e) (asked_at w e) x p.0.trial) first p.1.tried) in
     (now.0, now.2, trial_steps trial audit p.0 h (next w e) events now.0 c p.2 now.1 last)
 
 audited_some : {A : Type 0} (held : A → Option (List ℕ)) (w : State) (asked : List Asked) (b : Beside (List Bool) A)
     (c : Option (Beside (List Bool) A)) → IsAudited held w asked (Some b) c
     → (d : Beside (List Bool) A) × (c ≡ Some d)
-    × IsRecorded held (codes "allow ") (records (audited_by b.choice) w.rules b.number w.ticks asked) b d
+    × IsRecorded held (records (audited_by b.choice) audit_front w.rules b.number w.ticks asked) b d
 audited_some held w asked b (Some d) p = (d, refl, p)
 audited_some held w asked b None p = absurd p
 
 audit_steps : {T A : Type 0} (trial : T → Option (List ℕ)) (audit : A → Option (List ℕ)) (g h : Watching T A) (w : State) (events : List Event)
     (b c : Beside (List Bool) A) → AreWatched trial audit g w events h → g.audit ≡ Some b → h.audit ≡ Some c
-    → Steps audit (codes "allow ") audited_by (λ _ rules. rules) b w events c
+    → Steps audit (λ _ _. audit_front) audited_by (λ _ rules. rules) b w events c
 unfolding AreWatched Steps
 audit_steps trial audit g h w [] b c p first last =
     let same : Some c ≡ Some b = sym last ∙ ap (λ (x : Watching _ _). x.audit) p ∙ first in
@@ -286,14 +286,14 @@ trial_is_whole trial audit before after turns b c went first last uncut none see
     let w = before.scene.gateway in
     let on : is_watching before.guard ≡ true = rw first refl in
     let watched = run_watched trial audit before.guard after.guard w turns went.guarded on seen in
-    steps_whole trial [] denied_by (λ rules _. rules) b c w (events_of turns)
+    steps_whole trial trial_front tried_by (λ t _. t.policy) b c w (events_of turns)
     (trial_steps trial audit before.guard after.guard w (events_of turns) b c watched.0 first last) none uncut
 
 pub audit_is_whole : {T A : Type 0} (trial : T → Option (List ℕ)) (audit : A → Option (List ℕ)) → AuditIsWhole trial audit
 audit_is_whole trial audit before after turns b c went first last uncut none seen =
     let w = before.scene.gateway in
     let watched = run_watched trial audit before.guard after.guard w turns went.guarded (watching_audit before.guard b first) seen in
-    steps_whole audit (codes "allow ") audited_by (λ _ rules. rules) b c w (events_of turns)
+    steps_whole audit (λ _ _. audit_front) audited_by (λ _ rules. rules) b c w (events_of turns)
     (audit_steps trial audit before.guard after.guard w (events_of turns) b c watched.0 first last) none uncut
 
 pub counts_are_whole : {T A : Type 0} (trial : T → Option (List ℕ)) (audit : A → Option (List ℕ)) → CountsAreWhole trial audit

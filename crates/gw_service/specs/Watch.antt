@@ -5,7 +5,6 @@ use Rattle.std.specs.Option.{option_map_or}
 use Rattle.gw_configuration.specs.declared.run_options.RunOptions.{RunOptions}
 use Rattle.gw_configuration.specs.Configuration.{Configuration}
 use Rattle.gw_core.specs.State.{State}
-use Rattle.gw_rules.specs.declared.rule.Rule.{Rule}
 use Rattle.gw_core.specs.declared.guard.Both.{Both}
 use Rattle.gw_system.specs.Host.{LogOpening}
 use Rattle.gw_system.specs.declared.reading.ReadFailure.{ReadFailure}
@@ -15,6 +14,7 @@ use Rattle.gw_watchers.specs.declared.files.fault.WatchFault.{WatchFault}
 use Rattle.gw_watchers.specs.declared.files.fault.WatchFault.TheVariants as watch
 use Rattle.gw_watchers.specs.Watching.{Watching, ended_by, with_marks}
 use Rattle.gw_watchers.specs.declared.beside.Beside.{Beside}
+use Rattle.gw_watchers.specs.declared.trial.Trial.{Trial}
 use Rattle.gw_service.specs.Keeping.{IsKeptAtTick, IsKeptFor, IsKeptLast, failing_in}
 use Rattle.gw_service.specs.declared.fault.ServiceFault.{ServiceFault}
 use Rattle.gw_service.specs.declared.fault.ServiceFault.TheVariants as fault
@@ -27,10 +27,12 @@ use Rattle.gw_notices.specs.declared.watch_report.WatchCounts.{WatchCounts}
 
 -- ---- at the start
 
--- the files of what watches, if there are some, and whether reports or metrics are asked for, which have counts of the rules
+-- the files of what watches, if there are some, whether a trial's log has all that is denied, and whether reports or metrics are asked
+-- for, which have counts of the rules
 pub record WatchNames : Type 0 where
   pub trial : Option (List ℕ)
   pub trial_log : Option (List ℕ)
+  pub trial_all : Bool
   pub audit : Option (List ℕ)
   pub counts : Bool
 
@@ -38,6 +40,7 @@ abbrev pub watch_names : RunOptions → WatchNames
 watch_names options = record {
   trial = option_map string_bytes options.trial;
   trial_log = option_map string_bytes options.trial_log;
+  trial_all = options.trial_all;
   audit = option_map string_bytes options.audit;
   counts = is_some options.stats || is_some options.metrics;
 }
@@ -57,16 +60,18 @@ watch_outcome (Err f) = Err (fault_of_watching f)
 
 -- the policy on trial, if its file and that of its log are named
 abbrev pub IsTrialNamed : {Log : Type 0} → (FileReads LastDenials : List ℕ → Result (Option (List ℕ)) ReadFailure → Type 0) → LogOpening Log
-    → Configuration → (rules log : Option (List ℕ)) → Result (Option (Beside (List Rule) Log)) ServiceFault → Type 0
-IsTrialNamed {Log} FileReads LastDenials LogOpens c (Some rules) (Some log) outcome =
-    (opened : Result (Beside (List Rule) Log) WatchFault) × IsTrialBy FileReads LastDenials LogOpens c rules log opened
+    → Configuration → (rules log : Option (List ℕ)) → (has_all_denied : Bool)
+    → Result (Option (Beside Trial Log)) ServiceFault → Type 0
+IsTrialNamed {Log} FileReads LastDenials LogOpens c (Some rules) (Some log) has_all_denied outcome =
+    (opened : Result (Beside Trial Log) WatchFault)
+    × IsTrialBy FileReads LastDenials LogOpens c rules log has_all_denied opened
     × (outcome ≡ watch_outcome opened)
-IsTrialNamed FileReads LastDenials LogOpens c _ _ outcome = outcome ≡ Ok None
+IsTrialNamed FileReads LastDenials LogOpens c _ _ has_all_denied outcome = outcome ≡ Ok None
 
 abbrev pub IsTrialUnder : {Log : Type 0} → (FileReads LastDenials : List ℕ → Result (Option (List ℕ)) ReadFailure → Type 0) → LogOpening Log
-    → Configuration → WatchNames → Result (Option (Beside (List Rule) Log)) ServiceFault → Type 0
+    → Configuration → WatchNames → Result (Option (Beside Trial Log)) ServiceFault → Type 0
 IsTrialUnder FileReads LastDenials LogOpens c names outcome =
-    IsTrialNamed FileReads LastDenials LogOpens c names.trial names.trial_log outcome
+    IsTrialNamed FileReads LastDenials LogOpens c names.trial names.trial_log names.trial_all outcome
 
 -- the audit, if it is named
 abbrev pub IsAuditNamed : {Log : Type 0} → (LastDenials : List ℕ → Result (Option (List ℕ)) ReadFailure → Type 0) → LogOpening Log

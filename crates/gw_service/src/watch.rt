@@ -7,10 +7,9 @@ ghost use Rattle.gw_service.specs.Watch.{AreCountsOf, AreCountsUnder, IsAuditUnd
 use crate::fault::ServiceFault;
 use gw_configuration::{Config, RunOptions};
 use gw_decisions::tally::Tally;
-use gw_rule_index::Policy;
 use gw_system::Host;
-use gw_watchers::files::{open_audit, open_trial};
-use gw_watchers::{Beside, Marks, Watcher};
+use gw_watchers::files::{TrialNames, open_audit, open_trial};
+use gw_watchers::{Beside, Marks, Trial, Watcher};
 use std::alloc::{AllocError, Global};
 
 /// Whether the options ask for counts of the rules, which reports and metrics have.
@@ -33,15 +32,22 @@ fn trial_under<H: Host>(
     config: &Config,
     options: &RunOptions,
     host: &H,
-) -> Result<Option<Beside<Policy, H::Log>>, ServiceFault>
+) -> Result<Option<Beside<Trial, H::Log>>, ServiceFault>
     ensures { let LogOpens = OpensAtLine (H.LogOpens host.now) (H.LogIsCut host.now) H.Log.held in
         IsTrialUnder (H.FileReads host.now) (H.LastDenials host.now) LogOpens config.now (watch_names options.now) result }
 {
     match (&options.trial, &options.trial_log) {
-        (Some(rules), Some(log)) => match open_trial(alloc, config, rules, log, host) {
-            Ok(trial) => Ok(Some(trial)),
-            Err(fault) => Err(ServiceFault::from(fault)),
-        },
+        (Some(rules), Some(log)) => {
+            let names = TrialNames {
+                rules,
+                log,
+                has_all_denied: options.trial_all,
+            };
+            match open_trial(alloc, config, names, host) {
+                Ok(trial) => Ok(Some(trial)),
+                Err(fault) => Err(ServiceFault::from(fault)),
+            }
+        }
         _ => Ok(None),
     }
 }

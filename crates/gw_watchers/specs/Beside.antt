@@ -1,8 +1,7 @@
 -- A log beside the log: its lines are written, or lost and counted.
 use Rattle.std.specs.Prelude.{◌≡◌, ◌⊎◌, ℕ, ◌+◌, ◌-◌, ◌^◌, Bool, true, false, min, if◌then◌else◌, List, [], ◌∷◌, ◌++◌, length, Option}
 use Rattle.std.specs.Io.KnownBytes.{Appends}
-use Rattle.gw_audit.specs.declared.denial.Denial.{Denial}
-use Rattle.gw_watchers.specs.Records.{last_number, lines_behind}
+use Rattle.gw_watchers.specs.Records.{Line, last_number, lines_of}
 use Rattle.gw_watchers.specs.declared.beside.Beside.{Beside}
 use Rattle.gw_watchers.specs.declared.writing.Put.{Put}
 
@@ -13,10 +12,10 @@ abbrev pub start : ℕ → Put
 start last = record { last = last; count = 0; is_whole = true }
 
 -- The lines of these records are made, unless a growth is refused.
-pub record IsPut (front : List ℕ) (due : List Denial) (before : Put) (old new : List ℕ) (after : Put) : Type 0 where
+pub record IsPut (due : List Line) (before : Put) (old new : List ℕ) (after : Put) : Type 0 where
   pub last : after.last ≡ last_number before.last due
   pub count : after.count ≡ before.count + length due
-  pub whole : after.is_whole ≡ true → (before.is_whole ≡ true) × (new ≡ old ++ lines_behind front due)
+  pub whole : after.is_whole ≡ true → (before.is_whole ≡ true) × (new ≡ old ++ lines_of due)
 
 -- ---- in the log
 
@@ -46,7 +45,7 @@ pub record IsEnded {C S : Type 0} (held : S → Option (List ℕ)) (due : List �
   pub text : IsWritten held due b c ⊎ IsLost held due count b c
 
 -- Records are written, a line each after the end of a cut line; or they are lost. If there is none, nothing is done.
-abbrev pub IsRecorded : {C S : Type 0} → (S → Option (List ℕ)) → List ℕ → List Denial → Beside C S → Beside C S → Type 0
-IsRecorded held front [] b c = c ≡ b
-IsRecorded held front (d ∷ due) b c =
-    IsEnded held (ended b.is_cut ++ lines_behind front (d ∷ due)) (last_number b.number (d ∷ due)) (length (d ∷ due)) b c
+abbrev pub IsRecorded : {C S : Type 0} → (S → Option (List ℕ)) → List Line → Beside C S → Beside C S → Type 0
+IsRecorded held [] b c = c ≡ b
+IsRecorded held (line ∷ due) b c =
+    IsEnded held (ended b.is_cut ++ lines_of (line ∷ due)) (last_number b.number (line ∷ due)) (length (line ∷ due)) b c

@@ -1,6 +1,6 @@
 -- What a watcher does about what an event asked.
 use Rattle.std.specs.Prelude.{◌≡◌, ◌⊎◌, ⊤, ℕ, ◌+◌, ◌-◌, ◌^◌, ◌||◌, ◌&&◌, not, Bool, true, min, is_some, List, []}
-use Rattle.std.specs.Prelude.{codes, if◌then◌else◌, Option, Some, None}
+use Rattle.std.specs.Prelude.{if◌then◌else◌, Option, Some, None}
 use Rattle.gw_core.specs.Asked.{asked_at}
 use Rattle.gw_core.specs.Effects.{NeedsNoMemory}
 use Rattle.gw_core.specs.History.{next}
@@ -8,17 +8,17 @@ use Rattle.gw_core.specs.State.{State}
 use Rattle.gw_core.specs.declared.asked.Asked.{Asked}
 use Rattle.gw_decisions.specs.Counted.{AreCounted}
 use Rattle.gw_rules.specs.declared.format.Format.{Format}
-use Rattle.gw_rules.specs.declared.rule.Rule.{Rule}
 use Rattle.gw_script.specs.Event.{Event}
 use Rattle.gw_watchers.specs.Beside.{IsRecorded}
-use Rattle.gw_watchers.specs.Records.{audited_by, denied_by, records}
+use Rattle.gw_watchers.specs.Records.{audit_front, audited_by, records, trial_front, tried_by}
 use Rattle.gw_watchers.specs.files.Trial.{is_same_format}
 use Rattle.gw_watchers.specs.declared.beside.Beside.{Beside}
+use Rattle.gw_watchers.specs.declared.trial.Trial.{Trial}
 
 -- what is watched: a policy on trial, an audit, and how often each rule decided, each if it is wanted; how many events
 -- weren't seen; the format of the trial; and whether the trial ended
 pub record Watching (T A : Type 0) : Type 0 where
-  pub trial : Option (Beside (List Rule) T)
+  pub trial : Option (Beside Trial T)
   pub audit : Option (Beside (List Bool) A)
   pub counts : Option (List ℕ)
   pub unseen : ℕ
@@ -40,12 +40,13 @@ is_watching w = is_some w.trial || (is_some w.audit || is_some w.counts)
 
 -- ---- each part
 
--- the asks that the trial's rules deny, but by quiet ones, are recorded, under its names
+-- the asks that the trial's rules decide otherwise are recorded, each behind both verdicts, or those that they deny, but by quiet
+-- ones, if all are wanted; under its names
 abbrev pub IsTried : {T : Type 0} → (T → Option (List ℕ)) → State → List Asked
-    → (before after : Option (Beside (List Rule) T)) → Type 0
+    → (before after : Option (Beside Trial T)) → Type 0
 IsTried held w asked None None = ⊤
 IsTried held w asked (Some b) (Some c) =
-    IsRecorded held [] (records (denied_by b.choice) b.choice b.number w.ticks asked) b c
+    IsRecorded held (records (tried_by b.choice) (trial_front b.choice w.rules) b.choice.policy b.number w.ticks asked) b c
 IsTried held w asked _ _ = ⊥
 
 -- the asks that a marked rule allowed are recorded, after the word `allow`
@@ -53,7 +54,7 @@ abbrev pub IsAudited : {A : Type 0} → (A → Option (List ℕ)) → State → 
     → (before after : Option (Beside (List Bool) A)) → Type 0
 IsAudited held w asked None None = ⊤
 IsAudited held w asked (Some b) (Some c) =
-    IsRecorded held (codes "allow ") (records (audited_by b.choice) w.rules b.number w.ticks asked) b c
+    IsRecorded held (records (audited_by b.choice) audit_front w.rules b.number w.ticks asked) b c
 IsAudited held w asked _ _ = ⊥
 
 abbrev pub IsCounted : List Asked → (before after : Option (List ℕ)) → Type 0

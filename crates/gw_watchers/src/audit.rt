@@ -63,7 +63,7 @@ impl Choice for Marks {
 
     ghost naming = { λ _ rules. rules };
 
-    ghost front = { codes "allow " };
+    ghost front = { λ _ _ _. codes "allow " };
 
     fn chosen(&self, asked: &Asked) -> Option<Option<u16>> {
         let by = asked.verdict.by;
@@ -78,7 +78,12 @@ impl Choice for Marks {
         rule_name(rules, by)
     }
 
-    fn put_front(&self, out: &mut Vec<u8>) -> Result<(), AllocError> {
+    fn put_front(
+        &self,
+        _rules: &RuleList,
+        _asked: &Asked,
+        out: &mut Vec<u8>,
+    ) -> Result<(), AllocError> {
         put_slice(out, b"allow ")
     }
 }

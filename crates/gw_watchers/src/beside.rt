@@ -1,8 +1,7 @@
 //! A log beside the log, whose failures touch nothing else.
 
 ghost use Rattle.std.specs.Prelude.{◌≡◌, ◌++◌, ℕ, List, false, true, length};
-ghost use Rattle.gw_audit.specs.declared.denial.Denial.{Denial};
-ghost use Rattle.gw_watchers.specs.Records.{lines_behind, records};
+ghost use Rattle.gw_watchers.specs.Records.{records};
 ghost use Rattle.gw_watchers.specs.Beside.{IsEnded, IsRecorded, ended};
 
 use crate::choice::Choice;
@@ -47,8 +46,9 @@ impl<C: Choice, S: OctetSink> Beside<C, S> {
     /// Records the asks that are chosen. The text is only a place to make their lines.
     pub(crate) fn record_asks(&mut self, gateway: &Gateway, asked: &[Asked], text: &mut Vec<u8>)
         ensures { let rules = C.naming self.old.choice gateway.now.rules in
-            let due = records (C.chosen self.old.choice) rules self.old.number gateway.now.ticks asked.now in
-            IsRecorded S.held C.front due self.old self.new }
+            let front = C.front self.old.choice gateway.now.rules in
+            let due = records (C.chosen self.old.choice) front rules self.old.number gateway.now.ticks asked.now in
+            IsRecorded S.held due self.old self.new }
     {
         text.clear();
         let is_begun = self.begin_text(text);

@@ -17,8 +17,8 @@ pub trait Choice {
     /// The rules that a line names, by those in force.
     ghost naming: { Self → List Rule → List Rule };
 
-    /// How a line begins, in front of what the log has.
-    ghost front: { List ℕ };
+    /// How the line of an ask begins, in front of what the log has, by those in force.
+    ghost front: { Self → List Rule → Asked → List ℕ };
 
     /// Whether an ask is recorded, and then the number of the rule that its line names, if one decides it.
     fn chosen(&self, asked: &Asked) -> Option<Option<u16>>
@@ -28,7 +28,12 @@ pub trait Choice {
     fn name(&self, rules: &RuleList, by: Option<u16>) -> RuleName
         ensures { result ≡ rule_name (naming self.now rules.now) by };
 
-    /// Appends how a line begins.
-    fn put_front(&self, out: &mut Vec<u8>) -> Result<(), AllocError>
-        ensures { OnOk result (out.new.items ≡ out.old.items ++ front) };
+    /// Appends how the line of an ask begins. These rules are in force.
+    fn put_front(
+        &self,
+        rules: &RuleList,
+        asked: &Asked,
+        out: &mut Vec<u8>,
+    ) -> Result<(), AllocError>
+        ensures { OnOk result (out.new.items ≡ out.old.items ++ front self.now rules.now asked.now) };
 }

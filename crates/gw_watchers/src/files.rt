@@ -6,4 +6,4 @@ mod opening;
 
 pub use fault::{TrialFault, WatchFault};
 pub use fitting::is_same_format;
-pub use opening::{open_audit, open_trial};
+pub use opening::{TrialNames, open_audit, open_trial};

@@ -1,14 +1,17 @@
 //! Laws of a watcher, over any sinks. The functions do nothing: their contracts are the laws.
 
 ghost use Rattle.gw_core.specs.Guard.{LetsAllGo};
-ghost use Rattle.gw_watchers.specs.Laws.{AllAreAsked, TrialIsDenials};
+ghost use Rattle.gw_watchers.specs.Laws.{AllAreAsked, DifferencesAreSaid, TrialIsDenials, TrialIsDifferences};
 ghost use Rattle.gw_watchers.specs.Watching.{HasWatched};
 
 use gw_script::OctetSink;
 
-/// What is recorded of an event: a trial's records are what a log of denials by its rules has.
+/// What is recorded of an event: a trial's records are what a log of denials by its rules has, or the asks that its rules decide
+/// otherwise than those in force, each behind both verdicts.
 pub fn at_each_event()
     ensures trial { TrialIsDenials }
+    ensures differences { TrialIsDifferences }
+    ensures said { DifferencesAreSaid }
     ensures all { AllAreAsked }
 {}
 

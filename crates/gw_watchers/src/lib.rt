@@ -15,4 +15,5 @@ mod writing;
 pub use audit::Marks;
 pub use beside::Beside;
 pub use choice::Choice;
+pub use trial::Trial;
 pub use watcher::Watcher;

@@ -1,34 +1,90 @@
-//! A policy on trial: the asks that it would deny, but by quiet rules.
+//! A policy on trial: the asks that it decides otherwise than the rules in force, or all that it denies, but by quiet rules.
 
-ghost use Rattle.std.specs.Prelude.{[]};
-ghost use Rattle.gw_watchers.specs.Records.{denied_by};
+ghost use Rattle.std.specs.Prelude.{◌≡◌, ◌++◌, OnOk};
+ghost use Rattle.gw_watchers.specs.Records.{decided_otherwise, denied_by, other_front, trial_front, tried_by};
 
 use crate::choice::Choice;
+use gw_addr::put_slice;
 use gw_core::{Asked, rule_name};
 use gw_rule_index::Policy;
 use gw_rules::{Decision, Judge, RuleList, RuleName};
 use std::alloc::AllocError;
 
-impl Choice for Policy {
-    ghost chosen = { denied_by };
+/// A policy on trial, and which asks are recorded of it.
+#[derive(Drop)]
+pub struct Trial {
+    /// The rules on trial.
+    pub policy: Policy,
+    /// Whether each ask that they deny is recorded, but by quiet rules. If not, each is that they decide otherwise than the rules
+    /// in force.
+    pub has_all_denied: bool,
+}
 
-    ghost naming = { λ policy _. policy };
+/// The first rule of a policy that matches an ask, or none, if the policy denies it, but by a quiet rule.
+fn denied_by(policy: &Policy, asked: &Asked) -> Option<Option<u16>>
+    ensures { result ≡ denied_by policy.now asked.now }
+{
+    match policy.decide(&asked.verdict.ask) {
+        Decision::Allow => None,
+        Decision::Deny { by } if policy.is_quiet(by) => None,
+        Decision::Deny { by } => Some(by),
+    }
+}
 
-    ghost front = { [] };
+/// The first rule of a policy that matches an ask, or none, if the policy decides it otherwise than was decided.
+fn decided_otherwise(policy: &Policy, asked: &Asked) -> Option<Option<u16>>
+    ensures { result ≡ decided_otherwise policy.now asked.now }
+{
+    match policy.decide(&asked.verdict.ask) {
+        Decision::Allow if asked.verdict.is_allowed => None,
+        Decision::Allow => Some(policy.first(&asked.verdict.ask)),
+        Decision::Deny { by } if asked.verdict.is_allowed => Some(by),
+        Decision::Deny { by: _ } => None,
+    }
+}
+
+/// Appends what was decided of an ask, by which of the rules in force, and what the rules on trial decide, which is otherwise.
+fn put_other_front(rules: &RuleList, asked: &Asked, out: &mut Vec<u8>) -> Result<(), AllocError>
+    ensures { OnOk result (out.new.items ≡ out.old.items ++ other_front rules.now asked.now) }
+{
+    let (was, is) = if asked.verdict.is_allowed {
+        ("allow ", " -> deny ")
+    } else {
+        ("deny ", " -> allow ")
+    };
+    put_slice(out, was.as_bytes())?;
+    put_slice(out, rule_name(rules, asked.verdict.by).as_str().as_bytes())?;
+    put_slice(out, is.as_bytes())
+}
+
+impl Choice for Trial {
+    ghost chosen = { tried_by };
+
+    ghost naming = { λ trial _. trial.policy };
+
+    ghost front = { trial_front };
 
     fn chosen(&self, asked: &Asked) -> Option<Option<u16>> {
-        match self.decide(&asked.verdict.ask) {
-            Decision::Allow => None,
-            Decision::Deny { by } if self.is_quiet(by) => None,
-            Decision::Deny { by } => Some(by),
+        if self.has_all_denied {
+            denied_by(&self.policy, asked)
+        } else {
+            decided_otherwise(&self.policy, asked)
         }
     }
 
     fn name(&self, _rules: &RuleList, by: Option<u16>) -> RuleName {
-        rule_name(self.rules(), by)
+        rule_name(self.policy.rules(), by)
     }
 
-    fn put_front(&self, _out: &mut Vec<u8>) -> Result<(), AllocError> {
-        Ok(())
+    fn put_front(
+        &self,
+        rules: &RuleList,
+        asked: &Asked,
+        out: &mut Vec<u8>,
+    ) -> Result<(), AllocError> {
+        if self.has_all_denied {
+            return Ok(());
+        }
+        put_other_front(rules, asked, out)
     }
 }

@@ -7,10 +7,10 @@ ghost use Rattle.gw_watchers.specs.Watching.{HasWatched, Missed, Watches, Watchi
 use crate::audit::Marks;
 use crate::beside::Beside;
 use crate::files::is_same_format;
+use crate::trial::Trial;
 use gw_core::{AllAsked, Asked, Gateway, Guard, Taken};
 use gw_decisions::count_asked;
 use gw_decisions::tally::Tally;
-use gw_rule_index::Policy;
 use gw_rules::Format;
 use gw_script::OctetSink;
 use std::alloc::Global;
@@ -19,7 +19,7 @@ use std::marker::Model;
 /// Watches what a gateway is asked: a policy on trial, an audit, and how often each rule decides, each if it is wanted.
 /// As a guard it withholds nothing.
 pub struct Watcher<T, A> {
-    trial: Option<Beside<Policy, T>>,
+    trial: Option<Beside<Trial, T>>,
     audit: Option<Beside<Marks, A>>,
     counts: Option<Tally>,
     unseen: u64,
@@ -63,7 +63,7 @@ impl<T: OctetSink + Drop, A: OctetSink + Drop> Watcher<T, A> {
     pub fn new(
         alloc: Global,
         format: Format,
-        trial: Option<Beside<Policy, T>>,
+        trial: Option<Beside<Trial, T>>,
         audit: Option<Beside<Marks, A>>,
         counts: Option<Tally>,
     ) -> Self
@@ -81,7 +81,7 @@ impl<T: OctetSink + Drop, A: OctetSink + Drop> Watcher<T, A> {
     }
 
     /// The policy on trial, with its log.
-    pub fn trial(&self) -> &Option<Beside<Policy, T>>
+    pub fn trial(&self) -> &Option<Beside<Trial, T>>
         ensures { result.now ≡ self.now.trial }
     {
         &self.trial

@@ -43,10 +43,11 @@ impl<C: Choice> Writing<'_, C> {
         text: &mut Vec<u8>,
     ) -> Result<(), AllocError>
         ensures { let rules = C.naming self.now.choice.now self.now.rules.now in
-            OnOk result (text.new.items ≡ text.old.items
-            ++ (C.front ++ line_text (record_of rules number self.now.tick asked.now by))) }
+            let front = C.front self.now.choice.now self.now.rules.now asked.now in
+            let line = record_of front rules number self.now.tick asked.now by in
+            OnOk result (text.new.items ≡ text.old.items ++ (line.front ++ line_text line.denial)) }
     {
-        self.choice.put_front(text)?;
+        self.choice.put_front(self.rules, asked, text)?;
         let denial = Denial {
             number,
             tick: self.tick,
@@ -62,8 +63,9 @@ impl<C: Choice> Writing<'_, C> {
     fn put_next(&self, so_far: Put, asked: &Asked, text: &mut Vec<u8>) -> Put
         requires { so_far.count < 2 ^ 64 - 1 }
         ensures { let rules = C.naming self.now.choice.now self.now.rules.now in
-            let due = records (C.chosen self.now.choice.now) rules so_far.last self.now.tick (asked.now ∷ []) in
-            IsPut C.front due so_far text.old.items text.new.items result }
+            let front = C.front self.now.choice.now self.now.rules.now in
+            let due = records (C.chosen self.now.choice.now) front rules so_far.last self.now.tick (asked.now ∷ []) in
+            IsPut due so_far text.old.items text.new.items result }
     {
         let Some(by) = self.choice.chosen(asked) else {
             return so_far;
@@ -86,8 +88,9 @@ impl<C: Choice> Writing<'_, C> {
     /// refused, a part of them may be there.
     pub(crate) fn put_all(&self, last: u64, asked: &[Asked], text: &mut Vec<u8>) -> Put
         ensures { let rules = C.naming self.now.choice.now self.now.rules.now in
-            let due = records (C.chosen self.now.choice.now) rules last self.now.tick asked.now in
-            IsPut C.front due (start last) text.old.items text.new.items result }
+            let front = C.front self.now.choice.now self.now.rules.now in
+            let due = records (C.chosen self.now.choice.now) front rules last self.now.tick asked.now in
+            IsPut due (start last) text.old.items text.new.items result }
     {
         let mut put = Put {
             last,

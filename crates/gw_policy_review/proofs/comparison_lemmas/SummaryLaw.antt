@@ -10,6 +10,7 @@ use Rattle.gw_ask_sets.specs.regions.Comparing.{IsDecided, IsSummary, differs}
 use Rattle.gw_ask_sets.specs.regions.Presence.{NoneIsMeant, OrNoneIsMeant}
 use Rattle.gw_ask_sets.specs.regions.Regions.{Region, lies, lies_in_one}
 use Rattle.gw_ask_sets.specs.declared.regions.comparison.Found.{Found}
+use Rattle.gw_policy_review.specs.comparison.Operations.{OperationIsMeant, OperationsAreMeant}
 
 each_permuted : (P : Found → Type 0) (xs ys : List Found) → IsPermutation xs ys → AllByRecursion P xs → AllByRecursion P ys
 each_permuted P xs ys moved all = recursion_from_All P ys (All-permutation P xs ys moved (All-from_recursion P xs all))
@@ -25,3 +26,6 @@ in_other_order shapes old new xs ys left moved is = record {
 
 pub meant_in_other_order : (shapes : List Region) (xs ys : List Found) → IsPermutation xs ys → OrNoneIsMeant shapes xs → OrNoneIsMeant shapes ys
 meant_in_other_order shapes xs ys moved is = each_permuted (λ f. NoneIsMeant shapes f.region) xs ys moved is
+
+pub operations_in_other_order : (shapes : List Region) (xs ys : List Found) → IsPermutation xs ys → OperationsAreMeant shapes xs → OperationsAreMeant shapes ys
+operations_in_other_order shapes xs ys moved is = each_permuted (λ f. OperationIsMeant shapes f.region) xs ys moved is

@@ -20,7 +20,8 @@ use Rattle.gw_rules.specs.RuleList.{allows}
 use Rattle.gw_rules.proofs.EachAsk.{each_weaker}
 use Rattle.gw_policy_review.specs.comparison.Asks.{asks_of}
 use Rattle.gw_policy_review.specs.comparison.Comparison.{AreResults, alike_by, compared_by, judged_by, paired_by}
-use Rattle.gw_policy_review.specs.comparison.Laws.{AlikeIsAlike, FoundIsAll, IsAskOf, LinesAreTrue, LinesHaveAsks, NoneHasAsk, PairsAreAll, PairsHaveAsks, is_paired, says_alike}
+use Rattle.gw_policy_review.specs.comparison.Laws.{AlikeIsAlike, FoundIsAll, IsAskOf, LinesAreTrue, LinesHaveAsks, NoneHasAsk, OperationHasAsk, PairsAreAll, PairsHaveAsks, is_paired, says_alike}
+use Rattle.gw_policy_review.specs.comparison.Operations.{OperationIsMeant, is_open}
 use Rattle.gw_policy_review.specs.declared.comparison.comparison.Compared.{Compared}
 use Rattle.gw_policy_review.specs.declared.comparison.comparison.Compared.TheVariants as compared
 use Rattle.gw_policy_review.proofs.comparison_lemmas.AskLaw.{all_asks}
@@ -229,3 +230,11 @@ none_has_ask old new most made text written lines =
     → (ask : Ask) × (lies f.region ask ≡ true) × IsAskOf old new ask × (value_of field ask ≡ None))
     (λ f meant field may some. let is = meant field may some in
     (is.ask, is.there, (all_asks old new).inner is.ask is.in_shape, is.lacks)) written.found (written.results.or_none lines)
+
+pub operation_has_ask : OperationHasAsk
+operation_has_ask old new most made text written lines =
+    each_weaker (λ f. OperationIsMeant (asks_of old new) f.region)
+    (λ f. (operation : Option ℕ) → is_open f.region ≡ false → has f.region.operation operation ≡ true
+    → (ask : Ask) × (lies f.region ask ≡ true) × IsAskOf old new ask × (ask.operation ≡ operation))
+    (λ f meant operation shut may. let is = meant shut operation may in
+    (is.ask, is.there, (all_asks old new).inner is.ask is.in_shape, is.named)) written.found (written.results.operations lines)

@@ -14,6 +14,7 @@ use Rattle.gw_ask_sets.specs.declared.regions.pairs.ShownPair.{ShownPair}
 use Rattle.gw_policy_review.specs.comparison.Asks.{asks_of}
 use Rattle.gw_policy_review.specs.comparison.Groups.{regions_text}
 use Rattle.gw_policy_review.specs.comparison.Lines.{Naming, naming}
+use Rattle.gw_policy_review.specs.comparison.Operations.{OperationsAreMeant}
 use Rattle.gw_policy_review.specs.comparison.PairLines.{given_up_text, pairs_text}
 use Rattle.gw_policy_review.specs.comparison.PartLines.{details}
 use Rattle.gw_policy_review.specs.comparison.Parts.{AreDifferences}
@@ -102,6 +103,7 @@ pub record AreResults (old new : Configuration) (found : List Found) (left : Lis
   pub reached : IsLeftAfter old new steps left
   pub summary : IsSummary (asks_of old new) old.rules new.rules found left
   pub or_none : has_lines pairs ≡ true → OrNoneIsMeant (asks_of old new) found
+  pub operations : has_lines pairs ≡ true → OperationsAreMeant (asks_of old new) found
   pub in_order : has_lines pairs ≡ true → IsNonDecreasingBy rank found
   pub asked : is_some pairs ≡ not (length left == 0)
   pub are_pairs : IfSome pairs (λ known. AreSought (asks_of old new) old.rules new.rules known)

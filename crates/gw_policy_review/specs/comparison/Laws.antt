@@ -1,25 +1,31 @@
 -- What the text of a comparison says of the asks of two configurations.
-use Rattle.std.specs.Prelude.{◌≡◌, ◌≢◌, ◌⊎◌, ℕ, Bool, true, false, count_by, IfSome, List, [], ◌++◌, Option, None}
-use Rattle.std.specs.List.{AllByRecursion}
+use Rattle.std.specs.Prelude.{◌≡◌, ◌≢◌, ◌⊎◌, ℕ, Bool, true, false, not, count_by, IfSome, List, [], ◌++◌, Option, Some, None}
+use Rattle.std.specs.List.{AllByRecursion, list_any}
 use Rattle.std.specs.Option.{option_map_or}
 use Rattle.gw_configuration.specs.Configuration.{Configuration, are_counted}
+use Rattle.gw_configuration.specs.Subnet.{IsSubnet, Subnet, keys_of}
 use Rattle.gw_ask_sets.specs.regions.Comparing.{IsDecided, decider, differs, is_found}
 use Rattle.gw_ask_sets.specs.regions.Pairs.{Findings, IsDecidedBy, is_shown}
 use Rattle.gw_ask_sets.specs.regions.Regions.{lies}
 use Rattle.gw_ask_sets.specs.regions.Values.{has, is_any}
 use Rattle.gw_ask_sets.specs.declared.regions.comparison.Found.{Found}
+use Rattle.gw_ask_sets.specs.declared.regions.values.Values.{Values}
 use Rattle.gw_rules.specs.Ask.{Ask}
 use Rattle.gw_rules.specs.Fields.{value_of}
+use Rattle.gw_rules.specs.Range.{holds}
 use Rattle.gw_rules.specs.RuleList.{allows, is_logged}
 use Rattle.gw_rules.specs.declared.field.FieldName.{FieldName}
+use Rattle.gw_rules.specs.declared.range.Range.{Range}
 use Rattle.gw_ask_sets.specs.shapes.Shape.{LiesInOne}
 use Rattle.gw_ask_sets.specs.shapes.Shapes.{shapes}
 use Rattle.gw_policy_review.specs.comparison.Asks.{asks_of}
 use Rattle.gw_policy_review.specs.comparison.Comparison.{IsComparisonText, Manner, asks_text, has_lines}
 use Rattle.gw_policy_review.specs.comparison.Groups.{firsts, is_like}
 use Rattle.gw_policy_review.specs.comparison.Lines.{Naming}
+use Rattle.gw_policy_review.specs.comparison.Operations.{is_open}
 use Rattle.gw_policy_review.specs.comparison.PartLines.{details}
 use Rattle.gw_policy_review.specs.comparison.Parts.{AreDifferences, AreLike}
+use Rattle.gw_policy_review.specs.comparison.Words.{numbers_of, prefix_of, rest_of, subnet_from}
 use Rattle.gw_policy_review.specs.declared.comparison.parts.Part.{Part}
 use Rattle.gw_policy_review.specs.declared.comparison.comparison.Compared.{Compared}
 use Rattle.gw_policy_review.specs.declared.comparison.comparison.Compared.TheVariants as compared
@@ -107,6 +113,25 @@ NoneHasAsk = (old new : Configuration) (how : Manner) (made : Compared) (text : 
     → AllByRecursion (λ f. (field : FieldName) → has (value_of field f.region) None ≡ true
     → is_any (value_of field f.region) ≡ false
     → (ask : Ask) × (lies f.region ask ≡ true) × IsAskOf old new ask × (value_of field ask ≡ None)) written.found
+
+-- And each operation of a region is that of such an ask there, unless the region says nothing of what its asks are for: a line names
+-- exactly the operations that are decided otherwise in it.
+abbrev pub OperationHasAsk : Type 0
+OperationHasAsk = (old new : Configuration) (how : Manner) (made : Compared) (text : List ℕ)
+    (written : IsComparisonText old new how made text) → has_lines written.pairs ≡ true
+    → AllByRecursion (λ f. (operation : Option ℕ) → is_open f.region ≡ false → has f.region.operation operation ≡ true
+    → (ask : Ask) × (lies f.region ask ≡ true) × IsAskOf old new ask × (ask.operation ≡ operation)) written.found
+
+-- A range of stations that is said as a subnet has exactly its keys, at every UDP port; what shares all 32 bits is said as an
+-- address alone.
+abbrev pub SubnetIsRange : Type 0
+SubnetIsRange = (range : Range) (prefix : ℕ) → prefix_of range ≡ Some prefix
+    → (s : Subnet) × IsSubnet s × (s.prefix ≡ prefix) × (keys_of s ≡ range) × (subnet_from range prefix ≡ Some s)
+
+-- What is said as all but some subnets is what the field may be: of the numbers that it can have each but those of the subnets.
+abbrev pub RestIsMeant : Type 0
+RestIsMeant = (field : FieldName) (values : Values) (number : ℕ) → list_any (holds number) (numbers_of field) ≡ true
+    → has values (Some number) ≡ not (list_any (holds number) (rest_of field values.ranges))
 
 -- Each region is in the group of exactly one of the first regions: the groups have each region once.
 abbrev pub EachHasOneGroup : Type 0

@@ -6,6 +6,7 @@ ghost use Rattle.gw_policy_review.specs.comparison.Comparison.{AppendsComparison
 ghost use Rattle.gw_ask_sets.specs.regions.Comparing.{IsComparison, IsSummary};
 ghost use Rattle.gw_ask_sets.specs.regions.Presence.{OrNoneIsMeant};
 ghost use Rattle.gw_ask_sets.specs.regions.Pairs.{findings};
+ghost use Rattle.gw_policy_review.specs.comparison.Operations.{OperationsAreMeant};
 ghost use Rattle.gw_policy_review.specs.comparison.PairLines.{known_of};
 ghost use Rattle.gw_policy_review.specs.comparison.PartLines.{details};
 ghost use Rattle.gw_rules.specs.declared.rule.Rule.{Rule as SpecRule};
@@ -14,6 +15,7 @@ use crate::comparison::Comparing;
 use crate::comparison::details::put_details;
 use crate::comparison::groups::{Listing, put_regions};
 use crate::comparison::naming::Names;
+use crate::comparison::operations::narrow_all;
 use crate::comparison::pairs::{put_given_up, put_pairs};
 use crate::comparison::parts::{Part, differing_parts};
 use gw_addr::{keep_whole, put_decimal, put_slice};
@@ -254,13 +256,31 @@ pub(crate) fn summary_of(
         IsComparison asks.now old new comparison.found.items comparison.left.items →
         IsSummary asks.now old new s.found.items s.left.items) }
     ensures or_none { IfOk result (λ s. OrNoneIsMeant asks.now s.found.items) }
+    ensures operations { IfOk result (λ s. OperationsAreMeant asks.now s.found.items) }
     ensures in_order { IfOk result (λ s. IsNonDecreasingBy rank s.found.items) }
     ensures left { IfOk result (λ s. s.left.items ≡ comparison.left.items) }
     ensures steps { IfOk result (λ s. s.steps ≡ comparison.steps) }
 {
-    let mut summary = gw_ask_sets::regions::summary_of(alloc, asks, comparison)?;
+    let wide = gw_ask_sets::regions::summary_of(alloc, asks, comparison)?;
+    let mut summary = narrowed(alloc, asks, wide)?;
     sort_found(&mut summary.found)?;
     Ok(summary)
+}
+
+/// The same, with the operations that the asks of its regions have.
+fn narrowed(alloc: Global, asks: &[Region], wide: Summary) -> Result<Summary, AllocError>
+    requires { OrNoneIsMeant asks.now wide.found.items }
+    ensures summary { IfOk result (λ s. (old new : List SpecRule) →
+        IsSummary asks.now old new wide.found.items wide.left.items →
+        IsSummary asks.now old new s.found.items s.left.items) }
+    ensures or_none { IfOk result (λ s. OrNoneIsMeant asks.now s.found.items) }
+    ensures operations { IfOk result (λ s. OperationsAreMeant asks.now s.found.items) }
+    ensures left { IfOk result (λ s. s.left.items ≡ wide.left.items) }
+    ensures steps { IfOk result (λ s. s.steps ≡ wide.steps) }
+{
+    let Summary { found, left, steps } = wide;
+    let found = narrow_all(alloc, asks, found)?;
+    Ok(Summary { found, left, steps })
 }
 
 /// The same, summed up only if the regions have lines.
@@ -274,6 +294,7 @@ pub(crate) fn summary_if(
         IsComparison asks.now old new comparison.found.items comparison.left.items →
         IsSummary asks.now old new s.found.items s.left.items) }
     ensures or_none { IfOk result (λ s. has_lines ≡ true → OrNoneIsMeant asks.now s.found.items) }
+    ensures operations { IfOk result (λ s. has_lines ≡ true → OperationsAreMeant asks.now s.found.items) }
     ensures in_order { IfOk result (λ s. has_lines ≡ true → IsNonDecreasingBy rank s.found.items) }
     ensures left { IfOk result (λ s. s.left.items ≡ comparison.left.items) }
     ensures steps { IfOk result (λ s. s.steps ≡ comparison.steps) }

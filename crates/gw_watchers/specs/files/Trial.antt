@@ -8,7 +8,6 @@ use Rattle.gw_configuration.specs.declared.port.Port.{Port}
 use Rattle.gw_policy_text.specs.Document.{configuration}
 use Rattle.gw_rules.specs.declared.format.Format.{Format}
 use Rattle.gw_rules.specs.declared.format.Format.TheVariants as formats
-use Rattle.gw_rules.specs.declared.rule.Rule.{Rule}
 use Rattle.gw_system.specs.Host.{LogOpening}
 use Rattle.gw_system.specs.declared.opening.LogFailure.TheVariants as log_failure
 use Rattle.gw_system.specs.declared.obstacle.Obstacle.{Obstacle}
@@ -16,6 +15,7 @@ use Rattle.gw_system.specs.declared.obstacle.Obstacle.TheVariants as obstacle
 use Rattle.gw_system.specs.declared.reading.ReadFailure.{ReadFailure}
 use Rattle.gw_system.specs.declared.reading.ReadFailure.TheVariants as reading
 use Rattle.gw_watchers.specs.declared.beside.Beside.{Beside}
+use Rattle.gw_watchers.specs.declared.trial.Trial.{Trial}
 use Rattle.gw_watchers.specs.files.Numbers.{IsNumberAfter}
 use Rattle.gw_watchers.specs.declared.files.fault.TrialFault.TheVariants as trial
 use Rattle.gw_watchers.specs.declared.files.fault.WatchFault.{WatchFault}
@@ -68,15 +68,16 @@ IsUnopened LastDenials LogOpens name =
 
 -- ---- a trial
 
--- the rules of the file of this name are on trial beside this configuration, and their log has that name
+-- the rules of the file of this name are on trial beside this configuration, their log has that name, and it has all that they deny
+-- or what they decide otherwise, as is wanted
 pub record IsOnTrial {Log : Type 0} (FileReads LastDenials : List ℕ → Result (Option (List ℕ)) ReadFailure → Type 0)
     (LogOpens : LogOpening Log)
-    (c : Configuration) (rules log : List ℕ) (b : Beside (List Rule) Log) : Type 0 where
+    (c : Configuration) (rules log : List ℕ) (has_all_denied : Bool) (b : Beside Trial Log) : Type 0 where
   pub config : Configuration
   pub read : IsRead FileReads rules config
   pub format : is_same_format c.format config.format ≡ true
   pub ports : are_same_ports c.ports config.ports ≡ true
-  pub choice : b.choice ≡ config.rules
+  pub choice : b.choice ≡ record { policy = config.rules; has_all_denied = has_all_denied }
   pub opened : IsOpened LastDenials LogOpens log b
 
 -- Memory may run out at reading this file, and at any text of it.
@@ -101,9 +102,10 @@ IsNoTrial FileReads LastDenials LogOpens c rules log fault.Audit = ⊥
 
 abbrev pub IsTrialBy : {Log : Type 0} → (FileReads LastDenials : List ℕ → Result (Option (List ℕ)) ReadFailure → Type 0)
     → LogOpening Log
-    → Configuration → (rules log : List ℕ) → Result (Beside (List Rule) Log) WatchFault → Type 0
-IsTrialBy FileReads LastDenials LogOpens c rules log (Ok b) = IsOnTrial FileReads LastDenials LogOpens c rules log b
-IsTrialBy FileReads LastDenials LogOpens c rules log (Err f) = IsNoTrial FileReads LastDenials LogOpens c rules log f
+    → Configuration → (rules log : List ℕ) → (has_all_denied : Bool) → Result (Beside Trial Log) WatchFault → Type 0
+IsTrialBy FileReads LastDenials LogOpens c rules log has_all_denied (Ok b) =
+    IsOnTrial FileReads LastDenials LogOpens c rules log has_all_denied b
+IsTrialBy FileReads LastDenials LogOpens c rules log has_all_denied (Err f) = IsNoTrial FileReads LastDenials LogOpens c rules log f
 
 -- ---- an audit
 

@@ -9,13 +9,24 @@ ghost use Rattle.gw_watchers.specs.files.internal.Parts.{Fits, IsNoFit, IsNoText
 use crate::files::fault::{TrialFault, WatchFault};
 use crate::files::fitting::{are_same_ports, is_same_format};
 use crate::files::numbers::number_after;
-use crate::{Beside, Marks};
+use crate::{Beside, Marks, Trial};
 use gw_configuration::{Config, ConfigFault};
 use gw_policy_text::{MAX_OCTETS, read_config};
 use gw_rule_index::Policy;
 use gw_script::OctetSink;
 use gw_system::{Host, LogFailure, Obstacle, ReadFailure, open_at_line};
 use std::alloc::Global;
+
+/// What is named for a trial.
+#[derive(Clone, Copy)]
+pub struct TrialNames<'a> {
+    /// The file of the rules on trial.
+    pub rules: &'a str,
+    /// That of its log.
+    pub log: &'a str,
+    /// Whether the log has each ask that they deny.
+    pub has_all_denied: bool,
+}
 
 /// A log that is open, and the number from which it goes on.
 #[derive(Drop)]
@@ -98,7 +109,8 @@ fn beside<C, S: OctetSink>(choice: C, opened: Opened<S>) -> Beside<C, S>
     }
 }
 
-/// Puts the rules of the file `rules` on trial beside a configuration, with the log of the name `log`.
+/// Puts the rules of the file `rules` on trial beside a configuration, with the log of the name `log`: of each ask that they deny,
+/// but by quiet rules, if all denied are wanted, and else of each that they decide otherwise than the rules in force.
 ///
 /// # Errors
 ///
@@ -107,14 +119,14 @@ fn beside<C, S: OctetSink>(choice: C, opened: Opened<S>) -> Beside<C, S>
 pub fn open_trial<H: Host>(
     alloc: Global,
     config: &Config,
-    rules: &str,
-    log: &str,
+    names: TrialNames<'_>,
     host: &H,
-) -> Result<Beside<Policy, H::Log>, WatchFault>
+) -> Result<Beside<Trial, H::Log>, WatchFault>
     ensures { let LogOpens = OpensAtLine (H.LogOpens host.now) (H.LogIsCut host.now) H.Log.held in
-        IsTrialBy (H.FileReads host.now) (H.LastDenials host.now) LogOpens config.now rules.now log.now result }
+        IsTrialBy (H.FileReads host.now) (H.LastDenials host.now) LogOpens config.now names.rules.now names.log.now
+        names.has_all_denied result }
 {
-    let trial = match read_trial(alloc, rules, host) {
+    let trial = match read_trial(alloc, names.rules, host) {
         Ok(trial) => trial,
         Err(fault) => return Err(fault),
     };
@@ -125,8 +137,14 @@ pub fn open_trial<H: Host>(
     let Ok(policy) = Policy::new(alloc, trial.into_rules()) else {
         return Err(WatchFault::Memory);
     };
-    match open_after(alloc, log, host) {
-        Ok(opened) => Ok(beside(policy, opened)),
+    match open_after(alloc, names.log, host) {
+        Ok(opened) => {
+            let trial = Trial {
+                policy,
+                has_all_denied: names.has_all_denied,
+            };
+            Ok(beside(trial, opened))
+        }
         Err(LogFailure::Failed) => Err(WatchFault::Trial(TrialFault::Log)),
         Err(LogFailure::Memory) => Err(WatchFault::Memory),
     }

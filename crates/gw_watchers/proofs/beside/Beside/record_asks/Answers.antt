@@ -1,35 +1,33 @@
 use Rattle.std.proofs.Common.{◌≡◌, ◌++◌, ◌∙◌, ℕ, List, Bool, true, ap, subst, arith}
 use Rattle.gw_rules.specs.declared.rule.Rule.{Rule}
 use Rattle.gw_watchers.specs.Beside.{IsPut, ended, start}
-use Rattle.gw_watchers.specs.Records.{lines_behind, records}
+use Rattle.gw_watchers.specs.Records.{lines_of, records}
 use Rattle.gw_watchers.proofs.RecordLemmas.{ended_records, no_records}
 use Rattle.gw_watchers.proofs.beside.Beside.record_asks.Goals as goal
 
 pub returns-then-put-eq0 : goal.returns-then-put-eq0
 returns-then-put-eq0 g c =
     let b = c.args.self.now in
-    let front = g.C.Choice.front in
-    let records_by = λ (rules : List Rule) (ticks : ℕ). records (g.C.Choice.chosen b.choice) (g.C.Choice.naming b.choice rules) b.number ticks c.args.asked.now in
-    let put = subst (λ (rules : List Rule). IsPut front (records_by rules c.args.gateway.now.ticks) (start b.number)
+    let records_by = λ (rules : List Rule) (ticks : ℕ). records (g.C.Choice.chosen b.choice) (g.C.Choice.front b.choice rules) (g.C.Choice.naming b.choice rules) b.number ticks c.args.asked.now in
+    let put = subst (λ (rules : List Rule). IsPut (records_by rules c.args.gateway.now.ticks) (start b.number)
     c.begin_text-is_begun.new.text.items c.put_all-put.new.text.items c.put_all-put.result) c.rules.ensures
-    (subst (λ (ticks : ℕ). IsPut front (records_by c.rules.result.now ticks) (start b.number)
+    (subst (λ (ticks : ℕ). IsPut (records_by c.rules.result.now ticks) (start b.number)
     c.begin_text-is_begun.new.text.items c.put_all-put.new.text.items c.put_all-put.result) c.counts.ensures.ticks c.put_all-put.ensures) in
-    no_records g.S.OctetSink.held front (records_by c.args.gateway.now.rules c.args.gateway.now.ticks) c.put_all-put.result.count b (omega (arith, put.count))
+    no_records g.S.OctetSink.held (records_by c.args.gateway.now.rules c.args.gateway.now.ticks) c.put_all-put.result.count b (omega (arith, put.count))
     (omega (arith, c.if-put-eq0.true))
 
 pub returns : goal.returns
 returns g c =
     let b = c.args.self.now in
-    let front = g.C.Choice.front in
-    let records_by = λ (rules : List Rule) (ticks : ℕ). records (g.C.Choice.chosen b.choice) (g.C.Choice.naming b.choice rules) b.number ticks c.args.asked.now in
+    let records_by = λ (rules : List Rule) (ticks : ℕ). records (g.C.Choice.chosen b.choice) (g.C.Choice.front b.choice rules) (g.C.Choice.naming b.choice rules) b.number ticks c.args.asked.now in
     let due = records_by c.args.gateway.now.rules c.args.gateway.now.ticks in
-    let put = subst (λ (rules : List Rule). IsPut front (records_by rules c.args.gateway.now.ticks) (start b.number)
+    let put = subst (λ (rules : List Rule). IsPut (records_by rules c.args.gateway.now.ticks) (start b.number)
     c.begin_text-is_begun.new.text.items c.put_all-put.new.text.items c.put_all-put.result) c.rules.ensures
-    (subst (λ (ticks : ℕ). IsPut front (records_by c.rules.result.now ticks) (start b.number)
+    (subst (λ (ticks : ℕ). IsPut (records_by c.rules.result.now ticks) (start b.number)
     c.begin_text-is_begun.new.text.items c.put_all-put.new.text.items c.put_all-put.result) c.counts.ensures.ticks c.put_all-put.ensures) in
-    ended_records g.S.OctetSink.held front due c.put_all-put.result.last c.put_all-put.result.count b c.end_lines.new.self put.last (omega (arith, put.count))
+    ended_records g.S.OctetSink.held due c.put_all-put.result.last c.put_all-put.result.count b c.end_lines.new.self put.last (omega (arith, put.count))
     (omega (arith, c.if-put-eq0.false))
-    (c.end_lines.ensures (ended b.is_cut ++ lines_behind front due) (λ begun whole.
+    (c.end_lines.ensures (ended b.is_cut ++ lines_of due) (λ begun whole.
     c.deref.ensures.value ∙ (put.whole whole).1
-    ∙ ap (λ (t : List ℕ). t ++ lines_behind front due)
+    ∙ ap (λ (t : List ℕ). t ++ lines_of due)
     (c.begin_text-is_begun.ensures begun ∙ ap (λ (t : List ℕ). t ++ ended b.is_cut) c.clear.ensures.items)))

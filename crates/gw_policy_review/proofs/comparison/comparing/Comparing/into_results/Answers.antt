@@ -10,6 +10,7 @@ use Rattle.gw_rules.specs.declared.rule.Rule.{Rule}
 use Rattle.gw_policy_review.specs.comparison.Asks.{asks_of}
 use Rattle.gw_policy_review.specs.comparison.Comparing.{IsUnderWay, Progress}
 use Rattle.gw_policy_review.specs.comparison.Comparison.{AreResults, IsLeftAfter}
+use Rattle.gw_policy_review.specs.comparison.Operations.{OperationsAreMeant}
 use Rattle.gw_policy_review.specs.comparison.PairLines.{known_of}
 use Rattle.gw_policy_review.proofs.comparison.comparing.Comparing.into_results.Goals as goal
 
@@ -45,6 +46,7 @@ returns-clause-results c =
       summary = subst (λ (xs : List Region). IsComparison xs old new was.found.items was.left.items → IsSummary xs old new found left) same_asks
           (is.summary old new) under.is_right;
       or_none = λ lines. subst (λ (xs : List Region). OrNoneIsMeant xs found) same_asks (is.or_none (c.have_lines.ensures ∙ lines));
+      operations = λ lines. subst (λ (xs : List Region). OperationsAreMeant xs found) same_asks (is.operations (c.have_lines.ensures ∙ lines));
       in_order = λ lines. is.in_order (c.have_lines.ensures ∙ lines);
       asked = c.in_ok-pairs.ensures.asked ∙ ap (λ (n : ℕ). not (n == 0)) (count ∙ ap (λ (xs : List Region). length xs) (sym is.left));
       are_pairs = subst (λ (xs : List Region). IfSome known (λ k. AreSought xs old new k)) same_shapes
