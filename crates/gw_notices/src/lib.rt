@@ -23,4 +23,4 @@ pub use reload::{ReloadCounts, ReloadFault};
 pub use startup::{startup_line, warning_of};
 pub use stats::{report_lost_metrics, report_put_off, report_reloads, report_unkept};
 pub use troubles::Troubles;
-pub use watch_report::{LogCount, WatchCounts, report_watched};
+pub use watch_report::{LogCount, WatchCounts, report_counts, report_watched};

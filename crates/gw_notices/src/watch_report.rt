@@ -3,7 +3,7 @@
 ghost use Rattle.std.specs.Prelude.{◌≡◌, ◌++◌, ◌+◌, codes, decimal, length, IsOk, OnOk};
 ghost use Rattle.std.specs.Io.KnownBytes.{Appends};
 ghost use Rattle.gw_script.specs.Order.{in_order};
-ghost use Rattle.gw_notices.specs.Watch.{asks_text, audit_text, beside_text, counts_text, logs_text, trial_text, unseen_text, watch_text};
+ghost use Rattle.gw_notices.specs.Watch.{audit_text, beside_text, counts_text, logs_text, trial_text, unseen_text, watch_text};
 ghost use Rattle.gw_decisions.specs.tally.Tally.{line_in, rule_line};
 
 use crate::stats::write_count;
@@ -150,7 +150,7 @@ fn report_default<E: OctetSink>(count: u64, errors: &mut E)
 }
 
 /// Reports how many asks each rule decided, and how many none did, if they are counts of these rules. They always are.
-fn report_counts<E: OctetSink>(rules: &RuleList, counts: &Option<Tally>, errors: &mut E)
+pub fn report_counts<E: OctetSink>(rules: &RuleList, counts: &Option<Tally>, errors: &mut E)
     ensures said { E.NeverFails errors.old →
         Appends (E.held errors.old) (E.held errors.new) (counts_text rules.now counts.now) }
     ensures lasts { E.NeverFails errors.old → E.NeverFails errors.new }
@@ -173,27 +173,11 @@ fn report_logs<E: OctetSink>(watched: WatchCounts, errors: &mut E)
     report_audit(watched.audit, errors);
 }
 
-/// Reports how many events weren't watched, and how many asks each of these rules decided.
-fn report_asks<E: OctetSink>(rules: &RuleList, unseen: u64, counts: &Option<Tally>, errors: &mut E)
-    ensures said { E.NeverFails errors.old →
-        Appends (E.held errors.old) (E.held errors.new) (asks_text rules.now unseen counts.now) }
-    ensures lasts { E.NeverFails errors.old → E.NeverFails errors.new }
-{
-    report_unseen(unseen, errors);
-    report_counts(rules, counts, errors);
-}
-
-/// Reports what watches a gateway recorded and lost, and how many asks each of these rules decided.
-pub fn report_watched<E: OctetSink>(
-    rules: &RuleList,
-    watched: WatchCounts,
-    counts: &Option<Tally>,
-    errors: &mut E,
-)
-    ensures said { E.NeverFails errors.old →
-        Appends (E.held errors.old) (E.held errors.new) (watch_text rules.now watched counts.now) }
+/// Reports what watches a gateway recorded and lost, and how many events it didn't watch.
+pub fn report_watched<E: OctetSink>(watched: WatchCounts, errors: &mut E)
+    ensures said { E.NeverFails errors.old → Appends (E.held errors.old) (E.held errors.new) (watch_text watched) }
     ensures lasts { E.NeverFails errors.old → E.NeverFails errors.new }
 {
     report_logs(watched, errors);
-    report_asks(rules, watched.unseen, counts, errors);
+    report_unseen(watched.unseen, errors);
 }

@@ -173,8 +173,8 @@ given held said log_held before = record {
 }
 
 -- what keeps the state of a gateway, by a store, reports no more of itself
-abbrev pub no_more : {S : Type 0} → Kept S → State → List ℕ
-no_more k w = []
+abbrev pub no_more : {S : Type 0} → Kept S → (rules : Bool) → State → List ℕ
+no_more k rules w = []
 
 -- what keeps the state of a gateway, by a store
 abbrev pub manner_of : {S : Type 0} → (S → Option (List ℕ)) → Reporting → Manner (Kept S)
@@ -237,11 +237,11 @@ first_stage given c w keeper troubles ends =
     stage c (moment (scene w ends.log ends.calls) keeper zero_counts no_tally) (recorded_by given.said given.requests) (counts_since w.ticks)
     first_announcing troubles (metered (option_map nothing_written given.metrics))
 
--- What is reported of such a run, of which a gateway in this state begins: how often its state couldn't be kept, if it is or
--- requests are looked for, and how often its configuration was read again, if they are.
+-- What is reported of such a run, of which a gateway in this state begins: whether each report counts the asks of each rule; how
+-- often its state couldn't be kept, if it is or requests are looked for; and how often its configuration was read again, if they are.
 abbrev pub reporting_of : {S Q L : Type 0} → Given S Q L → Service → State → Reporting
 reporting_of given how w =
-    reporting how.stats (counts_of w) (is_some given.requests || is_some given.store) (is_some given.requests)
+    reporting how.stats how.rules (counts_of w) (is_some given.requests || is_some given.store) (is_some given.requests)
 
 -- what is left of a run: what kept its state, and what was asked and answered
 pub record Rest (K : Type 0) : Type 0 where
@@ -423,7 +423,7 @@ abbrev pub LeavesChosen : {Log Sockets S Q : Type 0} → WholeMachine Log Socket
 LeavesChosen whole options held holds c said outcome =
     let name = option_map string_bytes options.log in
     let line = startup_line options.verbose c name in
-    LeavesWithState whole.machine whole.states (names_of options) held holds c (service options.turns options.stats) options.verbose line said outcome
+    LeavesWithState whole.machine whole.states (names_of options) held holds c (service options.turns options.stats options.stats_rules) options.verbose line said outcome
     × (is_plain options ≡ true → c.announce ≡ false → LeavesServed whole.machine name held holds c options.turns options.verbose line said outcome)
 
 -- what is written if opening the log may wait for its reader

@@ -1,6 +1,6 @@
 //! What keeps the state of a gateway from stretch to stretch, or doesn't.
 
-ghost use Rattle.std.specs.Prelude.{◌≡◌, [], ℕ, List, None, Option, false};
+ghost use Rattle.std.specs.Prelude.{◌≡◌, [], ℕ, Bool, List, None, Option, false};
 ghost use Rattle.std.specs.Io.KnownBytes.{Appends};
 ghost use Rattle.gw_configuration.specs.Configuration.{Configuration};
 ghost use Rattle.gw_core.specs.State.{State};
@@ -38,8 +38,8 @@ pub trait StateKeeper: Guard {
     /// How many tries failed so far.
     ghost unkept: { Self → ℕ };
 
-    /// What it reports of itself beside that, by the state of the gateway.
-    ghost more: { Self → State → List ℕ };
+    /// What it reports of itself beside that, with how many asks each rule decided or without, by the state of the gateway.
+    ghost more: { Self → (rules : Bool) → State → List ℕ };
 
     /// How the state is kept, if it is.
     ghost tries: { Self → Option StateTries };
@@ -82,10 +82,10 @@ pub trait StateKeeper: Guard {
     fn losses(&self) -> Losses
         ensures { result ≡ losses self.now };
 
-    /// Reports more of itself.
-    fn report_more<E: OctetSink>(&self, gateway: &Gateway, errors: &mut E)
+    /// Reports more of itself, and how many asks each rule decided if that is asked for.
+    fn report_more<E: OctetSink>(&self, rules: bool, gateway: &Gateway, errors: &mut E)
         ensures said { E.NeverFails errors.old →
-            Appends (E.held errors.old) (E.held errors.new) (more self.now gateway.now) }
+            Appends (E.held errors.old) (E.held errors.new) (more self.now rules gateway.now) }
         ensures lasts { E.NeverFails errors.old → E.NeverFails errors.new };
 }
 
@@ -132,7 +132,7 @@ impl<S: Store + Drop> StateKeeper for Kept<S> {
 
     ghost unkept = { unkept_in };
 
-    ghost more = { λ _ _. [] };
+    ghost more = { λ _ _ _. [] };
 
     ghost tries = { tries_in };
 
@@ -187,7 +187,7 @@ impl<S: Store + Drop> StateKeeper for Kept<S> {
         }
     }
 
-    fn report_more<E: OctetSink>(&self, _gateway: &Gateway, _errors: &mut E) {}
+    fn report_more<E: OctetSink>(&self, _rules: bool, _gateway: &Gateway, _errors: &mut E) {}
 }
 
 impl<S: Store + Drop> Kept<S> {

@@ -1,10 +1,10 @@
 //! Reports of a run, each so many seconds and at its end.
 
 ghost use Rattle.std.proofs.Props.{props};
-ghost use Rattle.std.specs.Prelude.{◌≡◌, ◌-◌, ◌%◌, ◌==◌, ◌<◌, ◌≤◌, IfSome, IsTrue, if◌then◌else◌, [], List, ℕ, true};
+ghost use Rattle.std.specs.Prelude.{◌≡◌, ◌-◌, ◌/◌, ◌%◌, ◌==◌, ◌||◌, ◌<◌, ◌≤◌, IfSome, IsTrue, if◌then◌else◌, [], List, ℕ, true};
 ghost use Rattle.std.specs.Io.KnownBytes.{Appends};
 ghost use Rattle.gw_service.specs.Metrics.{measures_of};
-ghost use Rattle.gw_service.specs.Stats.{due_stats, end_stats, is_due, reporting, stats_text, tries_text};
+ghost use Rattle.gw_service.specs.Stats.{due_stats, end_stats, ends_hour, is_due, reporting, stats_text, tries_text, with_rules};
 
 use crate::keeping::StateKeeper;
 use crate::metrics::Measures;
@@ -27,13 +27,16 @@ pub(crate) struct RunCounts {
 }
 
 /// When a report is due: the counts of the gateway at first, and the seconds from one to the next, if reports are asked for;
-/// and whether it says how often the state couldn't be kept, and how often the configuration was read again.
+/// and whether it says how many asks each rule decided, how often the state couldn't be kept, and how often the configuration
+/// was read again.
 #[derive(Clone, Copy)]
 pub struct Schedule {
     /// The counts of the gateway at first.
     pub start: Counts,
     /// How many seconds lie between two reports.
     pub seconds: Option<u64>,
+    /// Whether each report says how many asks each rule decided.
+    pub rules: bool,
     /// Whether the state is kept, or the configuration read again if that is asked for.
     pub keeps: bool,
     /// Whether the configuration is read again if that is asked for.
@@ -49,10 +52,35 @@ fn is_due(start: Counts, gateway: &Gateway, seconds: u64) -> bool
     gateway.counts().ticks.saturating_sub(start.ticks) % seconds == 0
 }
 
+/// How many seconds an hour has.
+const HOUR: u64 = 3600;
+
+/// Whether an hour since the gateway began ended in the last so many seconds.
+fn ends_hour(start: Counts, gateway: &Gateway, seconds: u64) -> bool
+    ensures { result ≡ ends_hour start gateway.now seconds }
+{
+    let elapsed = gateway.counts().ticks.saturating_sub(start.ticks);
+    elapsed / HOUR != elapsed.saturating_sub(seconds) / HOUR
+}
+
 impl Schedule {
+    /// The same schedule, where each report says how many asks each rule decided, or doesn't.
+    fn with_rules(&self, rules: bool) -> Schedule
+        ensures { reporting result.seconds result.rules result.start result.keeps result.reloads
+            ≡ with_rules (reporting self.now.seconds self.now.rules self.now.start self.now.keeps self.now.reloads) rules }
+    {
+        Schedule {
+            start: self.start,
+            seconds: self.seconds,
+            rules,
+            keeps: self.keeps,
+            reloads: self.reloads,
+        }
+    }
+
     /// Reports how often the state couldn't be kept, if it is, how often the configuration was read again, if it is, how many
     /// texts of metrics were lost, if they are put, what was announced, if anything was, how often an announcement was put off,
-    /// if one was, and what else the keeper reports.
+    /// if one was, and what else the keeper reports, with the rules if the schedule says so.
     fn report_tries<K: StateKeeper, E: OctetSink>(
         &self,
         gateway: &Gateway,
@@ -60,7 +88,7 @@ impl Schedule {
         counts: RunCounts,
         errors: &mut E,
     )
-        ensures said { let how = reporting self.now.seconds self.now.start self.now.keeps self.now.reloads in
+        ensures said { let how = reporting self.now.seconds self.now.rules self.now.start self.now.keeps self.now.reloads in
             E.NeverFails errors.old → Appends (E.held errors.old) (E.held errors.new)
             (tries_text K.unkept K.more how keeper.now counts.reloads counts.announcing counts.lost_metrics gateway.now) }
         ensures lasts { E.NeverFails errors.old → E.NeverFails errors.new }
@@ -70,7 +98,7 @@ impl Schedule {
         report_lost_metrics(counts.lost_metrics, errors);
         report_announcing(counts.announcing, errors);
         report_put_off(counts.announcing.put_off, errors);
-        keeper.report_more(gateway, errors);
+        keeper.report_more(self.rules, gateway, errors);
     }
 
     /// Reports what was done since a gateway began.
@@ -82,7 +110,7 @@ impl Schedule {
         counts: RunCounts,
         errors: &mut E,
     )
-        ensures said { let how = reporting self.now.seconds self.now.start self.now.keeps self.now.reloads in
+        ensures said { let how = reporting self.now.seconds self.now.rules self.now.start self.now.keeps self.now.reloads in
             E.NeverFails errors.old → Appends (E.held errors.old) (E.held errors.new)
             (stats_text how gateway.now state.now.served state.now.tally
             (tries_text K.unkept K.more how keeper.now counts.reloads counts.announcing counts.lost_metrics gateway.now)) }
@@ -120,7 +148,8 @@ impl Schedule {
         }
     }
 
-    /// Writes a report at a tick, if one is due.
+    /// Writes a report at a tick, if one is due. It says how many asks each rule decided if all do, or if an hour ended since the
+    /// one before.
     pub(crate) fn report_due<K: StateKeeper, E: OctetSink>(
         &self,
         gateway: &Gateway,
@@ -129,19 +158,21 @@ impl Schedule {
         counts: RunCounts,
         errors: &mut E,
     )
-        ensures said { let how = reporting self.now.seconds self.now.start self.now.keeps self.now.reloads in
+        ensures said { let how = reporting self.now.seconds self.now.rules self.now.start self.now.keeps self.now.reloads in
             E.NeverFails errors.old → Appends (E.held errors.old) (E.held errors.new)
             (due_stats K.unkept K.more how keeper.now counts.reloads counts.announcing counts.lost_metrics gateway.now state.now.served state.now.tally) }
         ensures lasts { E.NeverFails errors.old → E.NeverFails errors.new }
     {
         if let Some(seconds) = self.seconds {
             if is_due(self.start, gateway, seconds) {
-                self.report_stats(gateway, state, keeper, counts, errors);
+                let rules = self.rules || ends_hour(self.start, gateway, seconds);
+                let schedule = self.with_rules(rules);
+                schedule.report_stats(gateway, state, keeper, counts, errors);
             }
         }
     }
 
-    /// Writes a report at the end, if reports are asked for.
+    /// Writes a report at the end, if reports are asked for. It says how many asks each rule decided.
     pub(crate) fn report_last<K: StateKeeper, E: OctetSink>(
         &self,
         gateway: &Gateway,
@@ -150,13 +181,14 @@ impl Schedule {
         counts: RunCounts,
         errors: &mut E,
     )
-        ensures said { let how = reporting self.now.seconds self.now.start self.now.keeps self.now.reloads in
+        ensures said { let how = reporting self.now.seconds self.now.rules self.now.start self.now.keeps self.now.reloads in
             E.NeverFails errors.old → Appends (E.held errors.old) (E.held errors.new)
             (end_stats K.unkept K.more how keeper.now counts.reloads counts.announcing counts.lost_metrics gateway.now state.now.served state.now.tally) }
         ensures lasts { E.NeverFails errors.old → E.NeverFails errors.new }
     {
         if self.seconds.is_some() {
-            self.report_stats(gateway, state, keeper, counts, errors);
+            let schedule = self.with_rules(true);
+            schedule.report_stats(gateway, state, keeper, counts, errors);
         }
     }
 }

@@ -9,7 +9,7 @@ use crate::successor::Successor;
 use gw_core::{Both, Gateway};
 use gw_decisions::tally::Tally;
 use gw_metrics::StateTries;
-use gw_notices::{LogCount, Losses, Troubles, WatchCounts, report_watched};
+use gw_notices::{LogCount, Losses, Troubles, WatchCounts, report_counts, report_watched};
 use gw_script::OctetSink;
 use gw_watchers::{Beside, Watcher};
 use gw_wire::Store;
@@ -138,12 +138,10 @@ impl<S: Store + Drop, T: OctetSink + Drop, A: OctetSink + Drop> StateKeeper
         }
     }
 
-    fn report_more<E: OctetSink>(&self, gateway: &Gateway, errors: &mut E) {
-        report_watched(
-            gateway.rules(),
-            counted_of(&self.first),
-            self.first.counts(),
-            errors,
-        );
+    fn report_more<E: OctetSink>(&self, rules: bool, gateway: &Gateway, errors: &mut E) {
+        report_watched(counted_of(&self.first), errors);
+        if rules {
+            report_counts(gateway.rules(), self.first.counts(), errors);
+        }
     }
 }
