@@ -200,12 +200,13 @@ fn request_of(alloc: Global, text: &[u8]) -> Result<Request, AllocError> {
 type Closed = (MemSockets, Option<MemLog<MemWriter>>);
 
 /// A machine in memory: its log takes so many octets, or can't be opened, one sync of it may fail, and it may end in a line that
-/// was cut; the broadcast socket of one port may fail; and it may route IP. It keeps what was closed.
+/// was cut; the broadcast socket of one port may fail; and it may route IP. It keeps which logs were opened, and what was closed.
 #[derive(Drop)]
 struct MemHost<'a> {
     alloc: Global,
     metrics: &'a RefCell<Vec<u8>>,
     state_text: &'a RefCell<Vec<u8>>,
+    opened: &'a RefCell<Vec<u8>>,
     log: Option<usize>,
     failing_sync: Option<u64>,
     beside: Option<usize>,
@@ -219,6 +220,14 @@ struct MemHost<'a> {
     unkept: Option<StoreFault>,
     reload: Option<Vec<u8>>,
     closed: Option<Closed>,
+}
+
+/// Adds the name of a log that is opened, on a line of its own.
+fn note_opened(opened: &RefCell<Vec<u8>>, name: &str) -> Result<(), AllocError> {
+    if let Ok(mut names) = opened.try_borrow_mut() {
+        put(&mut names, &[name, "\n"])?;
+    }
+    Ok(())
 }
 
 impl<'a> Host for MemHost<'a> {
@@ -265,6 +274,7 @@ impl<'a> Host for MemHost<'a> {
         match room {
             Some(room) => {
                 let text = MemWriter::with_room(self.alloc, room, true)?;
+                note_opened(self.opened, name)?;
                 Ok(MemLog::new(text, self.failing_sync))
             }
             None => Err(LogFailure::Failed),
@@ -541,12 +551,19 @@ fn reload_of(
     text_if(alloc, section.has("reload unreadable"), "")
 }
 
-/// What one run leaves: its exit status and both streams, what the machine closed, and the text of the metrics.
+/// What one run leaves: its exit status and both streams, which logs the machine opened and what it closed, and the text of the
+/// metrics.
 #[derive(Drop)]
 struct Served {
     left: Left,
+    opened: Vec<u8>,
     closed: Option<Closed>,
     metrics: Vec<u8>,
+}
+
+/// The text that such a cell holds, which is empty from then on.
+fn taken_from(alloc: Global, text: &RefCell<Vec<u8>>) -> Vec<u8> {
+    text.try_replace(Vec::new(alloc)).unwrap_or(Vec::new(alloc))
 }
 
 /// Runs the program of a section, whose output has room for so many octets.
@@ -559,10 +576,12 @@ fn run_with(
     let words = section.call(alloc, "bacgw")?;
     let metrics = RefCell::new(Vec::new(alloc));
     let state_text = RefCell::new(Vec::new(alloc));
+    let opened = RefCell::new(Vec::new(alloc));
     let mut host = MemHost {
         alloc,
         metrics: &metrics,
         state_text: &state_text,
+        opened: &opened,
         log: section.number("log "),
         failing_sync: section.number("failing sync ").map(|number| number as u64),
         beside: section.number("beside "),
@@ -601,9 +620,8 @@ fn run_with(
             errors,
         },
         closed: host.closed,
-        metrics: metrics
-            .try_replace(Vec::new(alloc))
-            .unwrap_or(Vec::new(alloc)),
+        opened: taken_from(alloc, &opened),
+        metrics: taken_from(alloc, &metrics),
     })
 }
 
@@ -627,13 +645,16 @@ impl Program for Bacgw {
     }
 }
 
-/// What the run of a section leaves: its exit status, each line of its streams, of its metrics and of its log, and what
-/// the machine closed.
+/// What the run of a section leaves: its exit status, each line of its streams, of its metrics and of its log, which logs the
+/// machine opened, if that is shown, and what it closed.
 pub fn machine(alloc: Global, config: &str, text: &str, out: &mut Vec<u8>) -> io::Result<()> {
     let section = Section::of(text);
     let served = run_with(alloc, config, &section, section.room())?;
     put_left(&served.left, out)?;
     put_lines("metrics ", &served.metrics, out)?;
+    if section.has("opened") {
+        put_lines("opened ", &served.opened, out)?;
+    }
     match &served.closed {
         Some(closed) => Ok(put_closed(closed, section.has("syncs"), out)?),
         None => Ok(()),

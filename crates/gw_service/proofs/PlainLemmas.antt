@@ -282,8 +282,8 @@ serves_plain : {Log Sockets S Q : Type 0} (m : Machine Log Sockets) (states : St
     (c : Configuration) (how : Service) (is_verbose : Bool) (line said : List ℕ) (outcome : Result (Unit {0}) ServiceFault) → AreNone names
     → how.stats ≡ None → c.announce ≡ false → LeavesWithState m states names held holds c how is_verbose line said outcome
     → LeavesServed m names.log held holds c how.turns is_verbose line said outcome
-serves_plain m states names held holds c how is_verbose line said outcome none unreported quiet (unprepared f why is stays unsaid) =
-    shut (opening.Log log_failure.Memory) (inl (refl, stays)) (is ∙ ap Err (unprepared_memory states m.LogOpens names c f none why))
+serves_plain m states names held holds c how is_verbose line said outcome none unreported quiet (unprepared f sockets opens why is stays unsaid) =
+    shut (opening.Log log_failure.Memory) (sockets, opens, inl (refl, stays)) (is ∙ ap Err (unprepared_memory states m.LogOpens names c f none why))
     (no_note is_verbose said unsaid)
 serves_plain m states names held holds c how is_verbose line said outcome none unreported quiet (unopened failure opens is note) =
     shut failure opens is note

@@ -24,8 +24,8 @@ kept_closes : {Log Sockets S Q : Type 0} (m : Machine Log Sockets) (states : Sta
     (c : Configuration) (how : Service) (is_verbose : Bool) (line said : List ℕ) (outcome : Result (Unit {0}) ServiceFault)
     → LeavesWithState m states names held holds c how is_verbose line said outcome
     → LeavesWithState (record m { Closes = Closes }) states names held holds c how is_verbose line said outcome
-kept_closes m states Closes so names held holds c how is_verbose line said outcome (unprepared f why is stays none) =
-    unprepared f why is stays none
+kept_closes m states Closes so names held holds c how is_verbose line said outcome (unprepared f sockets opens why is stays none) =
+    unprepared f sockets opens why is stays none
 kept_closes m states Closes so names held holds c how is_verbose line said outcome (unopened failure opens is note) =
     unopened failure opens is note
 kept_closes m states Closes so names held holds c how is_verbose line said outcome

@@ -365,7 +365,7 @@ names_of options = record {
   watch = watch_names options;
 }
 
--- what was read and made before the log and the sockets were opened
+-- what was read and made before the log was opened
 pub record IsPrepared {S Q Log : Type 0} (machine : StateMachine S Q) (LogOpens : LogOpening Log) (names : Names) (c : Configuration)
     (is_verbose : Bool) (before : Before S Q Log) : Type 0 where
   pub saved : IsStateUnder machine.FileReads names.state (Ok before.saved)
@@ -384,13 +384,14 @@ IsUnprepared machine LogOpens names c f =
     ⊎ ((IsStoreUnder machine.StoreOpens names.state (Err f) ⊎ IsMetricsUnder machine.StoreOpens names.metrics (Err f))
     ⊎ (IsUnwatched machine.FileReads machine.LastDenials LogOpens c names.watch f ⊎ (f ≡ fault.Memory))))
 
--- What a run leaves under a configuration: its state or its log's last denial can't be had, and nothing is opened; not all can
+-- What a run leaves under a configuration: the sockets are open, but its state or its log's last denial can't be had; not all can
 -- be opened, and why may be written; or all was opened, this line, a warning of the machine and what is due of the state were
 -- written, and then it ran and was closed.
 pub data LeavesWithState {Log Sockets S Q : Type 0} (machine : Machine Log Sockets) (states : StateMachine S Q) (names : Names)
     (held holds : Option (List ℕ)) (c : Configuration) (how : Service) (is_verbose : Bool) (line said : List ℕ)
     (outcome : Result (Unit {0}) ServiceFault) : Type 0 where
-  unprepared : (f : ServiceFault) → IsUnprepared states machine.LogOpens names c f → outcome ≡ Err f → holds ≡ held → said ≡ [] →
+  unprepared : (f : ServiceFault) (sockets : Sockets) → machine.SocketsOpen c.ports (Ok sockets) →
+      IsUnprepared states machine.LogOpens names c f → outcome ≡ Err f → holds ≡ held → said ≡ [] →
       LeavesWithState machine states names held holds c how is_verbose line said outcome
   unopened : (failure : OpenFailure) → ArentOpen machine.LogOpens (machine.SocketsOpen c.ports) names.log held holds failure →
       outcome ≡ Err (fault_of_opening failure) → IsNote is_verbose failure said →

@@ -140,14 +140,13 @@ pub record AreOpen {Log Sockets : Type 0} (LogOpens : LogOpening Log)
   pub log_is : LogIsOpen LogOpens name held holds log
   pub sockets_are : SocketsOpen (Ok sockets)
 
--- Why they aren't: memory ran out before either, or the log can't be opened; or the sockets can't,
--- when the log is open.
+-- Why they aren't: the sockets can't be opened, and then the log isn't touched; or they are open, and then memory ran out, or the
+-- log can't be opened.
 abbrev pub ArentOpen : {Log Sockets : Type 0} → LogOpening Log → (Result Sockets SocketFailure → Type 0)
     → (name held holds : Option (List ℕ)) → OpenFailure → Type 0
 ArentOpen LogOpens SocketsOpen name held holds (opening.Log f) =
-    ((f ≡ log_failure.Memory) × (holds ≡ held)) ⊎ LogIsShut LogOpens name held holds f
-ArentOpen LogOpens SocketsOpen name held holds (opening.Sockets failure) =
-    (log : Option _) × LogIsOpen LogOpens name held holds log × SocketsOpen (Err failure)
+    (sockets : _) × SocketsOpen (Ok sockets) × (((f ≡ log_failure.Memory) × (holds ≡ held)) ⊎ LogIsShut LogOpens name held holds f)
+ArentOpen LogOpens SocketsOpen name held holds (opening.Sockets failure) = SocketsOpen (Err failure) × (holds ≡ held)
 
 -- What a run of `serve` leaves under a configuration: not all can be opened, and why may be written; or all was opened, this
 -- line was written and a warning of the machine, and then it was served from the gateway's first state, and closed.
