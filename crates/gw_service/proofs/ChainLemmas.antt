@@ -25,8 +25,8 @@ use Rattle.gw_turns.specs.declared.tally.Tally.{Tally}
 use Rattle.gw_system.proofs.RequestLemmas.{goes_two}
 use Rattle.gw_system.specs.Requests.{Asking, GoesOn, answered, asked}
 use Rattle.gw_system.specs.declared.reading.ReadFailure.{ReadFailure}
-use Rattle.gw_service.specs.Chain.{Advances, AdvancesBy, AreLinks, Edge, IsLink, IsLooked, IsNotedBy, IsTicked, Link, Look, Looks, Manner, Runs, RunsUnsynced, Stage, chain_text, end_of, is_stopping, link_text, look_text}
-use Rattle.gw_service.specs.Chain.{ended, passed_over, refused, served, standing, stopping, taken_over, ticked, unrequested}
+use Rattle.gw_service.specs.Chain.{Advances, AdvancesBy, AreLinks, Edge, IsLink, IsLooked, IsNotedBy, IsNotedWith, IsTicked, Link, Look, Looks, Manner, Runs, RunsUnsynced, Stage, chain_text, end_of, is_stopping, link_text, look_text}
+use Rattle.gw_service.specs.Chain.{ended, inquired, passed_over, refused, served, standing, stopping, taken_over, ticked, unrequested}
 use Rattle.gw_service.specs.declared.running.End.{End}
 use Rattle.gw_service.specs.declared.running.End.TheVariants as end
 use Rattle.gw_service.specs.Keeping.{IsSuccessor}
@@ -155,19 +155,21 @@ pub same_text : {K : Type 0} (c : Configuration) (w : State) (k l : K) (q : Aski
 same_text c w k l q counts a unrequested = refl
 same_text c w k l q counts a passed_over = refl
 same_text c w k l q counts a stopping = refl
+same_text c w k l q counts a (inquired answer) = refl
 same_text c w k l q counts a (refused read f line) = refl
 same_text c w k l q counts a (taken_over text new) = refl
 
 -- so is what is noted of it
 pub same_note : {K L : Type 0} (c : Configuration) (w : State) (k l : K) (q : Asking) (counts : ReloadCounts) (a : Announcing)
-    (Takes : L → List ℕ → Result (Unit {0}) WriteFailed → L → Type 0) (log log_then : L) (stops : Bool) (look : Look)
-    → IsNotedBy Takes log log_then stops look (look_text c (standing w k q counts a) look)
-    → IsNotedBy Takes log log_then stops look (look_text c (standing w l q counts a) look)
-same_note c w k l q counts a Takes log log_then stops unrequested noted = noted
-same_note c w k l q counts a Takes log log_then stops passed_over noted = noted
-same_note c w k l q counts a Takes log log_then stops stopping noted = noted
-same_note c w k l q counts a Takes log log_then stops (refused read f line) noted = noted
-same_note c w k l q counts a Takes log log_then stops (taken_over text new) noted = noted
+    (Takes : L → List ℕ → Result (Unit {0}) WriteFailed → L → Type 0) (log log_then : L) (stops : Bool) (report : List ℕ) (look : Look)
+    → IsNotedWith Takes log log_then stops report look (look_text c (standing w k q counts a) look)
+    → IsNotedWith Takes log log_then stops report look (look_text c (standing w l q counts a) look)
+same_note c w k l q counts a Takes log log_then stops report unrequested noted = noted
+same_note c w k l q counts a Takes log log_then stops report passed_over noted = noted
+same_note c w k l q counts a Takes log log_then stops report stopping noted = noted
+same_note c w k l q counts a Takes log log_then stops report (inquired answer) noted = noted
+same_note c w k l q counts a Takes log log_then stops report (refused read f line) noted = noted
+same_note c w k l q counts a Takes log log_then stops report (taken_over text new) noted = noted
 
 -- ---- how a stretch ended
 
@@ -350,6 +352,8 @@ pub advanced_by : {K : Type 0} (manner : Manner K) (s : Stage K) (turns : List T
     → AdvancesBy manner stops s text t edge
 advanced_by manner s turns unrequested text t false edge is due lasted done = (ticked turns unrequested text, done, refl, (due, lasted))
 advanced_by manner s turns passed_over text t false edge is due lasted done = (ticked turns passed_over text, done, refl, (due, lasted))
+advanced_by manner s turns (inquired answer) text t false edge is due lasted done =
+    (ticked turns (inquired answer) text, done, refl, (due, lasted))
 advanced_by manner s turns (refused read f line) text t false edge is due lasted done =
     (ticked turns (refused read f line) text, done, refl, (due, lasted))
 advanced_by manner s turns (taken_over read new) text t false edge is due lasted done =
@@ -357,6 +361,7 @@ advanced_by manner s turns (taken_over read new) text t false edge is due lasted
 advanced_by manner s turns stopping text t false edge is due lasted done = absurd cc
 advanced_by manner s turns unrequested text t true edge is due lasted done = absurd cc
 advanced_by manner s turns passed_over text t true edge is due lasted done = absurd cc
+advanced_by manner s turns (inquired answer) text t true edge is due lasted done = absurd cc
 advanced_by manner s turns (refused read f line) text t true edge is due lasted done = absurd cc
 advanced_by manner s turns (taken_over read new) text t true edge is due lasted done = absurd cc
 advanced_by manner s turns stopping text t true edge is due lasted done = (turns, done, (due, lasted))

@@ -7,6 +7,7 @@ use Rattle.gw_policy_text.specs.Document.{configuration}
 use Rattle.gw_core.specs.declared.event.Counts.{Counts}
 use Rattle.gw_state.specs.Saved.{Saved, origin_of}
 use Rattle.gw_core.specs.Guard.{PassesBoth}
+use Rattle.gw_script.specs.declared.sink.WriteFailed.{WriteFailed}
 use Rattle.gw_turns.specs.Announcing.{first_announcing}
 use Rattle.gw_turns.specs.Keeping.{IsTried, nothing_kept}
 use Rattle.gw_turns.specs.Serve.{scene, zero_counts}
@@ -36,12 +37,12 @@ use Rattle.gw_notices.specs.Startup.{IsWarning, startup_line}
 use Rattle.gw_service.specs.Metering.{MetersLast, lost_by, metered, meters_by, seconds_of}
 use Rattle.gw_service.specs.Fault.{fault_of_opening, fault_of_serving}
 use Rattle.gw_service.specs.Keeping.{IsKeptAtTick, IsKeptFor, IsKeptLast, IsPassed, failing_in, troubles_in, unkept_in}
-use Rattle.gw_notices.specs.Notices.{no_troubles, notice_of, stop_line}
+use Rattle.gw_notices.specs.Notices.{no_status_line, no_troubles, notice_of, stop_line}
 use Rattle.gw_service.specs.Watch.{IsKeptAtTickBeside, IsKeptForBeside, IsKeptLastBeside, IsUnwatched, IsWatcherUnder, WatchNames, is_watched, more_of, troubles_of, unaudited_note, watch_names}
 use Rattle.gw_service.specs.Serving.{AreOpen, ArentOpen, Ends, LeavesServed, LogStays, Machine, Service, ends, log_held, service}
 use Rattle.gw_service.specs.Start.{BeginsAs, IsStateRead, counts_of, start_text}
 use Rattle.gw_notices.specs.Reload.{counts_since}
-use Rattle.gw_service.specs.Stats.{Reporting, due_stats, end_stats, reporting}
+use Rattle.gw_service.specs.Stats.{Reporting, all_stats, due_stats, end_stats, reporting}
 use Rattle.gw_service.specs.declared.fault.ServiceFault.{ServiceFault}
 use Rattle.gw_service.specs.declared.fault.ServiceFault.TheVariants as fault
 use Rattle.gw_service.specs.declared.keeping.Kept.{Kept}
@@ -179,7 +180,7 @@ no_more k rules w = []
 -- what keeps the state of a gateway, by a store
 abbrev pub manner_of : {S : Type 0} → (S → Option (List ℕ)) → Reporting → Manner (Kept S)
 manner_of held how =
-    manner (IsPassed held) (IsKeptAtTick held) (IsKeptFor held) troubles_in (due_stats unkept_in no_more how) (meters_by how.start)
+    manner (IsPassed held) (IsKeptAtTick held) (IsKeptFor held) troubles_in (due_stats unkept_in no_more how) (all_stats unkept_in no_more how) (meters_by how.start)
     (IsKeptLast held)
 
 -- the same, after what watches it: what is recorded of an event is written before its state is kept
@@ -190,7 +191,7 @@ abbrev pub watched_manner_of : {S L : Type 0} → (S → Option (List ℕ)) → 
     → Manner (Both (Watching L L) (Kept S))
 watched_manner_of held log_held how =
     manner (PassesBoth (HasWatched log_held log_held) (IsPassed held)) (IsKeptAtTickBeside held) (IsKeptForBeside held) troubles_of
-    (due_stats unkept_of more_of how) (meters_by how.start) (IsKeptLastBeside held)
+    (due_stats unkept_of more_of how) (all_stats unkept_of more_of how) (meters_by how.start) (IsKeptLastBeside held)
 
 -- the outcome of a run that was asked to stop, by why the state isn't kept, if it isn't
 abbrev pub outcome_of_stop : Option StoreFault → Result (Unit {0}) ServiceFault
@@ -203,6 +204,11 @@ outcome_by (Ok end.Turns) failing = Ok tt
 outcome_by (Ok end.Stopped) failing = outcome_of_stop failing
 outcome_by (Ok end.Unsynced) failing = Err fault.Log
 outcome_by (Err fault) failing = Err (fault_of_serving fault)
+
+-- what answers a request to say what is counted: that text, or that there was no memory for it
+abbrev pub status_or : Result (Vec ℕ) WriteFailed → List ℕ
+status_or (Ok text) = text.items
+status_or (Err failed) = no_status_line
 
 -- the gateway was asked to stop
 abbrev pub is_stopped : Result End ServeFault → Bool

@@ -52,6 +52,12 @@ ends_hour start w seconds = not ((w.ticks - start.ticks) / 3600 == (w.ticks - st
 abbrev pub due_with : Reporting → State → (seconds : ℕ) → Reporting
 due_with how w seconds = with_rules how (how.rules || ends_hour how.start w seconds)
 
+-- a report with how many asks each rule decided, whether one is due or not
+abbrev pub all_stats : {K : Type 0} → (K → ℕ) → (K → (rules : Bool) → State → List ℕ) → Reporting → K → ReloadCounts → Announcing
+    → Option ℕ → State → Served → Tally → List ℕ
+all_stats unkept more how k counts announcing lost w s tally =
+    stats_text how w s tally (tries_text unkept more (with_rules how true) k counts announcing lost w)
+
 -- what is reported at the end, if reports are asked for
 abbrev pub end_by : Option ℕ → (text : List ℕ) → List ℕ
 end_by None text = []
@@ -60,7 +66,7 @@ end_by (Some seconds) text = text
 abbrev pub end_stats : {K : Type 0} → (K → ℕ) → (K → (rules : Bool) → State → List ℕ) → Reporting → K → ReloadCounts → Announcing
     → Option ℕ → State → Served → Tally → List ℕ
 end_stats unkept more how k counts announcing lost w s tally =
-    end_by how.seconds (stats_text how w s tally (tries_text unkept more (with_rules how true) k counts announcing lost w))
+    end_by how.seconds (all_stats unkept more how k counts announcing lost w s tally)
 
 -- what is reported at a tick: something if a multiple of so many seconds has passed
 abbrev pub due_by : Option ℕ → Counts → State → (text : (seconds : ℕ) → List ℕ) → List ℕ

@@ -1,6 +1,6 @@
 //! What keeps the state of a gateway from stretch to stretch, or doesn't.
 
-ghost use Rattle.std.specs.Prelude.{◌≡◌, [], ℕ, Bool, List, None, Option, false};
+ghost use Rattle.std.specs.Prelude.{◌≡◌, [], ℕ, Bool, IsOk, List, None, OnOk, Option, false};
 ghost use Rattle.std.specs.Io.KnownBytes.{Appends};
 ghost use Rattle.gw_configuration.specs.Configuration.{Configuration};
 ghost use Rattle.gw_core.specs.State.{State};
@@ -15,7 +15,7 @@ use gw_core::{AllAsked, Gateway, Guard, Taken};
 use gw_decisions::tally::Tally;
 use gw_metrics::StateTries;
 use gw_notices::{Losses, Troubles};
-use gw_script::OctetSink;
+use gw_script::{OctetSink, WriteFailed};
 use gw_state::Origin;
 use gw_turns::Keeper;
 use gw_wire::{Store, StoreFault};
@@ -82,10 +82,15 @@ pub trait StateKeeper: Guard {
     fn losses(&self) -> Losses
         ensures { result ≡ losses self.now };
 
-    /// Reports more of itself, and how many asks each rule decided if that is asked for.
-    fn report_more<E: OctetSink>(&self, rules: bool, gateway: &Gateway, errors: &mut E)
-        ensures said { E.NeverFails errors.old →
-            Appends (E.held errors.old) (E.held errors.new) (more self.now rules gateway.now) }
+    /// Writes more of itself, and how many asks each rule decided if that is asked for.
+    fn write_more<E: OctetSink>(
+        &self,
+        rules: bool,
+        gateway: &Gateway,
+        errors: &mut E,
+    ) -> Result<(), WriteFailed>
+        ensures ok { OnOk result (Appends (E.held errors.old) (E.held errors.new) (more self.now rules gateway.now)) }
+        ensures sure { E.NeverFails errors.old → IsOk result }
         ensures lasts { E.NeverFails errors.old → E.NeverFails errors.new };
 }
 
@@ -187,7 +192,14 @@ impl<S: Store + Drop> StateKeeper for Kept<S> {
         }
     }
 
-    fn report_more<E: OctetSink>(&self, _rules: bool, _gateway: &Gateway, _errors: &mut E) {}
+    fn write_more<E: OctetSink>(
+        &self,
+        _rules: bool,
+        _gateway: &Gateway,
+        _errors: &mut E,
+    ) -> Result<(), WriteFailed> {
+        Ok(())
+    }
 }
 
 impl<S: Store + Drop> Kept<S> {

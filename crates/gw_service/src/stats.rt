@@ -1,19 +1,18 @@
 //! Reports of a run, each so many seconds and at its end.
 
 ghost use Rattle.std.proofs.Props.{props};
-ghost use Rattle.std.specs.Prelude.{◌≡◌, ◌-◌, ◌/◌, ◌%◌, ◌==◌, ◌||◌, ◌<◌, ◌≤◌, IfSome, IsTrue, if◌then◌else◌, [], List, ℕ, true};
+ghost use Rattle.std.specs.Prelude.{◌≡◌, ◌-◌, ◌/◌, ◌%◌, ◌==◌, ◌||◌, ◌<◌, ◌≤◌, IfOk, IfSome, IsOk, IsTrue, OnOk, if◌then◌else◌, [], List, ℕ, true};
 ghost use Rattle.std.specs.Io.KnownBytes.{Appends};
 ghost use Rattle.gw_service.specs.Metrics.{measures_of};
-ghost use Rattle.gw_service.specs.Stats.{due_stats, end_stats, ends_hour, is_due, reporting, stats_text, tries_text, with_rules};
+ghost use Rattle.gw_service.specs.Stats.{all_stats, due_stats, end_stats, ends_hour, is_due, reporting, stats_text, tries_text, with_rules};
 
 use crate::keeping::StateKeeper;
 use crate::metrics::Measures;
 use gw_core::{Counts, Gateway};
-use gw_notices::{
-    ReloadCounts, report_lost_metrics, report_put_off, report_reloads, report_unkept,
-};
-use gw_script::OctetSink;
-use gw_turns::{Announcing, ServeState, has_gone_on, report_announcing, report_of, try_report};
+use gw_notices::{ReloadCounts, write_lost_metrics, write_put_off, write_reloads, write_unkept};
+use gw_script::{OctetSink, WriteFailed};
+use gw_turns::{Announcing, ServeState, has_gone_on, report_of, write_announcing, write_report};
+use std::alloc::Global;
 
 /// What is counted of a run beside what is served.
 #[derive(Clone, Copy)]
@@ -78,49 +77,71 @@ impl Schedule {
         }
     }
 
-    /// Reports how often the state couldn't be kept, if it is, how often the configuration was read again, if it is, how many
+    /// Writes how often the state couldn't be kept, if it is, how often the configuration was read again, if it is, how many
     /// texts of metrics were lost, if they are put, what was announced, if anything was, how often an announcement was put off,
     /// if one was, and what else the keeper reports, with the rules if the schedule says so.
-    fn report_tries<K: StateKeeper, E: OctetSink>(
+    fn write_tries<K: StateKeeper, E: OctetSink>(
         &self,
         gateway: &Gateway,
         keeper: &K,
         counts: RunCounts,
         errors: &mut E,
-    )
-        ensures said { let how = reporting self.now.seconds self.now.rules self.now.start self.now.keeps self.now.reloads in
-            E.NeverFails errors.old → Appends (E.held errors.old) (E.held errors.new)
-            (tries_text K.unkept K.more how keeper.now counts.reloads counts.announcing counts.lost_metrics gateway.now) }
+    ) -> Result<(), WriteFailed>
+        ensures ok { let how = reporting self.now.seconds self.now.rules self.now.start self.now.keeps self.now.reloads in
+            OnOk result (Appends (E.held errors.old) (E.held errors.new)
+            (tries_text K.unkept K.more how keeper.now counts.reloads counts.announcing counts.lost_metrics gateway.now)) }
+        ensures sure { E.NeverFails errors.old → IsOk result }
         ensures lasts { E.NeverFails errors.old → E.NeverFails errors.new }
     {
-        report_unkept(self.keeps, keeper.unkept(), errors);
-        report_reloads(self.reloads, counts.reloads, errors);
-        report_lost_metrics(counts.lost_metrics, errors);
-        report_announcing(counts.announcing, errors);
-        report_put_off(counts.announcing.put_off, errors);
-        keeper.report_more(self.rules, gateway, errors);
+        write_unkept(self.keeps, keeper.unkept(), errors)?;
+        write_reloads(self.reloads, counts.reloads, errors)?;
+        write_lost_metrics(counts.lost_metrics, errors)?;
+        write_announcing(counts.announcing, errors)?;
+        write_put_off(counts.announcing.put_off, errors)?;
+        keeper.write_more(self.rules, gateway, errors)
     }
 
-    /// Reports what was done since a gateway began.
-    fn report_stats<K: StateKeeper, E: OctetSink>(
+    /// Writes what was done since a gateway began.
+    fn write_stats<K: StateKeeper, E: OctetSink>(
         &self,
         gateway: &Gateway,
         state: &ServeState,
         keeper: &K,
         counts: RunCounts,
         errors: &mut E,
-    )
-        ensures said { let how = reporting self.now.seconds self.now.rules self.now.start self.now.keeps self.now.reloads in
-            E.NeverFails errors.old → Appends (E.held errors.old) (E.held errors.new)
+    ) -> Result<(), WriteFailed>
+        ensures ok { let how = reporting self.now.seconds self.now.rules self.now.start self.now.keeps self.now.reloads in
+            OnOk result (Appends (E.held errors.old) (E.held errors.new)
             (stats_text how gateway.now state.now.served state.now.tally
-            (tries_text K.unkept K.more how keeper.now counts.reloads counts.announcing counts.lost_metrics gateway.now)) }
+            (tries_text K.unkept K.more how keeper.now counts.reloads counts.announcing counts.lost_metrics gateway.now))) }
+        ensures sure { E.NeverFails errors.old → IsOk result }
         ensures lasts { E.NeverFails errors.old → E.NeverFails errors.new }
     {
-        if has_gone_on(self.start, gateway, &state.served) {
-            let report = report_of(self.start, gateway, &state.served, state.tally);
-            try_report(&report, errors);
-            self.report_tries(gateway, keeper, counts, errors);
+        if !has_gone_on(self.start, gateway, &state.served) {
+            return Ok(());
         }
+        let report = report_of(self.start, gateway, &state.served, state.tally);
+        write_report(&report, errors)?;
+        self.write_tries(gateway, keeper, counts, errors)
+    }
+
+    /// A report with how many asks each rule decided, whether one is due or not. `WriteFailed` only if memory was refused.
+    pub(crate) fn status<K: StateKeeper>(
+        &self,
+        alloc: Global,
+        gateway: &Gateway,
+        state: &ServeState,
+        keeper: &K,
+        counts: RunCounts,
+    ) -> Result<Vec<u8>, WriteFailed>
+        ensures { let how = reporting self.now.seconds self.now.rules self.now.start self.now.keeps self.now.reloads in
+            IfOk result (λ text. text.items ≡ all_stats K.unkept K.more how keeper.now counts.reloads counts.announcing
+            counts.lost_metrics gateway.now state.now.served state.now.tally) }
+    {
+        let mut text = Vec::new(alloc);
+        self.with_rules(true)
+            .write_stats(gateway, state, keeper, counts, &mut text)?;
+        Ok(text)
     }
 
     /// What is measured at a tick. It is always something.
@@ -167,7 +188,7 @@ impl Schedule {
             if is_due(self.start, gateway, seconds) {
                 let rules = self.rules || ends_hour(self.start, gateway, seconds);
                 let schedule = self.with_rules(rules);
-                schedule.report_stats(gateway, state, keeper, counts, errors);
+                let _ = schedule.write_stats(gateway, state, keeper, counts, errors);
             }
         }
     }
@@ -188,7 +209,7 @@ impl Schedule {
     {
         if self.seconds.is_some() {
             let schedule = self.with_rules(true);
-            schedule.report_stats(gateway, state, keeper, counts, errors);
+            let _ = schedule.write_stats(gateway, state, keeper, counts, errors);
         }
     }
 }

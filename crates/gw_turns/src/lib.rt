@@ -16,7 +16,7 @@ pub use alike::Part;
 pub use announcing::Announcing;
 pub use keeper::Keeper;
 pub use pace::Pace;
-pub use report::{Report, has_gone_on, report_announcing, report_of, try_report};
+pub use report::{Report, has_gone_on, report_of, write_announcing, write_report};
 pub use seen::Refusals;
 pub use serving::{ServeFault, ServeState, ServeStop, Served, serve};
 pub use stretch::Pause;

@@ -191,7 +191,7 @@ fn write_tally<S: OctetSink>(tally: &Tally, sink: &mut S) -> Result<(), WriteFai
 }
 
 /// Writes the line of a report.
-fn write_report<S: OctetSink>(report: &Report, sink: &mut S) -> Result<(), WriteFailed>
+pub fn write_report<S: OctetSink>(report: &Report, sink: &mut S) -> Result<(), WriteFailed>
     ensures ok { OnOk result
         (Appends (S.held sink.old) (S.held sink.new) (report_line report.now)) }
     ensures sure { S.NeverFails sink.old → IsOk result }
@@ -201,15 +201,6 @@ fn write_report<S: OctetSink>(report: &Report, sink: &mut S) -> Result<(), Write
     write_calls(report, sink)?;
     write_tables(report, sink)?;
     write_tally(&report.tally, sink)
-}
-
-/// Writes a report. If it can't be written it is left out, and serving goes on all the same.
-pub fn try_report<S: OctetSink>(report: &Report, sink: &mut S)
-    ensures recorded { S.NeverFails sink.old →
-        Appends (S.held sink.old) (S.held sink.new) (report_line report.now) }
-    ensures lasts { S.NeverFails sink.old → S.NeverFails sink.new }
-{
-    let _ = write_report(report, sink);
 }
 
 /// Writes how many sends of announcements succeeded and failed.
@@ -224,7 +215,10 @@ fn write_announced<S: OctetSink>(announcing: Announcing, sink: &mut S) -> Result
 }
 
 /// Writes the same, and ends the line.
-fn write_announcing<S: OctetSink>(announcing: Announcing, sink: &mut S) -> Result<(), WriteFailed>
+fn write_announcing_line<S: OctetSink>(
+    announcing: Announcing,
+    sink: &mut S,
+) -> Result<(), WriteFailed>
     ensures ok { OnOk result
         (Appends (S.held sink.old) (S.held sink.new) (announcing_line announcing)) }
     ensures sure { S.NeverFails sink.old → IsOk result }
@@ -234,13 +228,17 @@ fn write_announcing<S: OctetSink>(announcing: Announcing, sink: &mut S) -> Resul
     write_whole(sink, b"\n")
 }
 
-/// Reports how many sends of announcements succeeded and failed, if any was tried.
-pub fn report_announcing<S: OctetSink>(announcing: Announcing, sink: &mut S)
-    ensures said { S.NeverFails sink.old →
-        Appends (S.held sink.old) (S.held sink.new) (announcing_text announcing) }
+/// Writes how many sends of announcements succeeded and failed, if any was tried.
+pub fn write_announcing<S: OctetSink>(
+    announcing: Announcing,
+    sink: &mut S,
+) -> Result<(), WriteFailed>
+    ensures ok { OnOk result (Appends (S.held sink.old) (S.held sink.new) (announcing_text announcing)) }
+    ensures sure { S.NeverFails sink.old → IsOk result }
     ensures lasts { S.NeverFails sink.old → S.NeverFails sink.new }
 {
-    if announcing.sends != 0 || announcing.send_failures != 0 {
-        let _ = write_announcing(announcing, sink);
+    if announcing.sends == 0 && announcing.send_failures == 0 {
+        return Ok(());
     }
+    write_announcing_line(announcing, sink)
 }

@@ -14,7 +14,7 @@ use Rattle.gw_metrics.specs.file.Writing.{Writing}
 use Rattle.gw_service.specs.Metrics.{PutsDue}
 use Rattle.gw_service.proofs.MeteringLemmas.{puts_metered}
 use Rattle.gw_service.specs.Scheduled.{reporting_by}
-use Rattle.gw_service.specs.Stats.{due_stats}
+use Rattle.gw_service.specs.Stats.{all_stats, due_stats}
 use Rattle.gw_service.proofs.ChainLemmas.{advanced_by, advances_as, ends_as, more_at_tick, more_at_turns, more_withheld, went_kept}
 use Rattle.gw_notices.proofs.AppendLemmas.{appends_nothing, appends_two}
 use Rattle.gw_service.proofs.running.Running.advance.Goals as goal
@@ -136,7 +136,7 @@ returns-in-Ok-clause-advances g c = λ config is_config.
     stretch.self.tally end.went c.sync.ensures.keeps)
     c.at_tick-stops.ensures.log in
     let by = manner g.K.Guard.Passes g.K.StateKeeper.Ticks g.K.StateKeeper.Adopts g.K.StateKeeper.troubles
-    (due_stats g.K.StateKeeper.unkept g.K.StateKeeper.more (reporting_by c.args.schedule.now)) (meters_by c.args.schedule.now.start)
+    (due_stats g.K.StateKeeper.unkept g.K.StateKeeper.more (reporting_by c.args.schedule.now)) (all_stats g.K.StateKeeper.unkept g.K.StateKeeper.more (reporting_by c.args.schedule.now)) (meters_by c.args.schedule.now.start)
     g.K.StateKeeper.Lasts in
     let first = stage config at (g.Q.Requests.recorded old.requests) old.counts old.announcing old.said metrics in
     let text = ((look ++ notice) ++ report) ++ lines in
