@@ -9,7 +9,7 @@ ghost use Rattle.gw_state.specs.Saved.{origin_of};
 ghost use Rattle.gw_turns.specs.Serve.{scene};
 ghost use Rattle.gw_turns.specs.Stretch.{CanCount, moment};
 ghost use Rattle.gw_system.specs.Requests.{Asking, GoesOn, IsAsking, answered, asked, text_found};
-ghost use Rattle.gw_service.specs.Chain.{Advances, AtTick, FailsToLast, IsLooked, IsNotedBy, IsNotedWith, Link, Looks, Runs, WasLasting, chain_text, edge, end_of, manner, stage, standing};
+ghost use Rattle.gw_service.specs.Chain.{Advances, AtTick, FailsToLast, IsLooked, IsNotedWith, Link, Looks, Runs, WasLasting, chain_text, edge, end_of, manner, stage, standing};
 ghost use Rattle.gw_notices.specs.Notices.{no_troubles, notice_of, stop_line};
 ghost use Rattle.gw_notices.specs.Reload.{refusal_line};
 ghost use Rattle.gw_service.specs.Kept.{EndsRun, RunsFrom, is_stopped, rest, status_or};
@@ -133,9 +133,9 @@ impl<K: StateKeeper, Q: Requests, M: Store + Drop> Running<K, Q, M> {
         errors: &mut E,
     )
         requires { IsAsking (Q.recorded self.old.requests) }
-        ensures looked { (first : Asking) →
+        ensures looked { (first : Asking) (report : List ℕ) →
             GoesOn first (Q.recorded self.old.requests) (asked (text_found read.now) ∷ []) →
-            Looks (IsLooked K.Adopts) (IsNotedBy L.Takes log.old log.new false) self.old.origin
+            Looks (IsLooked K.Adopts) (IsNotedWith L.Takes log.old log.new false report) self.old.origin
             (standing self.old.gateway self.old.keeper first self.old.counts self.old.announcing)
             self.new.origin (standing self.new.gateway self.new.keeper (Q.recorded self.new.requests) self.new.counts self.new.announcing)
             (E.NeverFails errors.old) (E.held errors.old) (E.held errors.new) }
@@ -174,19 +174,6 @@ impl<K: StateKeeper, Q: Requests, M: Store + Drop> Running<K, Q, M> {
         }
     }
 
-    /// What is counted now of the run beside what is served.
-    fn run_counts(&self) -> RunCounts
-        ensures reloads { result.reloads ≡ self.now.counts }
-        ensures announcing { result.announcing ≡ self.now.announcing }
-        ensures lost { result.lost_metrics ≡ lost_by (metered self.now.metrics) }
-    {
-        RunCounts {
-            reloads: self.counts,
-            announcing: self.announcing,
-            lost_metrics: lost_of(&self.metrics),
-        }
-    }
-
     /// Looks for a request, and if there is one to read the configuration again, or to say what is counted, does so. It answers
     /// whether there is one to stop.
     fn look<L: Notes, E: OctetSink>(
@@ -217,7 +204,11 @@ impl<K: StateKeeper, Q: Requests, M: Store + Drop> Running<K, Q, M> {
             }
             Some(Request::Stop) => true,
             Some(Request::Status) => {
-                let counts = self.run_counts();
+                let counts = RunCounts {
+                    reloads: self.counts,
+                    announcing: self.announcing,
+                    lost_metrics: lost_of(&self.metrics),
+                };
                 let text = schedule.status(alloc, &self.gateway, &self.state, &self.keeper, counts);
                 self.requests.answer(status_or(&text));
                 false
@@ -284,7 +275,8 @@ impl<K: StateKeeper, Q: Requests, M: Store + Drop> Running<K, Q, M> {
             self.old.state.served self.old.state.tally) (Q.recorded self.old.requests) self.old.counts self.old.announcing self.old.said (metered self.old.metrics) in
             (d : Configuration) × (text : List ℕ) × (self.new.origin ≡ origin_of d)
             × Advances (manner K.Passes K.Ticks K.Adopts K.troubles
-            (due_stats K.unkept K.more (reporting_by schedule.now)) (all_stats K.unkept K.more (reporting_by schedule.now)) (meters_by schedule.now.start) K.Lasts) turns before result text
+            (due_stats K.unkept K.more (reporting_by schedule.now)) (all_stats K.unkept K.more (reporting_by schedule.now))
+            (meters_by schedule.now.start) K.Lasts) turns before result text
             (stage d (moment (scene self.new.gateway (L.held log.new) (W.calls wire.new)) self.new.keeper
             self.new.state.served self.new.state.tally) (Q.recorded self.new.requests) self.new.counts self.new.announcing self.new.said (metered self.new.metrics))
             (edge (W.behind wire.new) (WasLasting L.IsLasting L.held log.new) (FailsToLast L.Syncs log.new))
@@ -312,7 +304,11 @@ impl<K: StateKeeper, Q: Requests, M: Store + Drop> Running<K, Q, M> {
                 let stops = self.at_tick(alloc, schedule, log, errors);
                 self.announcing.announce(alloc, &self.gateway, wire);
                 self.said = self.notice(errors);
-                let counts = self.run_counts();
+                let counts = RunCounts {
+                    reloads: self.counts,
+                    announcing: self.announcing,
+                    lost_metrics: lost_of(&self.metrics),
+                };
                 schedule.report_due(&self.gateway, &self.state, &self.keeper, counts, errors);
                 let measured = schedule.measure(&self.gateway, &self.state, &self.keeper, counts);
                 let was = failing_of(&self.metrics);
@@ -357,7 +353,8 @@ impl<K: StateKeeper, Q: Requests, M: Store + Drop> Running<K, Q, M> {
             self.old.state.served self.old.state.tally) (Q.recorded self.old.requests) self.old.counts self.old.announcing self.old.said (metered self.old.metrics) in
             (d : Configuration) × (links : List Link) × (self.new.origin ≡ origin_of d)
             × Runs (manner K.Passes K.Ticks K.Adopts K.troubles
-            (due_stats K.unkept K.more (reporting_by schedule.now)) (all_stats K.unkept K.more (reporting_by schedule.now)) (meters_by schedule.now.start) K.Lasts) turns before result links
+            (due_stats K.unkept K.more (reporting_by schedule.now)) (all_stats K.unkept K.more (reporting_by schedule.now))
+            (meters_by schedule.now.start) K.Lasts) turns before result links
             (stage d (moment (scene self.new.gateway (L.held log.new) (W.calls wire.new)) self.new.keeper
             self.new.state.served self.new.state.tally) (Q.recorded self.new.requests) self.new.counts self.new.announcing self.new.said (metered self.new.metrics))
             × (E.NeverFails errors.old → Appends (E.held errors.old) (E.held errors.new) (chain_text links)) }
@@ -387,7 +384,11 @@ impl<K: StateKeeper, Q: Requests, M: Store + Drop> Running<K, Q, M> {
             (lost_by (metered self.now.metrics)) self.now.gateway self.now.state.served self.now.state.tally) }
         ensures lasts { E.NeverFails errors.old → E.NeverFails errors.new }
     {
-        let counts = self.run_counts();
+        let counts = RunCounts {
+            reloads: self.counts,
+            announcing: self.announcing,
+            lost_metrics: lost_of(&self.metrics),
+        };
         schedule.report_last(&self.gateway, &self.state, &self.keeper, counts, errors);
     }
 
@@ -406,7 +407,11 @@ impl<K: StateKeeper, Q: Requests, M: Store + Drop> Running<K, Q, M> {
             ++ stop_line (K.troubles self.old.keeper).state) }
         ensures lasts { E.NeverFails errors.old → E.NeverFails errors.new }
     {
-        let counts = self.run_counts();
+        let counts = RunCounts {
+            reloads: self.counts,
+            announcing: self.announcing,
+            lost_metrics: lost_of(&self.metrics),
+        };
         let measured = schedule.measure(&self.gateway, &self.state, &self.keeper, counts);
         put_last(
             alloc,
@@ -435,8 +440,8 @@ impl<K: StateKeeper, Q: Requests, M: Store + Drop> Running<K, Q, M> {
             let last = stage c (moment (scene self.old.gateway log calls) self.old.keeper self.old.state.served self.old.state.tally)
             (Q.recorded self.old.requests) self.old.counts self.old.announcing self.old.said (metered self.old.metrics) in
             let how = reporting_by schedule.now in
-            (text : List ℕ) × EndsRun (manner K.Passes K.Ticks K.Adopts K.troubles (due_stats K.unkept K.more how) (all_stats K.unkept K.more how) (meters_by how.start)
-            K.Lasts) (end_stats K.unkept K.more how) how.start answer last (rest self.new.keeper (Q.recorded self.new.requests)) text
+            (text : List ℕ) × EndsRun (manner K.Passes K.Ticks K.Adopts K.troubles (due_stats K.unkept K.more how)
+            (all_stats K.unkept K.more how) (meters_by how.start) K.Lasts) (end_stats K.unkept K.more how) how.start answer last (rest self.new.keeper (Q.recorded self.new.requests)) text
             × (E.NeverFails errors.old → Appends (E.held errors.old) (E.held errors.new) text) }
         ensures lasts { E.NeverFails errors.old → E.NeverFails errors.new }
     {
@@ -472,7 +477,8 @@ impl<K: StateKeeper, Q: Requests, M: Store + Drop> Running<K, Q, M> {
             self.old.state.served self.old.state.tally) (Q.recorded self.old.requests) self.old.counts self.old.announcing (K.troubles self.old.keeper) (metered self.old.metrics) in
             let how = reporting_by schedule.now in
             let after = ends (L.held log.new) (W.calls wire.new) in
-            (text : List ℕ) × RunsFrom (manner K.Passes K.Ticks K.Adopts K.troubles (due_stats K.unkept K.more how) (all_stats K.unkept K.more how) (meters_by how.start) K.Lasts)
+            (text : List ℕ) × RunsFrom (manner K.Passes K.Ticks K.Adopts K.troubles (due_stats K.unkept K.more how)
+            (all_stats K.unkept K.more how) (meters_by how.start) K.Lasts)
             (end_stats K.unkept K.more how) how.start turns before result after (rest self.new.keeper (Q.recorded self.new.requests)) text
             × (E.NeverFails errors.old → Appends (E.held errors.old) (E.held errors.new) text) }
         ensures lasts { E.NeverFails errors.old → E.NeverFails errors.new }

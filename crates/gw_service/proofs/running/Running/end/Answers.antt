@@ -14,7 +14,8 @@ returns-then-is_stopped-clause-ends g c = λ config log calls.
     let old = c.args.self.now in
     let how = reporting_by c.args.schedule.now in
     let manner = manner g.K.Guard.Passes g.K.StateKeeper.Ticks g.K.StateKeeper.Adopts g.K.StateKeeper.troubles
-    (due_stats g.K.StateKeeper.unkept g.K.StateKeeper.more how) (all_stats g.K.StateKeeper.unkept g.K.StateKeeper.more how) (meters_by how.start) g.K.StateKeeper.Lasts in
+    (due_stats g.K.StateKeeper.unkept g.K.StateKeeper.more how)
+    (all_stats g.K.StateKeeper.unkept g.K.StateKeeper.more how) (meters_by how.start) g.K.StateKeeper.Lasts in
     let report = end_stats g.K.StateKeeper.unkept g.K.StateKeeper.more how in
     let last = stage config (moment (scene old.gateway log calls) old.keeper old.state.served old.state.tally)
     (g.Q.Requests.recorded old.requests) old.counts old.announcing old.said (metered old.metrics) in
@@ -33,7 +34,8 @@ returns-else-is_stopped-clause-ends g c = λ config log calls.
     let old = c.args.self.now in
     let how = reporting_by c.args.schedule.now in
     let manner = manner g.K.Guard.Passes g.K.StateKeeper.Ticks g.K.StateKeeper.Adopts g.K.StateKeeper.troubles
-    (due_stats g.K.StateKeeper.unkept g.K.StateKeeper.more how) (all_stats g.K.StateKeeper.unkept g.K.StateKeeper.more how) (meters_by how.start) g.K.StateKeeper.Lasts in
+    (due_stats g.K.StateKeeper.unkept g.K.StateKeeper.more how)
+    (all_stats g.K.StateKeeper.unkept g.K.StateKeeper.more how) (meters_by how.start) g.K.StateKeeper.Lasts in
     let report = end_stats g.K.StateKeeper.unkept g.K.StateKeeper.more how in
     let last = stage config (moment (scene old.gateway log calls) old.keeper old.state.served old.state.tally)
     (g.Q.Requests.recorded old.requests) old.counts old.announcing old.said (metered old.metrics) in
