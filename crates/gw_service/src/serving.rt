@@ -5,7 +5,7 @@ ghost use Rattle.std.specs.Io.Buffered.{writer_buffer, writer_contents};
 ghost use Rattle.std.specs.Io.KnownBytes.{Appends};
 ghost use Rattle.gw_notices.specs.Startup.{startup_line};
 ghost use Rattle.gw_system.specs.Host.{OpensAtLine};
-ghost use Rattle.gw_system.specs.declared.opening.LogFailure.TheVariants as failure;
+ghost use Rattle.gw_system.specs.declared.opening.LogFailure.TheVariants as log_failure;
 ghost use Rattle.gw_service.specs.Kept.{LeavesService, state_machine, waiting_note, whole_machine};
 ghost use Rattle.std.specs.List.{list_any};
 ghost use Rattle.gw_service.specs.Watch.{is_unaudited, unaudited_note};
@@ -70,7 +70,7 @@ pub(crate) fn open<H: Host, W: Write + Drop>(
         let LogOpens = OpensAtLine (H.LogOpens host.now) (H.LogIsCut host.now) H.Log.held in
         MatchResult result
         (λ opening. LogIsOpen LogOpens name held holds opening.log)
-        (λ f. ((f ≡ failure.Memory) × (holds ≡ held)) ⊎ LogIsShut LogOpens name held holds f) }
+        (λ f. ((f ≡ log_failure.Memory) × (holds ≡ held)) ⊎ LogIsShut LogOpens name held holds f) }
     ensures unbuffered { IfOk result (λ opening. opening.log ≡ None → writer_buffer output.new ≡ []) }
     ensures buffer { OnOk result (IsFlushedFor (option_map string_bytes options.now.log)
         (writer_buffer output.old) (writer_buffer output.new)) }
