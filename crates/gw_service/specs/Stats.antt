@@ -2,7 +2,7 @@
 use Rattle.std.specs.Prelude.{ℕ, ◌-◌, ◌/◌, ◌%◌, ◌==◌, ◌||◌, not, Bool, true, if◌then◌else◌, List, [], ◌++◌, Option, Some, None}
 use Rattle.gw_core.specs.State.{State}
 use Rattle.gw_core.specs.declared.event.Counts.{Counts}
-use Rattle.gw_turns.specs.Reports.{announcing_text, has_gone_on, report_line, report_of}
+use Rattle.gw_turns.specs.Reports.{announcing_text, culprits_text, has_gone_on, report_line, report_of}
 use Rattle.gw_turns.specs.declared.announcing.Announcing.{Announcing}
 use Rattle.gw_turns.specs.declared.serving.Served.{Served}
 use Rattle.gw_turns.specs.declared.tally.Tally.{Tally}
@@ -22,6 +22,10 @@ abbrev pub reporting : Option ℕ → (rules : Bool) → Counts → (keeps reloa
 reporting seconds rules start keeps reloads =
     record { seconds = seconds; rules = rules; start = start; keeps = keeps; reloads = reloads }
 
+-- the same of the whole time, with how many asks each rule decided
+abbrev pub whole : Reporting → Reporting
+whole how = reporting None true how.start how.keeps how.reloads
+
 -- the same, where a report counts the asks of each rule, or doesn't
 abbrev pub with_rules : Reporting → (rules : Bool) → Reporting
 with_rules how rules = reporting how.seconds rules how.start how.keeps how.reloads
@@ -35,10 +39,11 @@ tries_text unkept more how k counts announcing lost w =
     ++ (reloads_text how.reloads counts ++ (lost_metrics_text lost ++ (announcing_text announcing
     ++ (put_off_text announcing.put_off ++ more k how.rules w))))
 
--- a report of what was done since then, and these tries
+-- a report of what was done since then; from whom the last datagrams came that were dropped, in the last so many seconds if reports
+-- are asked for; and these tries
 abbrev pub stats_text : Reporting → State → Served → Tally → (tries : List ℕ) → List ℕ
 stats_text how w s tally tries =
-    if has_gone_on how.start w s then report_line (report_of how.start w s tally) ++ tries else []
+    if has_gone_on how.start w s then report_line (report_of how.start w s tally) ++ (culprits_text how.seconds w.ticks tally ++ tries) else []
 
 -- whether a multiple of so many seconds has passed
 abbrev pub is_due : Counts → State → ℕ → Bool
@@ -56,7 +61,7 @@ due_with how w seconds = with_rules how (how.rules || ends_hour how.start w seco
 abbrev pub all_stats : {K : Type 0} → (K → ℕ) → (K → (rules : Bool) → State → List ℕ) → Reporting → K → ReloadCounts → Announcing
     → Option ℕ → State → Served → Tally → List ℕ
 all_stats unkept more how k counts announcing lost w s tally =
-    stats_text how w s tally (tries_text unkept more (with_rules how true) k counts announcing lost w)
+    stats_text (whole how) w s tally (tries_text unkept more (whole how) k counts announcing lost w)
 
 -- what is reported at the end, if reports are asked for
 abbrev pub end_by : Option ℕ → (text : List ℕ) → List ℕ

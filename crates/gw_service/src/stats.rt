@@ -4,14 +4,16 @@ ghost use Rattle.std.proofs.Props.{props};
 ghost use Rattle.std.specs.Prelude.{◌≡◌, ◌-◌, ◌/◌, ◌%◌, ◌==◌, ◌||◌, ◌<◌, ◌≤◌, IfOk, IfSome, IsOk, IsTrue, OnOk, if◌then◌else◌, [], List, ℕ, true};
 ghost use Rattle.std.specs.Io.KnownBytes.{Appends};
 ghost use Rattle.gw_service.specs.Metrics.{measures_of};
-ghost use Rattle.gw_service.specs.Stats.{all_stats, due_stats, end_stats, ends_hour, is_due, reporting, stats_text, tries_text, with_rules};
+ghost use Rattle.gw_service.specs.Stats.{all_stats, due_stats, end_stats, ends_hour, is_due, reporting, stats_text, tries_text, whole, with_rules};
 
 use crate::keeping::StateKeeper;
 use crate::metrics::Measures;
 use gw_core::{Counts, Gateway};
 use gw_notices::{ReloadCounts, write_lost_metrics, write_put_off, write_reloads, write_unkept};
 use gw_script::{OctetSink, WriteFailed};
-use gw_turns::{Announcing, ServeState, has_gone_on, report_of, write_announcing, write_report};
+use gw_turns::{
+    Announcing, ServeState, has_gone_on, report_of, write_announcing, write_culprits, write_report,
+};
 use std::alloc::Global;
 
 /// What is counted of a run beside what is served.
@@ -63,6 +65,20 @@ fn ends_hour(start: Counts, gateway: &Gateway, seconds: u64) -> bool
 }
 
 impl Schedule {
+    /// The same schedule, of the whole time, with how many asks each rule decided.
+    fn whole(&self) -> Schedule
+        ensures { reporting result.seconds result.rules result.start result.keeps result.reloads
+            ≡ whole (reporting self.now.seconds self.now.rules self.now.start self.now.keeps self.now.reloads) }
+    {
+        Schedule {
+            start: self.start,
+            seconds: None,
+            rules: true,
+            keeps: self.keeps,
+            reloads: self.reloads,
+        }
+    }
+
     /// The same schedule, where each report says how many asks each rule decided, or doesn't.
     fn with_rules(&self, rules: bool) -> Schedule
         ensures { reporting result.seconds result.rules result.start result.keeps result.reloads
@@ -122,6 +138,7 @@ impl Schedule {
         }
         let report = report_of(self.start, gateway, &state.served, state.tally);
         write_report(&report, errors)?;
+        write_culprits(self.seconds, gateway.counts().ticks, &state.tally, errors)?;
         self.write_tries(gateway, keeper, counts, errors)
     }
 
@@ -139,7 +156,7 @@ impl Schedule {
             counts.lost_metrics gateway.now state.now.served state.now.tally) }
     {
         let mut text = Vec::new(alloc);
-        self.with_rules(true)
+        self.whole()
             .write_stats(gateway, state, keeper, counts, &mut text)?;
         Ok(text)
     }
@@ -208,7 +225,7 @@ impl Schedule {
         ensures lasts { E.NeverFails errors.old → E.NeverFails errors.new }
     {
         if self.seconds.is_some() {
-            let schedule = self.with_rules(true);
+            let schedule = self.whole();
             let _ = schedule.write_stats(gateway, state, keeper, counts, errors);
         }
     }
