@@ -1,5 +1,5 @@
 -- A run that is watched is one that isn't, but for what is reported.
-use Rattle.std.proofs.Common.{◌≡◌, ℕ, List, [], ◌∷◌, ◌++◌, ◌&&◌, Bool, true, false, true≢false, refl, sym, ap, subst, inl, ◌∙◌, Option}
+use Rattle.std.proofs.Common.{◌≡◌, ℕ, List, [], ◌∷◌, ◌++◌, ◌&&◌, Bool, true, false, true≢false, refl, sym, ap, subst, inl, ◌∙◌, Option, Some}
 use Rattle.std.specs.Prelude.{Result, Ok, Err}
 use Rattle.gw_configuration.specs.Configuration.{Configuration}
 use Rattle.gw_core.specs.State.{State}
@@ -13,11 +13,13 @@ use Rattle.gw_turns.specs.Stretch.{AreGuarded, GoOn, GuardsTurn, Moment}
 use Rattle.gw_core.specs.declared.guard.Both.{Both}
 use Rattle.gw_turns.specs.declared.serving.ServeFault.{ServeFault}
 use Rattle.gw_turns.proofs.BothLemmas.{second_goes, second_withheld, under_second}
-use Rattle.gw_system.specs.Requests.{Asking, Exchange, GoesOn, answered, asked_to_say, known, nobody, silent}
+use Rattle.gw_system.specs.Requests.{Asking, Exchange, GoesOn, answered, asked, asked_to_say, asked_to_stop, known, nobody, silent, unasked, untaken}
 use Rattle.gw_wire.specs.declared.store.StoreFault.{StoreFault}
 use Rattle.gw_watchers.specs.Watching.{HasWatched, Watching}
 use Rattle.gw_service.specs.Chain.{AreLinks, IsLink, IsLooked, IsServed, IsStatusIn, IsTicked, Link, Look, Runs, Stage, Standing, chain_text, is_stopping, look_text, stage, standing}
 use Rattle.gw_service.specs.Chain.{ended, inquired, passed_over, refused, served, stopping, taken_over, ticked, unrequested, withheld}
+use Rattle.gw_core.specs.Resumed.{saved}
+use Rattle.gw_service.specs.Reload.{taken_over_line}
 use Rattle.gw_service.specs.Start.{counts_of}
 use Rattle.gw_service.specs.declared.running.End.{End}
 use Rattle.gw_service.specs.declared.running.End.TheVariants as end
@@ -26,7 +28,7 @@ use Rattle.gw_service.specs.Keeping.{IsKeptFor, IsPassed, failing_in, troubles_i
 use Rattle.gw_service.specs.Kept.{AnswersStop, EndsRun, Given, Rest, manner_of, no_more, reporting_of, rest, stop_text, unkept_of, watched_manner_of}
 use Rattle.gw_service.specs.Laws.{IsAsUnwatched}
 use Rattle.gw_service.specs.Metering.{failing_by, lost_by}
-use Rattle.gw_notices.specs.Notices.{metrics_notice, no_troubles, notice_of, of_state}
+use Rattle.gw_notices.specs.Notices.{metrics_notice, no_troubles, notice_of, of_state, stop_line}
 use Rattle.gw_service.specs.Stats.{Reporting, end_stats}
 use Rattle.gw_service.specs.Watch.{IsKeptForBeside, more_of}
 use Rattle.gw_service.specs.declared.keeping.Kept.{Kept}
@@ -114,7 +116,7 @@ looked held quiet report c d s t unrequested is = record {
     keeper = ap (λ (k : Both _ _). k.second) is.stays.keeper;
     announcing = is.stays.announcing;
   };
-  requests = goes_hushed quiet s.requests t.requests _ is.requests;
+  requests = goes_hushed quiet s.requests t.requests (unasked ∷ []) is.requests;
   counts = is.counts;
 }
 looked held quiet report c d s t passed_over is = record {
@@ -124,7 +126,7 @@ looked held quiet report c d s t passed_over is = record {
     keeper = ap (λ (k : Both _ _). k.second) is.stays.keeper;
     announcing = is.stays.announcing;
   };
-  requests = goes_hushed quiet s.requests t.requests _ is.requests;
+  requests = goes_hushed quiet s.requests t.requests (untaken ∷ []) is.requests;
   counts = is.counts;
 }
 looked held quiet report c d s t stopping is = record {
@@ -134,7 +136,7 @@ looked held quiet report c d s t stopping is = record {
     keeper = ap (λ (k : Both _ _). k.second) is.stays.keeper;
     announcing = is.stays.announcing;
   };
-  requests = goes_hushed quiet s.requests t.requests _ is.requests;
+  requests = goes_hushed quiet s.requests t.requests (asked_to_stop ∷ []) is.requests;
   counts = is.counts;
 }
 looked held quiet report c d s t (inquired answer) is = record {
@@ -156,7 +158,7 @@ looked held quiet report c d s t (refused read fault line) is = record {
     keeper = ap (λ (k : Both _ _). k.second) is.stays.keeper;
     announcing = is.stays.announcing;
   };
-  requests = goes_hushed quiet s.requests t.requests _ is.requests;
+  requests = goes_hushed quiet s.requests t.requests (asked read ∷ answered line ∷ []) is.requests;
   counts = is.counts;
 }
 looked held quiet report c d s t (taken_over text new) is = record {
@@ -165,7 +167,7 @@ looked held quiet report c d s t (taken_over text new) is = record {
   ports = is.ports;
   gateway = is.gateway;
   keeper = is.keeper.0;
-  requests = goes_hushed quiet s.requests t.requests _ is.requests;
+  requests = goes_hushed quiet s.requests t.requests (asked (Ok (Some text)) ∷ answered (taken_over_line s.gateway new (saved c s.gateway)) ∷ []) is.requests;
   counts = is.counts;
   announcing = is.announcing;
 }
@@ -335,7 +337,7 @@ left_of (Err fault) quiet q = hushed quiet q
 answers_hushed : (answer : Result End ServeFault) (failing : Option StoreFault) (quiet : Bool) (before after : Asking)
     → AnswersStop answer failing before after → AnswersStop answer failing (hushed quiet before) (left_of answer quiet after)
 answers_hushed (Ok end.Turns) failing quiet before after is = ap (hushed quiet) is
-answers_hushed (Ok end.Stopped) failing quiet before after is = goes_hushed quiet before after _ is
+answers_hushed (Ok end.Stopped) failing quiet before after is = goes_hushed quiet before after (answered (stop_line failing) ∷ []) is
 answers_hushed (Ok end.Unsynced) failing quiet before after is = ap (hushed quiet) is
 answers_hushed (Err fault) failing quiet before after is = ap (hushed quiet) is
 
@@ -348,7 +350,7 @@ ends : {S L : Type 0} (held : S → _) (log_held : L → _) (how : Reporting) (q
 ends held log_held how quiet start answer last left text is = (
   end_stats unkept_in no_more how left.keeper.second last.counts last.announcing (lost_by is.metrics) last.now.scene.gateway last.now.served
       last.now.tally ++ stop_text answer (failing_in left.keeper.second),
-  record { keeps = is.keeps.0; metrics = is.metrics; put = is.put; answers = answers_hushed answer _ quiet last.requests left.requests is.answers; said = refl },
+  record { keeps = is.keeps.0; metrics = is.metrics; put = is.put; answers = answers_hushed answer (failing_in left.keeper.second) quiet last.requests left.requests is.answers; said = refl },
 )
 
 pub as_unwatched : {S Q L : Type 0} (given : Given S Q L) → IsAsUnwatched given
