@@ -5,6 +5,7 @@ mod announcing;
 mod configurations;
 mod keeping;
 mod objects;
+mod reads;
 mod replays;
 mod serving;
 mod sockets;
@@ -30,6 +31,7 @@ impl Kinds for GatewayKinds {
             "edits" => configurations::edit(alloc, config, line, out),
             "octets" => configurations::octets(alloc, line, out),
             "streams" => streams::stream(alloc, config, line, out),
+            "reads" => reads::reads(alloc, config, line, out),
             "announce" => announcing::moments(alloc, config, line, out),
             "keep" => keeping::keeping(alloc, config, line, out),
             "trial" => watching::watched(alloc, config, line, out),

@@ -1,6 +1,5 @@
 pub mod BegunLaw
 pub mod BeginningLaw
 pub mod Putting
-pub mod Viewing
 pub mod suggestion_lemmas
 pub mod migration_lemmas

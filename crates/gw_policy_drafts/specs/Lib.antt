@@ -1,6 +1,5 @@
 pub mod beginning
 pub mod suggestion
 pub mod migration
-pub mod Lines
 pub mod Listing
 pub mod internal

@@ -6,3 +6,4 @@ pub mod TwoFormats
 pub mod keys
 pub mod faults
 pub mod internal
+pub mod Lines

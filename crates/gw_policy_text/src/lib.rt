@@ -7,6 +7,7 @@ pub mod faults;
 mod format;
 pub mod keys;
 pub mod laws;
+pub mod lines;
 mod listing;
 mod objects;
 mod parts;

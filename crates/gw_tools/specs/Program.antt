@@ -9,7 +9,7 @@ use Rattle.gw_policy_review.specs.comparison.Laws.{says_alike}
 use Rattle.gw_policy_review.specs.declared.comparison.comparison.Compared.{Compared}
 use Rattle.gw_policy_review.specs.declared.comparison.comparison.Compared.TheVariants as compared
 use Rattle.gw_configuration.specs.Configuration.{Configuration}
-use Rattle.gw_policy_drafts.specs.Lines.{table_lines}
+use Rattle.gw_policy_text.specs.Lines.{table_lines}
 use Rattle.gw_policy_drafts.specs.migration.Migration.{Migrates}
 use Rattle.gw_policy_drafts.specs.declared.migration.fault.MigrationFault.{MigrationFault}
 use Rattle.gw_policy_drafts.specs.declared.migration.fault.MigrationFault.TheVariants as unmigrated

@@ -7,7 +7,7 @@ use crate::reloading::octets_or;
 use gw_configuration::Config;
 use gw_ending::Fault;
 use gw_ending::reading::{ConfigFiles, configuration_of};
-use gw_policy_drafts::lines::table_lines;
+use gw_policy_text::lines::table_lines;
 use std::alloc::Global;
 
 /// A configuration, with the lines of its text, from 1, on which the tables of its rules begin, in their order, or none if they

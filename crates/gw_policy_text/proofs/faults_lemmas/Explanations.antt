@@ -29,11 +29,11 @@ pub fraction_words : (v : Value) (number : Float) → v ≡ value.Float number �
 fraction_words v number is = ap (λ (w : Value). single_words (view w)) is ∙ ap single_words (view-Float number)
 
 -- the line of a fault that was found
-pub explained : (located : Located) (top : Members) (Wanted : Located → List ℕ → Type 0) (fault : ConfigFault) (line last : List ℕ)
+pub explained : (text : List ℕ) (located : Located) (top : Members) (Wanted : Located → List ℕ → Type 0) (fault : ConfigFault) (line last : List ℕ)
     (found : Find Configuration) → located.fault ≡ fault
-    → line ≡ shown (place_words located top ++ fault_words fault (value_at located top) ++ last) → Wanted located last
-    → found ≡ Err located → IsExplanation found top Wanted fault line
-explained located top Wanted fault line last found same words wanted first =
+    → line ≡ shown (place_words located top text ++ fault_words fault (value_at located top) ++ last) → Wanted located last
+    → found ≡ Err located → IsExplanation text found top Wanted fault line
+explained text located top Wanted fault line last found same words wanted first =
     record { located = located; first = first; same = same; last = last; wanted = wanted; words = words }
 
 -- what a buffer holds after a text was appended
@@ -58,24 +58,24 @@ of_document text tables short is = rw short is
 
 -- the line of a text without tables, and of one with them
 pub no_tables : {E : Type 0} (text : List ℕ) (fault_named fault : ConfigFault) (result : Result (Option (List ℕ)) E) → tables_in text ≡ Err fault_named
-    → IfOk result (λ line. Explains (located_configuration text) (tables_or (Err fault_named)) (λ (at : Located) (w : List ℕ). IsTextWanted text w) fault line)
-    → IfOk result (λ line. Explains (located_configuration text) (tables_or (tables_in text)) (IsWanted text (tables_in text)) fault line)
+    → IfOk result (λ line. Explains text (located_configuration text) (tables_or (Err fault_named)) (λ (at : Located) (w : List ℕ). IsTextWanted text w) fault line)
+    → IfOk result (λ line. Explains text (located_configuration text) (tables_or (tables_in text)) (IsWanted text (tables_in text)) fault line)
 no_tables text fault_named fault result is line =
     subst
-    (λ (t : Read Members). IfOk result (λ line. Explains (located_configuration text) (tables_or t) (IsWanted text t) fault line))
+    (λ (t : Read Members). IfOk result (λ line. Explains text (located_configuration text) (tables_or t) (IsWanted text t) fault line))
     (sym is) line
 
 pub of_tables : {E : Type 0} (text : List ℕ) (top : Members) (fault : ConfigFault) (result : Result (Option (List ℕ)) E)
     → nat_lt 1048576 (length text) ≡ false → document text ≡ Ok top
-    → IfOk result (λ line. Explains (configuration_of top) top (λ (at : Located) (w : List ℕ). w ≡ wanted_words at top) fault line)
-    → IfOk result (λ line. Explains (located_configuration text) (tables_or (tables_in text)) (IsWanted text (tables_in text)) fault line)
+    → IfOk result (λ line. Explains text (configuration_of top) top (λ (at : Located) (w : List ℕ). w ≡ wanted_words at top) fault line)
+    → IfOk result (λ line. Explains text (located_configuration text) (tables_or (tables_in text)) (IsWanted text (tables_in text)) fault line)
 of_tables text top fault result short is line =
     let found : located_configuration text ≡ configuration_of top = rw (short, is) refl in
     subst
-    (λ (f : Find Configuration). IfOk result (λ line. Explains f (tables_or (tables_in text)) (IsWanted text (tables_in text)) fault line))
+    (λ (f : Find Configuration). IfOk result (λ line. Explains text f (tables_or (tables_in text)) (IsWanted text (tables_in text)) fault line))
     (sym found)
     (subst
-    (λ (t : Read Members). IfOk result (λ line. Explains (configuration_of top) (tables_or t) (IsWanted text t) fault line))
+    (λ (t : Read Members). IfOk result (λ line. Explains text (configuration_of top) (tables_or t) (IsWanted text t) fault line))
     (sym (of_document text (Ok top) short is)) line)
 
 -- the words of a text that is read up to this place

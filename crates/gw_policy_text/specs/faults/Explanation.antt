@@ -66,22 +66,23 @@ abbrev pub IsWanted : List ℕ → Read Members → Located → List ℕ → Typ
 IsWanted text (Ok top) located words = words ≡ wanted_words located top
 IsWanted text (Err fault) located words = IsTextWanted text words
 
--- the line of a fault that was found in these tables: its place, what is reported first of it, and what is wanted there
-pub record IsExplanation (found : Find Configuration) (top : Members) (Wanted : Located → List ℕ → Type 0)
+-- the line of a fault that was found in these tables of a text: its place, what is reported first of it, and what is wanted there
+pub record IsExplanation (text : List ℕ) (found : Find Configuration) (top : Members) (Wanted : Located → List ℕ → Type 0)
     (fault : ConfigFault) (line : List ℕ) : Type 0 where
   pub located : Located
   pub first : found ≡ Err located
   pub same : located.fault ≡ fault
   pub last : List ℕ
   pub wanted : Wanted located last
-  pub words : line ≡ shown (place_words located top ++ fault_words fault (value_at located top) ++ last)
+  pub words : line ≡ shown (place_words located top text ++ fault_words fault (value_at located top) ++ last)
 
 -- the line of this fault, or none where the first fault that was found isn't this one
-abbrev pub Explains : Find Configuration → Members → (Located → List ℕ → Type 0) → ConfigFault → Option (List ℕ) → Type 0
-Explains found top Wanted fault (Some line) = IsExplanation found top Wanted fault line
-Explains found top Wanted fault None = without_place found ≢ Err fault
+abbrev pub Explains : (text : List ℕ) → Find Configuration → Members → (Located → List ℕ → Type 0) → ConfigFault → Option (List ℕ)
+    → Type 0
+Explains text found top Wanted fault (Some line) = IsExplanation text found top Wanted fault line
+Explains text found top Wanted fault None = without_place found ≢ Err fault
 
 -- the line that explains this fault of a text, or none where it isn't the first of the text
 abbrev pub ExplainsText : List ℕ → ConfigFault → Option (List ℕ) → Type 0
 ExplainsText text fault line =
-    Explains (located_configuration text) (tables_or (tables_in text)) (IsWanted text (tables_in text)) fault line
+    Explains text (located_configuration text) (tables_or (tables_in text)) (IsWanted text (tables_in text)) fault line

@@ -1,10 +1,11 @@
 -- Where a fault of a configuration is: what is there, and the words of the place.
-use Rattle.std.specs.Prelude.{ℕ, List, [], ◌++◌, codes, Option, Some, None, option_and_then}
+use Rattle.std.specs.Prelude.{ℕ, List, [], ◌++◌, codes, decimal, Option, Some, None, option_and_then}
 use Rattle.toml.specs.Data.{Data, Members, as_str, as_table, at, get_member}
 use Rattle.gw_configuration.specs.declared.located.Place.{Place}
 use Rattle.gw_configuration.specs.declared.located.Place.TheVariants.{Text, Top, Device, Port, Peer, Route}
 use Rattle.gw_configuration.specs.declared.located.Place.TheVariants.{Object, Set, Rule, Assertion}
 use Rattle.gw_configuration.specs.Located.{Located, numbered}
+use Rattle.gw_policy_text.specs.Lines.{table_line}
 
 -- what is at a place
 
@@ -68,10 +69,15 @@ abbrev pub name_words : Option (List ℕ) → List ℕ
 name_words None = []
 name_words (Some name) = codes " \"" ++ name ++ codes "\""
 
--- a table and its name; the one that has the others is left out
-abbrev pub table_part : Place → Option (List ℕ) → List ℕ
-table_part Top name = []
-table_part place name = table_words place ++ name_words name ++ codes ": "
+-- the line on which it begins
+abbrev pub line_words : Option ℕ → List ℕ
+line_words None = []
+line_words (Some line) = codes " (line " ++ decimal line ++ codes ")"
+
+-- a table, its name and its line; the one that has the others is left out
+abbrev pub table_part : Place → Option (List ℕ) → (line : Option ℕ) → List ℕ
+table_part Top name line = []
+table_part place name line = table_words place ++ name_words name ++ line_words line ++ codes ": "
 
 -- a key, where the fault has one
 abbrev pub key_part : List ℕ → List ℕ
@@ -83,7 +89,10 @@ abbrev pub item_part : Option ℕ → List ℕ
 item_part None = []
 item_part (Some position) = numbered (codes "item ") position ++ codes ": "
 
--- the table, its number from 1 and its name, the key, and of a list the item
-abbrev pub place_words : Located → Members → List ℕ
-place_words located top =
-    table_part located.place (name_at located.place top) ++ key_part located.key ++ item_part located.item
+-- the table of the text, its number from 1, its name and its line, the key, and of a list the item
+abbrev pub place_words_at : (line : Option ℕ) → Located → Members → List ℕ
+place_words_at line located top =
+    table_part located.place (name_at located.place top) line ++ key_part located.key ++ item_part located.item
+
+abbrev pub place_words : Located → Members → (text : List ℕ) → List ℕ
+place_words located top text = place_words_at (table_line located.place top text) located top

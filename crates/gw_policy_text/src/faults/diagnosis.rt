@@ -14,6 +14,7 @@ use crate::faults::explanation::Explanation;
 use crate::faults::reason::put_wanted;
 use crate::faults::value::{put_fault, value_at};
 use crate::faults::words::{put_numbered, put_place};
+use crate::lines::table_line;
 use crate::{MAX_OCTETS, config_of, document};
 use gw_configuration::{ConfigFault, Located};
 use std::alloc::{AllocError, Global};
@@ -21,8 +22,8 @@ use toml::Table;
 use toml::de::Error;
 
 /// The line that says where this fault of a text is, the one that `read_config` answered for it: the
-/// table, its number from 1 and its name, the key, of a list the item, and what is wrong there, as in
-/// `port 2: network: 1 is named twice`. `None` where the first fault of the text isn't this one.
+/// table, its number from 1, its name and the line on which it begins, the key, of a list the item, and what is wrong there, as in
+/// `port 2 (line 17): network: 1 is named twice`. `None` where the first fault of the text isn't this one.
 pub fn explain(
     alloc: Global,
     text: &[u8],
@@ -34,7 +35,7 @@ pub fn explain(
         return of_text(alloc, text, ConfigFault::TooMany, fault);
     }
     match document(alloc, text) {
-        Ok(top) => in_tables(alloc, &top, fault),
+        Ok(top) => in_tables(alloc, &top, text, fault),
         Err(ConfigFault::Memory) => Err(AllocError),
         Err(fault_named) => of_text(alloc, text, fault_named, fault),
     }
@@ -48,7 +49,7 @@ fn of_text(
     fault: ConfigFault,
 ) -> Result<Option<Explanation>, AllocError>
     ensures { (found : Find Configuration) (top : Members) → found ≡ Err (of_text fault_named) →
-        IfOk result (λ line. Explains found top (λ _ words. IsTextWanted text.now words) fault line) }
+        IfOk result (λ line. Explains text.now found top (λ _ words. IsTextWanted text.now words) fault line) }
 {
     if fault_named != fault {
         return Ok(None);
@@ -164,33 +165,35 @@ fn octets_behind(front: &[u8]) -> usize
         .count()
 }
 
-/// Of the tables of a document.
+/// Of the tables of a text's document.
 fn in_tables(
     alloc: Global,
     top: &Table,
+    text: &[u8],
     fault: ConfigFault,
 ) -> Result<Option<Explanation>, AllocError>
     ensures { let members = table_view top.now in
         let Wanted : PlainLocated → List ℕ → Type 0 = λ found words. words ≡ wanted_words found members in
-        IfOk result (λ line. Explains (configuration_of members) members Wanted fault line) }
+        IfOk result (λ line. Explains text.now (configuration_of members) members Wanted fault line) }
 {
     let Err(located) = config_of(alloc, top) else {
         return Ok(None);
     };
-    of_fault(alloc, top, &located, fault)
+    of_fault(alloc, top, text, &located, fault)
 }
 
 /// Of a fault of the tables, where it isn't want of memory.
 fn of_fault(
     alloc: Global,
     top: &Table,
+    text: &[u8],
     located: &Located<'_>,
     fault: ConfigFault,
 ) -> Result<Option<Explanation>, AllocError>
     ensures { (found : Find Configuration) →
         (located.now.fault ≢ Memory → found ≡ Err (located_view located.now)) →
         let Wanted : PlainLocated → List ℕ → Type 0 = λ at words. words ≡ wanted_words at (table_view top.now) in
-        IfOk result (λ line. Explains found (table_view top.now) Wanted fault line) }
+        IfOk result (λ line. Explains text.now found (table_view top.now) Wanted fault line) }
 {
     if located.fault == ConfigFault::Memory {
         return Err(AllocError);
@@ -199,8 +202,9 @@ fn of_fault(
         return Ok(None);
     }
     let value = value_at(located, top);
+    let begins = table_line(alloc, located.place, top, text)?;
     let mut line = Vec::new(alloc);
-    put_place(&mut line, located, top)?;
+    put_place(&mut line, located, top, begins)?;
     put_fault(&mut line, fault, value)?;
     put_wanted(&mut line, located, top)?;
     Ok(Some(Explanation::of_words(alloc, &line)?))

@@ -1,7 +1,7 @@
 //! The place of a fault in words.
 ghost use Rattle.std.specs.Prelude.{◌≡◌, ◌++◌, OnOk, option_map};
 ghost use Rattle.toml.specs.View.{table_view};
-ghost use Rattle.gw_policy_text.specs.faults.Place.{item_part, key_part, listed_table, name_at, name_words, place_words, table_at, table_part, table_words};
+ghost use Rattle.gw_policy_text.specs.faults.Place.{item_part, key_part, line_words, listed_table, name_at, name_words, place_words_at, table_at, table_part, table_words};
 ghost use Rattle.gw_configuration.specs.Located.{numbered};
 ghost use Rattle.gw_configuration.specs.Located.{located_view};
 
@@ -11,23 +11,29 @@ use gw_configuration::{Located, Place};
 use std::alloc::AllocError;
 use toml::Table;
 
-/// Puts the table, by its name too, the key and the item. `AllocError` where memory was refused.
+/// Puts the table, by its name and the line on which it begins too, the key and the item. `AllocError` where memory was refused.
 pub(crate) fn put_place(
     line: &mut Vec<u8>,
     located: &Located<'_>,
     top: &Table,
+    begins: Option<u32>,
 ) -> Result<(), AllocError>
-    ensures { let words = place_words (located_view located.now) (table_view top.now) in
+    ensures { let words = place_words_at begins (located_view located.now) (table_view top.now) in
         OnOk result (line.new.items ≡ line.old.items ++ words) }
 {
-    put_table(line, located.place, name_at(located.place, top))?;
+    put_table(line, located.place, name_at(located.place, top), begins)?;
     put_key(line, located.key)?;
     put_item(line, located.item)
 }
 
-/// Puts the table and its name.
-fn put_table(line: &mut Vec<u8>, place: Place, name: Option<&str>) -> Result<(), AllocError>
-    ensures { let words = table_part place (option_map (λ n. n.now) name.entry) in
+/// Puts the table, its name and the line on which it begins.
+fn put_table(
+    line: &mut Vec<u8>,
+    place: Place,
+    name: Option<&str>,
+    begins: Option<u32>,
+) -> Result<(), AllocError>
+    ensures { let words = table_part place (option_map (λ n. n.now) name.entry) begins in
         OnOk result (line.new.items ≡ line.old.items ++ words) }
 {
     if matches!(place, Place::Top) {
@@ -35,6 +41,7 @@ fn put_table(line: &mut Vec<u8>, place: Place, name: Option<&str>) -> Result<(),
     }
     put_part(line, place)?;
     put_name(line, name)?;
+    put_line(line, begins)?;
     line.extend_from_slice(b": ")
 }
 
@@ -80,6 +87,19 @@ fn put_name(line: &mut Vec<u8>, name: Option<&str>) -> Result<(), AllocError>
             line.extend_from_slice(b" \"")?;
             line.extend_from_slice(name.as_bytes())?;
             line.extend_from_slice(b"\"")
+        }
+        None => Ok(()),
+    }
+}
+
+fn put_line(line: &mut Vec<u8>, begins: Option<u32>) -> Result<(), AllocError>
+    ensures { OnOk result (line.new.items ≡ line.old.items ++ line_words begins) }
+{
+    match begins {
+        Some(number) => {
+            line.extend_from_slice(b" (line ")?;
+            put_decimal(line, u128::from(number))?;
+            line.extend_from_slice(b")")
         }
         None => Ok(()),
     }

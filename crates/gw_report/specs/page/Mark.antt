@@ -66,9 +66,9 @@ mark_text mark.Style = STYLE.now
 mark_text mark.End = codes "</body></html>\n"
 mark_text (mark.Open e) = opening e
 mark_text (mark.Close e) = closing e
-mark_text mark.Picture = codes "<svg role=\"img\" viewBox=\"0 0 720 "
+mark_text mark.Picture = codes "<div class=\"wide\"><svg role=\"img\" viewBox=\"0 0 724 "
 mark_text mark.PictureBody = codes "\">\n"
-mark_text mark.PictureEnd = codes "</svg>\n"
+mark_text mark.PictureEnd = codes "</svg></div>\n"
 mark_text (mark.Shape s) = shape_text s
 mark_text (mark.Label l) = label_text l
 mark_text mark.Down = codes "\" y=\""

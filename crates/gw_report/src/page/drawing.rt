@@ -1,4 +1,4 @@
-//! What pictures are drawn of. Lengths are in 720ths of a picture's width.
+//! What pictures are drawn of. Lengths are in 724ths of a picture's width.
 
 /// A rectangle, by what it represents.
 #[derive(Clone, Copy)]

@@ -82,6 +82,10 @@ rect.peer{fill:#eef4ec;stroke:#6b9a5b}
 rect.router{fill:#fbf1df;stroke:#b98a3c}
 rect.device{fill:#efe9f6;stroke:#7b5fa8}
 rect.bar{fill:#b5483c;stroke:none}
+@media screen and (max-width:44em){
+svg{min-width:42em}
+td code{min-width:17em}
+}
 @page{margin:14mm}
 @media print{
 body{max-width:none;margin:0;padding:0;font-size:11px}
@@ -105,9 +109,9 @@ impl Mark {
             Mark::End => "</body></html>\n",
             Mark::Open(element) => opening(element),
             Mark::Close(element) => closing(element),
-            Mark::Picture => "<svg role=\"img\" viewBox=\"0 0 720 ",
+            Mark::Picture => "<div class=\"wide\"><svg role=\"img\" viewBox=\"0 0 724 ",
             Mark::PictureBody => "\">\n",
-            Mark::PictureEnd => "</svg>\n",
+            Mark::PictureEnd => "</svg></div>\n",
             Mark::Shape(shape) => shape_text(shape),
             Mark::Label(label) => label_text(label),
             Mark::Down => "\" y=\"",

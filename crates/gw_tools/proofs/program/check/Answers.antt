@@ -1,7 +1,7 @@
 use Rattle.std.proofs.Common.{Ok, Err, refl, subst, ℕ, List}
 use Rattle.std.specs.Io.Buffered.{writer_contents}
 use Rattle.gw_ending.proofs.reading_lemmas.AppendLemmas.{front_written}
-use Rattle.gw_policy_drafts.specs.Lines.{table_lines}
+use Rattle.gw_policy_text.specs.Lines.{table_lines}
 use Rattle.gw_tools.specs.Program.{LeavesConfigured}
 use Rattle.gw_tools.proofs.program.check.Goals as goal
 

@@ -11,5 +11,5 @@ returns c found top is =
     let same : c.args.fault_named ≡ c.args.fault = search rules in
     let last = c.in_ok-wanted.wanted.items in
     let words : c.in_ok-of_words.field-0 ≡ shown (codes "the text: " ++ fault_words c.args.fault None ++ last) = search rules in
-    explained (of_text c.args.fault_named) top (λ (at : Located) (w : List ℕ). IsTextWanted c.args.text.now w) c.args.fault c.in_ok-of_words.field-0 last found
+    explained c.args.text.now (of_text c.args.fault_named) top (λ (at : Located) (w : List ℕ). IsTextWanted c.args.text.now w) c.args.fault c.in_ok-of_words.field-0 last found
     same words c.in_ok-wanted.ensures is

@@ -1,7 +1,0 @@
-use Rattle.std.proofs.Common.{◌≡◌, drop}
-use Rattle.gw_policy_drafts.specs.Lines.{all_read, start}
-use Rattle.gw_policy_drafts.specs.internal.Lines.{seen}
-use Rattle.gw_policy_drafts.proofs.lines.Cut.of_text.Given as goal
-
-abbrev pub invariant-loop-octet : goal.invariant-loop-octet
-invariant-loop-octet l = all_read (seen l.cut) (drop l.octet-index l.text) ≡ all_read start l.text
