@@ -1,5 +1,5 @@
 -- Links one after the other, and what they reported.
-use Rattle.std.proofs.Common.{◌≡◌, ◌∙◌, ℕ, ◌+◌, ◌<◌, List, [], ◌∷◌, ◌++◌, Option, Some, None, refl, sym, ap, subst, append_assoc, length, arith, rules, inr}
+use Rattle.std.proofs.Common.{◌≡◌, ◌∙◌, ℕ, ◌+◌, ◌<◌, List, [], ◌∷◌, ◌++◌, Option, Some, None, refl, sym, ap, subst, append_assoc, length, arith, rules, inr, inl}
 use Rattle.std.specs.Io.KnownBytes.{Appends, Keeps}
 use Rattle.std.proofs.KnownBytes.{Appends-kept}
 use Rattle.std.proofs.lemmas.List.{append-nil, flat_map_more, length-append}
@@ -23,7 +23,8 @@ use Rattle.gw_wire.specs.Wire.{Call}
 use Rattle.gw_turns.specs.declared.serving.Served.{Served}
 use Rattle.gw_turns.specs.declared.tally.Tally.{Tally}
 use Rattle.gw_system.proofs.RequestLemmas.{goes_two}
-use Rattle.gw_system.specs.Requests.{Asking, GoesOn, answered, asked, asked_to_say}
+use Rattle.gw_system.specs.Requests.{Asking, Exchange, GoesOn, answered, asked, asked_by, asked_for, asked_to_say}
+use Rattle.gw_system.specs.declared.request.Request.{Request}
 use Rattle.gw_system.specs.declared.reading.ReadFailure.{ReadFailure}
 use Rattle.gw_service.specs.Chain.{Advances, AdvancesBy, AreLinks, Edge, IsLink, IsLooked, IsNotedBy, IsNotedWith, IsTicked, Link, Look, Looks, Manner, Runs, RunsUnsynced, Stage, chain_text, end_of, is_stopping, link_text, look_text}
 use Rattle.gw_service.specs.Chain.{ended, inquired, passed_over, refused, served, standing, stopping, taken_over, ticked, unrequested}
@@ -154,6 +155,11 @@ inquired_so Adopts o w k first last answer counts announcing Never held Takes lo
   λ never. appends_nothing held,
   ((refl, refl), says),
 )
+
+-- what was taken is a request of this kind
+pub asked_so : (a b : Asking) (taken : Option Request) (request : Request) (exchange : Exchange) → taken ≡ Some request
+    → asked_for request ≡ exchange → GoesOn a b (asked_by taken ∷ []) → GoesOn a b (exchange ∷ [])
+asked_so a b taken request exchange is same goes = subst (λ (x : Exchange). GoesOn a b (x ∷ [])) (ap asked_by is ∙ same) goes
 
 -- it is the report, or says that there was no memory
 pub says_status : (report : List ℕ) (text : Result (Vec ℕ) WriteFailed) → IfOk text (λ t. t.items ≡ report)
