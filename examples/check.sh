@@ -295,6 +295,7 @@ none compare --config a --with b --most 0
 none reload --config a --reload b --was c --most 0
 refused stop
 refused stop --config a --reload b
+refused status
 refused rules
 refused report --log a
 refused help --help
@@ -332,6 +333,7 @@ helped state --help
 helped suggest --help
 helped reload --help
 helped stop --help
+helped status --help
 helped rules --help
 helped report --help
 helped objects --help
@@ -469,6 +471,8 @@ if "$program" run --help | grep -q -e --reload; then
     timeout 20 "$program" run --config "$work/served.toml" --state "$work/stopped.state" --reload "$work/request" < /dev/null > "$work/out" 2> "$work/err" &
     server=$!
     sleep 1
+    "$tool" status --reload "$work/request" < /dev/null > "$work/told" 2>&1
+    same 'bacgwctl status' "$? $(sed -n 's/^\(stats seconds=\).*/\1/p' "$work/told")" '0 stats seconds='
     "$tool" stop --reload "$work/request" < /dev/null > "$work/told" 2>&1
     same 'bacgwctl stop' "$? $(cat "$work/told")" '0 stopped'
     wait "$server"

@@ -14,7 +14,7 @@ _bacgwctl() {
         return
     fi
     if [ "$COMP_CWORD" = 1 ]; then
-        options='check explain lint migrate rules why compare log state reload stop suggest report objects ask init help --help --version'
+        options='check explain lint migrate rules why compare log state reload stop status suggest report objects ask init help --help --version'
     else
         case $before in
             --config | --with | --log | --state | --reload | --was) compopt -o default; return ;;
@@ -29,7 +29,7 @@ _bacgwctl() {
             why) options='--config --count --json --strict --help' ;;
             state) options='--config --state --help' ;;
             reload) options='--config --reload --was --most --help' ;;
-            stop) options='--reload --wait --help' ;;
+            stop | status) options='--reload --wait --help' ;;
             suggest) options='--config --fill --exact --help' ;;
             compare) options='--config --with --most --steps --json --help' ;;
             report) options='--config --log --help' ;;
@@ -40,7 +40,7 @@ _bacgwctl() {
             objects) options='--config --csv --help' ;;
             ask) options='--config --from --to --read --write --priority --service --who-is --register --help' ;;
             init) options='--port --peer --router --operator --bbmd --help' ;;
-            help) options='check explain lint migrate rules why compare log state reload stop suggest report objects ask init' ;;
+            help) options='check explain lint migrate rules why compare log state reload stop status suggest report objects ask init' ;;
             *) return ;;
         esac
     fi

@@ -1,5 +1,5 @@
 # Completions of bacgwctl for fish.
-set -l commands check explain lint migrate rules why compare log state reload stop suggest report objects ask init help
+set -l commands check explain lint migrate rules why compare log state reload stop status suggest report objects ask init help
 
 complete -c bacgwctl -f
 complete -c bacgwctl -n "not __fish_seen_subcommand_from $commands" -a check -d 'Says what a configuration has, or its first fault'
@@ -13,6 +13,7 @@ complete -c bacgwctl -n "not __fish_seen_subcommand_from $commands" -a log -d 'S
 complete -c bacgwctl -n "not __fish_seen_subcommand_from $commands" -a state -d 'Says what a kept state holds'
 complete -c bacgwctl -n "not __fish_seen_subcommand_from $commands" -a reload -d 'Asks a running gateway to read its configuration again'
 complete -c bacgwctl -n "not __fish_seen_subcommand_from $commands" -a stop -d 'Asks a running gateway to keep its state and stop'
+complete -c bacgwctl -n "not __fish_seen_subcommand_from $commands" -a status -d 'Asks a running gateway what it counts'
 complete -c bacgwctl -n "not __fish_seen_subcommand_from $commands" -a suggest -d 'Writes rules that allow the asks of standard input'
 complete -c bacgwctl -n "not __fish_seen_subcommand_from $commands" -a report -d 'Writes a page of HTML on a configuration and a log'
 complete -c bacgwctl -n "not __fish_seen_subcommand_from $commands" -a objects -d 'Lists the objects of a configuration'
@@ -25,8 +26,8 @@ complete -c bacgwctl -n '__fish_seen_subcommand_from check explain lint migrate 
 complete -c bacgwctl -n '__fish_seen_subcommand_from explain' -l lint -d 'Also prints which rules never decide'
 complete -c bacgwctl -n '__fish_seen_subcommand_from report' -l log -r -F -d 'The log whose denials are shown'
 complete -c bacgwctl -n '__fish_seen_subcommand_from state' -l state -r -F -d 'The file in which run keeps the state'
-complete -c bacgwctl -n '__fish_seen_subcommand_from reload stop' -l reload -r -F -d 'The file that run --reload looks for'
-complete -c bacgwctl -n '__fish_seen_subcommand_from stop' -l wait -d 'Waits up to 4 minutes for the answer'
+complete -c bacgwctl -n '__fish_seen_subcommand_from reload stop status' -l reload -r -F -d 'The file that run --reload looks for'
+complete -c bacgwctl -n '__fish_seen_subcommand_from stop status' -l wait -d 'Waits up to 4 minutes for the answer'
 complete -c bacgwctl -n '__fish_seen_subcommand_from why' -l count -d 'Counts the asks that each rule decides'
 complete -c bacgwctl -n '__fish_seen_subcommand_from why' -l strict -d 'Ends at a line that isn\'t an ask alone'
 complete -c bacgwctl -n '__fish_seen_subcommand_from log why' -l json -d 'Makes each line a JSON object'
@@ -53,4 +54,4 @@ complete -c bacgwctl -n '__fish_seen_subcommand_from init' -l operator -x -d 'A 
 complete -c bacgwctl -n '__fish_seen_subcommand_from init' -l bbmd -x -d 'The broadcast manager that a subnet has already'
 complete -c bacgwctl -n '__fish_seen_subcommand_from log' -F
 complete -c bacgwctl -n '__fish_seen_subcommand_from log' -l start -x -d 'Also shows when each denial was, if the log began then'
-complete -c bacgwctl -n '__fish_seen_subcommand_from help' -a 'check explain lint migrate rules why compare log state reload stop suggest report objects ask init'
+complete -c bacgwctl -n '__fish_seen_subcommand_from help' -a 'check explain lint migrate rules why compare log state reload stop status suggest report objects ask init'

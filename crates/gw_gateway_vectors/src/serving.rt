@@ -8,7 +8,8 @@ use crate::wire::MemWire;
 use gw_cases::{MemWriter, number, number_or_none, put_word, unfolded};
 use gw_core::{Counts, Gateway, Unguarded};
 use gw_turns::{
-    Pause, ServeFault, ServeState, ServeStop, Served, has_gone_on, report_of, serve, try_report,
+    Pause, ServeFault, ServeState, ServeStop, Served, has_gone_on, report_of, serve,
+    write_culprits, write_report,
 };
 use gw_wire::Wire;
 use std::alloc::Global;
@@ -101,7 +102,8 @@ fn report(gateway: &Gateway, state: &ServeState, reports: &mut MemWriter) -> io:
         return Err(ErrorKind::InvalidData.into());
     }
     let report = report_of(BEFORE, gateway, &state.served, state.tally);
-    try_report(&report, reports);
+    let _ = write_report(&report, reports);
+    let _ = write_culprits(None, gateway.counts().ticks, &state.tally, reports);
     Ok(())
 }
 

@@ -13,12 +13,6 @@ three_writes (Ok done) a b c d x y z first second third =
     subst (λ (t : List ℕ). Appends a d t) (append_assoc x y z) (appends_two a c d (x ++ y) z (appends_two a b c x y first second) third)
 three_writes (Err failed) a b c d x y z first second third = tt
 
--- so does the last of two
-pub two_writes : {T E : Type 0} (r : Result T E) (a b c : Option (List ℕ)) (x y : List ℕ) → Appends a b x → OnOk r (Appends b c y)
-    → OnOk r (Appends a c (x ++ y))
-two_writes (Ok done) a b c x y first second = appends_two a b c x y first second
-two_writes (Err failed) a b c x y first second = tt
-
 -- ---- the lines of rules
 
 -- no line for no rule

@@ -1,5 +1,5 @@
 -- What an operator reads of what is kept and recorded, or isn't.
-use Rattle.std.specs.Prelude.{ℕ, Bool, true, false, List, [], Option, Some, None, codes, ◌++◌, ◌∷◌}
+use Rattle.std.specs.Prelude.{◌≡◌, ◌⊎◌, ℕ, Bool, true, false, List, [], Option, Some, None, codes, ◌++◌, ◌∷◌}
 use Rattle.gw_wire.specs.declared.store.StoreFault.{StoreFault}
 use Rattle.gw_wire.specs.declared.store.StoreFault.TheVariants as store
 use Rattle.gw_notices.specs.declared.troubles.Troubles.{Troubles}
@@ -64,3 +64,11 @@ abbrev pub notice_of : (was is : Troubles) → List ℕ
 notice_of was is =
     state_notice was.state is.state
     ++ (trial_notice was.trial is.trial ++ (audit_notice was.audit is.audit ++ ended_notice was.ended is.ended))
+
+-- what is answered if there is no memory to say what is counted
+abbrev pub no_status_line : List ℕ
+no_status_line = codes "bacgw: status: out of memory\n"
+
+-- A request to say what is counted is answered by this report, or so.
+abbrev pub IsStatusAnswer : (report answer : List ℕ) → Type 0
+IsStatusAnswer report answer = (answer ≡ report) ⊎ (answer ≡ no_status_line)

@@ -29,8 +29,5 @@ counts_text rules (Some counts) = if length counts == length rules + 1 then tall
 abbrev pub logs_text : WatchCounts → List ℕ
 logs_text w = trial_text w.trial ++ audit_text w.audit
 
-abbrev pub asks_text : List Rule → (unseen : ℕ) → Option (List ℕ) → List ℕ
-asks_text rules unseen counts = unseen_text unseen ++ counts_text rules counts
-
-abbrev pub watch_text : List Rule → WatchCounts → Option (List ℕ) → List ℕ
-watch_text rules w counts = logs_text w ++ asks_text rules w.unseen counts
+abbrev pub watch_text : WatchCounts → List ℕ
+watch_text w = logs_text w ++ unseen_text w.unseen

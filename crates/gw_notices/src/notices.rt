@@ -2,7 +2,7 @@
 
 ghost use Rattle.std.specs.Prelude.{◌≡◌, None, Some};
 ghost use Rattle.std.specs.Io.KnownBytes.{Appends};
-ghost use Rattle.gw_notices.specs.Notices.{audit_notice, ended_notice, metrics_notice, notice_of, state_notice, stop_line, trial_notice, unkept_line, untaken_line};
+ghost use Rattle.gw_notices.specs.Notices.{audit_notice, ended_notice, metrics_notice, no_status_line, notice_of, state_notice, stop_line, trial_notice, unkept_line, untaken_line};
 
 use crate::note::write_note;
 use crate::troubles::Troubles;
@@ -97,6 +97,13 @@ pub fn untaken_line() -> &'static str
     ensures { result.now ≡ untaken_line }
 {
     "bacgw: request isn't taken: it is none, or can't be read or taken away\n"
+}
+
+/// The answer to a request to say what is counted, if there is no memory for that.
+pub fn no_status_line() -> &'static str
+    ensures { result.now ≡ no_status_line }
+{
+    "bacgw: status: out of memory\n"
 }
 
 /// The answer to a request to stop, by why the state isn't kept, if it isn't. It takes no memory.

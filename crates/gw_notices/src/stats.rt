@@ -9,7 +9,7 @@ use gw_script::{OctetSink, WriteFailed, write_whole};
 use itoa::Buffer;
 
 /// Writes how often the state couldn't be kept.
-fn write_unkept<E: OctetSink>(unkept: u64, errors: &mut E) -> Result<(), WriteFailed>
+fn write_unkept_line<E: OctetSink>(unkept: u64, errors: &mut E) -> Result<(), WriteFailed>
     ensures ok { OnOk result (Appends (E.held errors.old) (E.held errors.new) (unkept_text true unkept)) }
     ensures sure { E.NeverFails errors.old → IsOk result }
     ensures lasts { E.NeverFails errors.old → E.NeverFails errors.new }
@@ -19,13 +19,20 @@ fn write_unkept<E: OctetSink>(unkept: u64, errors: &mut E) -> Result<(), WriteFa
     write_whole(errors, b"\n")
 }
 
-/// Reports how often the state couldn't be kept, if it is.
-pub fn report_unkept<E: OctetSink>(is_kept: bool, unkept: u64, errors: &mut E)
-    ensures said { E.NeverFails errors.old → Appends (E.held errors.old) (E.held errors.new) (unkept_text is_kept unkept) }
+/// Writes how often the state couldn't be kept, if it is.
+pub fn write_unkept<E: OctetSink>(
+    is_kept: bool,
+    unkept: u64,
+    errors: &mut E,
+) -> Result<(), WriteFailed>
+    ensures ok { OnOk result (Appends (E.held errors.old) (E.held errors.new) (unkept_text is_kept unkept)) }
+    ensures sure { E.NeverFails errors.old → IsOk result }
     ensures lasts { E.NeverFails errors.old → E.NeverFails errors.new }
 {
     if is_kept {
-        let _ = write_unkept(unkept, errors);
+        write_unkept_line(unkept, errors)
+    } else {
+        Ok(())
     }
 }
 
@@ -44,7 +51,7 @@ pub(crate) fn write_count<E: OctetSink>(
 }
 
 /// Writes how often a configuration was taken over and refused, and since when the one in force is.
-fn write_reloads<E: OctetSink>(counts: ReloadCounts, errors: &mut E) -> Result<(), WriteFailed>
+fn write_reloads_line<E: OctetSink>(counts: ReloadCounts, errors: &mut E) -> Result<(), WriteFailed>
     ensures ok { OnOk result (Appends (E.held errors.old) (E.held errors.new) (reloads_text true counts)) }
     ensures sure { E.NeverFails errors.old → IsOk result }
     ensures lasts { E.NeverFails errors.old → E.NeverFails errors.new }
@@ -55,18 +62,25 @@ fn write_reloads<E: OctetSink>(counts: ReloadCounts, errors: &mut E) -> Result<(
     write_whole(errors, b"\n")
 }
 
-/// Reports how often the configuration was read again, if it is.
-pub fn report_reloads<E: OctetSink>(is_read: bool, counts: ReloadCounts, errors: &mut E)
-    ensures said { E.NeverFails errors.old → Appends (E.held errors.old) (E.held errors.new) (reloads_text is_read counts) }
+/// Writes how often the configuration was read again, if it is.
+pub fn write_reloads<E: OctetSink>(
+    is_read: bool,
+    counts: ReloadCounts,
+    errors: &mut E,
+) -> Result<(), WriteFailed>
+    ensures ok { OnOk result (Appends (E.held errors.old) (E.held errors.new) (reloads_text is_read counts)) }
+    ensures sure { E.NeverFails errors.old → IsOk result }
     ensures lasts { E.NeverFails errors.old → E.NeverFails errors.new }
 {
     if is_read {
-        let _ = write_reloads(counts, errors);
+        write_reloads_line(counts, errors)
+    } else {
+        Ok(())
     }
 }
 
 /// Writes how many texts of metrics were lost.
-fn write_lost_metrics<E: OctetSink>(lost: u64, errors: &mut E) -> Result<(), WriteFailed>
+fn write_lost_line<E: OctetSink>(lost: u64, errors: &mut E) -> Result<(), WriteFailed>
     ensures ok { OnOk result (Appends (E.held errors.old) (E.held errors.new) (lost_line lost)) }
     ensures sure { E.NeverFails errors.old → IsOk result }
     ensures lasts { E.NeverFails errors.old → E.NeverFails errors.new }
@@ -75,18 +89,23 @@ fn write_lost_metrics<E: OctetSink>(lost: u64, errors: &mut E) -> Result<(), Wri
     write_whole(errors, b"\n")
 }
 
-/// Reports how many texts of metrics were lost, if metrics are written.
-pub fn report_lost_metrics<E: OctetSink>(lost: Option<u64>, errors: &mut E)
-    ensures said { E.NeverFails errors.old → Appends (E.held errors.old) (E.held errors.new) (lost_metrics_text lost) }
+/// Writes how many texts of metrics were lost, if metrics are written.
+pub fn write_lost_metrics<E: OctetSink>(
+    lost: Option<u64>,
+    errors: &mut E,
+) -> Result<(), WriteFailed>
+    ensures ok { OnOk result (Appends (E.held errors.old) (E.held errors.new) (lost_metrics_text lost)) }
+    ensures sure { E.NeverFails errors.old → IsOk result }
     ensures lasts { E.NeverFails errors.old → E.NeverFails errors.new }
 {
-    if let Some(lost) = lost {
-        let _ = write_lost_metrics(lost, errors);
+    match lost {
+        Some(lost) => write_lost_line(lost, errors),
+        None => Ok(()),
     }
 }
 
 /// Writes how often an announcement that was due wasn't tried.
-fn write_put_off<E: OctetSink>(put_off: u128, errors: &mut E) -> Result<(), WriteFailed>
+fn write_put_off_line<E: OctetSink>(put_off: u128, errors: &mut E) -> Result<(), WriteFailed>
     ensures ok { OnOk result (Appends (E.held errors.old) (E.held errors.new) (put_off_line put_off)) }
     ensures sure { E.NeverFails errors.old → IsOk result }
     ensures lasts { E.NeverFails errors.old → E.NeverFails errors.new }
@@ -96,12 +115,15 @@ fn write_put_off<E: OctetSink>(put_off: u128, errors: &mut E) -> Result<(), Writ
     write_whole(errors, b"\n")
 }
 
-/// Reports how often an announcement that was due wasn't tried, if one wasn't.
-pub fn report_put_off<E: OctetSink>(put_off: u128, errors: &mut E)
-    ensures said { E.NeverFails errors.old → Appends (E.held errors.old) (E.held errors.new) (put_off_text put_off) }
+/// Writes how often an announcement that was due wasn't tried, if one wasn't.
+pub fn write_put_off<E: OctetSink>(put_off: u128, errors: &mut E) -> Result<(), WriteFailed>
+    ensures ok { OnOk result (Appends (E.held errors.old) (E.held errors.new) (put_off_text put_off)) }
+    ensures sure { E.NeverFails errors.old → IsOk result }
     ensures lasts { E.NeverFails errors.old → E.NeverFails errors.new }
 {
     if put_off != 0 {
-        let _ = write_put_off(put_off, errors);
+        write_put_off_line(put_off, errors)
+    } else {
+        Ok(())
     }
 }

@@ -3,8 +3,8 @@
 ghost use Rattle.std.specs.Prelude.{◌≡◌, ◌++◌, ◌+◌, codes, decimal, length, IsOk, OnOk};
 ghost use Rattle.std.specs.Io.KnownBytes.{Appends};
 ghost use Rattle.gw_script.specs.Order.{in_order};
-ghost use Rattle.gw_notices.specs.Watch.{asks_text, audit_text, beside_text, counts_text, logs_text, trial_text, unseen_text, watch_text};
-ghost use Rattle.gw_decisions.specs.tally.Tally.{line_in, rule_line};
+ghost use Rattle.gw_notices.specs.Watch.{audit_text, beside_text, counts_text, logs_text, trial_text, unseen_text, watch_text};
+ghost use Rattle.gw_decisions.specs.tally.Tally.{line_in, rule_line, tally_text};
 
 use crate::stats::write_count;
 use gw_decisions::tally::Tally;
@@ -47,23 +47,27 @@ fn write_beside<E: OctetSink>(
     write_whole(errors, b"\n")
 }
 
-/// Reports what a policy on trial recorded, if there is one.
-fn report_trial<E: OctetSink>(trial: Option<LogCount>, errors: &mut E)
-    ensures said { E.NeverFails errors.old → Appends (E.held errors.old) (E.held errors.new) (trial_text trial) }
+/// Writes what a policy on trial recorded, if there is one.
+fn write_trial<E: OctetSink>(trial: Option<LogCount>, errors: &mut E) -> Result<(), WriteFailed>
+    ensures ok { OnOk result (Appends (E.held errors.old) (E.held errors.new) (trial_text trial)) }
+    ensures sure { E.NeverFails errors.old → IsOk result }
     ensures lasts { E.NeverFails errors.old → E.NeverFails errors.new }
 {
-    if let Some(trial) = trial {
-        let _ = write_beside("stats trial=", trial.number, trial.lost, errors);
+    match trial {
+        Some(trial) => write_beside("stats trial=", trial.number, trial.lost, errors),
+        None => Ok(()),
     }
 }
 
-/// Reports what an audit recorded, if there is one.
-fn report_audit<E: OctetSink>(audit: Option<LogCount>, errors: &mut E)
-    ensures said { E.NeverFails errors.old → Appends (E.held errors.old) (E.held errors.new) (audit_text audit) }
+/// Writes what an audit recorded, if there is one.
+fn write_audit<E: OctetSink>(audit: Option<LogCount>, errors: &mut E) -> Result<(), WriteFailed>
+    ensures ok { OnOk result (Appends (E.held errors.old) (E.held errors.new) (audit_text audit)) }
+    ensures sure { E.NeverFails errors.old → IsOk result }
     ensures lasts { E.NeverFails errors.old → E.NeverFails errors.new }
 {
-    if let Some(audit) = audit {
-        let _ = write_beside("stats audit=", audit.number, audit.lost, errors);
+    match audit {
+        Some(audit) => write_beside("stats audit=", audit.number, audit.lost, errors),
+        None => Ok(()),
     }
 }
 
@@ -75,14 +79,6 @@ fn write_unseen<E: OctetSink>(unseen: u64, errors: &mut E) -> Result<(), WriteFa
 {
     write_count("stats unseen=", unseen, errors)?;
     write_whole(errors, b"\n")
-}
-
-/// Reports how many events weren't watched.
-fn report_unseen<E: OctetSink>(unseen: u64, errors: &mut E)
-    ensures said { E.NeverFails errors.old → Appends (E.held errors.old) (E.held errors.new) (unseen_text unseen) }
-    ensures lasts { E.NeverFails errors.old → E.NeverFails errors.new }
-{
-    let _ = write_unseen(unseen, errors);
 }
 
 /// Writes how many asks the rule of this number decided.
@@ -104,29 +100,26 @@ fn write_rule<E: OctetSink>(
     write_whole(errors, b"\n")
 }
 
-/// Reports how many asks the rule of this number decided.
-fn report_rule<E: OctetSink>(number: u64, rule: &Rule, count: u64, errors: &mut E)
-    ensures said { E.NeverFails errors.old → Appends (E.held errors.old) (E.held errors.new) (rule_line number rule.now count) }
-    ensures lasts { E.NeverFails errors.old → E.NeverFails errors.new }
-{
-    let _ = write_rule(number, rule, count, errors);
-}
-
-/// Reports how many asks each rule decided, in order.
-fn report_rules<E: OctetSink>(rules: &[Rule], counts: &Tally, errors: &mut E)
+/// Writes how many asks each rule decided, in order.
+fn write_rules<E: OctetSink>(
+    rules: &[Rule],
+    counts: &Tally,
+    errors: &mut E,
+) -> Result<(), WriteFailed>
     requires { length counts.now ≡ length rules.now + 1 }
-    ensures said { E.NeverFails errors.old →
-        Appends (E.held errors.old) (E.held errors.new) (in_order (line_in counts.now) 1 rules.now) }
+    ensures ok { OnOk result (Appends (E.held errors.old) (E.held errors.new) (in_order (line_in counts.now) 1 rules.now)) }
+    ensures sure { E.NeverFails errors.old → IsOk result }
     ensures lasts { E.NeverFails errors.old → E.NeverFails errors.new }
 {
     for place in 0..rules.len() {
-        report_rule(
+        write_rule(
             place as u64 + 1,
             &rules[place],
             counts.count(place + 1),
             errors,
-        );
+        )?;
     }
+    Ok(())
 }
 
 /// Writes how many asks no rule decided.
@@ -140,60 +133,53 @@ fn write_default<E: OctetSink>(count: u64, errors: &mut E) -> Result<(), WriteFa
     write_whole(errors, b"\n")
 }
 
-/// Reports how many asks no rule decided.
-fn report_default<E: OctetSink>(count: u64, errors: &mut E)
-    ensures said { E.NeverFails errors.old → Appends (E.held errors.old) (E.held errors.new)
-        (codes "default: " ++ decimal count ++ codes "\n") }
+/// Writes how many asks each rule decided, and how many none did.
+fn write_tally<E: OctetSink>(
+    rules: &[Rule],
+    counts: &Tally,
+    errors: &mut E,
+) -> Result<(), WriteFailed>
+    requires { length counts.now ≡ length rules.now + 1 }
+    ensures ok { OnOk result (Appends (E.held errors.old) (E.held errors.new) (tally_text rules.now counts.now)) }
+    ensures sure { E.NeverFails errors.old → IsOk result }
     ensures lasts { E.NeverFails errors.old → E.NeverFails errors.new }
 {
-    let _ = write_default(count, errors);
+    write_rules(rules, counts, errors)?;
+    write_default(counts.count(0), errors)
 }
 
-/// Reports how many asks each rule decided, and how many none did, if they are counts of these rules. They always are.
-fn report_counts<E: OctetSink>(rules: &RuleList, counts: &Option<Tally>, errors: &mut E)
-    ensures said { E.NeverFails errors.old →
-        Appends (E.held errors.old) (E.held errors.new) (counts_text rules.now counts.now) }
+/// Writes how many asks each rule decided, and how many none did, if they are counts of these rules. They always are.
+pub fn write_counts<E: OctetSink>(
+    rules: &RuleList,
+    counts: &Option<Tally>,
+    errors: &mut E,
+) -> Result<(), WriteFailed>
+    ensures ok { OnOk result (Appends (E.held errors.old) (E.held errors.new) (counts_text rules.now counts.now)) }
+    ensures sure { E.NeverFails errors.old → IsOk result }
     ensures lasts { E.NeverFails errors.old → E.NeverFails errors.new }
 {
     match counts {
-        Some(counts) if counts.is_of(rules) => {
-            report_rules(rules.rules(), counts, errors);
-            report_default(counts.count(0), errors);
-        }
-        _ => {}
+        Some(counts) if counts.is_of(rules) => write_tally(rules.rules(), counts, errors),
+        _ => Ok(()),
     }
 }
 
-/// Reports what the logs of what watches have and lost.
-fn report_logs<E: OctetSink>(watched: WatchCounts, errors: &mut E)
-    ensures said { E.NeverFails errors.old → Appends (E.held errors.old) (E.held errors.new) (logs_text watched) }
+/// Writes what the logs of what watches have and lost.
+fn write_logs<E: OctetSink>(watched: WatchCounts, errors: &mut E) -> Result<(), WriteFailed>
+    ensures ok { OnOk result (Appends (E.held errors.old) (E.held errors.new) (logs_text watched)) }
+    ensures sure { E.NeverFails errors.old → IsOk result }
     ensures lasts { E.NeverFails errors.old → E.NeverFails errors.new }
 {
-    report_trial(watched.trial, errors);
-    report_audit(watched.audit, errors);
+    write_trial(watched.trial, errors)?;
+    write_audit(watched.audit, errors)
 }
 
-/// Reports how many events weren't watched, and how many asks each of these rules decided.
-fn report_asks<E: OctetSink>(rules: &RuleList, unseen: u64, counts: &Option<Tally>, errors: &mut E)
-    ensures said { E.NeverFails errors.old →
-        Appends (E.held errors.old) (E.held errors.new) (asks_text rules.now unseen counts.now) }
+/// Writes what watches a gateway recorded and lost, and how many events it didn't watch.
+pub fn write_watched<E: OctetSink>(watched: WatchCounts, errors: &mut E) -> Result<(), WriteFailed>
+    ensures ok { OnOk result (Appends (E.held errors.old) (E.held errors.new) (watch_text watched)) }
+    ensures sure { E.NeverFails errors.old → IsOk result }
     ensures lasts { E.NeverFails errors.old → E.NeverFails errors.new }
 {
-    report_unseen(unseen, errors);
-    report_counts(rules, counts, errors);
-}
-
-/// Reports what watches a gateway recorded and lost, and how many asks each of these rules decided.
-pub fn report_watched<E: OctetSink>(
-    rules: &RuleList,
-    watched: WatchCounts,
-    counts: &Option<Tally>,
-    errors: &mut E,
-)
-    ensures said { E.NeverFails errors.old →
-        Appends (E.held errors.old) (E.held errors.new) (watch_text rules.now watched counts.now) }
-    ensures lasts { E.NeverFails errors.old → E.NeverFails errors.new }
-{
-    report_logs(watched, errors);
-    report_asks(rules, watched.unseen, counts, errors);
+    write_logs(watched, errors)?;
+    write_unseen(watched.unseen, errors)
 }

@@ -144,20 +144,25 @@ impl<'a> Store for MemStore<'a> {
     }
 }
 
-/// Requests in memory: one at the first look.
+/// Requests in memory: one at the first look. They keep what they were answered.
 #[derive(Drop)]
-pub struct MemRequests {
+pub struct MemRequests<'a> {
     asked: Option<Request>,
+    answers: &'a RefCell<Vec<u8>>,
 }
 
-impl Requests for MemRequests {
+impl Requests for MemRequests<'_> {
     ghost recorded = { λ _. silent };
 
     fn take(&mut self, _alloc: Global, _most: usize) -> Option<Request> {
         self.asked.take()
     }
 
-    fn answer(&mut self, _text: &[u8]) {}
+    fn answer(&mut self, text: &[u8]) {
+        if let Ok(mut answers) = self.answers.try_borrow_mut() {
+            let _ = answers.extend_from_slice(text);
+        }
+    }
 }
 
 /// A clock that always shows the first second of 1970.
@@ -182,6 +187,9 @@ const ABSENT: &[u8] = b"absent";
 /// That of a request to stop.
 const STOP: &[u8] = b"stop";
 
+/// That of a request to say what is counted.
+const STATUS: &[u8] = b"status";
+
 /// That of what isn't taken.
 const UNTAKEN: &[u8] = b"untaken";
 
@@ -189,6 +197,7 @@ const UNTAKEN: &[u8] = b"untaken";
 fn request_of(alloc: Global, text: &[u8]) -> Result<Request, AllocError> {
     match text {
         STOP => Ok(Request::Stop),
+        STATUS => Ok(Request::Status),
         UNTAKEN => Ok(Request::Untaken),
         ABSENT => Ok(Request::Reload(Ok(None))),
         b"" => Ok(Request::Reload(Err(ReadFailure::Unreadable(Obstacle::Folder)))),
@@ -200,12 +209,14 @@ fn request_of(alloc: Global, text: &[u8]) -> Result<Request, AllocError> {
 type Closed = (MemSockets, Option<MemLog<MemWriter>>);
 
 /// A machine in memory: its log takes so many octets, or can't be opened, one sync of it may fail, and it may end in a line that
-/// was cut; the broadcast socket of one port may fail; and it may route IP. It keeps what was closed.
+/// was cut; the broadcast socket of one port may fail; and it may route IP. It keeps which logs were opened, and what was closed.
 #[derive(Drop)]
 struct MemHost<'a> {
     alloc: Global,
     metrics: &'a RefCell<Vec<u8>>,
     state_text: &'a RefCell<Vec<u8>>,
+    opened: &'a RefCell<Vec<u8>>,
+    answers: &'a RefCell<Vec<u8>>,
     log: Option<usize>,
     failing_sync: Option<u64>,
     beside: Option<usize>,
@@ -221,6 +232,14 @@ struct MemHost<'a> {
     closed: Option<Closed>,
 }
 
+/// Adds the name of a log that is opened, on a line of its own.
+fn note_opened(opened: &RefCell<Vec<u8>>, name: &str) -> Result<(), AllocError> {
+    if let Ok(mut names) = opened.try_borrow_mut() {
+        put(&mut names, &[name, "\n"])?;
+    }
+    Ok(())
+}
+
 impl<'a> Host for MemHost<'a> {
     type Log = MemLog<MemWriter>;
 
@@ -228,7 +247,7 @@ impl<'a> Host for MemHost<'a> {
 
     type StateStore = MemStore<'a>;
 
-    type Reloads = MemRequests;
+    type Reloads = MemRequests<'a>;
 
     type Asked = MemAsked;
 
@@ -265,6 +284,7 @@ impl<'a> Host for MemHost<'a> {
         match room {
             Some(room) => {
                 let text = MemWriter::with_room(self.alloc, room, true)?;
+                note_opened(self.opened, name)?;
                 Ok(MemLog::new(text, self.failing_sync))
             }
             None => Err(LogFailure::Failed),
@@ -364,13 +384,15 @@ impl<'a> Host for MemHost<'a> {
         alloc: Global,
         _request: &str,
         _config: &str,
-    ) -> Result<MemRequests, AllocError> {
-        match &self.reload {
-            Some(text) => Ok(MemRequests {
-                asked: Some(request_of(alloc, text)?),
-            }),
-            None => Ok(MemRequests { asked: None }),
-        }
+    ) -> Result<MemRequests<'a>, AllocError> {
+        let asked = match &self.reload {
+            Some(text) => Some(request_of(alloc, text)?),
+            None => None,
+        };
+        Ok(MemRequests {
+            asked,
+            answers: self.answers,
+        })
     }
 
     fn make_request(
@@ -526,6 +548,9 @@ fn reload_of(
     if section.has("reload no manager") {
         return text_with(alloc, config, MANAGED, STATIONS);
     }
+    if section.has("reload status") {
+        return Ok(Some(Vec::from_slice(alloc, STATUS)?));
+    }
     if section.has("reload faulty") {
         return text_if(alloc, true, "x");
     }
@@ -544,12 +569,20 @@ fn reload_of(
     text_if(alloc, section.has("reload unreadable"), "")
 }
 
-/// What one run leaves: its exit status and both streams, what the machine closed, and the text of the metrics.
+/// What one run leaves: its exit status and both streams, which logs the machine opened and what it closed, what requests were
+/// answered, and the text of the metrics.
 #[derive(Drop)]
 struct Served {
     left: Left,
+    opened: Vec<u8>,
+    answers: Vec<u8>,
     closed: Option<Closed>,
     metrics: Vec<u8>,
+}
+
+/// The text that such a cell holds, which is empty from then on.
+fn taken_from(alloc: Global, text: &RefCell<Vec<u8>>) -> Vec<u8> {
+    text.try_replace(Vec::new(alloc)).unwrap_or(Vec::new(alloc))
 }
 
 /// Runs the program of a section, whose output has room for so many octets.
@@ -562,10 +595,14 @@ fn run_with(
     let words = section.call(alloc, "bacgw")?;
     let metrics = RefCell::new(Vec::new(alloc));
     let state_text = RefCell::new(Vec::new(alloc));
+    let opened = RefCell::new(Vec::new(alloc));
+    let answers = RefCell::new(Vec::new(alloc));
     let mut host = MemHost {
         alloc,
         metrics: &metrics,
         state_text: &state_text,
+        opened: &opened,
+        answers: &answers,
         log: section.number("log "),
         failing_sync: section.number("failing sync ").map(|number| number as u64),
         beside: section.number("beside "),
@@ -604,9 +641,9 @@ fn run_with(
             errors,
         },
         closed: host.closed,
-        metrics: metrics
-            .try_replace(Vec::new(alloc))
-            .unwrap_or(Vec::new(alloc)),
+        opened: taken_from(alloc, &opened),
+        answers: taken_from(alloc, &answers),
+        metrics: taken_from(alloc, &metrics),
     })
 }
 
@@ -630,13 +667,19 @@ impl Program for Bacgw {
     }
 }
 
-/// What the run of a section leaves: its exit status, each line of its streams, of its metrics and of its log, and what
-/// the machine closed.
+/// What the run of a section leaves: its exit status, each line of its streams, of its metrics and of its log, which logs the
+/// machine opened and what it answered, if that is shown, and what it closed.
 pub fn machine(alloc: Global, config: &str, text: &str, out: &mut Vec<u8>) -> io::Result<()> {
     let section = Section::of(text);
     let served = run_with(alloc, config, &section, section.room())?;
     put_left(&served.left, out)?;
     put_lines("metrics ", &served.metrics, out)?;
+    if section.has("opened") {
+        put_lines("opened ", &served.opened, out)?;
+    }
+    if section.has("answers") {
+        put_lines("answer ", &served.answers, out)?;
+    }
     match &served.closed {
         Some(closed) => Ok(put_closed(closed, section.has("syncs"), out)?),
         None => Ok(()),

@@ -1,10 +1,10 @@
 -- Links one after the other, and what they reported.
-use Rattle.std.proofs.Common.{◌≡◌, ◌∙◌, ℕ, ◌+◌, ◌<◌, List, [], ◌∷◌, ◌++◌, Option, Some, None, refl, sym, ap, subst, append_assoc, length, arith, rules, inr}
+use Rattle.std.proofs.Common.{◌≡◌, ◌∙◌, ℕ, ◌+◌, ◌<◌, List, [], ◌∷◌, ◌++◌, Option, Some, None, refl, sym, ap, subst, append_assoc, length, arith, rules, inr, inl}
 use Rattle.std.specs.Io.KnownBytes.{Appends, Keeps}
 use Rattle.std.proofs.KnownBytes.{Appends-kept}
 use Rattle.std.proofs.lemmas.List.{append-nil, flat_map_more, length-append}
 use Rattle.std.specs.Option.{option_map_or}
-use Rattle.std.specs.Prelude.{Result, Ok, Err, Bool, true, false, IfSome}
+use Rattle.std.specs.Prelude.{Result, Ok, Err, Bool, true, false, IfOk, IfSome}
 use Rattle.std.specs.Global.{Vec}
 use Rattle.gw_configuration.specs.Configuration.{Configuration}
 use Rattle.gw_core.specs.Resumed.{carried, saved, saved_of}
@@ -23,13 +23,16 @@ use Rattle.gw_wire.specs.Wire.{Call}
 use Rattle.gw_turns.specs.declared.serving.Served.{Served}
 use Rattle.gw_turns.specs.declared.tally.Tally.{Tally}
 use Rattle.gw_system.proofs.RequestLemmas.{goes_two}
-use Rattle.gw_system.specs.Requests.{Asking, GoesOn, answered, asked}
+use Rattle.gw_system.specs.Requests.{Asking, Exchange, GoesOn, answered, asked, asked_by, asked_for, asked_to_say}
+use Rattle.gw_system.specs.declared.request.Request.{Request}
 use Rattle.gw_system.specs.declared.reading.ReadFailure.{ReadFailure}
-use Rattle.gw_service.specs.Chain.{Advances, AdvancesBy, AreLinks, Edge, IsLink, IsLooked, IsNotedBy, IsTicked, Link, Look, Looks, Manner, Runs, RunsUnsynced, Stage, chain_text, end_of, is_stopping, link_text, look_text}
-use Rattle.gw_service.specs.Chain.{ended, passed_over, refused, served, standing, stopping, taken_over, ticked, unrequested}
+use Rattle.gw_service.specs.Chain.{Advances, AdvancesBy, AreLinks, Edge, IsLink, IsLooked, IsNotedBy, IsNotedWith, IsTicked, Link, Look, Looks, Manner, Runs, RunsUnsynced, Stage, chain_text, end_of, is_stopping, link_text, look_text}
+use Rattle.gw_service.specs.Chain.{ended, inquired, passed_over, refused, served, standing, stopping, taken_over, ticked, unrequested}
 use Rattle.gw_service.specs.declared.running.End.{End}
 use Rattle.gw_service.specs.declared.running.End.TheVariants as end
+use Rattle.gw_notices.specs.Notices.{IsStatusAnswer}
 use Rattle.gw_service.specs.Keeping.{IsSuccessor}
+use Rattle.gw_service.specs.Kept.{status_or}
 use Rattle.gw_notices.specs.Reload.{IsRefusalLine, refusal_line, with_refused, with_taken_over}
 use Rattle.gw_service.specs.Reload.{IsRefused, IsReloaded, taken_over_line}
 use Rattle.gw_service.specs.declared.reload.Adopted.{Adopted}
@@ -71,14 +74,14 @@ turns_counted s (taken_event e tries ∷ turns) =
 pub taken_so : {K : Type 0} (Adopts : K → Configuration → State → K → Type 0) (o : Origin) (w : State) (k l : K)
     (read : Result (Option (List ℕ)) ReadFailure) (made : Adopted) (first middle last : Asking) (line : List ℕ)
     (counts then : ReloadCounts) (announcing due : Announcing) (Never : Type 0) (held holds : Option (List ℕ)) {L : Type 0}
-    (Takes : L → List ℕ → Result (Unit {0}) WriteFailed → L → Type 0) (log log_then : L) (written : Result (Unit {0}) WriteFailed)
+    (Takes : L → List ℕ → Result (Unit {0}) WriteFailed → L → Type 0) (log log_then : L) (written : Result (Unit {0}) WriteFailed) (report : List ℕ)
     → IsReloaded w o read made
     → ((c : Configuration) → IsSuccessor c made.successor → Adopts k c made.gateway l) → GoesOn first middle (asked read ∷ []) → GoesOn middle last (answered line ∷ [])
     → line ≡ made.line.items → then ≡ with_taken_over counts w.ticks → due ≡ with_due announcing → (Never → Appends held holds line)
     → Takes log line written log_then
-    → Looks (IsLooked Adopts) (IsNotedBy Takes log log_then false) o (standing w k first counts announcing) made.origin
+    → Looks (IsLooked Adopts) (IsNotedWith Takes log log_then false report) o (standing w k first counts announcing) made.origin
     (standing made.gateway l last then due) Never held holds
-taken_so {K} Adopts o w k l (Ok (Some text)) made first middle last line counts then announcing due Never held holds Takes log log_then written is
+taken_so {K} Adopts o w k l (Ok (Some text)) made first middle last line counts then announcing due Never held holds Takes log log_then written report is
     adopts asks answers is_line is_counts is_due records noted = λ c is_origin.
     let new = is.config in
     let same : saved_of o w ≡ saved c w = ap (λ (x : Origin). saved_of x w) is_origin in
@@ -98,12 +101,12 @@ taken_so {K} Adopts o w k l (Ok (Some text)) made first middle last line counts 
         announcing = is_due;
       },
       λ never. subst (λ (t : List ℕ). Appends held holds t) is_text (records never),
-      ((written, subst (λ (t : List ℕ). Takes log t written log_then) is_text noted), refl),
+      (((written, subst (λ (t : List ℕ). Takes log t written log_then) is_text noted), refl), tt),
     )
-taken_so Adopts o w k l (Ok None) made first middle last line counts then announcing due Never held holds Takes log log_then written is adopts asks
+taken_so Adopts o w k l (Ok None) made first middle last line counts then announcing due Never held holds Takes log log_then written report is adopts asks
     answers is_line is_counts is_due records noted =
     absurd is
-taken_so Adopts o w k l (Err failure) made first middle last line counts then announcing due Never held holds Takes log log_then written is adopts
+taken_so Adopts o w k l (Err failure) made first middle last line counts then announcing due Never held holds Takes log log_then written report is adopts
     asks answers is_line is_counts is_due records noted =
     absurd is
 
@@ -111,13 +114,13 @@ taken_so Adopts o w k l (Err failure) made first middle last line counts then an
 pub refused_so : {K : Type 0} (Adopts : K → Configuration → State → K → Type 0) (o : Origin) (w : State) (k : K)
     (read : Result (Option (List ℕ)) ReadFailure) (fault : ReloadFault) (first middle last : Asking) (line : List ℕ)
     (counts then : ReloadCounts) (announcing : Announcing) (Never : Type 0) (held holds : Option (List ℕ)) {L : Type 0}
-    (Takes : L → List ℕ → Result (Unit {0}) WriteFailed → L → Type 0) (log log_then : L) (written : Result (Unit {0}) WriteFailed)
+    (Takes : L → List ℕ → Result (Unit {0}) WriteFailed → L → Type 0) (log log_then : L) (written : Result (Unit {0}) WriteFailed) (report : List ℕ)
     → IsRefused w read fault → IsRefusalLine read fault line
     → GoesOn first middle (asked read ∷ []) → GoesOn middle last (answered line ∷ []) → then ≡ with_refused counts
     → (Never → Appends held holds line) → Takes log line written log_then
-    → Looks (IsLooked Adopts) (IsNotedBy Takes log log_then false) o (standing w k first counts announcing) o (standing w k last then announcing) Never
+    → Looks (IsLooked Adopts) (IsNotedWith Takes log log_then false report) o (standing w k first counts announcing) o (standing w k last then announcing) Never
     held holds
-refused_so Adopts o w k read fault first middle last line counts then announcing Never held holds Takes log log_then written is says asks answers
+refused_so Adopts o w k read fault first middle last line counts then announcing Never held holds Takes log log_then written report is says asks answers
     is_counts records noted = λ c is_origin. (
       c,
       refused read fault line,
@@ -130,8 +133,39 @@ refused_so Adopts o w k read fault first middle last line counts then announcing
         counts = is_counts;
       },
       records,
-      ((written, noted), refl),
+      (((written, noted), refl), tt),
     )
+
+-- a request to say what is counted, and its answer
+pub inquired_so : {K : Type 0} (Adopts : K → Configuration → State → K → Type 0) (o : Origin) (w : State) (k : K) (first last : Asking)
+    (answer : List ℕ) (counts : ReloadCounts) (announcing : Announcing) (Never : Type 0) (held : Option (List ℕ)) {L : Type 0}
+    (Takes : L → List ℕ → Result (Unit {0}) WriteFailed → L → Type 0) (log : L) (report : List ℕ)
+    → GoesOn first last (asked_to_say ∷ answered answer ∷ []) → IsStatusAnswer report answer
+    → Looks (IsLooked Adopts) (IsNotedWith Takes log log false report) o (standing w k first counts announcing) o
+    (standing w k last counts announcing) Never held held
+inquired_so Adopts o w k first last answer counts announcing Never held Takes log report goes says = λ c is_origin. (
+  c,
+  inquired answer,
+  is_origin,
+  record {
+    stays = record { config = refl; gateway = refl; keeper = refl; announcing = refl };
+    requests = goes;
+    counts = refl;
+  },
+  λ never. appends_nothing held,
+  ((refl, refl), says),
+)
+
+-- what was taken is a request of this kind
+pub asked_so : (a b : Asking) (taken : Option Request) (request : Request) (exchange : Exchange) → taken ≡ Some request
+    → asked_for request ≡ exchange → GoesOn a b (asked_by taken ∷ []) → GoesOn a b (exchange ∷ [])
+asked_so a b taken request exchange is same goes = subst (λ (x : Exchange). GoesOn a b (x ∷ [])) (ap asked_by is ∙ same) goes
+
+-- it is the report, or says that there was no memory
+pub says_status : (report : List ℕ) (text : Result (Vec ℕ) WriteFailed) → IfOk text (λ t. t.items ≡ report)
+    → IsStatusAnswer report (status_or text)
+says_status report (Ok text) is = inl is
+says_status report (Err failed) is = inr refl
 
 -- the line without a place says why
 short_line : (read : Result (Option (List ℕ)) ReadFailure) (fault : ReloadFault) → IsRefusalLine read fault (refusal_line fault)
@@ -155,19 +189,21 @@ pub same_text : {K : Type 0} (c : Configuration) (w : State) (k l : K) (q : Aski
 same_text c w k l q counts a unrequested = refl
 same_text c w k l q counts a passed_over = refl
 same_text c w k l q counts a stopping = refl
+same_text c w k l q counts a (inquired answer) = refl
 same_text c w k l q counts a (refused read f line) = refl
 same_text c w k l q counts a (taken_over text new) = refl
 
 -- so is what is noted of it
 pub same_note : {K L : Type 0} (c : Configuration) (w : State) (k l : K) (q : Asking) (counts : ReloadCounts) (a : Announcing)
-    (Takes : L → List ℕ → Result (Unit {0}) WriteFailed → L → Type 0) (log log_then : L) (stops : Bool) (look : Look)
-    → IsNotedBy Takes log log_then stops look (look_text c (standing w k q counts a) look)
-    → IsNotedBy Takes log log_then stops look (look_text c (standing w l q counts a) look)
-same_note c w k l q counts a Takes log log_then stops unrequested noted = noted
-same_note c w k l q counts a Takes log log_then stops passed_over noted = noted
-same_note c w k l q counts a Takes log log_then stops stopping noted = noted
-same_note c w k l q counts a Takes log log_then stops (refused read f line) noted = noted
-same_note c w k l q counts a Takes log log_then stops (taken_over text new) noted = noted
+    (Takes : L → List ℕ → Result (Unit {0}) WriteFailed → L → Type 0) (log log_then : L) (stops : Bool) (report : List ℕ) (look : Look)
+    → IsNotedWith Takes log log_then stops report look (look_text c (standing w k q counts a) look)
+    → IsNotedWith Takes log log_then stops report look (look_text c (standing w l q counts a) look)
+same_note c w k l q counts a Takes log log_then stops report unrequested noted = noted
+same_note c w k l q counts a Takes log log_then stops report passed_over noted = noted
+same_note c w k l q counts a Takes log log_then stops report stopping noted = noted
+same_note c w k l q counts a Takes log log_then stops report (inquired answer) noted = noted
+same_note c w k l q counts a Takes log log_then stops report (refused read f line) noted = noted
+same_note c w k l q counts a Takes log log_then stops report (taken_over text new) noted = noted
 
 -- ---- how a stretch ended
 
@@ -350,6 +386,8 @@ pub advanced_by : {K : Type 0} (manner : Manner K) (s : Stage K) (turns : List T
     → AdvancesBy manner stops s text t edge
 advanced_by manner s turns unrequested text t false edge is due lasted done = (ticked turns unrequested text, done, refl, (due, lasted))
 advanced_by manner s turns passed_over text t false edge is due lasted done = (ticked turns passed_over text, done, refl, (due, lasted))
+advanced_by manner s turns (inquired answer) text t false edge is due lasted done =
+    (ticked turns (inquired answer) text, done, refl, (due, lasted))
 advanced_by manner s turns (refused read f line) text t false edge is due lasted done =
     (ticked turns (refused read f line) text, done, refl, (due, lasted))
 advanced_by manner s turns (taken_over read new) text t false edge is due lasted done =
@@ -357,6 +395,7 @@ advanced_by manner s turns (taken_over read new) text t false edge is due lasted
 advanced_by manner s turns stopping text t false edge is due lasted done = absurd cc
 advanced_by manner s turns unrequested text t true edge is due lasted done = absurd cc
 advanced_by manner s turns passed_over text t true edge is due lasted done = absurd cc
+advanced_by manner s turns (inquired answer) text t true edge is due lasted done = absurd cc
 advanced_by manner s turns (refused read f line) text t true edge is due lasted done = absurd cc
 advanced_by manner s turns (taken_over read new) text t true edge is due lasted done = absurd cc
 advanced_by manner s turns stopping text t true edge is due lasted done = (turns, done, (due, lasted))

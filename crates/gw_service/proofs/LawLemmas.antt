@@ -22,7 +22,7 @@ use Rattle.gw_script.specs.Event.{Event}
 use Rattle.gw_turns.specs.Serve.{Turn, events_of}
 use Rattle.gw_turns.specs.Stretch.{GoOn, Moment}
 use Rattle.gw_service.specs.Chain.{AreLinks, IsLink, IsLooked, Link, Look, Manner, Stage, Standing}
-use Rattle.gw_service.specs.Chain.{ended, passed_over, refused, served, stopping, taken_over, ticked, unrequested, withheld}
+use Rattle.gw_service.specs.Chain.{ended, inquired, passed_over, refused, served, stopping, taken_over, ticked, unrequested, withheld}
 use Rattle.gw_service.specs.Laws.{HasItsRules, NumbersGoOn, RulesAreInForce, RulesStay}
 
 -- ---- the rules in force
@@ -51,6 +51,8 @@ looked_rules Adopts c d s t unrequested is has =
 looked_rules Adopts c d s t passed_over is has =
     ap (λ (w : State). w.rules) is.stays.gateway ∙ has ∙ sym (ap (λ (x : Configuration). x.rules) is.stays.config)
 looked_rules Adopts c d s t stopping is has =
+    ap (λ (w : State). w.rules) is.stays.gateway ∙ has ∙ sym (ap (λ (x : Configuration). x.rules) is.stays.config)
+looked_rules Adopts c d s t (inquired answer) is has =
     ap (λ (w : State). w.rules) is.stays.gateway ∙ has ∙ sym (ap (λ (x : Configuration). x.rules) is.stays.config)
 looked_rules Adopts c d s t (refused read f line) is has =
     ap (λ (w : State). w.rules) is.stays.gateway ∙ has ∙ sym (ap (λ (x : Configuration). x.rules) is.stays.config)

@@ -41,7 +41,7 @@ use Rattle.gw_service.proofs.ServedLemmas.{IsQuiet, as_served, begins_quiet, fir
 
 -- ---- nothing is reported
 
-due_none : (seconds : Option ℕ) (start : Counts) (w : State) (text : List ℕ) → seconds ≡ None → due_by seconds start w text ≡ []
+due_none : (seconds : Option ℕ) (start : Counts) (w : State) (text : ℕ → List ℕ) → seconds ≡ None → due_by seconds start w text ≡ []
 due_none None start w text is = refl
 due_none (Some n) start w text is = absurd cc
 
@@ -282,8 +282,8 @@ serves_plain : {Log Sockets S Q : Type 0} (m : Machine Log Sockets) (states : St
     (c : Configuration) (how : Service) (is_verbose : Bool) (line said : List ℕ) (outcome : Result (Unit {0}) ServiceFault) → AreNone names
     → how.stats ≡ None → c.announce ≡ false → LeavesWithState m states names held holds c how is_verbose line said outcome
     → LeavesServed m names.log held holds c how.turns is_verbose line said outcome
-serves_plain m states names held holds c how is_verbose line said outcome none unreported quiet (unprepared f why is stays unsaid) =
-    shut (opening.Log log_failure.Memory) (inl (refl, stays)) (is ∙ ap Err (unprepared_memory states m.LogOpens names c f none why))
+serves_plain m states names held holds c how is_verbose line said outcome none unreported quiet (unprepared f sockets opens why is stays unsaid) =
+    shut (opening.Log log_failure.Memory) (sockets, opens, inl (refl, stays)) (is ∙ ap Err (unprepared_memory states m.LogOpens names c f none why))
     (no_note is_verbose said unsaid)
 serves_plain m states names held holds c how is_verbose line said outcome none unreported quiet (unopened failure opens is note) =
     shut failure opens is note
@@ -322,7 +322,7 @@ or_parts true b is = absurd cc
 
 pub plain_is_served : {Log Sockets S Q : Type 0} (m : Machine Log Sockets) (states : StateMachine S Q) (options : RunOptions)
     (held holds : Option (List ℕ)) (c : Configuration) (line said : List ℕ) (outcome : Result (Unit {0}) ServiceFault) → is_plain options ≡ true
-    → c.announce ≡ false → LeavesWithState m states (names_of options) held holds c (service options.turns options.stats) options.verbose line said outcome
+    → c.announce ≡ false → LeavesWithState m states (names_of options) held holds c (service options.turns options.stats options.stats_rules) options.verbose line said outcome
     → LeavesServed m (option_map string_bytes options.log) held holds c options.turns options.verbose line said outcome
 plain_is_served m states options held holds c line said outcome plain quiet leaves =
     let names = names_of options in
@@ -330,7 +330,7 @@ plain_is_served m states options held holds c line said outcome plain quiet leav
     let trial = or_parts (is_some names.watch.trial) (is_some names.watch.audit || names.watch.counts) parts.2 in
     let audit = or_parts (is_some names.watch.audit) names.watch.counts trial.1 in
     let counts = or_parts (is_some options.stats) (is_some options.metrics) audit.1 in
-    serves_plain m states names held holds c (service options.turns options.stats) options.verbose line said outcome
+    serves_plain m states names held holds c (service options.turns options.stats options.stats_rules) options.verbose line said outcome
     (record {
       state = ap (option_map string_bytes) (none_of options.state parts.0);
       metrics = ap (option_map string_bytes) (none_of options.metrics counts.1);

@@ -22,11 +22,11 @@ use Rattle.gw_wire.specs.Wire.{Call, Records}
 use Rattle.gw_turns.specs.declared.serving.ServeFault.{ServeFault}
 use Rattle.gw_turns.specs.declared.serving.ServeFault.TheVariants as serving
 use Rattle.gw_turns.specs.declared.serving.Served.{Served}
-use Rattle.gw_system.specs.Requests.{Asking, GoesOn, answered, asked, asked_to_stop, nobody, recorded_by, unasked, untaken}
+use Rattle.gw_system.specs.Requests.{Asking, GoesOn, answered, asked, asked_to_say, asked_to_stop, nobody, recorded_by, unasked, untaken}
 use Rattle.gw_watchers.specs.Watching.{Watching}
 use Rattle.gw_service.specs.Reload.{taken_over_line}
 use Rattle.gw_service.specs.Chain.{AreLinks, IsLink, IsLooked, IsUnrequested, Link, Look, Manner, Runs, RunsToStop, Stage, Standing, announced_at}
-use Rattle.gw_service.specs.Chain.{ended, passed_over, refused, served, stopping, taken_over, ticked, unrequested, withheld}
+use Rattle.gw_service.specs.Chain.{ended, inquired, passed_over, refused, served, stopping, taken_over, ticked, unrequested, withheld}
 use Rattle.gw_service.specs.declared.running.End.{End}
 use Rattle.gw_service.specs.declared.running.End.TheVariants as end
 use Rattle.gw_wire.specs.declared.store.StoreFault.{StoreFault}
@@ -54,6 +54,8 @@ looks_none Adopts c d s t passed_over is none =
     let goes = subst (λ (a : Asking). GoesOn a t.requests (untaken ∷ [])) none is.requests in absurd goes.1.0
 looks_none Adopts c d s t stopping is none =
     let goes = subst (λ (a : Asking). GoesOn a t.requests (asked_to_stop ∷ [])) none is.requests in absurd goes.1.0
+looks_none Adopts c d s t (inquired answer) is none =
+    let goes = subst (λ (a : Asking). GoesOn a t.requests (asked_to_say ∷ answered answer ∷ [])) none is.requests in absurd goes.1.0
 looks_none Adopts c d s t (refused read f line) is none =
     let goes = subst (λ (a : Asking). GoesOn a t.requests (asked read ∷ answered line ∷ [])) none is.requests in absurd goes.1.0
 looks_none Adopts c d s t (taken_over text new) is none =

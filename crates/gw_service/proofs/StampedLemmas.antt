@@ -24,8 +24,8 @@ kept_closes : {Log Sockets S Q : Type 0} (m : Machine Log Sockets) (states : Sta
     (c : Configuration) (how : Service) (is_verbose : Bool) (line said : List ℕ) (outcome : Result (Unit {0}) ServiceFault)
     → LeavesWithState m states names held holds c how is_verbose line said outcome
     → LeavesWithState (record m { Closes = Closes }) states names held holds c how is_verbose line said outcome
-kept_closes m states Closes so names held holds c how is_verbose line said outcome (unprepared f why is stays none) =
-    unprepared f why is stays none
+kept_closes m states Closes so names held holds c how is_verbose line said outcome (unprepared f sockets opens why is stays none) =
+    unprepared f sockets opens why is stays none
 kept_closes m states Closes so names held holds c how is_verbose line said outcome (unopened failure opens is note) =
     unopened failure opens is note
 kept_closes m states Closes so names held holds c how is_verbose line said outcome
@@ -40,7 +40,7 @@ pub service_closes : {Log Sockets S Q : Type 0} (m : Machine Log Sockets) (state
 service_closes m states Closes so options held holds c said outcome leaves =
     let name = option_map string_bytes options.log in
     let line = startup_line options.verbose c name in
-    let how = service options.turns options.stats in (
+    let how = service options.turns options.stats options.stats_rules in (
       leaves.0,
       leaves.1,
       leaves.2,

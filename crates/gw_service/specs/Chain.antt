@@ -19,12 +19,12 @@ use Rattle.gw_wire.specs.Wire.{Call}
 use Rattle.gw_turns.specs.declared.serving.ServeFault.{ServeFault}
 use Rattle.gw_turns.specs.declared.serving.Served.{Served}
 use Rattle.gw_turns.specs.declared.tally.Tally.{Tally}
-use Rattle.gw_system.specs.Requests.{Asking, Exchange, GoesOn, answered, asked, asked_to_stop, unasked, untaken}
+use Rattle.gw_system.specs.Requests.{Asking, Exchange, GoesOn, answered, asked, asked_to_say, asked_to_stop, unasked, untaken}
 use Rattle.gw_system.specs.declared.reading.ReadFailure.{ReadFailure}
 use Rattle.gw_notices.specs.Reload.{IsRefusalLine, with_refused, with_taken_over}
 use Rattle.gw_service.specs.Reload.{IsRefused, have_same_ports, taken_over_line}
 use Rattle.gw_metrics.specs.file.Writing.{Metering}
-use Rattle.gw_notices.specs.Notices.{metrics_notice, notice_of, untaken_line}
+use Rattle.gw_notices.specs.Notices.{IsStatusAnswer, metrics_notice, notice_of, untaken_line}
 use Rattle.gw_service.specs.Metering.{failing_by, lost_by}
 use Rattle.gw_service.specs.declared.running.End.{End}
 use Rattle.gw_service.specs.declared.running.End.TheVariants as end
@@ -35,26 +35,29 @@ use Rattle.gw_notices.specs.declared.troubles.Troubles.{Troubles}
 -- ---- what keeps the state
 
 -- What a keeper of states does at an event, at a tick, and if the gateway goes on as one of another configuration; and what
--- isn't kept or recorded; what is reported after a tick; how metrics are put then; and what it does at the end.
+-- isn't kept or recorded; what is reported after a tick, and of what is counted if that is asked for; how metrics are put then; and
+-- what it does at the end.
 pub record Manner (K : Type 0) : Type 1 where
   pub Passes : K → State → Event → K → Bool → Type 0
   pub Ticks : K → State → K → Type 0
   pub Adopts : K → Configuration → State → K → Type 0
   pub troubles : K → Troubles
   pub report : K → ReloadCounts → Announcing → Option ℕ → State → Served → Tally → List ℕ
+  pub status : K → ReloadCounts → Announcing → Option ℕ → State → Served → Tally → List ℕ
   pub Meters : State → Served → Tally → (before after : Option Metering) → Type 0
   pub Lasts : K → State → K → Type 0
 
 abbrev pub manner : {K : Type 0} → (K → State → Event → K → Bool → Type 0) → (K → State → K → Type 0)
     → (K → Configuration → State → K → Type 0) → (K → Troubles)
-    → (K → ReloadCounts → Announcing → Option ℕ → State → Served → Tally → List ℕ)
+    → (report status : K → ReloadCounts → Announcing → Option ℕ → State → Served → Tally → List ℕ)
     → (State → Served → Tally → (before after : Option Metering) → Type 0) → (K → State → K → Type 0) → Manner K
-manner Passes Ticks Adopts troubles report Meters Lasts = record {
+manner Passes Ticks Adopts troubles report status Meters Lasts = record {
   Passes = Passes;
   Ticks = Ticks;
   Adopts = Adopts;
   troubles = troubles;
   report = report;
+  status = status;
   Meters = Meters;
   Lasts = Lasts;
 }
@@ -79,11 +82,13 @@ standing w keeper requests counts announcing = record {
 }
 
 -- What comes of looking for a request: there is none; something has its name and isn't taken; there is one to stop; there is one
--- to read the configuration again, and that isn't taken over, which this line says; or it is.
+-- to say what is counted, and this is answered; there is one to read the configuration again, and that isn't taken over, which this
+-- line says; or it is.
 pub data Look : Type 0 where
   unrequested : Look
   passed_over : Look
   stopping : Look
+  inquired : (answer : List ℕ) → Look
   refused : (read : Result (Option (List ℕ)) ReadFailure) (fault : ReloadFault) (line : List ℕ) → Look
   taken_over : (text : List ℕ) (config : Configuration) → Look
 
@@ -129,11 +134,18 @@ pub record IsAskedFor {K : Type 0} (exchange : Exchange) (c : Configuration) (s 
   pub requests : GoesOn s.requests t.requests (exchange ∷ [])
   pub counts : t.counts ≡ s.counts
 
+-- There was a request to say what is counted, which was answered so, and all stays as it is.
+pub record IsInquired {K : Type 0} (c : Configuration) (s : Standing K) (answer : List ℕ) (d : Configuration) (t : Standing K) : Type 0 where
+  pub stays : Stays c s d t
+  pub requests : GoesOn s.requests t.requests (asked_to_say ∷ answered answer ∷ [])
+  pub counts : t.counts ≡ s.counts
+
 -- the gateway is to stop
 abbrev pub is_stopping : Look → Bool
 is_stopping unrequested = false
 is_stopping passed_over = false
 is_stopping stopping = true
+is_stopping (inquired answer) = false
 is_stopping (refused read fault line) = false
 is_stopping (taken_over text new) = false
 
@@ -142,6 +154,7 @@ abbrev pub IsLooked : {K : Type 0} → (Adopts : K → Configuration → State �
 IsLooked Adopts c s unrequested d t = IsUnrequested c s d t
 IsLooked Adopts c s passed_over d t = IsAskedFor untaken c s d t
 IsLooked Adopts c s stopping d t = IsAskedFor asked_to_stop c s d t
+IsLooked Adopts c s (inquired answer) d t = IsInquired c s answer d t
 IsLooked Adopts c s (refused read fault line) d t = IsRefusedSo c s read fault line d t
 IsLooked Adopts c s (taken_over text new) d t = IsTakenOver Adopts c s text new d t
 
@@ -150,6 +163,7 @@ abbrev pub look_text : {K : Type 0} → Configuration → Standing K → Look �
 look_text c s unrequested = []
 look_text c s passed_over = untaken_line
 look_text c s stopping = []
+look_text c s (inquired answer) = []
 look_text c s (refused read fault line) = line
 look_text c s (taken_over text new) = taken_over_line s.gateway new (saved c s.gateway)
 
@@ -166,13 +180,28 @@ abbrev pub IsNoted : {L : Type 0} → (Takes : L → List ℕ → Result (Unit {
 IsNoted Takes log log_then unrequested line = log_then ≡ log
 IsNoted Takes log log_then passed_over line = log_then ≡ log
 IsNoted Takes log log_then stopping line = log_then ≡ log
+IsNoted Takes log log_then (inquired answer) line = log_then ≡ log
 IsNoted Takes log log_then (refused read fault says) line = (written : Result (Unit {0}) WriteFailed) × Takes log line written log_then
 IsNoted Takes log log_then (taken_over text new) line = (written : Result (Unit {0}) WriteFailed) × Takes log line written log_then
 
--- So it is, and this says whether the gateway is to stop.
+-- A request to say what is counted is answered by this report, if there is memory for it.
+abbrev pub IsStatusIn : (report : List ℕ) → Look → Type 0
+IsStatusIn report unrequested = ⊤
+IsStatusIn report passed_over = ⊤
+IsStatusIn report stopping = ⊤
+IsStatusIn report (inquired answer) = IsStatusAnswer report answer
+IsStatusIn report (refused read fault line) = ⊤
+IsStatusIn report (taken_over text new) = ⊤
+
+-- So it is noted, and this says whether the gateway is to stop.
 abbrev pub IsNotedBy : {L : Type 0} → (Takes : L → List ℕ → Result (Unit {0}) WriteFailed → L → Type 0) → (log log_then : L) → (stops : Bool)
     → Look → List ℕ → Type 0
 IsNotedBy Takes log log_then stops look line = IsNoted Takes log log_then look line × (stops ≡ is_stopping look)
+
+-- and what is counted is said by this report, if that is asked for
+abbrev pub IsNotedWith : {L : Type 0} → (Takes : L → List ℕ → Result (Unit {0}) WriteFailed → L → Type 0) → (log log_then : L) → (stops : Bool)
+    → (report : List ℕ) → Look → List ℕ → Type 0
+IsNotedWith Takes log log_then stops report look line = IsNotedBy Takes log log_then stops look line × IsStatusIn report look
 
 -- What is done about a request, whatever configuration this origin is of: one of these looks, which leads to one of a
 -- configuration of that origin; what is said of it is written, if that never fails; and the log takes a note of it.
@@ -248,6 +277,7 @@ pub record IsTicked {K : Type 0} (manner : Manner K) (stops : Bool) (s : Stage K
   pub due : Announcing
   pub done : AtTick manner.Ticks manner.Adopts s.config (standing_at then s.requests s.counts s.announcing) look t.config
       (standing_at t.now t.requests t.counts due)
+  pub status : IsStatusIn (manner.status t.now.guard t.counts due (lost_by s.metrics) t.now.scene.gateway t.now.served t.now.tally) look
   pub announced : Announces due t.now.scene.gateway then.scene.calls t.announcing t.now.scene.calls
   pub rest : IsIdle then t.now
   pub said : t.said ≡ manner.troubles t.now.guard

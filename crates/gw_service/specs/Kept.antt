@@ -7,6 +7,7 @@ use Rattle.gw_policy_text.specs.Document.{configuration}
 use Rattle.gw_core.specs.declared.event.Counts.{Counts}
 use Rattle.gw_state.specs.Saved.{Saved, origin_of}
 use Rattle.gw_core.specs.Guard.{PassesBoth}
+use Rattle.gw_script.specs.declared.sink.WriteFailed.{WriteFailed}
 use Rattle.gw_turns.specs.Announcing.{first_announcing}
 use Rattle.gw_turns.specs.Keeping.{IsTried, nothing_kept}
 use Rattle.gw_turns.specs.Serve.{scene, zero_counts}
@@ -36,12 +37,12 @@ use Rattle.gw_notices.specs.Startup.{IsWarning, startup_line}
 use Rattle.gw_service.specs.Metering.{MetersLast, lost_by, metered, meters_by, seconds_of}
 use Rattle.gw_service.specs.Fault.{fault_of_opening, fault_of_serving}
 use Rattle.gw_service.specs.Keeping.{IsKeptAtTick, IsKeptFor, IsKeptLast, IsPassed, failing_in, troubles_in, unkept_in}
-use Rattle.gw_notices.specs.Notices.{no_troubles, notice_of, stop_line}
+use Rattle.gw_notices.specs.Notices.{no_status_line, no_troubles, notice_of, stop_line}
 use Rattle.gw_service.specs.Watch.{IsKeptAtTickBeside, IsKeptForBeside, IsKeptLastBeside, IsUnwatched, IsWatcherUnder, WatchNames, is_watched, more_of, troubles_of, unaudited_note, watch_names}
 use Rattle.gw_service.specs.Serving.{AreOpen, ArentOpen, Ends, LeavesServed, LogStays, Machine, Service, ends, log_held, service}
 use Rattle.gw_service.specs.Start.{BeginsAs, IsStateRead, counts_of, start_text}
 use Rattle.gw_notices.specs.Reload.{counts_since}
-use Rattle.gw_service.specs.Stats.{Reporting, due_stats, end_stats, reporting}
+use Rattle.gw_service.specs.Stats.{Reporting, all_stats, due_stats, end_stats, reporting}
 use Rattle.gw_service.specs.declared.fault.ServiceFault.{ServiceFault}
 use Rattle.gw_service.specs.declared.fault.ServiceFault.TheVariants as fault
 use Rattle.gw_service.specs.declared.keeping.Kept.{Kept}
@@ -173,13 +174,13 @@ given held said log_held before = record {
 }
 
 -- what keeps the state of a gateway, by a store, reports no more of itself
-abbrev pub no_more : {S : Type 0} → Kept S → State → List ℕ
-no_more k w = []
+abbrev pub no_more : {S : Type 0} → Kept S → (rules : Bool) → State → List ℕ
+no_more k rules w = []
 
 -- what keeps the state of a gateway, by a store
 abbrev pub manner_of : {S : Type 0} → (S → Option (List ℕ)) → Reporting → Manner (Kept S)
 manner_of held how =
-    manner (IsPassed held) (IsKeptAtTick held) (IsKeptFor held) troubles_in (due_stats unkept_in no_more how) (meters_by how.start)
+    manner (IsPassed held) (IsKeptAtTick held) (IsKeptFor held) troubles_in (due_stats unkept_in no_more how) (all_stats unkept_in no_more how) (meters_by how.start)
     (IsKeptLast held)
 
 -- the same, after what watches it: what is recorded of an event is written before its state is kept
@@ -190,7 +191,7 @@ abbrev pub watched_manner_of : {S L : Type 0} → (S → Option (List ℕ)) → 
     → Manner (Both (Watching L L) (Kept S))
 watched_manner_of held log_held how =
     manner (PassesBoth (HasWatched log_held log_held) (IsPassed held)) (IsKeptAtTickBeside held) (IsKeptForBeside held) troubles_of
-    (due_stats unkept_of more_of how) (meters_by how.start) (IsKeptLastBeside held)
+    (due_stats unkept_of more_of how) (all_stats unkept_of more_of how) (meters_by how.start) (IsKeptLastBeside held)
 
 -- the outcome of a run that was asked to stop, by why the state isn't kept, if it isn't
 abbrev pub outcome_of_stop : Option StoreFault → Result (Unit {0}) ServiceFault
@@ -203,6 +204,11 @@ outcome_by (Ok end.Turns) failing = Ok tt
 outcome_by (Ok end.Stopped) failing = outcome_of_stop failing
 outcome_by (Ok end.Unsynced) failing = Err fault.Log
 outcome_by (Err fault) failing = Err (fault_of_serving fault)
+
+-- what answers a request to say what is counted: that text, or that there was no memory for it
+abbrev pub status_or : Result (Vec ℕ) WriteFailed → List ℕ
+status_or (Ok text) = text.items
+status_or (Err failed) = no_status_line
 
 -- the gateway was asked to stop
 abbrev pub is_stopped : Result End ServeFault → Bool
@@ -237,11 +243,11 @@ first_stage given c w keeper troubles ends =
     stage c (moment (scene w ends.log ends.calls) keeper zero_counts no_tally) (recorded_by given.said given.requests) (counts_since w.ticks)
     first_announcing troubles (metered (option_map nothing_written given.metrics))
 
--- What is reported of such a run, of which a gateway in this state begins: how often its state couldn't be kept, if it is or
--- requests are looked for, and how often its configuration was read again, if they are.
+-- What is reported of such a run, of which a gateway in this state begins: whether each report counts the asks of each rule; how
+-- often its state couldn't be kept, if it is or requests are looked for; and how often its configuration was read again, if they are.
 abbrev pub reporting_of : {S Q L : Type 0} → Given S Q L → Service → State → Reporting
 reporting_of given how w =
-    reporting how.stats (counts_of w) (is_some given.requests || is_some given.store) (is_some given.requests)
+    reporting how.stats how.rules (counts_of w) (is_some given.requests || is_some given.store) (is_some given.requests)
 
 -- what is left of a run: what kept its state, and what was asked and answered
 pub record Rest (K : Type 0) : Type 0 where
@@ -365,7 +371,7 @@ names_of options = record {
   watch = watch_names options;
 }
 
--- what was read and made before the log and the sockets were opened
+-- what was read and made before the log was opened
 pub record IsPrepared {S Q Log : Type 0} (machine : StateMachine S Q) (LogOpens : LogOpening Log) (names : Names) (c : Configuration)
     (is_verbose : Bool) (before : Before S Q Log) : Type 0 where
   pub saved : IsStateUnder machine.FileReads names.state (Ok before.saved)
@@ -384,13 +390,14 @@ IsUnprepared machine LogOpens names c f =
     ⊎ ((IsStoreUnder machine.StoreOpens names.state (Err f) ⊎ IsMetricsUnder machine.StoreOpens names.metrics (Err f))
     ⊎ (IsUnwatched machine.FileReads machine.LastDenials LogOpens c names.watch f ⊎ (f ≡ fault.Memory))))
 
--- What a run leaves under a configuration: its state or its log's last denial can't be had, and nothing is opened; not all can
+-- What a run leaves under a configuration: the sockets are open, but its state or its log's last denial can't be had; not all can
 -- be opened, and why may be written; or all was opened, this line, a warning of the machine and what is due of the state were
 -- written, and then it ran and was closed.
 pub data LeavesWithState {Log Sockets S Q : Type 0} (machine : Machine Log Sockets) (states : StateMachine S Q) (names : Names)
     (held holds : Option (List ℕ)) (c : Configuration) (how : Service) (is_verbose : Bool) (line said : List ℕ)
     (outcome : Result (Unit {0}) ServiceFault) : Type 0 where
-  unprepared : (f : ServiceFault) → IsUnprepared states machine.LogOpens names c f → outcome ≡ Err f → holds ≡ held → said ≡ [] →
+  unprepared : (f : ServiceFault) (sockets : Sockets) → machine.SocketsOpen c.ports (Ok sockets) →
+      IsUnprepared states machine.LogOpens names c f → outcome ≡ Err f → holds ≡ held → said ≡ [] →
       LeavesWithState machine states names held holds c how is_verbose line said outcome
   unopened : (failure : OpenFailure) → ArentOpen machine.LogOpens (machine.SocketsOpen c.ports) names.log held holds failure →
       outcome ≡ Err (fault_of_opening failure) → IsNote is_verbose failure said →
@@ -423,7 +430,7 @@ abbrev pub LeavesChosen : {Log Sockets S Q : Type 0} → WholeMachine Log Socket
 LeavesChosen whole options held holds c said outcome =
     let name = option_map string_bytes options.log in
     let line = startup_line options.verbose c name in
-    LeavesWithState whole.machine whole.states (names_of options) held holds c (service options.turns options.stats) options.verbose line said outcome
+    LeavesWithState whole.machine whole.states (names_of options) held holds c (service options.turns options.stats options.stats_rules) options.verbose line said outcome
     × (is_plain options ≡ true → c.announce ≡ false → LeavesServed whole.machine name held holds c options.turns options.verbose line said outcome)
 
 -- what is written if opening the log may wait for its reader

@@ -36,13 +36,15 @@ ends log calls = record { log = log; calls = calls }
 abbrev pub first_scene : Configuration → Ends → Scene
 first_scene c ends = scene (state_after c no_counts []) ends.log ends.calls
 
--- how it is served: for how many turns, and how many seconds lie between two reports, where some are reported
+-- how it is served: for how many turns; and how many seconds lie between two reports, where some are reported, and whether each
+-- counts the asks of each rule
 pub record Service : Type 0 where
   pub turns : ℕ
   pub stats : Option ℕ
+  pub rules : Bool
 
-abbrev pub service : ℕ → Option ℕ → Service
-service turns stats = record { turns = turns; stats = stats }
+abbrev pub service : ℕ → Option ℕ → (rules : Bool) → Service
+service turns stats rules = record { turns = turns; stats = stats; rules = rules }
 
 -- All turns were served, and the gateway is as they left it.
 pub record ServesWhole (c : Configuration) (turns : ℕ) (before after : Ends) : Type 0 where
@@ -138,14 +140,13 @@ pub record AreOpen {Log Sockets : Type 0} (LogOpens : LogOpening Log)
   pub log_is : LogIsOpen LogOpens name held holds log
   pub sockets_are : SocketsOpen (Ok sockets)
 
--- Why they aren't: memory ran out before either, or the log can't be opened; or the sockets can't,
--- when the log is open.
+-- Why they aren't: the sockets can't be opened, and then the log isn't touched; or they are open, and then memory ran out, or the
+-- log can't be opened.
 abbrev pub ArentOpen : {Log Sockets : Type 0} → LogOpening Log → (Result Sockets SocketFailure → Type 0)
     → (name held holds : Option (List ℕ)) → OpenFailure → Type 0
 ArentOpen LogOpens SocketsOpen name held holds (opening.Log f) =
-    ((f ≡ log_failure.Memory) × (holds ≡ held)) ⊎ LogIsShut LogOpens name held holds f
-ArentOpen LogOpens SocketsOpen name held holds (opening.Sockets failure) =
-    (log : Option _) × LogIsOpen LogOpens name held holds log × SocketsOpen (Err failure)
+    (sockets : _) × SocketsOpen (Ok sockets) × (((f ≡ log_failure.Memory) × (holds ≡ held)) ⊎ LogIsShut LogOpens name held holds f)
+ArentOpen LogOpens SocketsOpen name held holds (opening.Sockets failure) = SocketsOpen (Err failure) × (holds ≡ held)
 
 -- What a run of `serve` leaves under a configuration: not all can be opened, and why may be written; or all was opened, this
 -- line was written and a warning of the machine, and then it was served from the gateway's first state, and closed.

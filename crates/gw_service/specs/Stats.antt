@@ -1,60 +1,85 @@
 -- What is reported of a run, each so many seconds and at its end.
-use Rattle.std.specs.Prelude.{ℕ, ◌-◌, ◌%◌, ◌==◌, Bool, if◌then◌else◌, List, [], ◌++◌, Option, Some, None}
+use Rattle.std.specs.Prelude.{ℕ, ◌-◌, ◌/◌, ◌%◌, ◌==◌, ◌||◌, not, Bool, true, if◌then◌else◌, List, [], ◌++◌, Option, Some, None}
 use Rattle.gw_core.specs.State.{State}
 use Rattle.gw_core.specs.declared.event.Counts.{Counts}
-use Rattle.gw_turns.specs.Reports.{announcing_text, has_gone_on, report_line, report_of}
+use Rattle.gw_turns.specs.Reports.{announcing_text, culprits_text, has_gone_on, report_line, report_of}
 use Rattle.gw_turns.specs.declared.announcing.Announcing.{Announcing}
 use Rattle.gw_turns.specs.declared.serving.Served.{Served}
 use Rattle.gw_turns.specs.declared.tally.Tally.{Tally}
 use Rattle.gw_notices.specs.Stats.{lost_metrics_text, put_off_text, reloads_text, unkept_text}
 use Rattle.gw_notices.specs.declared.reload.ReloadCounts.{ReloadCounts}
 
--- When what is reported: each so many seconds, if reports are asked for; since a gateway began with these counts; and whether
--- its state is kept or its configuration read again, and whether that is read again.
+-- When what is reported: each so many seconds, if reports are asked for; whether each counts the asks of each rule; since a
+-- gateway began with these counts; and whether its state is kept or its configuration read again, and whether that is read again.
 pub record Reporting : Type 0 where
   pub seconds : Option ℕ
+  pub rules : Bool
   pub start : Counts
   pub keeps : Bool
   pub reloads : Bool
 
-abbrev pub reporting : Option ℕ → Counts → (keeps reloads : Bool) → Reporting
-reporting seconds start keeps reloads =
-    record { seconds = seconds; start = start; keeps = keeps; reloads = reloads }
+abbrev pub reporting : Option ℕ → (rules : Bool) → Counts → (keeps reloads : Bool) → Reporting
+reporting seconds rules start keeps reloads =
+    record { seconds = seconds; rules = rules; start = start; keeps = keeps; reloads = reloads }
+
+-- the same of the whole time, with how many asks each rule decided
+abbrev pub whole : Reporting → Reporting
+whole how = reporting None true how.start how.keeps how.reloads
+
+-- the same, where a report counts the asks of each rule, or doesn't
+abbrev pub with_rules : Reporting → (rules : Bool) → Reporting
+with_rules how rules = reporting how.seconds rules how.start how.keeps how.reloads
 
 -- how often the state couldn't be kept and the configuration was read again, how many texts of metrics were lost, what was
--- announced, how often that was put off, and what else the keeper reports
-abbrev pub tries_text : {K : Type 0} → (K → ℕ) → (K → State → List ℕ) → Reporting → K → ReloadCounts → Announcing → Option ℕ → State
+-- announced, how often that was put off, and what else the keeper reports, with the rules or without
+abbrev pub tries_text : {K : Type 0} → (K → ℕ) → (K → (rules : Bool) → State → List ℕ) → Reporting → K → ReloadCounts → Announcing → Option ℕ → State
     → List ℕ
 tries_text unkept more how k counts announcing lost w =
     unkept_text how.keeps (unkept k)
     ++ (reloads_text how.reloads counts ++ (lost_metrics_text lost ++ (announcing_text announcing
-    ++ (put_off_text announcing.put_off ++ more k w))))
+    ++ (put_off_text announcing.put_off ++ more k how.rules w))))
 
--- a report of what was done since then, and these tries
+-- a report of what was done since then; from whom the last datagrams came that were dropped, in the last so many seconds if reports
+-- are asked for; and these tries
 abbrev pub stats_text : Reporting → State → Served → Tally → (tries : List ℕ) → List ℕ
 stats_text how w s tally tries =
-    if has_gone_on how.start w s then report_line (report_of how.start w s tally) ++ tries else []
+    if has_gone_on how.start w s then report_line (report_of how.start w s tally) ++ (culprits_text how.seconds w.ticks tally ++ tries) else []
 
 -- whether a multiple of so many seconds has passed
 abbrev pub is_due : Counts → State → ℕ → Bool
 is_due start w seconds = (w.ticks - start.ticks) % seconds == 0
+
+-- whether an hour since the start ended in the last so many seconds
+abbrev pub ends_hour : Counts → State → (seconds : ℕ) → Bool
+ends_hour start w seconds = not ((w.ticks - start.ticks) / 3600 == (w.ticks - start.ticks - seconds) / 3600)
+
+-- a report of each so many seconds: it counts the asks of each rule if all do, or if an hour ended since the one before
+abbrev pub due_with : Reporting → State → (seconds : ℕ) → Reporting
+due_with how w seconds = with_rules how (how.rules || ends_hour how.start w seconds)
+
+-- a report with how many asks each rule decided, whether one is due or not
+abbrev pub all_stats : {K : Type 0} → (K → ℕ) → (K → (rules : Bool) → State → List ℕ) → Reporting → K → ReloadCounts → Announcing
+    → Option ℕ → State → Served → Tally → List ℕ
+all_stats unkept more how k counts announcing lost w s tally =
+    stats_text (whole how) w s tally (tries_text unkept more (whole how) k counts announcing lost w)
 
 -- what is reported at the end, if reports are asked for
 abbrev pub end_by : Option ℕ → (text : List ℕ) → List ℕ
 end_by None text = []
 end_by (Some seconds) text = text
 
-abbrev pub end_stats : {K : Type 0} → (K → ℕ) → (K → State → List ℕ) → Reporting → K → ReloadCounts → Announcing → Option ℕ → State → Served
-    → Tally → List ℕ
+abbrev pub end_stats : {K : Type 0} → (K → ℕ) → (K → (rules : Bool) → State → List ℕ) → Reporting → K → ReloadCounts → Announcing
+    → Option ℕ → State → Served → Tally → List ℕ
 end_stats unkept more how k counts announcing lost w s tally =
-    end_by how.seconds (stats_text how w s tally (tries_text unkept more how k counts announcing lost w))
+    end_by how.seconds (all_stats unkept more how k counts announcing lost w s tally)
 
 -- what is reported at a tick: something if a multiple of so many seconds has passed
-abbrev pub due_by : Option ℕ → Counts → State → (text : List ℕ) → List ℕ
+abbrev pub due_by : Option ℕ → Counts → State → (text : (seconds : ℕ) → List ℕ) → List ℕ
 due_by None start w text = []
-due_by (Some seconds) start w text = if is_due start w seconds then text else []
+due_by (Some seconds) start w text = if is_due start w seconds then text seconds else []
 
-abbrev pub due_stats : {K : Type 0} → (K → ℕ) → (K → State → List ℕ) → Reporting → K → ReloadCounts → Announcing → Option ℕ → State → Served
-    → Tally → List ℕ
+abbrev pub due_stats : {K : Type 0} → (K → ℕ) → (K → (rules : Bool) → State → List ℕ) → Reporting → K → ReloadCounts → Announcing
+    → Option ℕ → State → Served → Tally → List ℕ
 due_stats unkept more how k counts announcing lost w s tally =
-    due_by how.seconds how.start w (stats_text how w s tally (tries_text unkept more how k counts announcing lost w))
+    due_by how.seconds how.start w
+    (λ seconds. stats_text how w s tally (tries_text unkept more (due_with how w seconds) k counts announcing lost w))

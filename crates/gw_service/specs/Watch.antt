@@ -1,5 +1,5 @@
 -- What watches a gateway, before what keeps its state: from where it begins, what is done with it, and what is reported of it.
-use Rattle.std.specs.Prelude.{◌≡◌, ◌⊎◌, ⊤, ℕ, ◌||◌, Bool, true, false, is_some, nat_le, not, ◌&&◌, if◌then◌else◌, List, [], codes, Option, Some, None, Result, Ok, Err, option_map, string_bytes}
+use Rattle.std.specs.Prelude.{◌≡◌, ◌⊎◌, ⊤, ℕ, ◌||◌, Bool, true, false, is_some, nat_le, not, ◌&&◌, if◌then◌else◌, List, [], ◌++◌, codes, Option, Some, None, Result, Ok, Err, option_map, string_bytes}
 use Rattle.std.specs.List.{list_any}
 use Rattle.std.specs.Option.{option_map_or}
 use Rattle.gw_configuration.specs.declared.run_options.RunOptions.{RunOptions}
@@ -19,7 +19,7 @@ use Rattle.gw_service.specs.Keeping.{IsKeptAtTick, IsKeptFor, IsKeptLast, failin
 use Rattle.gw_service.specs.declared.fault.ServiceFault.{ServiceFault}
 use Rattle.gw_service.specs.declared.fault.ServiceFault.TheVariants as fault
 use Rattle.gw_service.specs.declared.keeping.Kept.{Kept}
-use Rattle.gw_notices.specs.Watch.{watch_text}
+use Rattle.gw_notices.specs.Watch.{counts_text, watch_text}
 use Rattle.gw_notices.specs.declared.losses.Losses.{Losses}
 use Rattle.gw_notices.specs.declared.troubles.Troubles.{Troubles}
 use Rattle.gw_notices.specs.declared.watch_report.LogCount.{LogCount}
@@ -176,8 +176,8 @@ log_count log = option_map (λ (b : Beside _ _). record { number = b.number; los
 abbrev pub counted_of : {T A : Type 0} → Watching T A → WatchCounts
 counted_of w = record { trial = log_count w.trial; audit = log_count w.audit; unseen = w.unseen }
 
-abbrev pub more_of : {S T A : Type 0} → Both (Watching T A) (Kept S) → State → List ℕ
-more_of k w = watch_text w.rules (counted_of k.first) k.first.counts
+abbrev pub more_of : {S T A : Type 0} → Both (Watching T A) (Kept S) → (rules : Bool) → State → List ℕ
+more_of k rules w = watch_text (counted_of k.first) ++ (if rules then counts_text w.rules k.first.counts else [])
 
 -- a rule says that it is audited, and no audit is named
 abbrev pub is_unaudited : (audits : List Bool) → (is_named : Bool) → Bool

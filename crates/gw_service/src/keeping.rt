@@ -1,6 +1,6 @@
 //! What keeps the state of a gateway from stretch to stretch, or doesn't.
 
-ghost use Rattle.std.specs.Prelude.{◌≡◌, [], ℕ, List, None, Option, false};
+ghost use Rattle.std.specs.Prelude.{◌≡◌, [], ℕ, Bool, IsOk, List, None, OnOk, Option, false};
 ghost use Rattle.std.specs.Io.KnownBytes.{Appends};
 ghost use Rattle.gw_configuration.specs.Configuration.{Configuration};
 ghost use Rattle.gw_core.specs.State.{State};
@@ -15,7 +15,7 @@ use gw_core::{AllAsked, Gateway, Guard, Taken};
 use gw_decisions::tally::Tally;
 use gw_metrics::StateTries;
 use gw_notices::{Losses, Troubles};
-use gw_script::OctetSink;
+use gw_script::{OctetSink, WriteFailed};
 use gw_state::Origin;
 use gw_turns::Keeper;
 use gw_wire::{Store, StoreFault};
@@ -38,8 +38,8 @@ pub trait StateKeeper: Guard {
     /// How many tries failed so far.
     ghost unkept: { Self → ℕ };
 
-    /// What it reports of itself beside that, by the state of the gateway.
-    ghost more: { Self → State → List ℕ };
+    /// What it reports of itself beside that, with how many asks each rule decided or without, by the state of the gateway.
+    ghost more: { Self → (rules : Bool) → State → List ℕ };
 
     /// How the state is kept, if it is.
     ghost tries: { Self → Option StateTries };
@@ -82,10 +82,15 @@ pub trait StateKeeper: Guard {
     fn losses(&self) -> Losses
         ensures { result ≡ losses self.now };
 
-    /// Reports more of itself.
-    fn report_more<E: OctetSink>(&self, gateway: &Gateway, errors: &mut E)
-        ensures said { E.NeverFails errors.old →
-            Appends (E.held errors.old) (E.held errors.new) (more self.now gateway.now) }
+    /// Writes more of itself, and how many asks each rule decided if that is asked for.
+    fn write_more<E: OctetSink>(
+        &self,
+        rules: bool,
+        gateway: &Gateway,
+        errors: &mut E,
+    ) -> Result<(), WriteFailed>
+        ensures ok { OnOk result (Appends (E.held errors.old) (E.held errors.new) (more self.now rules gateway.now)) }
+        ensures sure { E.NeverFails errors.old → IsOk result }
         ensures lasts { E.NeverFails errors.old → E.NeverFails errors.new };
 }
 
@@ -132,7 +137,7 @@ impl<S: Store + Drop> StateKeeper for Kept<S> {
 
     ghost unkept = { unkept_in };
 
-    ghost more = { λ _ _. [] };
+    ghost more = { λ _ _ _. [] };
 
     ghost tries = { tries_in };
 
@@ -187,7 +192,14 @@ impl<S: Store + Drop> StateKeeper for Kept<S> {
         }
     }
 
-    fn report_more<E: OctetSink>(&self, _gateway: &Gateway, _errors: &mut E) {}
+    fn write_more<E: OctetSink>(
+        &self,
+        _rules: bool,
+        _gateway: &Gateway,
+        _errors: &mut E,
+    ) -> Result<(), WriteFailed> {
+        Ok(())
+    }
 }
 
 impl<S: Store + Drop> Kept<S> {

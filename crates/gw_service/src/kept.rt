@@ -13,6 +13,8 @@ ghost use Rattle.gw_turns.specs.Announcing.{first_announcing};
 ghost use Rattle.gw_turns.specs.Serve.{zero_counts};
 ghost use Rattle.gw_turns.specs.Stretch.{CanCount};
 ghost use Rattle.gw_turns.specs.Tally.{no_tally};
+ghost use Rattle.gw_service.specs.Fault.{fault_of_opening};
+ghost use Rattle.gw_system.specs.Opening.{IsNote};
 ghost use Rattle.gw_service.specs.Kept.{AreRequestsUnder, IsLastDenial, IsMetricsUnder, IsStateUnder, IsStoreUnder, IsTextBefore, IsTrialNote, IsTrialNoteOf, IsUnprepared, KeepsFirst, LeavesKept, LeavesWithState, given, line_read, names_of, outcome_by, outcome_of_stop, state_machine, text_before};
 ghost use Rattle.gw_notices.specs.Startup.{startup_line};
 ghost use Rattle.gw_notices.specs.Reload.{counts_since};
@@ -38,14 +40,14 @@ use gw_notices::{ReloadCounts, Troubles, trial_line, warning_of, write_note};
 use gw_policy_text::{MAX_OCTETS, read_config};
 use gw_script::OctetSink;
 use gw_state::{Origin, Saved};
-use gw_system::{Host, ReadFailure, Requests, StoreKind, note_of};
+use gw_system::{Host, OpenFailure, ReadFailure, Requests, StoreKind, note_of};
 use gw_turns::{Announcing, Keeper, ServeFault, ServeState};
 use gw_watchers::Watcher;
 use gw_wire::{Store, StoreFault, Wire};
 use std::alloc::{AllocError, Global};
 use std::io::{BufWriter, Write};
 
-/// What is read and made before the log and the sockets are opened: what was saved, the last denial of the log, what is said of
+/// What is read and made before the log is opened: what was saved, the last denial of the log, what is said of
 /// the state, its store, that of the metrics, and what asks to read the configuration again; and what watches.
 #[derive(Drop)]
 pub(crate) struct Before<S, Q, L: OctetSink + Drop> {
@@ -223,7 +225,7 @@ fn text_of<H: Host>(
     Ok(text)
 }
 
-/// Reads and makes what is due before anything is opened.
+/// Reads and makes what is due before the log is opened.
 pub(crate) fn prepare<H: Host>(
     alloc: Global,
     config: &Config,
@@ -399,7 +401,7 @@ fn run_on<
     options: &RunOptions,
 ) -> Result<(), ServiceFault>
     requires failures { X.failure_count sockets.old < 2 ^ 127 }
-    ensures ran { (text : List ℕ) × LeavesKept (given S.held Q.recorded T.held before) config (service options.now.turns options.now.stats)
+    ensures ran { (text : List ℕ) × LeavesKept (given S.held Q.recorded T.held before) config (service options.now.turns options.now.stats options.now.stats_rules)
         (ends (L.held log.old) (X.calls sockets.old)) (ends (L.held log.new) (X.calls sockets.new)) text result
         × (E.NeverFails errors.old → Appends (E.held errors.old) (E.held errors.new) text) }
     ensures lasting { E.NeverFails errors.old → E.NeverFails errors.new }
@@ -411,6 +413,7 @@ fn run_on<
     let schedule = Schedule {
         start: running.gateway.counts(),
         seconds: options.stats,
+        rules: options.stats_rules,
         keeps,
         reloads,
     };
@@ -450,7 +453,7 @@ fn run_open<
     requires unbuffered { log.old ≡ None → writer_buffer output.old ≡ [] }
     ensures ran { let held = writer_contents W.contents output.old in
         let holds = writer_contents W.contents output.new in
-        (text : List ℕ) × LeavesKept (given S.held Q.recorded L.held before) config (service options.now.turns options.now.stats)
+        (text : List ℕ) × LeavesKept (given S.held Q.recorded L.held before) config (service options.now.turns options.now.stats options.now.stats_rules)
         (ends (log_held L.held log.old held) (X.calls sockets.old))
         (ends (log_held L.held log.new holds) (X.calls sockets.new)) text result
         × (E.NeverFails errors.old → Appends (E.held errors.old) (E.held errors.new) text) }
@@ -468,7 +471,25 @@ fn run_open<
     }
 }
 
-/// Serves the ports of a configuration as the options ask. Faults: those of [`serve_ports`](crate::serve_ports).
+/// Says why not all can be opened, where that is asked for, and gives the fault of that.
+fn refused<E: OctetSink>(
+    alloc: Global,
+    options: &RunOptions,
+    failure: OpenFailure,
+    errors: &mut E,
+) -> ServiceFault
+    ensures fault { result ≡ fault_of_opening failure }
+    ensures said { (said : List ℕ) × IsNote options.now.verbose failure said
+        × (E.NeverFails errors.old → Appends (E.held errors.old) (E.held errors.new) said) }
+    ensures lasting { E.NeverFails errors.old → E.NeverFails errors.new }
+{
+    let note = note_of(alloc, options.verbose, failure);
+    write_note(&note, errors);
+    ServiceFault::from(failure)
+}
+
+/// Serves the ports of a configuration as the options ask. The sockets are opened first, so a start that fails there leaves the log
+/// and all else as it was. Faults: those of [`serve_ports`](crate::serve_ports).
 pub(crate) fn serve_kept<H: Host, W: Write + Drop, E: OctetSink>(
     alloc: Global,
     config: Config,
@@ -483,24 +504,22 @@ pub(crate) fn serve_kept<H: Host, W: Write + Drop, E: OctetSink>(
         (state_machine (H.FileReads host.old) (H.LastDenials host.old) (H.StoreOpens host.old) (H.ReloadsOpen host.old)
         H.StateStore.held H.Reloads.recorded) (names_of options.now)
         (writer_contents W.contents output.old) (writer_contents W.contents output.new) config
-        (service options.now.turns options.now.stats) options.now.verbose (startup_line options.now.verbose config (option_map string_bytes options.now.log)) said result
+        (service options.now.turns options.now.stats options.now.stats_rules) options.now.verbose (startup_line options.now.verbose config (option_map string_bytes options.now.log)) said result
         × (E.NeverFails errors.old → Appends (E.held errors.old) (E.held errors.new) said) }
     ensures lasting { E.NeverFails errors.old → E.NeverFails errors.new }
     ensures flush { OnOk result (IsFlushedFor (option_map string_bytes options.now.log)
         (writer_buffer output.old) (writer_buffer output.new)) }
 {
+    let mut sockets = match host.open_sockets(alloc, config.ports()) {
+        Ok(sockets) => sockets,
+        Err(failure) => return Err(refused(alloc, options, OpenFailure::Sockets(failure), errors)),
+    };
     let before = match prepare(alloc, &config, options, host) {
         Ok(before) => before,
         Err(fault) => return Err(fault),
     };
     match open(alloc, &config, options, host, output) {
-        Ok(
-            Opening {
-                line,
-                mut log,
-                mut sockets,
-            },
-        ) => {
+        Ok(Opening { line, mut log }) => {
             write_note(&line, errors);
             write_note(warning_of(host, options.verbose), errors);
             write_note(&before.text, errors);
@@ -517,10 +536,6 @@ pub(crate) fn serve_kept<H: Host, W: Write + Drop, E: OctetSink>(
             host.close(sockets, log);
             outcome
         }
-        Err(failure) => {
-            let note = note_of(alloc, options.verbose, failure);
-            write_note(&note, errors);
-            Err(ServiceFault::from(failure))
-        }
+        Err(failure) => Err(refused(alloc, options, OpenFailure::Log(failure), errors)),
     }
 }

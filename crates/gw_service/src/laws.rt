@@ -21,8 +21,8 @@ use gw_wire::Store;
 /// Each event is judged by the rules of the configuration in force: wherever a run leads, the gateway has them, and in a stretch
 /// they stay.
 pub fn rules_are_in_force<K: StateKeeper>()
-    ensures chain { (start : Counts) (report : K → ReloadCounts → Announcing → Option ℕ → State → Served → Tally → List ℕ) →
-        RulesAreInForce (manner K.Passes K.Ticks K.Adopts K.troubles report (meters_by start) K.Lasts) }
+    ensures chain { (start : Counts) (report status : K → ReloadCounts → Announcing → Option ℕ → State → Served → Tally → List ℕ) →
+        RulesAreInForce (manner K.Passes K.Ticks K.Adopts K.troubles report status (meters_by start) K.Lasts) }
     ensures stretch { RulesStay }
 {}
 
@@ -40,8 +40,8 @@ pub fn as_unwatched<S: Store + Drop, Q: Requests + Drop, L: OctetSink + Drop>()
 
 /// If no request file is named, nobody asks: no look finds a request, and the configuration in force stays to the end.
 pub fn nobody_asks<K: StateKeeper>()
-    ensures { (start : Counts) (report : K → ReloadCounts → Announcing → Option ℕ → State → Served → Tally → List ℕ) →
-        NobodyAsks (manner K.Passes K.Ticks K.Adopts K.troubles report (meters_by start) K.Lasts) }
+    ensures { (start : Counts) (report status : K → ReloadCounts → Announcing → Option ℕ → State → Served → Tally → List ℕ) →
+        NobodyAsks (manner K.Passes K.Ticks K.Adopts K.troubles report status (meters_by start) K.Lasts) }
 {}
 
 /// A run that neither keeps a state nor looks for requests, of a configuration that announces nothing, is one of [`serve`](gw_turns::serve) but for what it reports: the log, the calls of the wire and the outcome are those of serving from the gateway's first state.

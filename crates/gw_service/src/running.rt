@@ -9,15 +9,15 @@ ghost use Rattle.gw_state.specs.Saved.{origin_of};
 ghost use Rattle.gw_turns.specs.Serve.{scene};
 ghost use Rattle.gw_turns.specs.Stretch.{CanCount, moment};
 ghost use Rattle.gw_system.specs.Requests.{Asking, GoesOn, IsAsking, answered, asked, text_found};
-ghost use Rattle.gw_service.specs.Chain.{Advances, AtTick, FailsToLast, IsLooked, IsNotedBy, Link, Looks, Runs, WasLasting, chain_text, edge, end_of, manner, stage, standing};
+ghost use Rattle.gw_service.specs.Chain.{Advances, AtTick, FailsToLast, IsLooked, IsNotedWith, Link, Looks, Runs, WasLasting, chain_text, edge, end_of, manner, stage, standing};
 ghost use Rattle.gw_notices.specs.Notices.{no_troubles, notice_of, stop_line};
 ghost use Rattle.gw_notices.specs.Reload.{refusal_line};
-ghost use Rattle.gw_service.specs.Kept.{EndsRun, RunsFrom, is_stopped, rest};
+ghost use Rattle.gw_service.specs.Kept.{EndsRun, RunsFrom, is_stopped, rest, status_or};
 ghost use Rattle.gw_service.specs.Metering.{MetersLast, lost_by, metered, meters_by, seconds_of};
 ghost use Rattle.gw_service.specs.Serving.{ends};
 ghost use Rattle.gw_wire.specs.Wire.{Call};
 ghost use Rattle.gw_service.specs.Scheduled.{reporting_by};
-ghost use Rattle.gw_service.specs.Stats.{due_stats, end_stats};
+ghost use Rattle.gw_service.specs.Stats.{all_stats, due_stats, end_stats};
 
 use crate::keeping::StateKeeper;
 use crate::metrics::{failing_of, lost_of, put_due, put_last};
@@ -27,11 +27,11 @@ use gw_core::{Both, Gateway};
 use gw_log_words::Notes;
 use gw_metrics::file::Metrics;
 use gw_notices::{
-    ReloadCounts, ReloadFault, Troubles, line_with_place, refusal_line, report_metrics,
-    report_notices, stop_line, untaken_line, write_note,
+    ReloadCounts, ReloadFault, Troubles, line_with_place, no_status_line, refusal_line,
+    report_metrics, report_notices, stop_line, untaken_line, write_note,
 };
 use gw_policy_text::MAX_OCTETS;
-use gw_script::OctetSink;
+use gw_script::{OctetSink, WriteFailed};
 use gw_state::Origin;
 use gw_system::{ReadFailure, Request, Requests};
 use gw_turns::{Announcing, Pause, ServeFault, ServeState};
@@ -103,6 +103,16 @@ fn end_of(stops: bool) -> Option<End>
     if stops { Some(End::Stopped) } else { None }
 }
 
+/// The report that answers a request to say what is counted, or else that there was no memory for it.
+fn status_or(text: &Result<Vec<u8>, WriteFailed>) -> &[u8]
+    ensures { result.now ≡ status_or text.now }
+{
+    match text {
+        Ok(text) => text.as_slice(),
+        Err(_) => no_status_line().as_bytes(),
+    }
+}
+
 /// This line of what isn't taken over, or else that of the fault, which takes no memory.
 fn line_or(line: &Option<Vec<u8>>, fault: ReloadFault) -> &[u8]
     ensures { result.now ≡ option_map_or (λ line. line.items) line.now (refusal_line fault) }
@@ -123,9 +133,9 @@ impl<K: StateKeeper, Q: Requests, M: Store + Drop> Running<K, Q, M> {
         errors: &mut E,
     )
         requires { IsAsking (Q.recorded self.old.requests) }
-        ensures looked { (first : Asking) →
+        ensures looked { (first : Asking) (report : List ℕ) →
             GoesOn first (Q.recorded self.old.requests) (asked (text_found read.now) ∷ []) →
-            Looks (IsLooked K.Adopts) (IsNotedBy L.Takes log.old log.new false) self.old.origin
+            Looks (IsLooked K.Adopts) (IsNotedWith L.Takes log.old log.new false report) self.old.origin
             (standing self.old.gateway self.old.keeper first self.old.counts self.old.announcing)
             self.new.origin (standing self.new.gateway self.new.keeper (Q.recorded self.new.requests) self.new.counts self.new.announcing)
             (E.NeverFails errors.old) (E.held errors.old) (E.held errors.new) }
@@ -164,9 +174,18 @@ impl<K: StateKeeper, Q: Requests, M: Store + Drop> Running<K, Q, M> {
         }
     }
 
-    /// Looks for a request, and if there is one to read the configuration again does so. It answers whether there is one to stop.
-    fn look<L: Notes, E: OctetSink>(&mut self, alloc: Global, log: &mut L, errors: &mut E) -> bool
-        ensures looked { Looks (IsLooked K.Adopts) (IsNotedBy L.Takes log.old log.new result) self.old.origin
+    /// Looks for a request, and if there is one to read the configuration again, or to say what is counted, does so. It answers
+    /// whether there is one to stop.
+    fn look<L: Notes, E: OctetSink>(
+        &mut self,
+        alloc: Global,
+        schedule: &Schedule,
+        log: &mut L,
+        errors: &mut E,
+    ) -> bool
+        ensures looked { let report = all_stats K.unkept K.more (reporting_by schedule.now) self.new.keeper self.new.counts
+            self.new.announcing (lost_by (metered self.new.metrics)) self.new.gateway self.new.state.served self.new.state.tally in
+            Looks (IsLooked K.Adopts) (IsNotedWith L.Takes log.old log.new result report) self.old.origin
             (standing self.old.gateway self.old.keeper (Q.recorded self.old.requests) self.old.counts self.old.announcing)
             self.new.origin (standing self.new.gateway self.new.keeper (Q.recorded self.new.requests) self.new.counts self.new.announcing)
             (E.NeverFails errors.old) (E.held errors.old) (E.held errors.new) }
@@ -184,6 +203,16 @@ impl<K: StateKeeper, Q: Requests, M: Store + Drop> Running<K, Q, M> {
                 false
             }
             Some(Request::Stop) => true,
+            Some(Request::Status) => {
+                let counts = RunCounts {
+                    reloads: self.counts,
+                    announcing: self.announcing,
+                    lost_metrics: lost_of(&self.metrics),
+                };
+                let text = schedule.status(alloc, &self.gateway, &self.state, &self.keeper, counts);
+                self.requests.answer(status_or(&text));
+                false
+            }
             Some(Request::Untaken) => {
                 write_note(untaken_line().as_bytes(), errors);
                 false
@@ -207,10 +236,13 @@ impl<K: StateKeeper, Q: Requests, M: Store + Drop> Running<K, Q, M> {
     fn at_tick<L: Notes, E: OctetSink>(
         &mut self,
         alloc: Global,
+        schedule: &Schedule,
         log: &mut L,
         errors: &mut E,
     ) -> bool
-        ensures done { Looks (AtTick K.Ticks K.Adopts) (IsNotedBy L.Takes log.old log.new result) self.old.origin
+        ensures done { let report = all_stats K.unkept K.more (reporting_by schedule.now) self.new.keeper self.new.counts
+            self.new.announcing (lost_by (metered self.new.metrics)) self.new.gateway self.new.state.served self.new.state.tally in
+            Looks (AtTick K.Ticks K.Adopts) (IsNotedWith L.Takes log.old log.new result report) self.old.origin
             (standing self.old.gateway self.old.keeper (Q.recorded self.old.requests) self.old.counts self.old.announcing)
             self.new.origin (standing self.new.gateway self.new.keeper (Q.recorded self.new.requests) self.new.counts self.new.announcing)
             (E.NeverFails errors.old) (E.held errors.old) (E.held errors.new) }
@@ -222,7 +254,7 @@ impl<K: StateKeeper, Q: Requests, M: Store + Drop> Running<K, Q, M> {
         ensures lasts { E.NeverFails errors.old → E.NeverFails errors.new }
     {
         self.keeper.keep_at_tick(alloc, &self.gateway);
-        self.look(alloc, log, errors)
+        self.look(alloc, schedule, log, errors)
     }
 
     /// Serves a stretch of at most so many turns, and does what is due after it: after a tick it makes the log last first, and then
@@ -243,7 +275,8 @@ impl<K: StateKeeper, Q: Requests, M: Store + Drop> Running<K, Q, M> {
             self.old.state.served self.old.state.tally) (Q.recorded self.old.requests) self.old.counts self.old.announcing self.old.said (metered self.old.metrics) in
             (d : Configuration) × (text : List ℕ) × (self.new.origin ≡ origin_of d)
             × Advances (manner K.Passes K.Ticks K.Adopts K.troubles
-            (due_stats K.unkept K.more (reporting_by schedule.now)) (meters_by schedule.now.start) K.Lasts) turns before result text
+            (due_stats K.unkept K.more (reporting_by schedule.now)) (all_stats K.unkept K.more (reporting_by schedule.now))
+            (meters_by schedule.now.start) K.Lasts) turns before result text
             (stage d (moment (scene self.new.gateway (L.held log.new) (W.calls wire.new)) self.new.keeper
             self.new.state.served self.new.state.tally) (Q.recorded self.new.requests) self.new.counts self.new.announcing self.new.said (metered self.new.metrics))
             (edge (W.behind wire.new) (WasLasting L.IsLasting L.held log.new) (FailsToLast L.Syncs log.new))
@@ -268,7 +301,7 @@ impl<K: StateKeeper, Q: Requests, M: Store + Drop> Running<K, Q, M> {
                 let Ok(_synced) = log.sync() else {
                     return Ok(Some(End::Unsynced));
                 };
-                let stops = self.at_tick(alloc, log, errors);
+                let stops = self.at_tick(alloc, schedule, log, errors);
                 self.announcing.announce(alloc, &self.gateway, wire);
                 self.said = self.notice(errors);
                 let counts = RunCounts {
@@ -320,7 +353,8 @@ impl<K: StateKeeper, Q: Requests, M: Store + Drop> Running<K, Q, M> {
             self.old.state.served self.old.state.tally) (Q.recorded self.old.requests) self.old.counts self.old.announcing self.old.said (metered self.old.metrics) in
             (d : Configuration) × (links : List Link) × (self.new.origin ≡ origin_of d)
             × Runs (manner K.Passes K.Ticks K.Adopts K.troubles
-            (due_stats K.unkept K.more (reporting_by schedule.now)) (meters_by schedule.now.start) K.Lasts) turns before result links
+            (due_stats K.unkept K.more (reporting_by schedule.now)) (all_stats K.unkept K.more (reporting_by schedule.now))
+            (meters_by schedule.now.start) K.Lasts) turns before result links
             (stage d (moment (scene self.new.gateway (L.held log.new) (W.calls wire.new)) self.new.keeper
             self.new.state.served self.new.state.tally) (Q.recorded self.new.requests) self.new.counts self.new.announcing self.new.said (metered self.new.metrics))
             × (E.NeverFails errors.old → Appends (E.held errors.old) (E.held errors.new) (chain_text links)) }
@@ -406,8 +440,8 @@ impl<K: StateKeeper, Q: Requests, M: Store + Drop> Running<K, Q, M> {
             let last = stage c (moment (scene self.old.gateway log calls) self.old.keeper self.old.state.served self.old.state.tally)
             (Q.recorded self.old.requests) self.old.counts self.old.announcing self.old.said (metered self.old.metrics) in
             let how = reporting_by schedule.now in
-            (text : List ℕ) × EndsRun (manner K.Passes K.Ticks K.Adopts K.troubles (due_stats K.unkept K.more how) (meters_by how.start)
-            K.Lasts) (end_stats K.unkept K.more how) how.start answer last (rest self.new.keeper (Q.recorded self.new.requests)) text
+            (text : List ℕ) × EndsRun (manner K.Passes K.Ticks K.Adopts K.troubles (due_stats K.unkept K.more how)
+            (all_stats K.unkept K.more how) (meters_by how.start) K.Lasts) (end_stats K.unkept K.more how) how.start answer last (rest self.new.keeper (Q.recorded self.new.requests)) text
             × (E.NeverFails errors.old → Appends (E.held errors.old) (E.held errors.new) text) }
         ensures lasts { E.NeverFails errors.old → E.NeverFails errors.new }
     {
@@ -443,7 +477,8 @@ impl<K: StateKeeper, Q: Requests, M: Store + Drop> Running<K, Q, M> {
             self.old.state.served self.old.state.tally) (Q.recorded self.old.requests) self.old.counts self.old.announcing (K.troubles self.old.keeper) (metered self.old.metrics) in
             let how = reporting_by schedule.now in
             let after = ends (L.held log.new) (W.calls wire.new) in
-            (text : List ℕ) × RunsFrom (manner K.Passes K.Ticks K.Adopts K.troubles (due_stats K.unkept K.more how) (meters_by how.start) K.Lasts)
+            (text : List ℕ) × RunsFrom (manner K.Passes K.Ticks K.Adopts K.troubles (due_stats K.unkept K.more how)
+            (all_stats K.unkept K.more how) (meters_by how.start) K.Lasts)
             (end_stats K.unkept K.more how) how.start turns before result after (rest self.new.keeper (Q.recorded self.new.requests)) text
             × (E.NeverFails errors.old → Appends (E.held errors.old) (E.held errors.new) text) }
         ensures lasts { E.NeverFails errors.old → E.NeverFails errors.new }

@@ -1,21 +1,22 @@
 //! The gateway at work: what `run` opens, and a gateway that serves it.
 
-ghost use Rattle.std.specs.Prelude.{◌≡◌, [], ℕ, Bool, List, None, MatchResult, is_some, option_map, string_bytes, IfOk, OnOk};
+ghost use Rattle.std.specs.Prelude.{◌≡◌, ◌⊎◌, [], ℕ, Bool, List, None, MatchResult, is_some, option_map, string_bytes, IfOk, OnOk};
 ghost use Rattle.std.specs.Io.Buffered.{writer_buffer, writer_contents};
 ghost use Rattle.std.specs.Io.KnownBytes.{Appends};
 ghost use Rattle.gw_notices.specs.Startup.{startup_line};
 ghost use Rattle.gw_system.specs.Host.{OpensAtLine};
+ghost use Rattle.gw_system.specs.declared.opening.LogFailure.TheVariants as log_failure;
 ghost use Rattle.gw_service.specs.Kept.{LeavesService, state_machine, waiting_note, whole_machine};
 ghost use Rattle.std.specs.List.{list_any};
 ghost use Rattle.gw_service.specs.Watch.{is_unaudited, unaudited_note};
-ghost use Rattle.gw_service.specs.Serving.{AreOpen, ArentOpen, IsFlushedFor, LogIsOpen, LogIsShut, machine};
+ghost use Rattle.gw_service.specs.Serving.{IsFlushedFor, LogIsOpen, LogIsShut, machine};
 
 use crate::fault::ServiceFault;
 use crate::kept::serve_kept;
 use gw_configuration::{Config, RunOptions};
 use gw_notices::{startup_line, write_note};
 use gw_script::OctetSink;
-use gw_system::{Host, LogFailure, OpenFailure, open_at_line};
+use gw_system::{Host, LogFailure, open_at_line};
 use std::alloc::Global;
 use std::io::{BufWriter, Write};
 
@@ -44,48 +45,40 @@ fn open_log<H: Host, W: Write + Drop>(
     }
 }
 
-/// What is reported at the start, and what is open then: the log where it is a file, and the sockets.
+/// What is reported at the start, and the log where it is a file.
 #[derive(Drop)]
-pub(crate) struct Opening<L, S> {
+pub(crate) struct Opening<L> {
     /// What is reported at the start.
     pub line: Vec<u8>,
     /// The log, if it is in a file.
     pub log: Option<L>,
-    /// The sockets.
-    pub sockets: S,
 }
 
-/// Makes the line that is reported at the start, opens the log and then the sockets.
+/// Makes the line that is reported at the start, and opens the log.
 pub(crate) fn open<H: Host, W: Write + Drop>(
     alloc: Global,
     config: &Config,
     options: &RunOptions,
     host: &H,
     output: &mut BufWriter<W>,
-) -> Result<Opening<H::Log, H::Sockets>, OpenFailure>
+) -> Result<Opening<H::Log>, LogFailure>
     ensures line { let name = option_map string_bytes options.now.log in
         IfOk result (λ opening. opening.line.items ≡ startup_line options.now.verbose config.now name) }
     ensures open { let name = option_map string_bytes options.now.log in
         let held = writer_contents W.contents output.old in
         let holds = writer_contents W.contents output.new in
         let LogOpens = OpensAtLine (H.LogOpens host.now) (H.LogIsCut host.now) H.Log.held in
-        let SocketsOpen = H.SocketsOpen host.now config.now.ports in
         MatchResult result
-        (λ opening. AreOpen LogOpens SocketsOpen name held holds opening.log opening.sockets)
-        (ArentOpen LogOpens SocketsOpen name held holds) }
+        (λ opening. LogIsOpen LogOpens name held holds opening.log)
+        (λ f. ((f ≡ log_failure.Memory) × (holds ≡ held)) ⊎ LogIsShut LogOpens name held holds f) }
     ensures unbuffered { IfOk result (λ opening. opening.log ≡ None → writer_buffer output.new ≡ []) }
-    ensures fresh { IfOk result (λ opening. H.Sockets.failure_count opening.sockets ≡ 0) }
     ensures buffer { OnOk result (IsFlushedFor (option_map string_bytes options.now.log)
         (writer_buffer output.old) (writer_buffer output.new)) }
 {
     let line = startup_line(alloc, config, &options.log, options.verbose)?;
-    let log = match open_log(alloc, &options.log, host, output) {
-        Ok(log) => log,
-        Err(failure) => return Err(OpenFailure::Log(failure)),
-    };
-    match host.open_sockets(alloc, config.ports()) {
-        Ok(sockets) => Ok(Opening { line, log, sockets }),
-        Err(failure) => Err(OpenFailure::Sockets(failure)),
+    match open_log(alloc, &options.log, host, output) {
+        Ok(log) => Ok(Opening { line, log }),
+        Err(failure) => Err(failure),
     }
 }
 
@@ -133,7 +126,7 @@ fn waiting_note<H: Host>(log: &Option<String>, host: &H) -> &'static str
 /// # Errors
 ///
 /// `Log`, `Socket`, `Memory` and `CountEnd`; if a state is named, `StateUnreadable`, `State` and `Store`; and if a trial or an
-/// audit is, `Trial` and `Audit`. At these neither the log nor a socket was opened.
+/// audit is, `Trial` and `Audit`. At `Socket` nothing else was opened, and at those of a state, a trial or an audit the log wasn't.
 pub fn serve_ports<H: Host, W: Write + Drop, E: OctetSink>(
     alloc: Global,
     config: Config,

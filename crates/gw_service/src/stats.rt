@@ -1,19 +1,20 @@
 //! Reports of a run, each so many seconds and at its end.
 
 ghost use Rattle.std.proofs.Props.{props};
-ghost use Rattle.std.specs.Prelude.{◌≡◌, ◌-◌, ◌%◌, ◌==◌, ◌<◌, ◌≤◌, IfSome, IsTrue, if◌then◌else◌, [], List, ℕ, true};
+ghost use Rattle.std.specs.Prelude.{◌≡◌, ◌-◌, ◌/◌, ◌%◌, ◌==◌, ◌||◌, ◌<◌, ◌≤◌, IfOk, IfSome, IsOk, IsTrue, OnOk, if◌then◌else◌, [], List, ℕ, true};
 ghost use Rattle.std.specs.Io.KnownBytes.{Appends};
 ghost use Rattle.gw_service.specs.Metrics.{measures_of};
-ghost use Rattle.gw_service.specs.Stats.{due_stats, end_stats, is_due, reporting, stats_text, tries_text};
+ghost use Rattle.gw_service.specs.Stats.{all_stats, due_stats, end_stats, ends_hour, is_due, reporting, stats_text, tries_text, whole, with_rules};
 
 use crate::keeping::StateKeeper;
 use crate::metrics::Measures;
 use gw_core::{Counts, Gateway};
-use gw_notices::{
-    ReloadCounts, report_lost_metrics, report_put_off, report_reloads, report_unkept,
+use gw_notices::{ReloadCounts, write_lost_metrics, write_put_off, write_reloads, write_unkept};
+use gw_script::{OctetSink, WriteFailed};
+use gw_turns::{
+    Announcing, ServeState, has_gone_on, report_of, write_announcing, write_culprits, write_report,
 };
-use gw_script::OctetSink;
-use gw_turns::{Announcing, ServeState, has_gone_on, report_announcing, report_of, try_report};
+use std::alloc::Global;
 
 /// What is counted of a run beside what is served.
 #[derive(Clone, Copy)]
@@ -27,13 +28,16 @@ pub(crate) struct RunCounts {
 }
 
 /// When a report is due: the counts of the gateway at first, and the seconds from one to the next, if reports are asked for;
-/// and whether it says how often the state couldn't be kept, and how often the configuration was read again.
+/// and whether it says how many asks each rule decided, how often the state couldn't be kept, and how often the configuration
+/// was read again.
 #[derive(Clone, Copy)]
 pub struct Schedule {
     /// The counts of the gateway at first.
     pub start: Counts,
     /// How many seconds lie between two reports.
     pub seconds: Option<u64>,
+    /// Whether each report says how many asks each rule decided.
+    pub rules: bool,
     /// Whether the state is kept, or the configuration read again if that is asked for.
     pub keeps: bool,
     /// Whether the configuration is read again if that is asked for.
@@ -49,50 +53,112 @@ fn is_due(start: Counts, gateway: &Gateway, seconds: u64) -> bool
     gateway.counts().ticks.saturating_sub(start.ticks) % seconds == 0
 }
 
+/// How many seconds an hour has.
+const HOUR: u64 = 3600;
+
+/// Whether an hour since the gateway began ended in the last so many seconds.
+fn ends_hour(start: Counts, gateway: &Gateway, seconds: u64) -> bool
+    ensures { result ≡ ends_hour start gateway.now seconds }
+{
+    let elapsed = gateway.counts().ticks.saturating_sub(start.ticks);
+    elapsed / HOUR != elapsed.saturating_sub(seconds) / HOUR
+}
+
 impl Schedule {
-    /// Reports how often the state couldn't be kept, if it is, how often the configuration was read again, if it is, how many
+    /// The same schedule, of the whole time, with how many asks each rule decided.
+    fn whole(&self) -> Schedule
+        ensures { reporting result.seconds result.rules result.start result.keeps result.reloads
+            ≡ whole (reporting self.now.seconds self.now.rules self.now.start self.now.keeps self.now.reloads) }
+    {
+        Schedule {
+            start: self.start,
+            seconds: None,
+            rules: true,
+            keeps: self.keeps,
+            reloads: self.reloads,
+        }
+    }
+
+    /// The same schedule, where each report says how many asks each rule decided, or doesn't.
+    fn with_rules(&self, rules: bool) -> Schedule
+        ensures { reporting result.seconds result.rules result.start result.keeps result.reloads
+            ≡ with_rules (reporting self.now.seconds self.now.rules self.now.start self.now.keeps self.now.reloads) rules }
+    {
+        Schedule {
+            start: self.start,
+            seconds: self.seconds,
+            rules,
+            keeps: self.keeps,
+            reloads: self.reloads,
+        }
+    }
+
+    /// Writes how often the state couldn't be kept, if it is, how often the configuration was read again, if it is, how many
     /// texts of metrics were lost, if they are put, what was announced, if anything was, how often an announcement was put off,
-    /// if one was, and what else the keeper reports.
-    fn report_tries<K: StateKeeper, E: OctetSink>(
+    /// if one was, and what else the keeper reports, with the rules if the schedule says so.
+    fn write_tries<K: StateKeeper, E: OctetSink>(
         &self,
         gateway: &Gateway,
         keeper: &K,
         counts: RunCounts,
         errors: &mut E,
-    )
-        ensures said { let how = reporting self.now.seconds self.now.start self.now.keeps self.now.reloads in
-            E.NeverFails errors.old → Appends (E.held errors.old) (E.held errors.new)
-            (tries_text K.unkept K.more how keeper.now counts.reloads counts.announcing counts.lost_metrics gateway.now) }
+    ) -> Result<(), WriteFailed>
+        ensures ok { let how = reporting self.now.seconds self.now.rules self.now.start self.now.keeps self.now.reloads in
+            OnOk result (Appends (E.held errors.old) (E.held errors.new)
+            (tries_text K.unkept K.more how keeper.now counts.reloads counts.announcing counts.lost_metrics gateway.now)) }
+        ensures sure { E.NeverFails errors.old → IsOk result }
         ensures lasts { E.NeverFails errors.old → E.NeverFails errors.new }
     {
-        report_unkept(self.keeps, keeper.unkept(), errors);
-        report_reloads(self.reloads, counts.reloads, errors);
-        report_lost_metrics(counts.lost_metrics, errors);
-        report_announcing(counts.announcing, errors);
-        report_put_off(counts.announcing.put_off, errors);
-        keeper.report_more(gateway, errors);
+        write_unkept(self.keeps, keeper.unkept(), errors)?;
+        write_reloads(self.reloads, counts.reloads, errors)?;
+        write_lost_metrics(counts.lost_metrics, errors)?;
+        write_announcing(counts.announcing, errors)?;
+        write_put_off(counts.announcing.put_off, errors)?;
+        keeper.write_more(self.rules, gateway, errors)
     }
 
-    /// Reports what was done since a gateway began.
-    fn report_stats<K: StateKeeper, E: OctetSink>(
+    /// Writes what was done since a gateway began.
+    fn write_stats<K: StateKeeper, E: OctetSink>(
         &self,
         gateway: &Gateway,
         state: &ServeState,
         keeper: &K,
         counts: RunCounts,
         errors: &mut E,
-    )
-        ensures said { let how = reporting self.now.seconds self.now.start self.now.keeps self.now.reloads in
-            E.NeverFails errors.old → Appends (E.held errors.old) (E.held errors.new)
+    ) -> Result<(), WriteFailed>
+        ensures ok { let how = reporting self.now.seconds self.now.rules self.now.start self.now.keeps self.now.reloads in
+            OnOk result (Appends (E.held errors.old) (E.held errors.new)
             (stats_text how gateway.now state.now.served state.now.tally
-            (tries_text K.unkept K.more how keeper.now counts.reloads counts.announcing counts.lost_metrics gateway.now)) }
+            (tries_text K.unkept K.more how keeper.now counts.reloads counts.announcing counts.lost_metrics gateway.now))) }
+        ensures sure { E.NeverFails errors.old → IsOk result }
         ensures lasts { E.NeverFails errors.old → E.NeverFails errors.new }
     {
-        if has_gone_on(self.start, gateway, &state.served) {
-            let report = report_of(self.start, gateway, &state.served, state.tally);
-            try_report(&report, errors);
-            self.report_tries(gateway, keeper, counts, errors);
+        if !has_gone_on(self.start, gateway, &state.served) {
+            return Ok(());
         }
+        let report = report_of(self.start, gateway, &state.served, state.tally);
+        write_report(&report, errors)?;
+        write_culprits(self.seconds, gateway.counts().ticks, &state.tally, errors)?;
+        self.write_tries(gateway, keeper, counts, errors)
+    }
+
+    /// A report with how many asks each rule decided, whether one is due or not. `WriteFailed` only if memory was refused.
+    pub(crate) fn status<K: StateKeeper>(
+        &self,
+        alloc: Global,
+        gateway: &Gateway,
+        state: &ServeState,
+        keeper: &K,
+        counts: RunCounts,
+    ) -> Result<Vec<u8>, WriteFailed>
+        ensures { let how = reporting self.now.seconds self.now.rules self.now.start self.now.keeps self.now.reloads in
+            IfOk result (λ text. text.items ≡ all_stats K.unkept K.more how keeper.now counts.reloads counts.announcing
+            counts.lost_metrics gateway.now state.now.served state.now.tally) }
+    {
+        let mut text = Vec::new(alloc);
+        self.whole()
+            .write_stats(gateway, state, keeper, counts, &mut text)?;
+        Ok(text)
     }
 
     /// What is measured at a tick. It is always something.
@@ -120,7 +186,8 @@ impl Schedule {
         }
     }
 
-    /// Writes a report at a tick, if one is due.
+    /// Writes a report at a tick, if one is due. It says how many asks each rule decided if all do, or if an hour ended since the
+    /// one before.
     pub(crate) fn report_due<K: StateKeeper, E: OctetSink>(
         &self,
         gateway: &Gateway,
@@ -129,19 +196,21 @@ impl Schedule {
         counts: RunCounts,
         errors: &mut E,
     )
-        ensures said { let how = reporting self.now.seconds self.now.start self.now.keeps self.now.reloads in
+        ensures said { let how = reporting self.now.seconds self.now.rules self.now.start self.now.keeps self.now.reloads in
             E.NeverFails errors.old → Appends (E.held errors.old) (E.held errors.new)
             (due_stats K.unkept K.more how keeper.now counts.reloads counts.announcing counts.lost_metrics gateway.now state.now.served state.now.tally) }
         ensures lasts { E.NeverFails errors.old → E.NeverFails errors.new }
     {
         if let Some(seconds) = self.seconds {
             if is_due(self.start, gateway, seconds) {
-                self.report_stats(gateway, state, keeper, counts, errors);
+                let rules = self.rules || ends_hour(self.start, gateway, seconds);
+                let schedule = self.with_rules(rules);
+                let _ = schedule.write_stats(gateway, state, keeper, counts, errors);
             }
         }
     }
 
-    /// Writes a report at the end, if reports are asked for.
+    /// Writes a report at the end, if reports are asked for. It says how many asks each rule decided.
     pub(crate) fn report_last<K: StateKeeper, E: OctetSink>(
         &self,
         gateway: &Gateway,
@@ -150,13 +219,14 @@ impl Schedule {
         counts: RunCounts,
         errors: &mut E,
     )
-        ensures said { let how = reporting self.now.seconds self.now.start self.now.keeps self.now.reloads in
+        ensures said { let how = reporting self.now.seconds self.now.rules self.now.start self.now.keeps self.now.reloads in
             E.NeverFails errors.old → Appends (E.held errors.old) (E.held errors.new)
             (end_stats K.unkept K.more how keeper.now counts.reloads counts.announcing counts.lost_metrics gateway.now state.now.served state.now.tally) }
         ensures lasts { E.NeverFails errors.old → E.NeverFails errors.new }
     {
         if self.seconds.is_some() {
-            self.report_stats(gateway, state, keeper, counts, errors);
+            let schedule = self.whole();
+            let _ = schedule.write_stats(gateway, state, keeper, counts, errors);
         }
     }
 }

@@ -1,6 +1,8 @@
 //! A gateway that is watched, and whose state may then be kept.
 
-ghost use Rattle.std.specs.Prelude.{◌≡◌};
+ghost use Rattle.std.specs.Prelude.{◌≡◌, if◌then◌else◌, [], IsOk, OnOk};
+ghost use Rattle.std.specs.Io.KnownBytes.{Appends};
+ghost use Rattle.gw_notices.specs.Watch.{counts_text};
 ghost use Rattle.gw_service.specs.Watch.{BeginAnew, IsKeptAtTickBeside, IsKeptForBeside, IsKeptLastBeside, counted_of, has_lost, log_count, losses_of, lost_of, more_of, troubles_of};
 ghost use Rattle.gw_service.specs.Keeping.{tries_in, unkept_in};
 
@@ -9,8 +11,9 @@ use crate::successor::Successor;
 use gw_core::{Both, Gateway};
 use gw_decisions::tally::Tally;
 use gw_metrics::StateTries;
-use gw_notices::{LogCount, Losses, Troubles, WatchCounts, report_watched};
-use gw_script::OctetSink;
+use gw_notices::{LogCount, Losses, Troubles, WatchCounts, write_counts, write_watched};
+use gw_rules::RuleList;
+use gw_script::{OctetSink, WriteFailed};
 use gw_watchers::{Beside, Watcher};
 use gw_wire::Store;
 use std::alloc::Global;
@@ -56,6 +59,25 @@ fn counted_of<T: OctetSink + Drop, A: OctetSink + Drop>(watcher: &Watcher<T, A>)
         trial: log_count(watcher.trial()),
         audit: log_count(watcher.audit()),
         unseen: watcher.unseen(),
+    }
+}
+
+/// Writes how many asks each of these rules decided, if that is asked for.
+fn write_counts_if<E: OctetSink>(
+    is_asked: bool,
+    rules: &RuleList,
+    counts: &Option<Tally>,
+    errors: &mut E,
+) -> Result<(), WriteFailed>
+    ensures ok { OnOk result (Appends (E.held errors.old) (E.held errors.new)
+        (if is_asked then counts_text rules.now counts.now else [])) }
+    ensures sure { E.NeverFails errors.old → IsOk result }
+    ensures lasts { E.NeverFails errors.old → E.NeverFails errors.new }
+{
+    if is_asked {
+        write_counts(rules, counts, errors)
+    } else {
+        Ok(())
     }
 }
 
@@ -138,12 +160,13 @@ impl<S: Store + Drop, T: OctetSink + Drop, A: OctetSink + Drop> StateKeeper
         }
     }
 
-    fn report_more<E: OctetSink>(&self, gateway: &Gateway, errors: &mut E) {
-        report_watched(
-            gateway.rules(),
-            counted_of(&self.first),
-            self.first.counts(),
-            errors,
-        );
+    fn write_more<E: OctetSink>(
+        &self,
+        rules: bool,
+        gateway: &Gateway,
+        errors: &mut E,
+    ) -> Result<(), WriteFailed> {
+        write_watched(counted_of(&self.first), errors)?;
+        write_counts_if(rules, gateway.rules(), self.first.counts(), errors)
     }
 }

@@ -5,7 +5,7 @@ use Rattle.std.specs.Prelude.{⊤}
 use Rattle.gw_system.specs.Request.{IsChecked, IsGiven, NamedTextAlone, reload_request}
 use Rattle.gw_system.specs.declared.obstacle.Obstacle.TheVariants as obstacle
 use Rattle.gw_system.specs.declared.reading.ReadFailure.TheVariants as reading
-use Rattle.gw_system.specs.Requests.{Asking, Exchange, GoesOn, GoesOnKnown, IsAsking, asked, asked_to_stop, known, nobody, silent}
+use Rattle.gw_system.specs.Requests.{Asking, Exchange, GoesOn, GoesOnKnown, IsAsking, asked, asked_to_say, asked_to_stop, known, nobody, silent}
 use Rattle.gw_system.specs.declared.reading.ReadFailure.{ReadFailure}
 
 -- if there was a request, somebody asks
@@ -23,6 +23,14 @@ stops_on silent b goes = subst IsAsking (sym goes) tt
 stops_on (known recorded) nobody goes = absurd goes
 stops_on (known recorded) silent goes = tt
 stops_on (known recorded) (known now) goes = tt
+
+-- or one to say what is counted
+pub says_on : (a b : Asking) → GoesOn a b (asked_to_say ∷ []) → IsAsking b
+says_on nobody b goes = absurd goes.1.0
+says_on silent b goes = subst IsAsking (sym goes) tt
+says_on (known recorded) nobody goes = absurd goes
+says_on (known recorded) silent goes = tt
+says_on (known recorded) (known now) goes = tt
 
 -- what was asked and then answered
 pub goes_two : (a b c : Asking) (x y : Exchange) → GoesOn a b (x ∷ []) → GoesOn b c (y ∷ []) → GoesOn a c (x ∷ y ∷ [])

@@ -1,7 +1,7 @@
 -- Requests by a file: whose names they use, what is given for one that is taken away, and where it is answered.
 use Rattle.std.specs.Prelude.{◌≡◌, ◌≢◌, ◌⊎◌, ℕ, Bool, true, false, List, ◌++◌, Option, Some, None, Result, IfOk, codes}
 use Rattle.gw_system.specs.Folder.{Holds, IsTakenAway, Known}
-use Rattle.gw_system.specs.Request.{IsGiven, is_reload, stop_request}
+use Rattle.gw_system.specs.Request.{IsGiven, is_reload, status_request, stop_request}
 use Rattle.gw_system.specs.Requests.{text_found}
 use Rattle.gw_system.specs.declared.reading.ReadFailure.{ReadFailure}
 use Rattle.gw_system.specs.declared.request.Request.{Request}
@@ -53,6 +53,7 @@ pub record IsTakenFor {F : Type 0} (known : F → List ℕ → Known) (before af
 abbrev pub IsTakenSo : {F : Type 0} → (known : F → List ℕ → Known) → (before after : RequestFiles F) → Request → Type 0
 IsTakenSo known before after (request.Reload read) = IsTakenFor known before after (text_found read) × (after.told ≡ false)
 IsTakenSo known before after request.Stop = IsTaken known before after stop_request × (after.told ≡ false)
+IsTakenSo known before after request.Status = IsTaken known before after status_request × (after.told ≡ false)
 IsTakenSo known before after request.Untaken = (before.told ≡ false) × (after.told ≡ true)
 
 -- whether something has the name of a request that isn't taken, unless that was told before

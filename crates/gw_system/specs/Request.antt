@@ -27,9 +27,16 @@ stop_request = codes "stop\n"
 abbrev pub is_stop : List ℕ → Bool
 is_stop text = pointwise nat_eq text stop_request
 
--- a text is one of both
+-- the line of a request to say what is counted
+abbrev pub status_request : List ℕ
+status_request = codes "status\n"
+
+abbrev pub is_status : List ℕ → Bool
+is_status text = pointwise nat_eq text status_request
+
+-- a text is one of the three
 abbrev pub is_request : List ℕ → Bool
-is_request text = is_reload text || is_stop text
+is_request text = is_reload text || (is_stop text || is_status text)
 
 -- what is given of a text that was read if a request names one: that text alone
 abbrev pub checked_text : (request text : List ℕ) → Result (Option (List ℕ)) ReadFailure

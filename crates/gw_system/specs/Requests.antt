@@ -7,11 +7,12 @@ use Rattle.gw_system.specs.declared.request.Request.{Request}
 use Rattle.gw_system.specs.declared.request.Request.TheVariants as request
 
 -- no request was there; one to read the configuration again was, and its text, if it is there, or why it can't be read; one to
--- stop; something that isn't taken; and an answer
+-- stop; one to say what is counted; something that isn't taken; and an answer
 pub data Exchange : Type 0 where
   unasked : Exchange
   asked : (text : Result (Option (List ℕ)) ReadFailure) → Exchange
   asked_to_stop : Exchange
+  asked_to_say : Exchange
   untaken : Exchange
   answered : (text : List ℕ) → Exchange
 
@@ -26,6 +27,7 @@ abbrev pub IsUnasked : Exchange → Type 0
 IsUnasked unasked = ⊤
 IsUnasked (asked text) = ⊥
 IsUnasked asked_to_stop = ⊥
+IsUnasked asked_to_say = ⊥
 IsUnasked untaken = ⊥
 IsUnasked (answered text) = ⊥
 
@@ -58,6 +60,7 @@ text_found (Err failure) = Err failure
 abbrev pub asked_for : Request → Exchange
 asked_for (request.Reload text) = asked (text_found text)
 asked_for request.Stop = asked_to_stop
+asked_for request.Status = asked_to_say
 asked_for request.Untaken = untaken
 
 abbrev pub asked_by : Option Request → Exchange

@@ -34,7 +34,7 @@ pub use opening::{FailedStep, LogFailure, OpenFailure, Reason, SocketFailure, St
 pub use poll_waiter::PollWaiter;
 pub use reading::{LOG_ENDS, ReadFailure};
 pub use replacing::{FileName, replace_file, show_file};
-pub use request::{Request, STOP_REQUEST, reload_request};
+pub use request::{Request, STATUS_REQUEST, STOP_REQUEST, reload_request};
 pub use requests::{AskedFile, FileRequests, Requests};
 pub use stamped_host::{StampedHost, into_log};
 pub use store::{Access, FileStore, StoreKind};

@@ -2,7 +2,7 @@
 
 ghost use Rattle.std.specs.Prelude.{◌≡◌, ◌-◌, ◌==◌, length, take, IfOk};
 ghost use Rattle.std.specs.List.{list_any};
-ghost use Rattle.gw_system.specs.Request.{IsChecked, IsGiven, is_line, is_reload, is_request, is_stop, reload_request};
+ghost use Rattle.gw_system.specs.Request.{IsChecked, IsGiven, is_line, is_reload, is_request, is_status, is_stop, reload_request};
 ghost use Rattle.gw_system.specs.Requests.{text_found};
 
 use crate::obstacle::Obstacle;
@@ -51,12 +51,17 @@ pub enum Request {
     Reload(Result<Option<Vec<u8>>, ReadFailure>),
     /// To stop.
     Stop,
+    /// To say what it counts.
+    Status,
     /// Nothing: what has the name of a request isn't taken, since it is none, or can't be read or taken away.
     Untaken,
 }
 
 /// The text of a request to stop.
 pub const STOP_REQUEST: &[u8] = b"stop\n";
+
+/// The text of a request to say what is counted.
+pub const STATUS_REQUEST: &[u8] = b"status\n";
 
 /// Whether a text is a request to read the configuration again: nothing, or a line that names the text of one.
 fn is_reload(text: &[u8]) -> bool
@@ -72,11 +77,18 @@ pub(crate) fn is_stop(text: &[u8]) -> bool
     text == STOP_REQUEST
 }
 
+/// Whether a text is a request to say what is counted.
+pub(crate) fn is_status(text: &[u8]) -> bool
+    ensures { result ≡ is_status text.now }
+{
+    text == STATUS_REQUEST
+}
+
 /// Whether a text is a request.
 pub(crate) fn is_request(text: &[u8]) -> bool
     ensures { result ≡ is_request text.now }
 {
-    is_reload(text) || is_stop(text)
+    is_reload(text) || is_stop(text) || is_status(text)
 }
 
 /// A text that was read, if it is the one that a request names. Faults: `Unreadable` with `Changed`, and `Memory`.

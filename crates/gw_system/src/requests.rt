@@ -1,4 +1,4 @@
-//! What asks a running gateway to read its configuration again, or to stop.
+//! What asks a running gateway to read its configuration again, to stop, or to say what it counts.
 
 ghost use Rattle.std.specs.Prelude.{◌≡◌, ◌≢◌, ◌++◌, ◌∷◌, [], ℕ, Some, None, true, false, if◌then◌else◌, codes, string_bytes, IfOk, IfSome};
 ghost use Rattle.gw_system.specs.Folder.{Holds, IsAnswer, IsTakenAway};
@@ -10,7 +10,7 @@ use crate::folder::Folder;
 use crate::obstacle::Obstacle;
 use crate::reading::ReadFailure;
 use crate::replacing::FileName;
-use crate::request::{MAX_REQUEST, Request, given_by, is_request, is_stop};
+use crate::request::{MAX_REQUEST, Request, given_by, is_request, is_status, is_stop};
 use crate::store::{Access, name_with};
 use mio::{Events, Poll};
 use std::alloc::{AllocError, Global};
@@ -19,7 +19,7 @@ use std::marker::Model;
 use std::net::Net;
 use std::time::Duration;
 
-/// What asks a running gateway to read its configuration again or to stop, and is answered.
+/// What asks a running gateway to read its configuration again, to stop or to say what it counts, and is answered.
 pub trait Requests {
     /// What is known of it: that nobody asks, nothing, or what it asked and was answered so far, in order.
     ghost recorded: { Self → Asking };
@@ -158,6 +158,9 @@ impl<F: Folder> FileRequests<F> {
     {
         if is_stop(line) {
             return Request::Stop;
+        }
+        if is_status(line) {
+            return Request::Status;
         }
         let read = self.folder.read(alloc, &self.config, most);
         Request::Reload(given_by(alloc, line, read))

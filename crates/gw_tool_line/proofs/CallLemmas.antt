@@ -3,10 +3,10 @@ use Rattle.std.proofs.Common.{refl, Some, None}
 use Rattle.clap.proofs.OnLiterals.{clap_on_literals}
 use Rattle.gw_log_words.proofs.MomentExamples.{morning, morning_is_read}
 use Rattle.gw_tool_line.specs.Calls.{CallsAreRefused, CallsAreTaken}
-use Rattle.gw_tool_line.specs.Commands.{commands, first_commands, later_commands, middle_commands}
+use Rattle.gw_tool_line.specs.Commands.{commands, first_commands, later_commands, middle_commands, most_commands}
 
 pub calls_are_taken : CallsAreTaken
-unfolding clap_on_literals commands later_commands middle_commands first_commands
+unfolding clap_on_literals commands most_commands later_commands middle_commands first_commands
 calls_are_taken = record {
   check = λ program. record { taken = refl; asked = refl; sound = λ void. void };
   explain = λ program. record { taken = refl; asked = refl; sound = λ void. void };
@@ -31,6 +31,8 @@ calls_are_taken = record {
   rules = λ program. record { taken = refl; asked = refl; sound = λ void. void };
   stop = λ program. record { taken = refl; asked = refl; sound = λ void. void };
   stop_waiting = λ program. record { taken = refl; asked = refl; sound = λ void. void };
+  status = λ program. record { taken = refl; asked = refl; sound = λ void. void };
+  status_waiting = λ program. record { taken = refl; asked = refl; sound = λ void. void };
   ask_to_read = λ program. record { taken = refl; asked = refl; sound = λ void. void };
   ask_to_write = λ program. record { taken = refl; asked = refl; sound = λ void. void };
   ask_to_write_at = λ program. record { taken = refl; asked = refl; sound = λ void. void };
@@ -49,7 +51,7 @@ calls_are_taken = record {
 }
 
 pub calls_are_refused : CallsAreRefused
-unfolding clap_on_literals commands later_commands middle_commands first_commands
+unfolding clap_on_literals commands most_commands later_commands middle_commands first_commands
 calls_are_refused = record {
   check_json_explain = λ program. refl;
   check_json_lint = λ program. refl;
@@ -63,6 +65,7 @@ calls_are_refused = record {
   reload_none = λ program. refl;
   logs = λ program. refl;
   init_nowhere = λ program. refl;
+  status_nobody = λ program. refl;
   stop_nobody = λ program. refl;
   points = λ program. refl;
   ask_both = λ program. (refl, refl);

@@ -5,7 +5,7 @@ use Rattle.clap.specs.declared.error.kind.ErrorKind.{ErrorKind}
 use Rattle.clap.specs.declared.error.kind.ErrorKind.TheVariants as parse
 use Rattle.clap.proofs.OnLiterals.{clap_on_literals}
 use Rattle.gw_tool_line.specs.CommandLine.{AskFor, Chooses, IsAnswer, IsChosen, IsRefusal}
-use Rattle.gw_tool_line.specs.Commands.{commands, first_commands, later_commands, middle_commands}
+use Rattle.gw_tool_line.specs.Commands.{commands, first_commands, later_commands, middle_commands, most_commands}
 use Rattle.gw_tool_line.specs.Requests.{Request, asked_in}
 use Rattle.gw_tool_line.specs.declared.command_line.Choice.{Choice}
 use Rattle.gw_tool_line.specs.declared.command_line.Choice.TheVariants as choice
@@ -15,11 +15,11 @@ use Rattle.gw_command_line.specs.declared.options.fault.WordsFault.TheVariants a
 
 -- clap says exactly which kinds of fault the program's words have
 pub commands_are_simple : is_simple_and_free commands ≡ true
-unfolding clap_on_literals commands later_commands middle_commands first_commands
+unfolding clap_on_literals commands most_commands later_commands middle_commands first_commands
 commands_are_simple = refl
 
 pub parse_is_simple : is_simple commands ≡ true
-unfolding clap_on_literals commands later_commands middle_commands first_commands
+unfolding clap_on_literals commands most_commands later_commands middle_commands first_commands
 parse_is_simple = refl
 
 -- what is made of a failed parse answers the kinds of fault that it may have
@@ -43,6 +43,7 @@ refusal_answers words k (Ok (choice.Report file log)) among is = absurd is
 refusal_answers words k (Ok (choice.Points file)) among is = absurd is
 refusal_answers words k (Ok (choice.Rules file)) among is = absurd is
 refusal_answers words k (Ok (choice.Stop file waits)) among is = absurd is
+refusal_answers words k (Ok (choice.Status file waits)) among is = absurd is
 refusal_answers words k (Ok (choice.Init site)) among is = absurd is
 refusal_answers words k (Ok (choice.Ask file from to deed)) among is = absurd is
 refusal_answers words k (Ok (choice.State config state)) among is = absurd is
@@ -75,6 +76,7 @@ taken_answers words (Ok (choice.Report file log)) none is = (none, is)
 taken_answers words (Ok (choice.Points file)) none is = (none, is)
 taken_answers words (Ok (choice.Rules file)) none is = (none, is)
 taken_answers words (Ok (choice.Stop file waits)) none is = (none, is)
+taken_answers words (Ok (choice.Status file waits)) none is = (none, is)
 taken_answers words (Ok (choice.Init site)) none is = (none, is)
 taken_answers words (Ok (choice.Ask file from to deed)) none is = (none, is)
 taken_answers words (Ok (choice.State config state)) none is = (none, is)
@@ -121,6 +123,8 @@ chooses words request (Ok (choice.Rules file)) asks is =
     chosen words request (Ok (choice.Rules file)) asks.asked is.1
 chooses words request (Ok (choice.Stop file waits)) asks is =
     chosen words request (Ok (choice.Stop file waits)) asks.asked is.1
+chooses words request (Ok (choice.Status file waits)) asks is =
+    chosen words request (Ok (choice.Status file waits)) asks.asked is.1
 chooses words request (Ok (choice.Init site)) asks is =
     chosen words request (Ok (choice.Init site)) asks.asked is.1
 chooses words request (Ok (choice.Ask file from to deed)) asks is =

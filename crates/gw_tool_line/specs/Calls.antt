@@ -6,7 +6,7 @@ use Rattle.gw_tool_line.specs.CommandLine.{AskFor}
 use Rattle.gw_tool_line.specs.Commands.{commands}
 use Rattle.gw_tool_line.specs.Requests.{Asks, Begins, Calls as Serves, Looks, Reads, Registers, Writes}
 use Rattle.gw_tool_line.specs.Requests.{Checks, ChecksJson, Compares, ComparesJson, Explains, Judges, ListsLog, ListsPoints, ListsRules, Migrates}
-use Rattle.gw_tool_line.specs.Requests.{Reloads, Reports, Request, Shows, Stops, Suggests, TranslatesLog, asked_in}
+use Rattle.gw_tool_line.specs.Requests.{Reloads, Reports, Request, Shows, Stops, Suggests, Tells, TranslatesLog, asked_in}
 use Rattle.gw_command_line.specs.options.Options.{most_count}
 
 -- these words, after the program's name, ask for this
@@ -62,6 +62,8 @@ pub record CallsAreTaken : Type 0 where
   pub rules : Calls (codes "rules" ∷ on_site []) (ListsRules site)
   pub stop : Calls (codes "stop" ∷ codes "--reload" ∷ codes "again" ∷ []) (Stops (codes "again") false)
   pub stop_waiting : Calls (codes "stop" ∷ codes "--reload" ∷ codes "again" ∷ codes "--wait" ∷ []) (Stops (codes "again") true)
+  pub status : Calls (codes "status" ∷ codes "--reload" ∷ codes "again" ∷ []) (Tells (codes "again") false)
+  pub status_waiting : Calls (codes "status" ∷ codes "--reload" ∷ codes "again" ∷ codes "--wait" ∷ []) (Tells (codes "again") true)
   pub ask_to_read : Calls
       (codes "ask" ∷ on_site (codes "--from" ∷ codes "10.1.0.10" ∷ codes "--to" ∷ codes "device" ∷ codes "--read" ∷ codes "5,1" ∷ []))
       (Asks site (codes "10.1.0.10") (Some (codes "device")) (Reads (codes "5,1")))
@@ -130,6 +132,7 @@ pub record CallsAreRefused : Type 0 where
   pub ask_nobody : (program : Text)
       → fault_of commands (program ∷ codes "ask" ∷ on_site (codes "--to" ∷ codes "b" ∷ codes "--read" ∷ codes "5,1" ∷ [])) ≡ parse.MissingRequiredArgument ∷ []
   pub init_nowhere : (program : Text) → fault_of commands (program ∷ codes "init" ∷ []) ≡ parse.MissingRequiredArgument ∷ []
+  pub status_nobody : (program : Text) → fault_of commands (program ∷ codes "status" ∷ []) ≡ parse.MissingRequiredArgument ∷ []
   pub stop_nobody : (program : Text) → fault_of commands (program ∷ codes "stop" ∷ []) ≡ parse.MissingRequiredArgument ∷ []
   pub points : (program : Text)
       → fault_of commands (program ∷ codes "objects" ∷ on_site []) ≡ parse.MissingRequiredArgument ∷ []

@@ -14,7 +14,7 @@ use Rattle.gw_tool_line.specs.declared.ask_choice.DeedWords.{DeedWords}
 use Rattle.gw_tool_line.specs.declared.ask_choice.Unclear.{Unclear}
 use Rattle.gw_tool_line.specs.declared.ask_choice.DeedWords.TheVariants as said
 use Rattle.gw_tool_line.specs.Requests.{Checks, ChecksJson, Compares, ComparesJson, Explains, Judges, ListsLog, ListsPoints, ListsRules, Migrates}
-use Rattle.gw_tool_line.specs.Requests.{Reloads, Reports, Request, Shows, Stops, Suggests, TranslatesLog, asked_in}
+use Rattle.gw_tool_line.specs.Requests.{Reloads, Reports, Request, Shows, Stops, Suggests, Tells, TranslatesLog, asked_in}
 use Rattle.gw_tool_line.specs.declared.command_line.Choice.{Choice}
 use Rattle.gw_tool_line.specs.declared.command_line.Choice.TheVariants as choice
 use Rattle.gw_tool_line.specs.declared.options.Shown.{Shown}
@@ -76,6 +76,7 @@ IsFor request (choice.Report file log) = request ≡ Reports (string_bytes file)
 IsFor request (choice.Points file) = request ≡ ListsPoints (string_bytes file)
 IsFor request (choice.Rules file) = request ≡ ListsRules (string_bytes file)
 IsFor request (choice.Stop file waits) = request ≡ Stops (string_bytes file) waits
+IsFor request (choice.Status file waits) = request ≡ Tells (string_bytes file) waits
 IsFor request (choice.Ask file from to deed) =
     request ≡ Asks (string_bytes file) (string_bytes from) (option_map string_bytes to) (deed_of deed)
 IsFor request (choice.Init words) =

@@ -74,11 +74,15 @@ rules = of_file (codes "rules")
 abbrev pub stop : App
 stop = with_rule (with_rule (new_app (codes "stop")) (needed (codes "reload"))) (flag (codes "wait"))
 
+-- `status --reload FILE [--wait]`
+abbrev pub status : App
+status = with_rule (with_rule (new_app (codes "status")) (needed (codes "reload"))) (flag (codes "wait"))
+
 -- the program, whose call has to name a command
 abbrev pub program : App
 program = on_top (λ top. record top { subcommand_required = true; has_version = true }) (new_app (codes "bacgwctl"))
 
--- The commands of the program: the first four, four more, and then the others. They stay closed in proofs, since what they
+-- The commands of the program: the first four, three times four more, and then the last. They stay closed in proofs, since what they
 -- compute to is long.
 unfoldable pub first_commands : App
 first_commands =
@@ -110,12 +114,15 @@ later_commands =
     reload.top)
     objects.top
 
-unfoldable pub commands : App
-commands =
+unfoldable pub most_commands : App
+most_commands =
     with_subcommand
     (with_subcommand
     (with_subcommand
     (with_subcommand later_commands ask.top)
     rules.top)
     stop.top)
-    init.top
+    status.top
+
+unfoldable pub commands : App
+commands = with_subcommand most_commands init.top

@@ -37,6 +37,7 @@ pub data Request : Type 0 where
   ListsPoints : (file : Text) → Request
   ListsRules : (file : Text) → Request
   Stops : (request : Text) (waits : Bool) → Request
+  Tells : (request : Text) (waits : Bool) → Request
   Asks : (file from : Text) (to : Option Text) (deed : Deed) → Request
   Begins : (ports peers routers operators managers : List Text) → Request
 
@@ -120,6 +121,14 @@ stop_by None waits = Err []
 
 abbrev pub stop_asked : Values → Result Request Text
 stop_asked value = stop_by (value (codes "reload")) (is_true (value (codes "wait")))
+
+-- `status`, so too
+abbrev pub status_by : Option Text → (waits : Bool) → Result Request Text
+status_by (Some request) waits = Ok (Tells request waits)
+status_by None waits = Err []
+
+abbrev pub status_asked : Values → Result Request Text
+status_asked value = status_by (value (codes "reload")) (is_true (value (codes "wait")))
 
 -- `ask`: what is read, or what is written and perhaps at which priority, or another of these, and no two
 
@@ -217,6 +226,7 @@ asked name value values =
     if is_named name (codes "init") then init_asked values
     else if is_named name (codes "log") then log_asked value
     else if is_named name (codes "stop") then stop_asked value
+    else if is_named name (codes "status") then status_asked value
     else asked_of_config name value (value (codes "config"))
 
 -- texts, if there are any

@@ -5,7 +5,7 @@ ghost use Rattle.clap.specs.Words.{first_value, found_of, kind_of, subcommand_ro
 ghost use Rattle.gw_tool_line.specs.CommandLine.{AskFor, Chooses, IsAnswer, IsChosen, IsRefusal, values_of, was_of};
 ghost use Rattle.gw_tool_line.specs.Requests.{Reports, Request, TranslatesLog, asked, asked_by, asked_of_file};
 ghost use Rattle.gw_tool_line.specs.Requests.{check_asked, compare_asked, comparison_in, files_of, list_asked, log_asked, reload_asked};
-ghost use Rattle.gw_tool_line.specs.Requests.{request_asked, state_asked, stop_asked, why_asked};
+ghost use Rattle.gw_tool_line.specs.Requests.{request_asked, state_asked, status_asked, stop_asked, why_asked};
 
 use crate::ask_choice::{DeedWords, ask_choice};
 use crate::commands::make_commands;
@@ -105,6 +105,11 @@ pub enum Choice {
     /// Ask the gateway that looks for this request to stop; and wait for its answer longer than a reload does, if that is
     /// asked for.
     Stop {
+        request: String,
+        waits: bool,
+    },
+    /// Ask the gateway that looks for this request to say what it counts; and wait for its answer longer, if that is asked for.
+    Status {
         request: String,
         waits: bool,
     },
@@ -365,6 +370,17 @@ fn stop_choice(alloc: Global, matches: &ArgMatches<'_>) -> Result<Choice, WordsF
     }
 }
 
+/// What `status` asks for.
+fn status_choice(alloc: Global, matches: &ArgMatches<'_>) -> Result<Choice, WordsFault>
+    ensures { IsChosen (status_asked (first_value (found_of matches.now))) result }
+{
+    let waits = is_given(matches, "wait");
+    match file_of(alloc, matches, "reload")? {
+        Some(request) => Ok(Choice::Status { request, waits }),
+        None => Err(WordsFault::CommandLine),
+    }
+}
+
 /// What `why` asks for under the configuration in this file. `CommandLine` if it is to count, and to answer
 /// by JSON objects.
 fn why_choice(alloc: Global, matches: &ArgMatches<'_>, file: String) -> Result<Choice, WordsFault>
@@ -460,6 +476,9 @@ fn choice_for(alloc: Global, name: &str, matches: &ArgMatches<'_>) -> Result<Cho
     }
     if name == "stop" {
         return stop_choice(alloc, matches);
+    }
+    if name == "status" {
+        return status_choice(alloc, matches);
     }
     let config = file_of(alloc, matches, "config")?;
     match config {

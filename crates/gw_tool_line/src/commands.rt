@@ -5,7 +5,7 @@ ghost use Rattle.clap.specs.Words.{app_of, rule_of};
 ghost use Rattle.clap.specs.declared.builder.command.Command.TheViews.{out-Command};
 ghost use Rattle.gw_tool_line.specs.Commands.{check, commands, later_commands, compare, compare_of_most, explain, first_commands, lint, log, log_of_file};
 ghost use Rattle.gw_tool_line.specs.Commands.{middle_commands, migrate, objects, program, reload, reload_of_request, report, state};
-ghost use Rattle.gw_tool_line.specs.Commands.{rules, stop, suggest, why, why_of_form};
+ghost use Rattle.gw_tool_line.specs.Commands.{rules, status, stop, suggest, why, why_of_form};
 
 use crate::ask_command::make_ask;
 use crate::init_command::make_init;
@@ -37,6 +37,10 @@ const RELOAD_EXAMPLE: &str = "Example:
 
 const STOP_EXAMPLE: &str = "Example:
   bacgwctl stop --reload /run/bacgw/reload";
+
+/// What is below the help on `status`.
+const STATUS_EXAMPLE: &str = "Example:
+  bacgwctl status --reload /run/bacgw/reload";
 
 const LOG_EXAMPLE: &str = "Example:
   bacgwctl log denials.log | sort | uniq -c";
@@ -259,6 +263,20 @@ fn make_stop<'a>(alloc: Global) -> Result<Command<'a>, AllocError>
         .arg(wait)
 }
 
+fn make_status<'a>(alloc: Global) -> Result<Command<'a>, AllocError>
+    ensures app { IfOk result (λ command. app_of command ≡ status) }
+    ensures local { IfOk result (λ command. (out-Command command).has_globals ≡ false) }
+{
+    let request = make_needed(alloc, "reload", "The file that run --reload looks for");
+    let help = "Waits for the answer up to 4 minutes, in the place of 10 seconds";
+    let wait = make_flag(alloc, "wait", help);
+    Command::new(alloc, "status")
+        .about("Asks a running gateway what it counts: datagrams, denials, rules, foreign devices")
+        .after_help(STATUS_EXAMPLE)
+        .arg(request)?
+        .arg(wait)
+}
+
 /// The program, with no command yet.
 fn make_program<'a>(alloc: Global) -> Command<'a>
     ensures { app_of result ≡ program }
@@ -314,17 +332,25 @@ fn make_later_commands<'a>(alloc: Global) -> Result<Command<'a>, AllocError>
         .subcommand(objects)
 }
 
-/// The commands of the program. An `Err` only if a growth of memory was refused.
-pub fn make_commands<'a>(alloc: Global) -> Result<Command<'a>, AllocError>
-    ensures { IfOk result (λ command. app_of command ≡ commands) }
+/// The program with its first sixteen commands.
+fn make_most_commands<'a>(alloc: Global) -> Result<Command<'a>, AllocError>
+    ensures { IfOk result (λ command. app_of command ≡ most_commands) }
 {
     let ask = make_ask(alloc)?;
     let rules = make_rules(alloc)?;
     let stop = make_stop(alloc)?;
-    let init = make_init(alloc)?;
+    let status = make_status(alloc)?;
     make_later_commands(alloc)?
         .subcommand(ask)?
         .subcommand(rules)?
         .subcommand(stop)?
-        .subcommand(init)
+        .subcommand(status)
+}
+
+/// The commands of the program. An `Err` only if a growth of memory was refused.
+pub fn make_commands<'a>(alloc: Global) -> Result<Command<'a>, AllocError>
+    ensures { IfOk result (λ command. app_of command ≡ commands) }
+{
+    let init = make_init(alloc)?;
+    make_most_commands(alloc)?.subcommand(init)
 }

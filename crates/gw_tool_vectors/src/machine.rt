@@ -149,13 +149,21 @@ fn text_if(alloc: Global, is_there: bool, text: &str) -> Result<Option<Vec<u8>>,
     }
 }
 
-/// What another gateway answers to a section's request: that it was taken over, refused, or stopped, the request itself, or nothing.
+/// What another gateway answers to a section's request: that it was taken over, refused, or stopped, what it counts, the request
+/// itself, or nothing.
 fn answer_of(alloc: Global, section: &Section<'_>) -> Result<Option<Vec<u8>>, AllocError> {
     if section.has("answered") {
         return text_if(alloc, true, "reload: 3 rules\n");
     }
     if section.has("stopped") {
         return text_if(alloc, true, "stopped\n");
+    }
+    if section.has("counted") {
+        return text_if(
+            alloc,
+            true,
+            "stats seconds=60 datagrams=3\nrule 1 hide: 2\n",
+        );
     }
     if section.has("echoed") {
         return text_if(alloc, true, "");

@@ -107,6 +107,10 @@ fn put_choice(
             put(out, &["stop ", request.as_str()])?;
             put_flag(out, " wait", *waits)
         }
+        Ok(Choice::Status { request, waits }) => {
+            put(out, &["status ", request.as_str()])?;
+            put_flag(out, " wait", *waits)
+        }
         Ok(Choice::Init(site)) => put_site(site, out),
         Ok(Choice::Help(_)) => put(out, &["help"]),
         Ok(Choice::Usage(_)) | Err(WordsFault::CommandLine) => put(out, &["refused"]),

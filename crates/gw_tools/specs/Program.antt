@@ -44,7 +44,7 @@ use Rattle.gw_tools.specs.declared.placed.Placed.{Placed}
 use Rattle.gw_verdicts.specs.Why.{said_text}
 use Rattle.gw_tools.specs.Reloading.{IsAnswerTo, Replying, octets_or, outcome_of_answer}
 use Rattle.gw_notices.specs.Notices.{stop_line}
-use Rattle.gw_system.specs.Request.{reload_request, stop_request}
+use Rattle.gw_system.specs.Request.{reload_request, status_request, stop_request}
 use Rattle.gw_ending.specs.Ending.{is_different, of_other}
 use Rattle.gw_tools.specs.Ending.{PlaceBy, chosen, error_text_by, status_by, usage_of}
 use Rattle.gw_tools.specs.Checked.{IsChecked}
@@ -269,6 +269,10 @@ LeavesAsked Answers granted held holds outcome =
 abbrev pub LeavesStopped : Replying → (request : List ℕ) → Option (List ℕ) → Option (List ℕ) → Result (Unit {0}) Fault → Type 0
 LeavesStopped Answers request held holds outcome = LeavesAsked (Answers request stop_request) (stop_line None) held holds outcome
 
+-- What `status` leaves by a request of this name. An answer that says what is counted begins as a report does.
+abbrev pub LeavesStatus : Replying → (request : List ℕ) → Option (List ℕ) → Option (List ℕ) → Result (Unit {0}) Fault → Type 0
+LeavesStatus Answers request held holds outcome = LeavesAsked (Answers request status_request) (codes "stats ") held holds outcome
+
 -- What a request leaves to read the configuration of this text again, and no other.
 abbrev pub LeavesAskedAgain : Replying → (request text : List ℕ) → Option (List ℕ) → Option (List ℕ)
     → Result (Unit {0}) Fault → Type 0
@@ -406,6 +410,8 @@ LeavesOutput Reads ReadsState ReadsLog Answers input held holds said (Ok (choice
     LeavesReloadIn Reads Answers (string_bytes config) (string_bytes request) was held holds said outcome
 LeavesOutput Reads ReadsState ReadsLog Answers input held holds said (Ok (choice.Stop request waits)) outcome =
     LeavesStopped Answers (string_bytes request) held holds outcome
+LeavesOutput Reads ReadsState ReadsLog Answers input held holds said (Ok (choice.Status request waits)) outcome =
+    LeavesStatus Answers (string_bytes request) held holds outcome
 LeavesOutput Reads ReadsState ReadsLog Answers input held holds said (Ok (choice.Compare old new most steps)) outcome =
     (a : Result Placed Fault) × IsPlacedIn Reads (string_bytes old) a
     × (b : Result Placed Fault) × IsPlacedIn Reads (string_bytes new) b

@@ -24,7 +24,7 @@ use crate::machine::Machine;
 use crate::objects;
 use crate::placed::{Placed, placed_in};
 use crate::questioning::{Questioned, answer_question_in};
-use crate::reloading::{AskedReload, octets_or, reload_in, stop};
+use crate::reloading::{AskedReload, octets_or, reload_in, status, stop};
 use crate::reporting::print_report_in;
 use crate::suggesting::suggest_shown;
 use crate::translating::{Translating, translate_in};
@@ -320,6 +320,7 @@ fn follow<F: ConfigFiles, M: Machine, R: OctetSource, W: Write + Drop, E: OctetS
             reload_in(alloc, files, &asking, machine, output, errors)
         }
         Ok(Choice::Stop { request, waits }) => stop(alloc, request, *waits, machine, output),
+        Ok(Choice::Status { request, waits }) => status(alloc, request, *waits, machine, output),
         Ok(
             Choice::Compare {
                 old,
@@ -397,7 +398,7 @@ fn follow<F: ConfigFiles, M: Machine, R: OctetSource, W: Write + Drop, E: OctetS
 
 /// Runs the program on these words, or on the fault for which there are none: the configuration that they name is read from
 /// `files`, what is said of it is printed to `output`, or the asks of `input` are answered there, or its log or that of a
-/// file is put into words, or a running gateway is asked through `machine` to read its configuration again or to stop, or two
+/// file is put into words, or a running gateway is asked through `machine` to read its configuration again, to stop or to say what it counts, or two
 /// configurations are compared, or help is printed; how far a comparison is and how many lines show no ask may be reported on
 /// `errors`, a fault is one line there, after words that are no command line it says how the program is called, and the exit
 /// status says of which kind the fault is. The words begin with the program's name.

@@ -1,4 +1,4 @@
-//! A running gateway is asked to read its configuration again, or to stop.
+//! A running gateway is asked to read its configuration again, to stop, or to say what it counts.
 
 ghost use Rattle.std.specs.Prelude.{◌≡◌, [], ℕ, List, MatchResult, OnOk};
 ghost use Rattle.std.specs.Io.Buffered.{writer_buffer, writer_contents};
@@ -8,7 +8,7 @@ ghost use Rattle.gw_tools.specs.Reloading.{IsAnswerTo, answers_by, octets_or, ou
 ghost use Rattle.gw_ending.specs.Ending.{IsUnanswered};
 ghost use Rattle.gw_ending.specs.reading.Files.{result_map};
 ghost use Rattle.gw_ending.specs.reading.Printing.{LeavesEnding};
-ghost use Rattle.gw_tools.specs.Program.{LeavesAfter, LeavesAnswer, LeavesAsked, LeavesAskedAgain, LeavesHeldTo, LeavesReload, LeavesReloadIn, LeavesReloadOf, LeavesReloadShown, LeavesSound, LeavesStopped};
+ghost use Rattle.gw_tools.specs.Program.{LeavesAfter, LeavesAnswer, LeavesAsked, LeavesAskedAgain, LeavesHeldTo, LeavesReload, LeavesReloadIn, LeavesReloadOf, LeavesReloadShown, LeavesSound, LeavesStatus, LeavesStopped};
 
 use crate::comparing::{Both, Limits, Seconds, print_compared};
 use crate::machine::Machine;
@@ -18,7 +18,7 @@ use gw_configuration::Config;
 use gw_ending::Fault;
 use gw_ending::reading::{ConfigFiles, configuration_of, do_hold, print, print_ending, put_unheld};
 use gw_script::OctetSink;
-use gw_system::{ReadFailure, STOP_REQUEST, reload_request};
+use gw_system::{ReadFailure, STATUS_REQUEST, STOP_REQUEST, reload_request};
 use gw_tool_line::Shown;
 use std::alloc::Global;
 use std::io::{BufWriter, Write};
@@ -135,6 +135,27 @@ pub fn stop<M: Machine, W: Write + Drop>(
         request,
         text: STOP_REQUEST,
         granted: "stopped\n",
+        seconds: if waits { LONG_WAIT } else { MAX_WAIT },
+    };
+    print_asked(alloc, &asking, machine, output)
+}
+
+/// Asks the gateway that looks for this request to say what it counts, and prints what it answers.
+pub fn status<M: Machine, W: Write + Drop>(
+    alloc: Global,
+    request: &str,
+    waits: bool,
+    machine: &M,
+    output: &mut BufWriter<W>,
+) -> Result<(), Fault>
+    ensures output { LeavesStatus (answers_by (M.Asks machine.now) M.Answers) request.now
+        (writer_contents W.contents output.old) (writer_contents W.contents output.new) result }
+    ensures flush { OnOk result (writer_buffer output.new ≡ []) }
+{
+    let asking = Asking {
+        request,
+        text: STATUS_REQUEST,
+        granted: "stats ",
         seconds: if waits { LONG_WAIT } else { MAX_WAIT },
     };
     print_asked(alloc, &asking, machine, output)

@@ -18,9 +18,10 @@ use Rattle.gw_relay.specs.Sends.{Sending}
 use Rattle.gw_audit.specs.declared.denial.Denial.{Denial}
 use Rattle.gw_rules.specs.declared.operation.Operation.TheVariants as operations
 use Rattle.gw_core.specs.Drops.{drop_at}
-use Rattle.gw_turns.specs.Tally.{IsBelow, denies, is_malformed, is_no_peer, is_own_network, no_tally, number_if, tally_at}
+use Rattle.gw_turns.specs.Tally.{IsBelow, culprit_of, denies, is_malformed, is_no_peer, is_own_network, no_tally, number_if, tally_at}
 use Rattle.gw_turns.specs.Tally.{tally_from, tally_of, with_tally}
 use Rattle.gw_core.specs.declared.drops.DropReason.{DropReason}
+use Rattle.gw_turns.specs.declared.tally.Culprit.{Culprit}
 use Rattle.gw_turns.specs.declared.tally.Tally.{Tally}
 use Rattle.gw_turns.specs.declared.serving.Served.{Served}
 use Rattle.gw_turns.specs.declared.serving.ServeFault.{ServeFault}
@@ -295,12 +296,14 @@ unfolding tally_from
 untallied w k = refl
 
 -- of one that is taken it counts what was reported of it
-pub tallied : (w : State) (k l : Tally) (event : Event) (effects : Effects) (drop : Option DropReason) → effects ≡ effects_at w event
-    → drop ≡ drop_at w event → l ≡ with_tally k (tally_of drop effects.denials) → l ≡ tally_from w k (event ∷ [])
+pub tallied : (w : State) (k l : Tally) (event : Event) (tick : ℕ) (effects : Effects) (drop : Option DropReason) → tick ≡ w.ticks
+    → effects ≡ effects_at w event → drop ≡ drop_at w event
+    → l ≡ with_tally k (tally_of (culprit_of tick event) drop effects.denials) → l ≡ tally_from w k (event ∷ [])
 unfolding tally_from tally_at
-tallied w k l event effects drop given why counted =
-    counted ∙ ap (λ (x : Effects). with_tally k (tally_of drop x.denials)) given
-    ∙ ap (λ (x : Option DropReason). with_tally k (tally_of x (effects_at w event).denials)) why
+tallied w k l event tick effects drop now given why counted =
+    counted ∙ ap (λ (n : ℕ). with_tally k (tally_of (culprit_of n event) drop effects.denials)) now
+    ∙ ap (λ (x : Effects). with_tally k (tally_of (culprit_of w.ticks event) drop x.denials)) given
+    ∙ ap (λ (x : Option DropReason). with_tally k (tally_of (culprit_of w.ticks event) x (effects_at w event).denials)) why
 
 number_most : (b : Bool) → number_if b ≤ 1
 number_most true = omega arith
@@ -325,9 +328,9 @@ below_weaker n m k le below = record {
 }
 
 -- one event more counts at most one of each
-pub below_counted : (n m : ℕ) (k l : Tally) (drop : Option DropReason) (denials : List Denial) → m ≡ n + 1
-    → l ≡ with_tally k (tally_of drop denials) → IsBelow n k → IsBelow m l
-below_counted n m k l drop denials more counted below = record {
+pub below_counted : (n m : ℕ) (k l : Tally) (culprit : Option Culprit) (drop : Option DropReason) (denials : List Denial) → m ≡ n + 1
+    → l ≡ with_tally k (tally_of culprit drop denials) → IsBelow n k → IsBelow m l
+below_counted n m k l culprit drop denials more counted below = record {
   enter = omega (arith, more, ap (λ (x : Tally). x.enter) counted, below.enter, number_most (denies operations.Enter denials));
   claim = omega (arith, more, ap (λ (x : Tally). x.claim) counted, below.claim, number_most (denies operations.Claim denials));
   malformed = omega (arith, more, ap (λ (x : Tally). x.malformed) counted, below.malformed, number_most (is_malformed drop));

@@ -1,11 +1,13 @@
 -- What is reported of serving: what was done so far, and what the tables hold.
-use Rattle.std.specs.Prelude.{ℕ, ◌+◌, ◌-◌, ◌==◌, ◌≤◌, ◌&&◌, nat_le, Bool, if◌then◌else◌, List, [], ◌∷◌, ◌++◌, codes}
+use Rattle.std.specs.Prelude.{ℕ, ◌+◌, ◌-◌, ◌==◌, ◌≤◌, ◌&&◌, nat_le, Bool, if◌then◌else◌, List, [], ◌∷◌, ◌++◌, Option, Some, None, codes}
 use Rattle.std.specs.Prelude.{decimal, length, sum_by}
 use Rattle.gw_tables.specs.bdt_fdt.Peers.{peers}
 use Rattle.gw_relay.specs.declared.port.PortState.{PortState}
 use Rattle.gw_core.specs.State.{State}
 use Rattle.gw_core.specs.declared.event.Counts.{Counts}
 use Rattle.gw_turns.specs.declared.announcing.Announcing.{Announcing}
+use Rattle.gw_addr.specs.Address.{text_of}
+use Rattle.gw_turns.specs.declared.tally.Culprit.{Culprit}
 use Rattle.gw_turns.specs.declared.tally.Tally.{Tally}
 use Rattle.gw_turns.specs.declared.report.Report.{Report}
 use Rattle.gw_turns.specs.declared.serving.Served.{Served}
@@ -84,6 +86,30 @@ tally_text t = refusals_text t ++ drops_text t ++ 10 ∷ []
 -- the line of a report: its fields in this order
 unfoldable pub report_line : Report → List ℕ
 report_line r = events_text r ++ calls_text r ++ tables_text r ++ tally_text r.tally
+
+-- ---- whom the last datagrams came from that were dropped
+
+-- of so many that were dropped for a reason
+abbrev pub culprit_line : (reason : List ℕ) → (count : ℕ) → Culprit → List ℕ
+culprit_line reason count c =
+    field (codes "dropped: ") count ++ (reason ++ (text_of c.sender ++ (field (codes " on port ") c.port ++ codes "\n")))
+
+abbrev pub culprit_text : (reason : List ℕ) → (count : ℕ) → Option Culprit → List ℕ
+culprit_text reason count None = []
+culprit_text reason count (Some c) = culprit_line reason count c
+
+-- one that came in the last so many seconds, or whenever it did
+abbrev pub fresh : (seconds : Option ℕ) → (now : ℕ) → Option Culprit → Option Culprit
+fresh None now culprit = culprit
+fresh (Some seconds) now None = None
+fresh (Some seconds) now (Some c) = if nat_le (now - c.tick) seconds then Some c else None
+
+-- by the reason
+abbrev pub culprits_text : (seconds : Option ℕ) → (now : ℕ) → Tally → List ℕ
+culprits_text seconds now t =
+    culprit_text (codes " malformed, last from ") t.malformed (fresh seconds now t.last.malformed)
+    ++ (culprit_text (codes " of own network, last from ") t.own_network (fresh seconds now t.last.own_network)
+    ++ culprit_text (codes " of no peer, last from ") t.no_peer (fresh seconds now t.last.no_peer))
 
 -- ---- announcements
 

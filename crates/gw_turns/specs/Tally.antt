@@ -7,13 +7,15 @@ use Rattle.gw_audit.specs.declared.denial.Denial.{Denial}
 use Rattle.gw_rules.specs.Operation.{operation_number}
 use Rattle.gw_rules.specs.declared.operation.Operation.{Operation}
 use Rattle.gw_rules.specs.declared.operation.Operation.TheVariants as operations
-use Rattle.gw_script.specs.Event.{Event}
+use Rattle.gw_script.specs.Event.{Datagram, Event, Tick}
 use Rattle.gw_core.specs.Drops.{drop_at}
 use Rattle.gw_core.specs.declared.drops.DropReason.{DropReason}
 use Rattle.gw_core.specs.declared.drops.DropReason.TheVariants.{Malformed, OwnNetwork, NoPeer}
 use Rattle.gw_core.specs.Effects.{effects_at}
 use Rattle.gw_core.specs.History.{next}
 use Rattle.gw_core.specs.State.{State}
+use Rattle.gw_turns.specs.declared.tally.Culprit.{Culprit}
+use Rattle.gw_turns.specs.declared.tally.Culprits.{Culprits}
 use Rattle.gw_turns.specs.declared.tally.Tally.{Tally}
 
 abbrev pub is_for : ℕ → Denial → Bool
@@ -38,18 +40,47 @@ is_no_peer _ = false
 abbrev pub number_if : Bool → ℕ
 number_if is = if is then 1 else 0
 
--- the tally of one datagram, by why it is dropped and what is denied of it
-abbrev pub tally_of : Option DropReason → List Denial → Tally
-tally_of drop denials = record {
+-- when and where an event that is a datagram came, and from whom
+abbrev pub culprit_of : (tick : ℕ) → Event → Option Culprit
+culprit_of tick (Datagram port from octets) = Some (record { tick = tick; port = port; sender = from })
+culprit_of tick Tick = None
+
+-- that one, if something is so
+abbrev pub only_if : Bool → Option Culprit → Option Culprit
+only_if is culprit = if is then culprit else None
+
+-- the newer of two, if there is one
+abbrev pub newer : (old new : Option Culprit) → Option Culprit
+newer old None = old
+newer old (Some culprit) = Some culprit
+
+abbrev pub newer_of : (old new : Culprits) → Culprits
+newer_of old new = record {
+  malformed = newer old.malformed new.malformed;
+  own_network = newer old.own_network new.own_network;
+  no_peer = newer old.no_peer new.no_peer;
+}
+
+-- the tally of one event, by where it came from, why it is dropped and what is denied of it
+abbrev pub tally_of : Option Culprit → Option DropReason → List Denial → Tally
+tally_of culprit drop denials = record {
   enter = number_if (denies operations.Enter denials);
   claim = number_if (denies operations.Claim denials);
   malformed = number_if (is_malformed drop);
   own_network = number_if (is_own_network drop);
   no_peer = number_if (is_no_peer drop);
+  last = record {
+    malformed = only_if (is_malformed drop) culprit;
+    own_network = only_if (is_own_network drop) culprit;
+    no_peer = only_if (is_no_peer drop) culprit;
+  };
 }
 
+abbrev pub no_culprits : Culprits
+no_culprits = record { malformed = None; own_network = None; no_peer = None }
+
 abbrev pub no_tally : Tally
-no_tally = record { enter = 0; claim = 0; malformed = 0; own_network = 0; no_peer = 0 }
+no_tally = record { enter = 0; claim = 0; malformed = 0; own_network = 0; no_peer = 0; last = no_culprits }
 
 -- a tally with another one
 abbrev pub with_tally : Tally → Tally → Tally
@@ -59,11 +90,12 @@ with_tally a b = record {
   malformed = a.malformed + b.malformed;
   own_network = a.own_network + b.own_network;
   no_peer = a.no_peer + b.no_peer;
+  last = newer_of a.last b.last;
 }
 
 -- the tally of an event in this state
 unfoldable pub tally_at : State → Event → Tally
-tally_at w e = tally_of (drop_at w e) (effects_at w e).denials
+tally_at w e = tally_of (culprit_of w.ticks e) (drop_at w e) (effects_at w e).denials
 
 -- the tally after these events, which are taken from this state on
 unfoldable pub tally_from : State → Tally → List Event → Tally

@@ -2,14 +2,16 @@
 
 ghost use Rattle.std.specs.Prelude.{◌≡◌, ◌+◌, ◌≤◌, ◌++◌, decimal, length, IsOk, IsTrue, OnOk};
 ghost use Rattle.std.specs.Io.KnownBytes.{Appends};
+ghost use Rattle.gw_addr.specs.Address.{text_of};
 ghost use Rattle.gw_addr.specs.declared.TheConstants.{MAX_PORTS};
 ghost use Rattle.gw_tables.specs.bdt_fdt.Peers.{peers};
 ghost use Rattle.gw_tables.specs.declared.bdt_fdt.bdt.TheConstants.{MAX_ENTRIES};
-ghost use Rattle.gw_turns.specs.Reports.{HasGoneOn, announced_text, announcing_line, announcing_text, calls_text, drops_text, events_text, field, has_gone_on, peer_count, refusals_text, registrations, report_line, report_of, tables_text, tally_text};
+ghost use Rattle.gw_turns.specs.Reports.{HasGoneOn, announced_text, announcing_line, announcing_text, calls_text, culprit_line, culprit_text, culprits_text, drops_text, events_text, field, fresh, has_gone_on, peer_count, refusals_text, registrations, report_line, report_of, tables_text, tally_text};
 
 use crate::announcing::Announcing;
 use crate::serving::Served;
-use crate::tally::Tally;
+use crate::tally::{Culprit, Tally};
+use gw_addr::BipAddr;
 use gw_core::{Counts, Gateway};
 use gw_relay::PortState;
 use gw_script::{OctetSink, WriteFailed, write_whole};
@@ -191,7 +193,7 @@ fn write_tally<S: OctetSink>(tally: &Tally, sink: &mut S) -> Result<(), WriteFai
 }
 
 /// Writes the line of a report.
-fn write_report<S: OctetSink>(report: &Report, sink: &mut S) -> Result<(), WriteFailed>
+pub fn write_report<S: OctetSink>(report: &Report, sink: &mut S) -> Result<(), WriteFailed>
     ensures ok { OnOk result
         (Appends (S.held sink.old) (S.held sink.new) (report_line report.now)) }
     ensures sure { S.NeverFails sink.old → IsOk result }
@@ -203,13 +205,88 @@ fn write_report<S: OctetSink>(report: &Report, sink: &mut S) -> Result<(), Write
     write_tally(&report.tally, sink)
 }
 
-/// Writes a report. If it can't be written it is left out, and serving goes on all the same.
-pub fn try_report<S: OctetSink>(report: &Report, sink: &mut S)
-    ensures recorded { S.NeverFails sink.old →
-        Appends (S.held sink.old) (S.held sink.new) (report_line report.now) }
+/// Writes an address.
+fn write_address<S: OctetSink>(address: BipAddr, sink: &mut S) -> Result<(), WriteFailed>
+    ensures ok { OnOk result (Appends (S.held sink.old) (S.held sink.new) (text_of address)) }
+    ensures sure { S.NeverFails sink.old → IsOk result }
     ensures lasts { S.NeverFails sink.old → S.NeverFails sink.new }
 {
-    let _ = write_report(report, sink);
+    write_field("", address.ip[0] as u128, sink)?;
+    write_field(".", address.ip[1] as u128, sink)?;
+    write_field(".", address.ip[2] as u128, sink)?;
+    write_field(".", address.ip[3] as u128, sink)?;
+    write_field(":", address.udp as u128, sink)
+}
+
+/// Writes the line of the last datagram that was dropped for a reason, of so many.
+fn write_culprit_line<S: OctetSink>(
+    reason: &str,
+    count: u64,
+    culprit: Culprit,
+    sink: &mut S,
+) -> Result<(), WriteFailed>
+    ensures ok { OnOk result (Appends (S.held sink.old) (S.held sink.new) (culprit_line reason.now count culprit)) }
+    ensures sure { S.NeverFails sink.old → IsOk result }
+    ensures lasts { S.NeverFails sink.old → S.NeverFails sink.new }
+{
+    write_field("dropped: ", count as u128, sink)?;
+    write_whole(sink, reason.as_bytes())?;
+    write_address(culprit.sender, sink)?;
+    write_field(" on port ", culprit.port as u128, sink)?;
+    write_whole(sink, b"\n")
+}
+
+/// Writes that line, if there is such a datagram.
+fn write_culprit<S: OctetSink>(
+    reason: &str,
+    count: u64,
+    culprit: Option<Culprit>,
+    sink: &mut S,
+) -> Result<(), WriteFailed>
+    ensures ok { OnOk result (Appends (S.held sink.old) (S.held sink.new) (culprit_text reason.now count culprit)) }
+    ensures sure { S.NeverFails sink.old → IsOk result }
+    ensures lasts { S.NeverFails sink.old → S.NeverFails sink.new }
+{
+    match culprit {
+        Some(culprit) => write_culprit_line(reason, count, culprit, sink),
+        None => Ok(()),
+    }
+}
+
+/// A datagram that was dropped, if it came in the last so many seconds, or whenever it did.
+fn fresh(seconds: Option<u64>, now: u64, culprit: Option<Culprit>) -> Option<Culprit>
+    ensures { result ≡ fresh seconds now culprit }
+{
+    match (seconds, culprit) {
+        (Some(seconds), Some(culprit)) if now.saturating_sub(culprit.tick) > seconds => None,
+        _ => culprit,
+    }
+}
+
+/// Writes, for each reason for which a datagram was dropped in the last so many seconds, or ever, how many were so far, and whom
+/// the last one came from.
+pub fn write_culprits<S: OctetSink>(
+    seconds: Option<u64>,
+    now: u64,
+    tally: &Tally,
+    sink: &mut S,
+) -> Result<(), WriteFailed>
+    ensures ok { OnOk result (Appends (S.held sink.old) (S.held sink.new) (culprits_text seconds now tally.now)) }
+    ensures sure { S.NeverFails sink.old → IsOk result }
+    ensures lasts { S.NeverFails sink.old → S.NeverFails sink.new }
+{
+    let last = tally.last;
+    let malformed = fresh(seconds, now, last.malformed);
+    write_culprit(" malformed, last from ", tally.malformed, malformed, sink)?;
+    let own_network = fresh(seconds, now, last.own_network);
+    write_culprit(
+        " of own network, last from ",
+        tally.own_network,
+        own_network,
+        sink,
+    )?;
+    let no_peer = fresh(seconds, now, last.no_peer);
+    write_culprit(" of no peer, last from ", tally.no_peer, no_peer, sink)
 }
 
 /// Writes how many sends of announcements succeeded and failed.
@@ -224,7 +301,10 @@ fn write_announced<S: OctetSink>(announcing: Announcing, sink: &mut S) -> Result
 }
 
 /// Writes the same, and ends the line.
-fn write_announcing<S: OctetSink>(announcing: Announcing, sink: &mut S) -> Result<(), WriteFailed>
+fn write_announcing_line<S: OctetSink>(
+    announcing: Announcing,
+    sink: &mut S,
+) -> Result<(), WriteFailed>
     ensures ok { OnOk result
         (Appends (S.held sink.old) (S.held sink.new) (announcing_line announcing)) }
     ensures sure { S.NeverFails sink.old → IsOk result }
@@ -234,13 +314,17 @@ fn write_announcing<S: OctetSink>(announcing: Announcing, sink: &mut S) -> Resul
     write_whole(sink, b"\n")
 }
 
-/// Reports how many sends of announcements succeeded and failed, if any was tried.
-pub fn report_announcing<S: OctetSink>(announcing: Announcing, sink: &mut S)
-    ensures said { S.NeverFails sink.old →
-        Appends (S.held sink.old) (S.held sink.new) (announcing_text announcing) }
+/// Writes how many sends of announcements succeeded and failed, if any was tried.
+pub fn write_announcing<S: OctetSink>(
+    announcing: Announcing,
+    sink: &mut S,
+) -> Result<(), WriteFailed>
+    ensures ok { OnOk result (Appends (S.held sink.old) (S.held sink.new) (announcing_text announcing)) }
+    ensures sure { S.NeverFails sink.old → IsOk result }
     ensures lasts { S.NeverFails sink.old → S.NeverFails sink.new }
 {
-    if announcing.sends != 0 || announcing.send_failures != 0 {
-        let _ = write_announcing(announcing, sink);
+    if announcing.sends == 0 && announcing.send_failures == 0 {
+        return Ok(());
     }
+    write_announcing_line(announcing, sink)
 }

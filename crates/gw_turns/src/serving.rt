@@ -214,6 +214,7 @@ impl ServeState {
                 return Ok(true);
             }
         };
+        let tick = gateway.counts().ticks;
         let mut asked = None;
         let taken = match take_seen(
             alloc,
@@ -232,7 +233,8 @@ impl ServeState {
         };
         self.served.taken += 1;
         log_denials(&mut self.lines, log, &taken.effects.denials)?;
-        self.tally.count(taken.drop, &taken.effects.denials);
+        self.tally
+            .count(tick, &event, taken.drop, &taken.effects.denials);
         if !guard.pass(alloc, gateway, &taken, asked.as_ref()) {
             return Ok(false);
         }

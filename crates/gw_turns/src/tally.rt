@@ -2,11 +2,36 @@
 
 ghost use Rattle.std.specs.Prelude.{◌≡◌, ◌+◌, ◌<◌, ◌≤◌, ◌^◌};
 ghost use Rattle.std.specs.List.{list_any};
-ghost use Rattle.gw_turns.specs.Tally.{IsBelow, denies, is_for, number_if, tally_of, with_tally};
+ghost use Rattle.gw_script.specs.Event.{event_view};
+ghost use Rattle.gw_turns.specs.Tally.{IsBelow, culprit_of, denies, is_for, newer, number_if, only_if, tally_of, with_tally};
 
+use gw_addr::BipAddr;
 use gw_audit::{Denial, Denials};
 use gw_core::DropReason;
 use gw_rules::Operation;
+use gw_script::Event;
+
+/// A datagram that was dropped: at which tick it came, on the port of which number, and from whom.
+#[derive(Clone, Copy)]
+pub struct Culprit {
+    /// How many ticks the gateway had counted.
+    pub tick: u64,
+    /// The port's number, from 1.
+    pub port: u8,
+    /// Whom it came from.
+    pub sender: BipAddr,
+}
+
+/// The last datagram that was dropped for each reason, if one was.
+#[derive(Clone, Copy, Default)]
+pub struct Culprits {
+    /// As [`DropReason::Malformed`].
+    pub malformed: Option<Culprit>,
+    /// As [`DropReason::OwnNetwork`].
+    pub own_network: Option<Culprit>,
+    /// As [`DropReason::NoPeer`].
+    pub no_peer: Option<Culprit>,
+}
 
 /// How many datagrams weren't passed on, by the reason; what a quiet rule denied isn't counted.
 #[derive(Clone, Copy, Default)]
@@ -21,6 +46,39 @@ pub struct Tally {
     pub own_network: u64,
     /// How many were dropped as [`DropReason::NoPeer`].
     pub no_peer: u64,
+    /// The last one of these three.
+    pub last: Culprits,
+}
+
+/// Where and when an event that is a datagram came from.
+fn culprit_of(tick: u64, event: &Event<'_>) -> Option<Culprit>
+    ensures { result ≡ culprit_of tick (event_view event.now) }
+{
+    match *event {
+        Event::Datagram { port, from, .. } => Some(Culprit {
+            tick,
+            port,
+            sender: from,
+        }),
+        Event::Tick => None,
+    }
+}
+
+/// That one, if something is so.
+fn only_if(is: bool, culprit: Option<Culprit>) -> Option<Culprit>
+    ensures { result ≡ only_if is culprit }
+{
+    if is { culprit } else { None }
+}
+
+/// The newer of two, if there is one.
+fn newer(old: Option<Culprit>, new: Option<Culprit>) -> Option<Culprit>
+    ensures { result ≡ newer old new }
+{
+    match new {
+        Some(_) => new,
+        None => old,
+    }
 }
 
 /// One if something is so, and else none.
@@ -50,16 +108,29 @@ fn denies(operation: Operation, denials: &[Denial]) -> bool
 }
 
 impl Tally {
-    /// Counts a datagram, by why it was dropped and what was denied of it.
-    pub fn count(&mut self, drop: Option<DropReason>, denials: &Denials)
+    /// Counts an event that was taken at this tick, by why it was dropped and what was denied of it.
+    pub fn count(
+        &mut self,
+        tick: u64,
+        event: &Event<'_>,
+        drop: Option<DropReason>,
+        denials: &Denials,
+    )
         requires room { IsBelow (2 ^ 63) self.old }
-        ensures { self.new ≡ with_tally self.old (tally_of drop denials.now) }
+        ensures { self.new ≡ with_tally self.old (tally_of (culprit_of tick (event_view event.now)) drop denials.now) }
     {
+        let culprit = culprit_of(tick, event);
+        let malformed = matches!(drop, Some(DropReason::Malformed));
+        let own_network = matches!(drop, Some(DropReason::OwnNetwork));
+        let no_peer = matches!(drop, Some(DropReason::NoPeer));
         let denials = denials.as_slice();
         self.enter += number_if(denies(Operation::Enter, denials));
         self.claim += number_if(denies(Operation::Claim, denials));
-        self.malformed += number_if(matches!(drop, Some(DropReason::Malformed)));
-        self.own_network += number_if(matches!(drop, Some(DropReason::OwnNetwork)));
-        self.no_peer += number_if(matches!(drop, Some(DropReason::NoPeer)));
+        self.malformed += number_if(malformed);
+        self.own_network += number_if(own_network);
+        self.no_peer += number_if(no_peer);
+        self.last.malformed = newer(self.last.malformed, only_if(malformed, culprit));
+        self.last.own_network = newer(self.last.own_network, only_if(own_network, culprit));
+        self.last.no_peer = newer(self.last.no_peer, only_if(no_peer, culprit));
     }
 }

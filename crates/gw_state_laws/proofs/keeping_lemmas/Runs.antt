@@ -19,7 +19,7 @@ use Rattle.gw_wire.specs.declared.store.StoreFault.{StoreFault}
 use Rattle.gw_turns.proofs.KeepingLemmas.{recent_is_young, ticks_keep_recent}
 use Rattle.gw_turns.proofs.ServeLemmas.{state_along}
 use Rattle.gw_service.specs.Chain.{AreLinks, Begins, IsLink, IsLooked, IsTicked, Link, Look, Manner, Runs, Stage, Standing}
-use Rattle.gw_service.specs.Chain.{ended, passed_over, refused, served, stopping, taken_over, ticked, unrequested, withheld}
+use Rattle.gw_service.specs.Chain.{ended, inquired, passed_over, refused, served, stopping, taken_over, ticked, unrequested, withheld}
 use Rattle.gw_service.specs.declared.running.End.{End}
 use Rattle.gw_service.specs.declared.running.End.TheVariants as end
 use Rattle.gw_service.specs.Keeping.{IsKeptAtTick, IsKeptFor, IsKeptLast, IsPassed, failing_in}
@@ -179,6 +179,8 @@ looked_keeps held part manner is c d s t unrequested p now =
 looked_keeps held part manner is c d s t passed_over p now =
     stays_so held part c d s.keeper t.keeper s.gateway t.gateway p.stays.config p.stays.keeper p.stays.gateway now
 looked_keeps held part manner is c d s t stopping p now =
+    stays_so held part c d s.keeper t.keeper s.gateway t.gateway p.stays.config p.stays.keeper p.stays.gateway now
+looked_keeps held part manner is c d s t (inquired answer) p now =
     stays_so held part c d s.keeper t.keeper s.gateway t.gateway p.stays.config p.stays.keeper p.stays.gateway now
 looked_keeps held part manner is c d s t (refused read fault line) p now =
     stays_so held part c d s.keeper t.keeper s.gateway t.gateway p.stays.config p.stays.keeper p.stays.gateway now
@@ -356,6 +358,8 @@ looked_recent held part manner is c d s t unrequested p recent =
 looked_recent held part manner is c d s t passed_over p recent =
     stays_recent (part s.keeper) (part t.keeper) s.gateway t.gateway (ap part p.stays.keeper) p.stays.gateway recent
 looked_recent held part manner is c d s t stopping p recent =
+    stays_recent (part s.keeper) (part t.keeper) s.gateway t.gateway (ap part p.stays.keeper) p.stays.gateway recent
+looked_recent held part manner is c d s t (inquired answer) p recent =
     stays_recent (part s.keeper) (part t.keeper) s.gateway t.gateway (ap part p.stays.keeper) p.stays.gateway recent
 looked_recent held part manner is c d s t (refused read fault line) p recent =
     stays_recent (part s.keeper) (part t.keeper) s.gateway t.gateway (ap part p.stays.keeper) p.stays.gateway recent

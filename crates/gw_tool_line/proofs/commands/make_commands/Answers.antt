@@ -7,9 +7,6 @@ use Rattle.gw_tool_line.proofs.commands.make_commands.Goals as goal
 pub returns : goal.returns
 unfolding commands
 returns c =
-    let zero = c.in_ok-make_later_commands.ensures in
-    let one = c.in_ok-subcommand.ensures.shape c.in_ok-ask.ensures.local ∙ ap₂ with_subcommand zero (ap (λ (a : App). a.top) c.in_ok-ask.ensures.app) in
-    let two = c.in_ok-subcommand-2.ensures.shape c.in_ok-rules.ensures.local ∙ ap₂ with_subcommand one (ap (λ (a : App). a.top) c.in_ok-rules.ensures.app) in
-    let three = c.in_ok-subcommand-3.ensures.shape c.in_ok-stop.ensures.local ∙ ap₂ with_subcommand two (ap (λ (a : App). a.top) c.in_ok-stop.ensures.app) in
-    IfOk-weaker c.subcommand-4.result _ _
-    (λ m h. h.shape c.in_ok-init.ensures.local ∙ ap₂ with_subcommand three (ap (λ (a : App). a.top) c.in_ok-init.ensures.app)) c.subcommand-4.ensures
+    IfOk-weaker c.subcommand.result _ _
+    (λ m h. h.shape c.in_ok-init.ensures.local ∙ ap₂ with_subcommand c.in_ok-make_most_commands.ensures (ap (λ (a : App). a.top) c.in_ok-init.ensures.app))
+    c.subcommand.ensures

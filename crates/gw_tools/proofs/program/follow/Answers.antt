@@ -9,7 +9,7 @@ use Rattle.gw_tools.specs.Reloading.{answers_by}
 use Rattle.gw_ending.specs.reading.Files.{result_map}
 use Rattle.gw_tool_line.specs.declared.command_line.Choice.TheVariants as choice
 use Rattle.gw_tools.specs.Objects.{LeavesJudgedIn}
-use Rattle.gw_tools.specs.Program.{LeavesAnsweredIn, LeavesReloadIn, LeavesReportIn, LeavesStateIn, LeavesStopped, LeavesSuggestedIn}
+use Rattle.gw_tools.specs.Program.{LeavesAnsweredIn, LeavesReloadIn, LeavesReportIn, LeavesStateIn, LeavesStatus, LeavesStopped, LeavesSuggestedIn}
 use Rattle.gw_tools.specs.declared.asking.Answering.{Answering}
 use Rattle.gw_policy_drafts.specs.declared.suggestion.suggestion.Manner.{Manner}
 use Rattle.gw_tools.specs.Questioning.{LeavesQuestionIn, asked_text}
@@ -188,6 +188,17 @@ returns-in-Ok-Stop-clause-followed g c =
     let named = subst (λ (name : List ℕ). LeavesStopped (answers_by (g.M.Machine.Asks c.args.machine.now) g.M.Machine.Answers) name held holds
     c.stop.result) c.deref-in-Ok-Stop.ensures c.stop.ensures.output in
     followed _ _ c.args.choice.now (Ok chosen) c.stop.result is refl named
+    (λ never. appends_nothing (g.E.OctetSink.held c.args.errors.now))
+
+pub returns-in-Ok-Status-clause-followed : goal.returns-in-Ok-Status-clause-followed
+returns-in-Ok-Status-clause-followed g c =
+    let chosen = choice.Status c.in-Ok-Status.request c.in-Ok-Status.waits in
+    let is : c.args.choice.now ≡ Ok chosen = search rules in
+    let held = writer_contents g.W.Write.contents c.args.output.now in
+    let holds = writer_contents g.W.Write.contents c.status.new.output in
+    let named = subst (λ (name : List ℕ). LeavesStatus (answers_by (g.M.Machine.Asks c.args.machine.now) g.M.Machine.Answers) name held holds
+    c.status.result) c.deref-in-Ok-Status.ensures c.status.ensures.output in
+    followed _ _ c.args.choice.now (Ok chosen) c.status.result is refl named
     (λ never. appends_nothing (g.E.OctetSink.held c.args.errors.now))
 
 pub returns-in-Ok-Ask-clause-followed : goal.returns-in-Ok-Ask-clause-followed

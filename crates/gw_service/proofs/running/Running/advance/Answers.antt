@@ -6,7 +6,7 @@ use Rattle.gw_turns.specs.Stretch.{CanCount, moment}
 use Rattle.gw_turns.specs.declared.serving.ServeState.{ServeState}
 use Rattle.gw_notices.specs.declared.troubles.Troubles.{Troubles}
 use Rattle.gw_turns.specs.declared.stretch.Pause.TheVariants as pause
-use Rattle.gw_service.specs.Chain.{FailsToLast, WasLasting, edge, look_text, manner, served, stage, standing, withheld}
+use Rattle.gw_service.specs.Chain.{FailsToLast, IsStatusIn, WasLasting, edge, look_text, manner, served, stage, standing, withheld}
 use Rattle.gw_notices.specs.Notices.{metrics_notice, notice_of}
 use Rattle.gw_wire.specs.declared.store.StoreFault.{StoreFault}
 use Rattle.gw_service.specs.Metering.{failing_by, lost_by, metered, meters_by}
@@ -14,7 +14,7 @@ use Rattle.gw_metrics.specs.file.Writing.{Writing}
 use Rattle.gw_service.specs.Metrics.{PutsDue}
 use Rattle.gw_service.proofs.MeteringLemmas.{puts_metered}
 use Rattle.gw_service.specs.Scheduled.{reporting_by}
-use Rattle.gw_service.specs.Stats.{due_stats}
+use Rattle.gw_service.specs.Stats.{all_stats, due_stats}
 use Rattle.gw_service.proofs.ChainLemmas.{advanced_by, advances_as, ends_as, more_at_tick, more_at_turns, more_withheld, went_kept}
 use Rattle.gw_notices.proofs.AppendLemmas.{appends_nothing, appends_two}
 use Rattle.gw_service.proofs.running.Running.advance.Goals as goal
@@ -136,7 +136,8 @@ returns-in-Ok-clause-advances g c = λ config is_config.
     stretch.self.tally end.went c.sync.ensures.keeps)
     c.at_tick-stops.ensures.log in
     let by = manner g.K.Guard.Passes g.K.StateKeeper.Ticks g.K.StateKeeper.Adopts g.K.StateKeeper.troubles
-    (due_stats g.K.StateKeeper.unkept g.K.StateKeeper.more (reporting_by c.args.schedule.now)) (meters_by c.args.schedule.now.start)
+    (due_stats g.K.StateKeeper.unkept g.K.StateKeeper.more (reporting_by c.args.schedule.now))
+    (all_stats g.K.StateKeeper.unkept g.K.StateKeeper.more (reporting_by c.args.schedule.now)) (meters_by c.args.schedule.now.start)
     g.K.StateKeeper.Lasts in
     let first = stage config at (g.Q.Requests.recorded old.requests) old.counts old.announcing old.said metrics in
     let text = ((look ++ notice) ++ report) ++ lines in
@@ -146,11 +147,11 @@ returns-in-Ok-clause-advances g c = λ config is_config.
       ((look ++ notice) ++ report) ++ lines,
       done.2,
       advances_as by c.args.turns first text _ c.at_tick-stops.result left c.end_of.result c.end_of.ensures
-          (advanced_by by first turns done.1 text _ c.at_tick-stops.result left done.5.1
+          (advanced_by by first turns done.1 text _ c.at_tick-stops.result left done.5.0.1
           (c.announce.ensures.behind ∙ sym c.is_behind.ensures ∙ c.if-is_behind.false)
           (c.sync.new.self, c.in-Ok.ensures.lasts, c.at_tick-stops.ensures.log)
           (record {
-            is = done.5.1;
+            is = done.5.0.1;
             before = end.turns;
             tries = end.tries;
             tick = refl;
@@ -159,6 +160,9 @@ returns-in-Ok-clause-advances g c = λ config is_config.
             ticks = end.ticks;
             due = after.announcing;
             done = done.3;
+            status = subst (λ (m : Option (Writing _)). IsStatusIn (all_stats g.K.StateKeeper.unkept g.K.StateKeeper.more (reporting_by c.args.schedule.now)
+                after.keeper after.counts after.announcing (lost_by (metered m)) after.gateway after.state.served after.state.tally) done.1)
+                c.at_tick-stops.ensures.metrics done.5.1;
             announced = c.announce.ensures.announces;
             rest = record {
               log = refl;

@@ -5,7 +5,7 @@ use Rattle.gw_turns.specs.Stretch.{moment}
 use Rattle.gw_service.specs.Chain.{manner, stage}
 use Rattle.gw_service.specs.Metering.{lost_by, metered, meters_by}
 use Rattle.gw_service.specs.Scheduled.{reporting_by}
-use Rattle.gw_service.specs.Stats.{due_stats, end_stats}
+use Rattle.gw_service.specs.Stats.{all_stats, due_stats, end_stats}
 use Rattle.gw_service.proofs.EndLemmas.{ends_else, ends_stopped}
 use Rattle.gw_service.proofs.running.Running.end.Goals as goal
 
@@ -14,7 +14,8 @@ returns-then-is_stopped-clause-ends g c = λ config log calls.
     let old = c.args.self.now in
     let how = reporting_by c.args.schedule.now in
     let manner = manner g.K.Guard.Passes g.K.StateKeeper.Ticks g.K.StateKeeper.Adopts g.K.StateKeeper.troubles
-    (due_stats g.K.StateKeeper.unkept g.K.StateKeeper.more how) (meters_by how.start) g.K.StateKeeper.Lasts in
+    (due_stats g.K.StateKeeper.unkept g.K.StateKeeper.more how)
+    (all_stats g.K.StateKeeper.unkept g.K.StateKeeper.more how) (meters_by how.start) g.K.StateKeeper.Lasts in
     let report = end_stats g.K.StateKeeper.unkept g.K.StateKeeper.more how in
     let last = stage config (moment (scene old.gateway log calls) old.keeper old.state.served old.state.tally)
     (g.Q.Requests.recorded old.requests) old.counts old.announcing old.said (metered old.metrics) in
@@ -33,7 +34,8 @@ returns-else-is_stopped-clause-ends g c = λ config log calls.
     let old = c.args.self.now in
     let how = reporting_by c.args.schedule.now in
     let manner = manner g.K.Guard.Passes g.K.StateKeeper.Ticks g.K.StateKeeper.Adopts g.K.StateKeeper.troubles
-    (due_stats g.K.StateKeeper.unkept g.K.StateKeeper.more how) (meters_by how.start) g.K.StateKeeper.Lasts in
+    (due_stats g.K.StateKeeper.unkept g.K.StateKeeper.more how)
+    (all_stats g.K.StateKeeper.unkept g.K.StateKeeper.more how) (meters_by how.start) g.K.StateKeeper.Lasts in
     let report = end_stats g.K.StateKeeper.unkept g.K.StateKeeper.more how in
     let last = stage config (moment (scene old.gateway log calls) old.keeper old.state.served old.state.tally)
     (g.Q.Requests.recorded old.requests) old.counts old.announcing old.said (metered old.metrics) in

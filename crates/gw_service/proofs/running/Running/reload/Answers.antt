@@ -6,7 +6,7 @@ use Rattle.gw_service.proofs.ChainLemmas.{refused_so, says_why, taken_so}
 use Rattle.gw_service.proofs.running.Running.reload.Goals as goal
 
 pub returns-in-Ok-clause-looked : goal.returns-in-Ok-clause-looked
-returns-in-Ok-clause-looked g c = λ first goes.
+returns-in-Ok-clause-looked g c = λ first report goes.
     let old = c.args.self.now in
     let said = g.Q.Requests.recorded in
     let held = g.E.OctetSink.held in
@@ -14,7 +14,7 @@ returns-in-Ok-clause-looked g c = λ first goes.
     (said old.requests) (said c.answer.new.self) c.deref.result.now old.counts c.with_taken_over-self.result old.announcing
     c.with_due-self.result
     (g.E.OctetSink.NeverFails c.args.errors.now) (held c.args.errors.now) (held c.write_note.new.errors) g.L.Notes.Takes c.args.log.now
-    c.take_note.new.self c.take_note.result c.in-Ok.ensures.adopted c.adopt.ensures goes
+    c.take_note.new.self c.take_note.result report c.in-Ok.ensures.adopted c.adopt.ensures goes
     c.answer.ensures c.deref.ensures.value (c.with_taken_over-self.ensures ∙ ap (with_taken_over old.counts) c.counts.ensures.ticks)
     c.with_due-self.ensures
     (λ never. subst (λ (t : List ℕ). Appends (held c.args.errors.now) (held c.write_note.new.errors) t)
@@ -23,7 +23,7 @@ returns-in-Ok-clause-looked g c = λ first goes.
     (c.deref-in-Ok.ensures.value ∙ sym c.deref.ensures.value) c.take_note.ensures.takes)
 
 pub returns-in-Err-clause-looked : goal.returns-in-Err-clause-looked
-returns-in-Err-clause-looked g c = λ first goes.
+returns-in-Err-clause-looked g c = λ first report goes.
     let old = c.args.self.now in
     let said = g.Q.Requests.recorded in
     let held = g.E.OctetSink.held in
@@ -32,7 +32,7 @@ returns-in-Err-clause-looked g c = λ first goes.
     refused_so g.K.StateKeeper.Adopts old.origin old.gateway old.keeper read fault first (said old.requests)
     (said c.answer-in-Err.new.self) c.line_or-line.result.now old.counts c.with_refused-self.result old.announcing (g.E.OctetSink.NeverFails c.args.errors.now)
     (held c.args.errors.now) (held c.write_note-in-Err.new.errors) g.L.Notes.Takes c.args.log.now c.take_note-in-Err.new.self
-    c.take_note-in-Err.result c.in-Err.ensures.fault
+    c.take_note-in-Err.result report c.in-Err.ensures.fault
     (subst (λ (t : List ℕ). IsRefusalLine read fault t) (sym c.line_or-line.ensures) (says_why read fault c.line_with_place-located.result c.line_with_place-located.ensures))
     goes c.answer-in-Err.ensures c.with_refused-self.ensures (λ never. c.write_note-in-Err.ensures.said never)
     c.take_note-in-Err.ensures.takes

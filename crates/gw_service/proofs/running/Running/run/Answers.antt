@@ -7,7 +7,7 @@ use Rattle.gw_service.specs.Serving.{ends}
 use Rattle.gw_service.specs.Kept.{rest}
 use Rattle.gw_service.specs.Metering.{metered, meters_by}
 use Rattle.gw_service.specs.Scheduled.{reporting_by}
-use Rattle.gw_service.specs.Stats.{due_stats, end_stats}
+use Rattle.gw_service.specs.Stats.{all_stats, due_stats, end_stats}
 use Rattle.gw_notices.specs.declared.troubles.Troubles.{Troubles}
 use Rattle.gw_service.proofs.KeptLemmas.{ran_from}
 use Rattle.gw_service.proofs.running.Running.run.Goals as goal
@@ -22,7 +22,8 @@ returns-clause-runs g c = λ config is_config.
     let log = g.L.OctetSink.held c.serve-answer.new.log in
     let calls = g.W.Wire.calls c.serve-answer.new.wire in
     ran_from (manner g.K.Guard.Passes g.K.StateKeeper.Ticks g.K.StateKeeper.Adopts g.K.StateKeeper.troubles
-    (due_stats g.K.StateKeeper.unkept g.K.StateKeeper.more how) (meters_by how.start) g.K.StateKeeper.Lasts)
+    (due_stats g.K.StateKeeper.unkept g.K.StateKeeper.more how)
+    (all_stats g.K.StateKeeper.unkept g.K.StateKeeper.more how) (meters_by how.start) g.K.StateKeeper.Lasts)
     (end_stats g.K.StateKeeper.unkept g.K.StateKeeper.more how) how.start c.args.turns
     (λ (t : Troubles). stage config (moment (scene old.gateway (g.L.OctetSink.held c.args.log.now) (g.W.Wire.calls c.args.wire.now)) old.keeper
     old.state.served old.state.tally) (g.Q.Requests.recorded old.requests) old.counts old.announcing t (metered old.metrics))

@@ -64,8 +64,8 @@ returns-then-not-pass-clause-end g c =
       taken = record { counts = taken.counts; gateway = taken.gateway; calls = came_in };
       log = subst (λ (x : Effects). Appends before.log middle.log (lines_of x.denials)) taken.effects c.in_ok-log_denials.ensures.end;
     } in
-    let counted = tallied c.args.gateway.now c.args.self.now.tally c.count.new.self event c.in-Ok.taken.effects c.in-Ok.taken.drop taken.effects
-    taken.drop c.count.ensures in
+    let counted = tallied c.args.gateway.now c.args.self.now.tally c.count.new.self event c.counts-tick.result.ticks c.in-Ok.taken.effects
+    c.in-Ok.taken.drop c.counts-tick.ensures.ticks taken.effects taken.drop c.count.ensures in
     let guard = c.args.guard.now in
     let seen = seen_by c.watches.result (g.G.Guard.watching c.args.guard.now) c.args.gateway.now event _ _ c.watches.ensures c.as_ref.ensures.value
     (c.in-Ok.ensures.seen refl) in
@@ -86,8 +86,8 @@ returns-clause-end g c =
       taken = record { counts = taken.counts; gateway = taken.gateway; calls = came_in };
       log = subst (λ (x : Effects). Appends before.log middle.log (lines_of x.denials)) taken.effects c.in_ok-log_denials.ensures.end;
     } in
-    let counted = tallied c.args.gateway.now c.args.self.now.tally c.count.new.self event c.in-Ok.taken.effects c.in-Ok.taken.drop taken.effects
-    taken.drop c.count.ensures in
+    let counted = tallied c.args.gateway.now c.args.self.now.tally c.count.new.self event c.counts-tick.result.ticks c.in-Ok.taken.effects
+    c.in-Ok.taken.drop c.counts-tick.ensures.ticks taken.effects taken.drop c.count.ensures in
     let guard = c.args.guard.now in
     let seen = seen_by c.watches.result (g.G.Guard.watching c.args.guard.now) c.args.gateway.now event _ _ c.watches.ensures c.as_ref.ensures.value
     (c.in-Ok.ensures.seen refl) in

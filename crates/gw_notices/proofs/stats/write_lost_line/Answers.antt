@@ -1,6 +1,6 @@
 use Rattle.std.proofs.Common.{◌++◌, ◌∷◌, [], codes, decimal}
-use Rattle.gw_notices.proofs.StatsLemmas.{two_writes}
-use Rattle.gw_notices.proofs.stats.write_lost_metrics.Goals as goal
+use Rattle.gw_notices.proofs.AppendLemmas.{two_writes}
+use Rattle.gw_notices.proofs.stats.write_lost_line.Goals as goal
 
 pub returns-clause-ok : goal.returns-clause-ok
 returns-clause-ok g c =

@@ -1,7 +1,7 @@
 use Rattle.std.proofs.Common.{rules, ◌≡◌, ◌∷◌, [], codes, decimal, ℕ, List, subst}
 use Rattle.std.specs.Io.KnownBytes.{Appends}
 use Rattle.gw_notices.proofs.StatsLemmas.{three_writes}
-use Rattle.gw_notices.proofs.stats.write_unkept.Goals as goal
+use Rattle.gw_notices.proofs.stats.write_unkept_line.Goals as goal
 
 pub returns-clause-ok : goal.returns-clause-ok
 returns-clause-ok g c =
