@@ -1,5 +1,5 @@
 -- What a trial records of an event, and that each ask is recorded once.
-use Rattle.std.proofs.Common.{◌≡◌, ◌∙◌, refl, sym, ap, subst, tt, ℕ, ◌+◌, ◌^◌, ◌<◌, suc, Bool, true, false, List, [], ◌∷◌, ◌++◌, length, map, Option, Some, None, arith}
+use Rattle.std.proofs.Common.{◌≡◌, ◌∙◌, refl, sym, ap, subst, ℕ, ◌+◌, ◌^◌, ◌<◌, suc, Bool, true, false, List, [], ◌∷◌, ◌++◌, length, map, Option, Some, None, arith}
 use Rattle.std.specs.Prelude.{cond, filter, if◌then◌else◌}
 use Rattle.std.specs.List.{AllByRecursion}
 use Rattle.gw_core.specs.Asked.{asked_at, asked_from, asked_of}
@@ -34,7 +34,7 @@ logged_in : (rules : List Rule) (ask : Ask) (asked : List Ask) → is_logged rul
 logged_in rules ask asked is =
     ap (λ (b : Bool). map (refusal rules) (cond b (ask ∷ filter (is_logged rules) asked) (filter (is_logged rules) asked))) is
 
-none_in_front : Asked → List ℕ
+abbrev none_in_front : Asked → List ℕ
 none_in_front a = []
 
 trial_from : (rules policy : List Rule) (tick : ℕ) (from : Origin) (last : ℕ) (asked : List Ask) → last + length asked < 2 ^ 64
@@ -158,11 +158,12 @@ IsSaid rules policy line =
 said_from : (rules policy : List Rule) (tick : ℕ) (from : Origin) (asked : List Ask) (last : ℕ)
     → AllByRecursion (IsSaid rules policy) (otherwise rules policy last tick (map (asked_from from) (verdicts_of policy asked)))
 said_from rules policy tick from [] last = tt
-said_from rules policy tick from (ask ∷ asked) last = by (differ rules policy ask) refl
+said_from rules policy tick from (ask ∷ asked) last = by (differ rules policy ask) refl (said_from rules policy tick from asked)
   where
     by : (b : Bool) → differ rules policy ask ≡ b
+        → ((last : ℕ) → AllByRecursion (IsSaid rules policy) (otherwise rules policy last tick (map (asked_from from) (verdicts_of policy asked))))
         → AllByRecursion (IsSaid rules policy) (otherwise rules policy last tick (map (asked_from from) (verdicts_of policy (ask ∷ asked))))
-    by b is = subst (λ (c : Bool). AllByRecursion (IsSaid rules policy)
+    by b is later = subst (λ (c : Bool). AllByRecursion (IsSaid rules policy)
         (recorded (if c then Some (first rules ask) else None) (other_front policy (asked_from from (verdict policy ask))) rules last tick
         (asked_from from (verdict policy ask)) (λ number. otherwise rules policy number tick (map (asked_from from) (verdicts_of policy asked)))))
         (sym is) (at b)
@@ -170,8 +171,8 @@ said_from rules policy tick from (ask ∷ asked) last = by (differ rules policy 
         at : (b : Bool) → AllByRecursion (IsSaid rules policy)
             (recorded (if b then Some (first rules ask) else None) (other_front policy (asked_from from (verdict policy ask))) rules last tick
             (asked_from from (verdict policy ask)) (λ number. otherwise rules policy number tick (map (asked_from from) (verdicts_of policy asked))))
-        at true = ((refl, refl), said_from rules policy tick from asked (one_more last))
-        at false = said_from rules policy tick from asked last
+        at true = ((refl, refl), later (one_more last))
+        at false = later last
 
 said_received : (rules : List Rule) (w : State) (tick last : ℕ) (received : Received)
     → AllByRecursion (IsSaid rules w.rules) (otherwise rules w.rules last tick

@@ -123,8 +123,8 @@ pub fn open_trial<H: Host>(
     host: &H,
 ) -> Result<Beside<Trial, H::Log>, WatchFault>
     ensures { let LogOpens = OpensAtLine (H.LogOpens host.now) (H.LogIsCut host.now) H.Log.held in
-        IsTrialBy (H.FileReads host.now) (H.LastDenials host.now) LogOpens config.now names.rules.now names.log.now
-        names.has_all_denied result }
+        IsTrialBy (H.FileReads host.now) (H.LastDenials host.now) LogOpens config.now names.entry.rules.now names.entry.log.now
+        names.entry.has_all_denied result }
 {
     let trial = match read_trial(alloc, names.rules, host) {
         Ok(trial) => trial,
