@@ -232,10 +232,10 @@ no_metrics_fault StoreOpens None f is under = absurd cc
 no_metrics_fault StoreOpens (Some name) f is under = absurd cc
 
 no_trial_fault : {Log : Type 0} (FileReads LastDenials : List ℕ → Result (Option (List ℕ)) ReadFailure → Type 0) (LogOpens : LogOpening Log)
-    (c : Configuration) (rules log : Option (List ℕ)) (f : ServiceFault) → rules ≡ None
-    → IsTrialNamed FileReads LastDenials LogOpens c rules log (Err f) → f ≡ fault.Memory
-no_trial_fault FileReads LastDenials LogOpens c None log f is under = absurd cc
-no_trial_fault FileReads LastDenials LogOpens c (Some rules) log f is under = absurd cc
+    (c : Configuration) (rules log : Option (List ℕ)) (has_all : Bool) (f : ServiceFault) → rules ≡ None
+    → IsTrialNamed FileReads LastDenials LogOpens c rules log has_all (Err f) → f ≡ fault.Memory
+no_trial_fault FileReads LastDenials LogOpens c None log has_all f is under = absurd cc
+no_trial_fault FileReads LastDenials LogOpens c (Some rules) log has_all f is under = absurd cc
 
 no_audit_fault : {Log : Type 0} (LastDenials : List ℕ → Result (Option (List ℕ)) ReadFailure → Type 0) (LogOpens : LogOpening Log)
     (c : Configuration) (name : Option (List ℕ)) (f : ServiceFault) → name ≡ None
@@ -257,7 +257,7 @@ watch_memory : {Log : Type 0} (FileReads LastDenials : List ℕ → Result (Opti
     (c : Configuration) (names : WatchNames) (f : ServiceFault) → names.trial ≡ None → names.audit ≡ None
     → IsUnwatched FileReads LastDenials LogOpens c names f → f ≡ fault.Memory
 watch_memory FileReads LastDenials LogOpens c names f no_trial no_audit (inl trial) =
-    no_trial_fault FileReads LastDenials LogOpens c names.trial names.trial_log f no_trial trial
+    no_trial_fault FileReads LastDenials LogOpens c names.trial names.trial_log names.trial_all f no_trial trial
 watch_memory FileReads LastDenials LogOpens c names f no_trial no_audit (inr (inl audit)) =
     no_audit_fault LastDenials LogOpens c names.audit f no_audit audit
 watch_memory FileReads LastDenials LogOpens c names f no_trial no_audit (inr (inr memory)) = memory
