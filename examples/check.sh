@@ -348,6 +348,7 @@ accepts() {
     checked "$here/$1"
     printf '%s\n' "$2" > "$work/line"
     agrees "$1" 0 "$work/line" /dev/null
+    [ -z "${3:-}" ] || printf '%s\n' "$3" >> "$work/line"
     "$tool" check --config "$here/$1" < /dev/null > "$work/out" 2> "$work/err"
     status=$?
     agrees "bacgwctl check: $1" 0 "$work/line" /dev/null
@@ -357,7 +358,7 @@ accepts workstation.toml 'ok 1 ports 1 objects 7 rules 7 asserts'
 accepts neighbours.toml 'ok 2 ports 0 objects 3 rules 2 asserts'
 accepts plant_room.toml 'ok 1 ports 4 objects 3 rules 4 asserts'
 accepts routed.toml 'ok 2 ports 0 objects 9 rules 9 asserts'
-accepts recipes.toml 'ok 2 ports 2 objects 0 rules'
+accepts recipes.toml 'ok 2 ports 2 objects 0 rules' 'warning: there is no rule, so every ask is denied'
 accepts format2/two_subnets.toml 'ok 2 ports 1 objects 6 rules'
 accepts format2/workstation.toml 'ok 1 ports 1 objects 7 rules'
 accepts format2/plant_room.toml 'ok 1 ports 4 objects 3 rules'
@@ -390,11 +391,12 @@ sed 's/10\.1\.0/203.0.113/; s/10\.2\.0/198.51.100/' "$here/two_subnets.toml" > "
 ran 1 "bacgw: cannot read configuration $work/nowhere.toml: no such file" --config "$work/nowhere.toml" --log "$work/nowhere/log"
 ran 2 "$work/faulty.toml: the text: is no TOML document, line 1, column 10: invalid value, expected a string, number, boolean, date-time, array or inline table
 bacgw: configuration: NotToml" --config "$work/faulty.toml" --log "$work/nowhere/log"
-ran 1 "bacgw: log failed: $work/nowhere/log" --config "$work/elsewhere.toml" --log "$work/nowhere/log"
 ran 1 'bacgw: socket failed on port 1' --config "$work/elsewhere.toml" --log "$work/log"
 ran 1 'port 1: own 203.0.113.2:47808: no address of this machine
 bacgw: socket failed on port 1' --config "$work/elsewhere.toml" --log "$work/log" --verbose
 sed 's/10\.1\.0/127.1.0/; s/10\.2\.0/127.2.0/' "$here/two_subnets.toml" > "$work/loopback.toml"
+ran 1 "bacgw: log failed: $work/nowhere/log" --config "$work/loopback.toml" --log "$work/nowhere/log"
+ran 1 'bacgw: socket failed on port 1' --config "$work/elsewhere.toml" --log "$work/nowhere/log"
 echo 'a line of before' > "$work/log"
 ran 0 "bacgw: serving port 1 at 127.1.0.2:47808, broadcast 127.1.0.255:47808; port 2 at 127.2.0.2:47808, broadcast \
 127.2.0.255:47808; device 1234 on network 100 with 1 objects; 4 rules; log to $work/log" --config "$work/loopback.toml" --log "$work/log" \
@@ -763,7 +765,8 @@ unsuspected() {
 }"; } < /dev/null > "$work/plain" 2> /dev/null
     "$tool" lint --config "$1" < /dev/null 2> "$work/err" > "$work/noted"
     status=$?
-    sed '/: look at source_network: without source, /d; /^note: look at cast: /d' "$work/noted" > "$work/out"
+    sed '/: look at source_network: without source, /d; /^note: look at cast: /d; /: audit: run --audit writes what it allows$/d' \
+        "$work/noted" > "$work/out"
     agrees "the lint of $1" 0 "$work/plain" /dev/null
     same "the warnings of $1" "$("$tool" explain --config "$1" | grep '^warning: ')" ''
 }
