@@ -343,7 +343,7 @@ checked() {
     status=$?
 }
 
-# accepts FILE LINE: `check` of both programs says this of a file
+# accepts FILE LINE [WARNING]: `check` of both programs says this of a file, and that of `bacgwctl` this below it
 accepts() {
     checked "$here/$1"
     printf '%s\n' "$2" > "$work/line"
