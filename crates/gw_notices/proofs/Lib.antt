@@ -2,3 +2,4 @@ mod StartupLemmas
 pub mod AppendLemmas
 mod StatsLemmas
 pub mod rule_changes_lemmas
+pub mod metrics_lemmas

@@ -5,3 +5,4 @@ pub mod Reload
 pub mod Stats
 pub mod Watch
 pub mod rule_changes
+pub mod metrics

@@ -1,9 +1,10 @@
 //! What an operator reads of a run: the line at its start, what became of a configuration that was read again, what isn't
-//! kept or recorded, and the counts of a report.
+//! kept or recorded, the counts of a report, and metrics.
 #![tactic(auto)]
 
 mod line;
 mod losses;
+pub mod metrics;
 mod note;
 mod notices;
 mod parts;

@@ -4,7 +4,7 @@ use Rattle.std.proofs.lemmas.List.{append-nil}
 use Rattle.std.specs.Prelude.{Result, Ok, Err, true, false}
 use Rattle.gw_core.specs.State.{State}
 use Rattle.gw_core.specs.declared.event.Counts.{Counts}
-use Rattle.gw_metrics.specs.file.Writing.{Metering}
+use Rattle.gw_notices.specs.metrics.Writing.{Metering}
 use Rattle.gw_notices.specs.Notices.{stop_line}
 use Rattle.gw_notices.specs.declared.reload.ReloadCounts.{ReloadCounts}
 use Rattle.gw_system.specs.Requests.{Asking, GoesOn, answered}

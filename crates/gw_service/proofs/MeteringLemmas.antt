@@ -2,10 +2,10 @@
 use Rattle.std.proofs.Common.{◌≡◌, ℕ, ◌-◌, Bool, true, false, if◌then◌else◌, List, Option, Some, None, ap, subst}
 use Rattle.gw_core.specs.State.{State}
 use Rattle.gw_core.specs.declared.event.Counts.{Counts}
-use Rattle.gw_metrics.proofs.file_lemmas.Metered.{ticks_are_metered, tries_are_metered}
-use Rattle.gw_metrics.specs.Text.{metrics_text}
-use Rattle.gw_metrics.specs.declared.counts.StateTries.{StateTries}
-use Rattle.gw_metrics.specs.file.Writing.{Writing}
+use Rattle.gw_notices.proofs.metrics_lemmas.Metered.{ticks_are_metered, tries_are_metered}
+use Rattle.gw_notices.specs.metrics.Text.{metrics_text}
+use Rattle.gw_notices.specs.declared.metrics.counts.StateTries.{StateTries}
+use Rattle.gw_notices.specs.metrics.Writing.{Writing}
 use Rattle.gw_notices.specs.declared.losses.Losses.{Losses}
 use Rattle.gw_notices.specs.declared.reload.ReloadCounts.{ReloadCounts}
 use Rattle.gw_turns.specs.Reports.{has_gone_on, report_of}

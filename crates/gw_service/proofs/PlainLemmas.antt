@@ -17,7 +17,7 @@ use Rattle.gw_system.specs.declared.opening.LogFailure.TheVariants as log_failur
 use Rattle.gw_system.specs.declared.opening.OpenFailure.TheVariants as opening
 use Rattle.gw_system.specs.declared.reading.ReadFailure.{ReadFailure}
 use Rattle.gw_turns.specs.declared.serving.ServeFault.{ServeFault}
-use Rattle.gw_metrics.specs.file.Writing.{Metering, nothing_written}
+use Rattle.gw_notices.specs.metrics.Writing.{Metering, nothing_written}
 use Rattle.gw_wire.specs.declared.store.StoreFault.{StoreFault}
 use Rattle.gw_service.specs.Metering.{MetersDue, failing_by, metered, seconds_of}
 use Rattle.gw_watchers.specs.Watching.{Watching}

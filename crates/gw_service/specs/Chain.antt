@@ -23,7 +23,7 @@ use Rattle.gw_system.specs.Requests.{Asking, Exchange, GoesOn, answered, asked, 
 use Rattle.gw_system.specs.declared.reading.ReadFailure.{ReadFailure}
 use Rattle.gw_notices.specs.Reload.{IsRefusalLine, with_refused, with_taken_over}
 use Rattle.gw_service.specs.Reload.{IsRefused, have_same_ports, taken_over_line}
-use Rattle.gw_metrics.specs.file.Writing.{Metering}
+use Rattle.gw_notices.specs.metrics.Writing.{Metering}
 use Rattle.gw_notices.specs.Notices.{IsStatusAnswer, metrics_notice, notice_of, untaken_line}
 use Rattle.gw_service.specs.Metering.{failing_by, lost_by}
 use Rattle.gw_service.specs.declared.running.End.{End}

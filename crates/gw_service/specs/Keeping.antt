@@ -6,7 +6,7 @@ use Rattle.gw_state.specs.Saved.{origin_of}
 use Rattle.gw_script.specs.Event.{Event}
 use Rattle.gw_turns.specs.Keeping.{HasPassed, IsTried, KeepsAtTick, failing_of}
 use Rattle.gw_wire.specs.declared.store.StoreFault.{StoreFault}
-use Rattle.gw_metrics.specs.declared.counts.StateTries.{StateTries}
+use Rattle.gw_notices.specs.declared.metrics.counts.StateTries.{StateTries}
 use Rattle.gw_service.specs.declared.keeping.Kept.{Kept}
 use Rattle.gw_service.specs.declared.keeping.Kept.TheVariants.{Nowhere, In}
 use Rattle.gw_notices.specs.declared.losses.Losses.{Losses}

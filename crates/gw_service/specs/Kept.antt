@@ -31,7 +31,7 @@ use Rattle.gw_system.specs.declared.store.StoreKind.TheVariants as kind
 use Rattle.gw_service.specs.Chain.{Begins, Link, Manner, Runs, Stage, chain_text, manner, stage}
 use Rattle.gw_service.specs.declared.running.End.{End}
 use Rattle.gw_service.specs.declared.running.End.TheVariants as end
-use Rattle.gw_metrics.specs.file.Writing.{Metering, nothing_written}
+use Rattle.gw_notices.specs.metrics.Writing.{Metering, nothing_written}
 use Rattle.gw_notices.specs.Parts.{IsTrialLine}
 use Rattle.gw_notices.specs.Startup.{IsWarning, startup_line}
 use Rattle.gw_service.specs.Metering.{MetersLast, lost_by, metered, meters_by, seconds_of}

@@ -3,7 +3,7 @@ use Rattle.std.specs.Prelude.{◌≡◌, ⊤, ℕ, if◌then◌else◌, Option, 
 use Rattle.std.specs.Option.{option_map_or}
 use Rattle.gw_core.specs.State.{State}
 use Rattle.gw_core.specs.declared.event.Counts.{Counts}
-use Rattle.gw_metrics.specs.file.Writing.{IsTriedAt, Metering, MetersAtTick, Writing, metering_of}
+use Rattle.gw_notices.specs.metrics.Writing.{IsTriedAt, Metering, MetersAtTick, Writing, metering_of}
 use Rattle.gw_turns.specs.Reports.{has_gone_on, report_of}
 use Rattle.gw_turns.specs.declared.serving.Served.{Served}
 use Rattle.gw_turns.specs.declared.tally.Tally.{Tally}

@@ -2,12 +2,12 @@
 use Rattle.std.specs.Prelude.{◌≡◌, ℕ, ◌+◌, ◌-◌, ◌^◌, min, if◌then◌else◌, List, length, map, Option, Some, None}
 use Rattle.gw_core.specs.State.{State}
 use Rattle.gw_core.specs.declared.event.Counts as gateway
-use Rattle.gw_metrics.specs.Text.{metrics_text}
-use Rattle.gw_metrics.specs.declared.counts.Counts.{Counts}
-use Rattle.gw_metrics.specs.declared.counts.Drops.{Drops}
-use Rattle.gw_metrics.specs.declared.counts.Reloads.{Reloads}
-use Rattle.gw_metrics.specs.declared.counts.StateTries.{StateTries}
-use Rattle.gw_metrics.specs.file.Writing.{IsTried, Writing, WritesAtTick}
+use Rattle.gw_notices.specs.metrics.Text.{metrics_text}
+use Rattle.gw_notices.specs.declared.metrics.counts.Counts.{Counts}
+use Rattle.gw_notices.specs.declared.metrics.counts.Drops.{Drops}
+use Rattle.gw_notices.specs.declared.metrics.counts.Reloads.{Reloads}
+use Rattle.gw_notices.specs.declared.metrics.counts.StateTries.{StateTries}
+use Rattle.gw_notices.specs.metrics.Writing.{IsTried, Writing, WritesAtTick}
 use Rattle.gw_relay.specs.declared.port.PortState.{PortState}
 use Rattle.gw_rules.specs.declared.rule.Rule.{Rule}
 use Rattle.gw_turns.specs.Reports.{has_gone_on, report_of}

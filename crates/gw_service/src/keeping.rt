@@ -6,14 +6,14 @@ ghost use Rattle.gw_configuration.specs.Configuration.{Configuration};
 ghost use Rattle.gw_core.specs.State.{State};
 ghost use Rattle.gw_state.specs.Saved.{origin_of};
 ghost use Rattle.gw_service.specs.Keeping.{IsKeptAtTick, IsKeptFor, IsKeptLast, IsPassed, IsSuccessor, failing_in, no_losses, tries_in, troubles_in, unkept_in};
-ghost use Rattle.gw_metrics.specs.declared.counts.StateTries.{StateTries};
+ghost use Rattle.gw_notices.specs.declared.metrics.counts.StateTries.{StateTries};
 ghost use Rattle.gw_notices.specs.declared.losses.Losses.{Losses};
 ghost use Rattle.gw_notices.specs.declared.troubles.Troubles.{Troubles};
 
 use crate::successor::Successor;
 use gw_core::{AllAsked, Gateway, Guard, Taken};
 use gw_decisions::tally::Tally;
-use gw_metrics::StateTries;
+use gw_notices::metrics::StateTries;
 use gw_notices::{Losses, Troubles};
 use gw_script::{OctetSink, WriteFailed};
 use gw_state::Origin;

@@ -7,7 +7,7 @@ ghost use Rattle.std.specs.Prelude.{◌≡◌, ◌<◌, ◌^◌, ◌||◌, ℕ, 
 ghost use Rattle.std.specs.Io.Buffered.{writer_buffer, writer_contents};
 ghost use Rattle.std.specs.Io.KnownBytes.{Appends};
 ghost use Rattle.gw_configuration.specs.Configuration.{Configuration};
-ghost use Rattle.gw_metrics.specs.file.Writing.{nothing_written};
+ghost use Rattle.gw_notices.specs.metrics.Writing.{nothing_written};
 ghost use Rattle.gw_state.specs.Saved.{origin_of};
 ghost use Rattle.gw_turns.specs.Announcing.{first_announcing};
 ghost use Rattle.gw_turns.specs.Serve.{zero_counts};

@@ -2,7 +2,7 @@
 
 ghost use Rattle.std.specs.Prelude.{◌≡◌, ◌≤◌, length, map, option_map};
 ghost use Rattle.gw_addr.specs.declared.TheConstants.{MAX_PORTS};
-ghost use Rattle.gw_metrics.specs.file.Writing.{nothing_written};
+ghost use Rattle.gw_notices.specs.metrics.Writing.{nothing_written};
 ghost use Rattle.gw_service.specs.Metering.{failing_by, lost_by, metered};
 ghost use Rattle.gw_service.specs.Metrics.{AreCounts, PutsDue, PutsInto, PutsLast, PutsNow, device_count, drops_of, reloads_of};
 
@@ -11,8 +11,8 @@ use arrayvec::ArrayVec;
 use gw_addr::MAX_PORTS;
 use gw_core::Gateway;
 use gw_decisions::tally::Tally;
-use gw_metrics::file::Metrics;
-use gw_metrics::{Counts, Drops, Reloads, StateTries};
+use gw_notices::metrics::Metrics;
+use gw_notices::metrics::{Counts, Drops, Reloads, StateTries};
 use gw_notices::{Losses, ReloadCounts};
 use gw_relay::PortState;
 use gw_rules::RuleList;

@@ -25,7 +25,7 @@ use crate::reload::{Adopted, reloaded};
 use crate::stats::{RunCounts, Schedule};
 use gw_core::{Both, Gateway};
 use gw_log_words::Notes;
-use gw_metrics::file::Metrics;
+use gw_notices::metrics::Metrics;
 use gw_notices::{
     ReloadCounts, ReloadFault, Troubles, line_with_place, no_status_line, refusal_line,
     report_metrics, report_notices, stop_line, untaken_line, write_note,

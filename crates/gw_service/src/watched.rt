@@ -10,7 +10,7 @@ use crate::keeping::{Kept, StateKeeper};
 use crate::successor::Successor;
 use gw_core::{Both, Gateway};
 use gw_decisions::tally::Tally;
-use gw_metrics::StateTries;
+use gw_notices::metrics::StateTries;
 use gw_notices::{LogCount, Losses, Troubles, WatchCounts, write_counts, write_watched};
 use gw_rules::RuleList;
 use gw_script::{OctetSink, WriteFailed};

@@ -10,7 +10,7 @@ use Rattle.gw_service.specs.Chain.{FailsToLast, IsStatusIn, WasLasting, edge, lo
 use Rattle.gw_notices.specs.Notices.{metrics_notice, notice_of}
 use Rattle.gw_wire.specs.declared.store.StoreFault.{StoreFault}
 use Rattle.gw_service.specs.Metering.{failing_by, lost_by, metered, meters_by}
-use Rattle.gw_metrics.specs.file.Writing.{Writing}
+use Rattle.gw_notices.specs.metrics.Writing.{Writing}
 use Rattle.gw_service.specs.Metrics.{PutsDue}
 use Rattle.gw_service.proofs.MeteringLemmas.{puts_metered}
 use Rattle.gw_service.specs.Scheduled.{reporting_by}

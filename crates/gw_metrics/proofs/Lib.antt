@@ -1,5 +1,0 @@
-pub mod Lines
-pub mod Names
-pub mod Reading
-pub mod Samples
-pub mod file_lemmas

@@ -1,8 +1,0 @@
-use Rattle.gw_metrics.proofs.file_lemmas.Metered.{ticks_are_metered, tries_are_metered}
-use Rattle.gw_metrics.proofs.file.laws.tries.Goals as goal
-
-pub returns-clause-ticks : goal.returns-clause-ticks
-returns-clause-ticks g c = ticks_are_metered g.S.Store.held
-
-pub returns-clause-tries : goal.returns-clause-tries
-returns-clause-tries g c = tries_are_metered g.S.Store.held

@@ -1,2 +1,0 @@
-pub mod Metered
-pub mod Ticks

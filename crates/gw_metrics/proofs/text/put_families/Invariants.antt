@@ -1,7 +1,0 @@
-use Rattle.std.proofs.Common.{◌≡◌, ◌++◌, take}
-use Rattle.std.specs.List.{flat_map}
-use Rattle.gw_metrics.specs.Text.{family_text}
-use Rattle.gw_metrics.proofs.text.put_families.Given as goal
-
-abbrev pub invariant-loop-family : goal.invariant-loop-family
-invariant-loop-family l = l.out.items ≡ l.fn.out.items ++ flat_map (family_text l.counts) (take l.family-index l.families)

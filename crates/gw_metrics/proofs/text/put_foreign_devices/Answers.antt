@@ -1,9 +1,0 @@
-use Rattle.std.proofs.lemmas.Result.{on_ok_weaker}
-use Rattle.gw_metrics.proofs.Samples.{ported}
-use Rattle.gw_metrics.proofs.text.put_foreign_devices.Goals as goal
-
-pub returns : goal.returns
-returns c =
-    on_ok_weaker c.put_ports.result
-    (ported c.args.counts.now c.args.out.now.items c.put_head.new.out.items c.put_ports.new.out.items
-    c.in_ok-put_head.ensures) c.put_ports.ensures

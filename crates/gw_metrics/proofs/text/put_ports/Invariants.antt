@@ -1,7 +1,0 @@
-use Rattle.std.proofs.Common.{◌≡◌, ◌++◌, take}
-use Rattle.gw_script.specs.Order.{in_order}
-use Rattle.gw_metrics.specs.Text.{port_line}
-use Rattle.gw_metrics.proofs.text.put_ports.Given as goal
-
-abbrev pub invariant-loop-place : goal.invariant-loop-place
-invariant-loop-place l = l.out.items ≡ l.fn.out.items ++ in_order port_line 1 (take l.place l.counts)

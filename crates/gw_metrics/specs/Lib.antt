@@ -1,5 +1,0 @@
-pub mod Escape
-pub mod Family
-pub mod Laws
-pub mod Text
-pub mod file

@@ -1,0 +1,5 @@
+pub mod Escape
+pub mod Family
+pub mod Laws
+pub mod Text
+pub mod Writing

@@ -1,0 +1,375 @@
+//! The text of metrics.
+
+ghost use Rattle.std.specs.Prelude.{◌≡◌, ◌++◌, ◌+◌, [], ◌∷◌, length, codes, decimal, Some, IfOk, OnErr, OnOk};
+ghost use Rattle.std.specs.List.{flat_map};
+ghost use Rattle.gw_script.specs.Order.{in_order};
+ghost use Rattle.gw_notices.specs.metrics.Family.{families};
+ghost use Rattle.gw_notices.specs.metrics.Text.{Count, Help, KindOf, build_samples, decided_samples, decision_samples, drop_samples, family_lines, family_text, full_line, kept_samples, labelled, label_text, lines_text, lost_samples, metrics_text, number_if, numbered, plain, port_line, port_sample, reload_samples, rule_line, single, unkept_samples};
+
+use crate::metrics::counts::{Counts, Drops, Reloads, StateTries};
+use crate::metrics::escape::put_escaped;
+use crate::metrics::family::{Family, Label};
+use gw_addr::{keep_whole, put_decimal, put_slice};
+use gw_decisions::tally::Tally;
+use gw_rules::{Rule, RuleList};
+use itoa::Buffer;
+use std::alloc::{AllocError, Global};
+
+/// The version of the program.
+const VERSION: &str = "0.1.0";
+
+/// Appends the text of metrics: of each family in order what it is, its kind, and its samples.
+///
+/// ```text
+/// # HELP bacgw_decisions_total Asks that each rule decided, and those that none did (default), since the start or the last reload.
+/// # TYPE bacgw_decisions_total counter
+/// bacgw_decisions_total{rule="default"} 3
+/// bacgw_decisions_total{rule="hide"} 12
+/// ```
+///
+/// A family that isn't counted is left out. An `Err` only if a growth of memory was refused: the buffer then holds what it
+/// held.
+pub fn put_metrics(alloc: Global, counts: &Counts<'_>, out: &mut Vec<u8>) -> Result<(), AllocError>
+    ensures ok { OnOk result (out.new.items ≡ out.old.items ++ metrics_text counts.now) }
+    ensures err { OnErr result (out.new.items ≡ out.old.items) }
+{
+    let text = make_text(alloc, counts)?;
+    let len = out.len();
+    let put = put_slice(out, &text);
+    keep_whole(out, len, put)
+}
+
+/// The text of all families.
+fn make_text(alloc: Global, counts: &Counts<'_>) -> Result<Vec<u8>, AllocError>
+    ensures { IfOk result (λ text. text.items ≡ metrics_text counts.now) }
+{
+    let mut text = Vec::new(alloc);
+    put_families(&Family::ALL, counts, &mut text)?;
+    Ok(text)
+}
+
+fn put_families(
+    families: &[Family],
+    counts: &Counts<'_>,
+    out: &mut Vec<u8>,
+) -> Result<(), AllocError>
+    ensures { OnOk result (out.new.items ≡ out.old.items ++ flat_map (family_text counts.now) families.now) }
+{
+    for family in families {
+        put_family(*family, counts, out)?;
+    }
+    Ok(())
+}
+
+/// Appends the lines of a family, if it is counted.
+fn put_family(family: Family, counts: &Counts<'_>, out: &mut Vec<u8>) -> Result<(), AllocError>
+    ensures { OnOk result (out.new.items ≡ out.old.items ++ family_text counts.now family) }
+{
+    match family {
+        Family::Build => put_build(out),
+        Family::Ticks => put_single(family, u128::from(counts.ticks), out),
+        Family::Received => put_single(family, u128::from(counts.received), out),
+        Family::Taken => put_single(family, u128::from(counts.taken), out),
+        Family::Drops => put_drops(counts.drops, out),
+        Family::Sends => put_single(family, counts.sends, out),
+        Family::SendFailures => put_single(family, counts.send_failures, out),
+        Family::Announcements => put_single(family, counts.announcements, out),
+        Family::AnnouncementFailures => put_single(family, counts.announcement_failures, out),
+        Family::ReceiveFailures => put_single(family, u128::from(counts.receive_failures), out),
+        Family::Denials => put_single(family, u128::from(counts.denials), out),
+        Family::Decisions => put_decisions(counts.rules, counts.decisions, out),
+        Family::Unwatched => put_single(family, u128::from(counts.unwatched), out),
+        Family::ForeignDevices => put_foreign_devices(counts.foreign_devices, out),
+        Family::Peers => put_single(family, u128::from(counts.peers), out),
+        Family::LearnedRoutes => put_single(family, u128::from(counts.learned_routes), out),
+        Family::Reloads => put_reloads(counts.reloads, out),
+        Family::ConfigurationAge => {
+            put_single(family, u128::from(counts.configuration_age), out)
+        }
+        Family::StateIsKept => put_is_kept(counts.state, out),
+        Family::UnkeptStates => put_unkept(counts.state, out),
+        Family::LostLines => put_lost_lines(counts.lost_trial_lines, counts.lost_audit_lines, out),
+        Family::LostMetrics => put_single(family, u128::from(counts.lost_metrics), out),
+    }
+}
+
+/// Appends what a family is, and its kind.
+fn put_head(family: Family, out: &mut Vec<u8>) -> Result<(), AllocError>
+    ensures { OnOk result (out.new.items ≡ out.old.items ++ lines_text (Help family ∷ KindOf family ∷ [])) }
+{
+    put_help(family, out)?;
+    put_kind(family, out)
+}
+
+#[tactic(auto, unfolding(crate::specs::Text::full_line))]
+fn put_help(family: Family, out: &mut Vec<u8>) -> Result<(), AllocError>
+    ensures { OnOk result (out.new.items ≡ out.old.items ++ full_line (Help family)) }
+{
+    put_slice(out, b"# HELP ")?;
+    put_slice(out, family.name().as_bytes())?;
+    put_slice(out, b" ")?;
+    put_slice(out, family.help().as_bytes())?;
+    put_slice(out, b"\n")
+}
+
+#[tactic(auto, unfolding(crate::specs::Text::full_line))]
+fn put_kind(family: Family, out: &mut Vec<u8>) -> Result<(), AllocError>
+    ensures { OnOk result (out.new.items ≡ out.old.items ++ full_line (KindOf family)) }
+{
+    put_slice(out, b"# TYPE ")?;
+    put_slice(out, family.name().as_bytes())?;
+    put_slice(out, b" ")?;
+    put_slice(out, family.kind().name().as_bytes())?;
+    put_slice(out, b"\n")
+}
+
+/// Appends a number, with what comes before it, and ends the line.
+fn put_number(number: u128, out: &mut Vec<u8>) -> Result<(), AllocError>
+    ensures { OnOk result (out.new.items ≡ out.old.items ++ codes " " ++ decimal number ++ codes "\n") }
+{
+    put_slice(out, b" ")?;
+    put_decimal(out, number)?;
+    put_slice(out, b"\n")
+}
+
+/// Appends a sample that has no label.
+#[tactic(auto, unfolding(crate::specs::Text::full_line))]
+fn put_plain(family: Family, number: u128, out: &mut Vec<u8>) -> Result<(), AllocError>
+    ensures { OnOk result (out.new.items ≡ out.old.items ++ full_line (Count family (plain number))) }
+{
+    put_slice(out, family.name().as_bytes())?;
+    put_number(number, out)
+}
+
+/// Appends a label and its value.
+fn put_label(label: Label, value: &[u8], out: &mut Vec<u8>) -> Result<(), AllocError>
+    ensures { OnOk result (out.new.items ≡ out.old.items ++ label_text (Some (record { label = label; value = value.now }))) }
+{
+    put_slice(out, b"{")?;
+    put_slice(out, label.name().as_bytes())?;
+    put_slice(out, b"=\"")?;
+    put_escaped(out, value)?;
+    put_slice(out, b"\"}")
+}
+
+/// Appends a sample that has a label of this value.
+#[tactic(auto, unfolding(crate::specs::Text::full_line))]
+fn put_labelled(
+    family: Family,
+    label: Label,
+    value: &[u8],
+    number: u128,
+    out: &mut Vec<u8>,
+) -> Result<(), AllocError>
+    ensures { OnOk result (out.new.items ≡ out.old.items ++ full_line (Count family (labelled label value.now number))) }
+{
+    put_slice(out, family.name().as_bytes())?;
+    put_label(label, value, out)?;
+    put_number(number, out)
+}
+
+/// Appends a family that has one sample.
+fn put_single(family: Family, number: u128, out: &mut Vec<u8>) -> Result<(), AllocError>
+    ensures { OnOk result (out.new.items ≡ out.old.items ++ lines_text (family_lines family (single number))) }
+{
+    put_head(family, out)?;
+    put_plain(family, number, out)
+}
+
+fn put_build(out: &mut Vec<u8>) -> Result<(), AllocError>
+    ensures { OnOk result (out.new.items ≡ out.old.items ++ lines_text (family_lines Family.Build (Some build_samples))) }
+{
+    put_head(Family::Build, out)?;
+    put_labelled(Family::Build, Label::Version, VERSION.as_bytes(), 1, out)
+}
+
+/// Appends a reason for which datagrams weren't passed on.
+fn put_reason(reason: &str, number: u64, out: &mut Vec<u8>) -> Result<(), AllocError>
+    ensures { OnOk result (out.new.items ≡ out.old.items
+        ++ full_line (Count Family.Drops (labelled Label.Reason reason.now number))) }
+{
+    put_labelled(
+        Family::Drops,
+        Label::Reason,
+        reason.as_bytes(),
+        u128::from(number),
+        out,
+    )
+}
+
+fn put_drops(drops: Drops, out: &mut Vec<u8>) -> Result<(), AllocError>
+    ensures { OnOk result (out.new.items ≡ out.old.items ++ lines_text (family_lines Family.Drops (Some (drop_samples drops)))) }
+{
+    put_head(Family::Drops, out)?;
+    put_reason("enter", drops.enter, out)?;
+    put_reason("claim", drops.claim, out)?;
+    put_reason("malformed", drops.malformed, out)?;
+    put_reason("own_network", drops.own_network, out)?;
+    put_reason("no_peer", drops.no_peer, out)?;
+    put_reason("memory", drops.memory, out)
+}
+
+/// Appends how many asks each rule decided, if they are counted for these rules.
+fn put_decisions(
+    rules: &RuleList,
+    decisions: &Option<Tally>,
+    out: &mut Vec<u8>,
+) -> Result<(), AllocError>
+    ensures { OnOk result (out.new.items ≡ out.old.items
+        ++ lines_text (family_lines Family.Decisions (decided_samples rules.now decisions.now))) }
+{
+    match decisions {
+        Some(counts) if counts.is_of(rules) => put_decided(rules.rules(), counts, out),
+        _ => Ok(()),
+    }
+}
+
+fn put_decided(rules: &[Rule], counts: &Tally, out: &mut Vec<u8>) -> Result<(), AllocError>
+    requires { length counts.now ≡ length rules.now + 1 }
+    ensures { OnOk result (out.new.items ≡ out.old.items
+        ++ lines_text (family_lines Family.Decisions (Some (decision_samples rules.now counts.now)))) }
+{
+    put_head(Family::Decisions, out)?;
+    put_default(counts.count(0), out)?;
+    put_rules(rules, counts, out)
+}
+
+fn put_default(count: u64, out: &mut Vec<u8>) -> Result<(), AllocError>
+    ensures { OnOk result (out.new.items ≡ out.old.items
+        ++ full_line (Count Family.Decisions (labelled Label.Rule (codes "default") count))) }
+{
+    put_decider("default", count, out)
+}
+
+fn put_decider(name: &str, count: u64, out: &mut Vec<u8>) -> Result<(), AllocError>
+    ensures { OnOk result (out.new.items ≡ out.old.items
+        ++ full_line (Count Family.Decisions (labelled Label.Rule name.now count))) }
+{
+    put_labelled(
+        Family::Decisions,
+        Label::Rule,
+        name.as_bytes(),
+        u128::from(count),
+        out,
+    )
+}
+
+fn put_rules(rules: &[Rule], counts: &Tally, out: &mut Vec<u8>) -> Result<(), AllocError>
+    requires { length counts.now ≡ length rules.now + 1 }
+    ensures { OnOk result (out.new.items ≡ out.old.items ++ in_order (rule_line counts.now) 1 rules.now) }
+{
+    for place in 0..rules.len() {
+        put_rule(&rules[place], counts.count(place + 1), out)?;
+    }
+    Ok(())
+}
+
+fn put_rule(rule: &Rule, count: u64, out: &mut Vec<u8>) -> Result<(), AllocError>
+    ensures { OnOk result (out.new.items ≡ out.old.items
+        ++ full_line (Count Family.Decisions (labelled Label.Rule rule.now.name count))) }
+{
+    put_labelled(
+        Family::Decisions,
+        Label::Rule,
+        rule.name.as_str().as_bytes(),
+        u128::from(count),
+        out,
+    )
+}
+
+fn put_foreign_devices(counts: &[u64], out: &mut Vec<u8>) -> Result<(), AllocError>
+    ensures { OnOk result (out.new.items ≡ out.old.items
+        ++ lines_text (family_lines Family.ForeignDevices (Some (numbered port_sample 1 counts.now)))) }
+{
+    put_head(Family::ForeignDevices, out)?;
+    put_ports(counts, out)
+}
+
+fn put_ports(counts: &[u64], out: &mut Vec<u8>) -> Result<(), AllocError>
+    ensures { OnOk result (out.new.items ≡ out.old.items ++ in_order port_line 1 counts.now) }
+{
+    for place in 0..counts.len() {
+        put_port(place + 1, counts[place], out)?;
+    }
+    Ok(())
+}
+
+fn put_port(number: usize, count: u64, out: &mut Vec<u8>) -> Result<(), AllocError>
+    ensures { OnOk result (out.new.items ≡ out.old.items ++ port_line number count) }
+{
+    put_labelled(
+        Family::ForeignDevices,
+        Label::Port,
+        Buffer::new().format(number).as_bytes(),
+        u128::from(count),
+        out,
+    )
+}
+
+fn put_reloads(reloads: Reloads, out: &mut Vec<u8>) -> Result<(), AllocError>
+    ensures { OnOk result (out.new.items ≡ out.old.items
+        ++ lines_text (family_lines Family.Reloads (Some (reload_samples reloads)))) }
+{
+    put_head(Family::Reloads, out)?;
+    put_outcome("taken_over", reloads.taken_over, out)?;
+    put_outcome("refused", reloads.refused, out)
+}
+
+fn put_outcome(outcome: &str, number: u64, out: &mut Vec<u8>) -> Result<(), AllocError>
+    ensures { OnOk result (out.new.items ≡ out.old.items
+        ++ full_line (Count Family.Reloads (labelled Label.Outcome outcome.now number))) }
+{
+    put_labelled(
+        Family::Reloads,
+        Label::Outcome,
+        outcome.as_bytes(),
+        u128::from(number),
+        out,
+    )
+}
+
+fn number_if(is: bool) -> u128
+    ensures { result ≡ number_if is }
+{
+    if is { 1 } else { 0 }
+}
+
+fn put_is_kept(state: Option<StateTries>, out: &mut Vec<u8>) -> Result<(), AllocError>
+    ensures { OnOk result (out.new.items ≡ out.old.items ++ lines_text (family_lines Family.StateIsKept (kept_samples state))) }
+{
+    match state {
+        Some(tries) => put_single(Family::StateIsKept, number_if(tries.is_kept), out),
+        None => Ok(()),
+    }
+}
+
+fn put_unkept(state: Option<StateTries>, out: &mut Vec<u8>) -> Result<(), AllocError>
+    ensures { OnOk result (out.new.items ≡ out.old.items ++ lines_text (family_lines Family.UnkeptStates (unkept_samples state))) }
+{
+    match state {
+        Some(tries) => put_single(Family::UnkeptStates, u128::from(tries.unkept), out),
+        None => Ok(()),
+    }
+}
+
+fn put_lost_lines(trial: u64, audit: u64, out: &mut Vec<u8>) -> Result<(), AllocError>
+    ensures { OnOk result (out.new.items ≡ out.old.items
+        ++ lines_text (family_lines Family.LostLines (Some (lost_samples trial audit)))) }
+{
+    put_head(Family::LostLines, out)?;
+    put_log("trial", trial, out)?;
+    put_log("audit", audit, out)
+}
+
+fn put_log(log: &str, number: u64, out: &mut Vec<u8>) -> Result<(), AllocError>
+    ensures { OnOk result (out.new.items ≡ out.old.items
+        ++ full_line (Count Family.LostLines (labelled Label.Log log.now number))) }
+{
+    put_labelled(
+        Family::LostLines,
+        Label::Log,
+        log.as_bytes(),
+        u128::from(number),
+        out,
+    )
+}
