@@ -1,5 +1,6 @@
 #!/usr/bin/env bash
-# Installs the Debian package in a clean root, lets the gateway serve and answer there, and removes it again.
+# Installs the Debian package in a clean root, lets the gateway serve and answer there, does what docs/ten-minutes.md says there, and
+# removes it again.
 #
 #     sudo dist/clean.sh [PACKAGE.deb]       # what dist/release.sh left in dist/out by default
 #     sudo ROOT=FOLDER dist/clean.sh ..      # in a copy of this root, as debootstrap makes one, and not in one that it makes
@@ -75,6 +76,8 @@ kill "$gateway"
 wait "$gateway" || true
 gateway=
 echo "stopped"
+ROOT=$root "$here/../examples/ten-minutes.sh" > "$work/minutes" || { cat "$work/minutes" >&2; exit 1; }
+echo "a policy in ten minutes: $(tail -1 "$work/minutes")"
 
 echo '# mine' >> "$root/etc/bacgw/site.toml"
 inside dpkg --install /root/bacgw.deb > "$work/told" 2>&1

@@ -3,6 +3,7 @@
 #
 #     sudo examples/ten-minutes.sh [PACKAGE.tar.gz]      # what dist/release.sh left in dist/out by default
 #     sudo BIN=FOLDER examples/ten-minutes.sh            # with the programs in a folder
+#     sudo ROOT=FOLDER examples/ten-minutes.sh           # in this root, with the programs that are installed there (dist/clean.sh does so)
 #
 # What the page prints below a command must be what the command prints. The commands are those of the page, in their order, in a network
 # namespace that has the gateway's addresses; `bacgw run` serves until the next command has ended. It wants root, ip and python3. Nothing
@@ -18,7 +19,7 @@ clean_up() {
 }
 trap clean_up EXIT
 
-if [ -z "${BIN:-}" ]; then
+if [ -z "${BIN:-}${ROOT:-}" ]; then
     package=${1:-$(echo "$here"/../dist/out/bacgw-*.tar.gz)}
     [ -f "$package" ] || { echo "no package: $package" >&2; exit 1; }
     mkdir "$work/package"
@@ -32,13 +33,26 @@ for port in 1 2; do
     ip -n "$space" addr add "10.$port.0.2/24" broadcast + dev "port$port"
     ip -n "$space" link set "port$port" up
 done
-mkdir "$work/site"
-cd "$work/site"
-ip netns exec "$space" env -i PATH="$(cd "$BIN" && pwd):/usr/bin:/bin" HOME="$work" python3 - "$here/../docs/ten-minutes.md" <<'PYTHON'
+if [ -n "${ROOT:-}" ]; then
+    site=$(mktemp -d "$ROOT/tmp/site-XXXXXX")
+    path=$PATH
+else
+    site=$work/site
+    path=$(cd "$BIN" && pwd):/usr/bin:/bin
+    mkdir "$site"
+fi
+cd "$site"
+ip netns exec "$space" env -i PATH="$path" HOME="$work" python3 - "$here/../docs/ten-minutes.md" "${ROOT:-}" <<'PYTHON'
 import os, re, signal, subprocess, sys, time
 
 agreed = failed = 0
 total = 0.0
+root = sys.argv[2]
+inside = ["chroot", root, "/usr/bin/env", "-i", "PATH=/usr/bin:/bin", "-C", "/tmp/" + os.path.basename(os.getcwd())] if root else []
+
+
+def words(command):
+    return [*inside, "/bin/sh", "-c", command]
 
 
 def took(command, seconds):
@@ -51,7 +65,7 @@ def run(command, wanted):
     """Runs one command, and compares what it prints with the page, if that has it; else it must go well."""
     global agreed, failed
     start = time.monotonic()
-    call = subprocess.run(command, shell=True, executable="/bin/sh", capture_output=True, text=True)
+    call = subprocess.run(words(command), capture_output=True, text=True)
     took(command, time.monotonic() - start)
     right = call.stdout == wanted if wanted else call.returncode == 0 and not call.stderr
     agreed, failed = agreed + right, failed + (not right)
@@ -63,7 +77,7 @@ def serve(command):
     """Begins a run of the gateway: it has begun when it says so."""
     global agreed
     start = time.monotonic()
-    gateway = subprocess.Popen(command + " --verbose", shell=True, executable="/bin/sh", stderr=subprocess.PIPE, text=True, start_new_session=True)
+    gateway = subprocess.Popen(words(command + " --verbose"), stderr=subprocess.PIPE, text=True, start_new_session=True)
     for line in gateway.stderr:
         if "serving" in line:
             break
@@ -98,7 +112,7 @@ for kind, block in re.findall(r"^```(sh|text)\n(.*?)^```$", page, re.M | re.S):
         else:
             run(command, None)
 stop(gateway)
-words = len(re.findall(r"\w[\w'-]*", re.sub(r"^```.*?^```$", "", page, flags=re.M | re.S)))
-print(f"{agreed} agreed, {failed} did not; {total:.1f} s, and {words} words to read")
+read = len(re.findall(r"\w[\w'-]*", re.sub(r"^```.*?^```$", "", page, flags=re.M | re.S)))
+print(f"{agreed} agreed, {failed} did not; {total:.1f} s, and {read} words to read")
 sys.exit(1 if failed else 0)
 PYTHON
