@@ -273,6 +273,8 @@ impl<'a> Host for MemHost<'a> {
 
     ghost RoutesIp = { λ host routes. host.routes ≡ routes };
 
+    ghost Waits = { λ _ _ _. ⊤ };
+
     ghost Closes = { λ host sockets log. host.closed ≡ Some (sockets, log) };
 
     fn open_log(&self, _alloc: Global, name: &str) -> Result<MemLog<MemWriter>, LogFailure> {

@@ -32,21 +32,22 @@ kept_closes m states Closes so names held holds c how is_verbose line said outco
     (ran before log log_then sockets sockets_then output warning text prepared opens closes stays leaves warns is) =
     ran before log log_then sockets sockets_then output warning text prepared opens (so sockets_then log_then closes) stays leaves warns is
 
-pub service_closes : {Log Sockets S Q : Type 0} (m : Machine Log Sockets) (states : StateMachine S Q) (Closes : Sockets → Option Log → Type 0)
+pub service_closes : {Log Sockets S Q : Type 0} (m : Machine Log Sockets) (states : StateMachine S Q) (Waits : List ℕ → Bool → Type 0) (Closes : Sockets → Option Log → Type 0)
     → ((sockets : Sockets) (log : Option Log) → m.Closes sockets log → Closes sockets log) → (options : RunOptions)
     (held holds : Option (List ℕ)) (c : Configuration) (said : List ℕ) (outcome : Result (Unit {0}) ServiceFault)
-    → LeavesService (whole_machine m states) options held holds c said outcome
-    → LeavesService (whole_machine (record m { Closes = Closes }) states) options held holds c said outcome
-service_closes m states Closes so options held holds c said outcome leaves =
+    → LeavesService (whole_machine m states Waits) options held holds c said outcome
+    → LeavesService (whole_machine (record m { Closes = Closes }) states Waits) options held holds c said outcome
+service_closes m states Waits Closes so options held holds c said outcome leaves =
     let name = option_map string_bytes options.log in
     let line = startup_line options.verbose c name in
     let how = service options.turns options.stats options.stats_rules in (
       leaves.0,
       leaves.1,
       leaves.2,
+      leaves.3,
       (
-        kept_closes m states Closes so (names_of options) held holds c how options.verbose line leaves.1 outcome leaves.3.0,
-        λ is quiet. served_closes m Closes so name held holds c options.turns options.verbose line leaves.1 outcome (leaves.3.1 is quiet),
+        kept_closes m states Closes so (names_of options) held holds c how options.verbose line leaves.2 outcome leaves.4.0,
+        λ is quiet. served_closes m Closes so name held holds c options.turns options.verbose line leaves.2 outcome (leaves.4.1 is quiet),
       ),
     )
 

@@ -415,13 +415,15 @@ pub data LeavesWithState {Log Sockets S Q : Type 0} (machine : Machine Log Socke
 abbrev pub is_plain : RunOptions → Bool
 is_plain options = not (is_some options.state) && (not (is_some options.reload) && not (is_watched (watch_names options)))
 
--- what a machine may give to any run
+-- what a machine may give to any run, and whether opening the log of a name may wait for its reader
 pub record WholeMachine (Log Sockets S Q : Type 0) : Type 1 where
   pub machine : Machine Log Sockets
   pub states : StateMachine S Q
+  pub Waits : List ℕ → Bool → Type 0
 
-abbrev pub whole_machine : {Log Sockets S Q : Type 0} → Machine Log Sockets → StateMachine S Q → WholeMachine Log Sockets S Q
-whole_machine machine states = record { machine = machine; states = states }
+abbrev pub whole_machine : {Log Sockets S Q : Type 0} → Machine Log Sockets → StateMachine S Q → (Waits : List ℕ → Bool → Type 0)
+    → WholeMachine Log Sockets S Q
+whole_machine machine states Waits = record { machine = machine; states = states; Waits = Waits }
 
 -- What a run leaves under a configuration, by its options. If they name neither a state nor a request file, nothing watches and
 -- nothing is announced, then it is also what one of `serve` from the gateway's first state leaves.
@@ -433,7 +435,12 @@ LeavesChosen whole options held holds c said outcome =
     LeavesWithState whole.machine whole.states (names_of options) held holds c (service options.turns options.stats options.stats_rules) options.verbose line said outcome
     × (is_plain options ≡ true → c.announce ≡ false → LeavesServed whole.machine name held holds c options.turns options.verbose line said outcome)
 
--- what is written if opening the log may wait for its reader
+-- whether opening the log may wait for its reader: if it is in a file, what the machine says of that
+abbrev pub IsWaiting : (Waits : List ℕ → Bool → Type 0) → (log : Option (List ℕ)) → Bool → Type 0
+IsWaiting Waits None waits = waits ≡ false
+IsWaiting Waits (Some name) waits = Waits name waits
+
+-- what is written of that
 abbrev pub waiting_note : Bool → List ℕ
 waiting_note true = codes "bacgw: the log waits for its reader\n"
 waiting_note false = []
@@ -442,5 +449,5 @@ waiting_note false = []
 abbrev pub LeavesService : {Log Sockets S Q : Type 0} → WholeMachine Log Sockets S Q → RunOptions → (held holds : Option (List ℕ))
     → Configuration → List ℕ → Result (Unit {0}) ServiceFault → Type 0
 LeavesService whole options held holds c said outcome =
-    (waits : Bool) × (rest : List ℕ) × (said ≡ (unaudited_note c.audits (is_some options.audit) ++ waiting_note waits) ++ rest)
+    (waits : Bool) × IsWaiting whole.Waits (option_map string_bytes options.log) waits × (rest : List ℕ) × (said ≡ (unaudited_note c.audits (is_some options.audit) ++ waiting_note waits) ++ rest)
     × LeavesChosen whole options held holds c rest outcome

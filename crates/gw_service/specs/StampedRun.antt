@@ -39,7 +39,7 @@ with_stamps {Log} {C} plain =
     (held_in plain.held) plain.calls
 
 abbrev pub whole_with_stamps : {Log C Sockets S Q : Type 0} → WholeMachine Log Sockets S Q → WholeMachine (Noted (Stamped Log C)) Sockets S Q
-whole_with_stamps plain = whole_machine (with_stamps plain.machine) plain.states
+whole_with_stamps plain = whole_machine (with_stamps plain.machine) plain.states plain.Waits
 
 -- what a machine may give to a run whose log may have stamps, for which `C` gives the time of day
 pub record TimedMachine (C Log Sockets S Q : Type 0) : Type 1 where

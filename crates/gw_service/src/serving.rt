@@ -1,12 +1,12 @@
 //! The gateway at work: what `run` opens, and a gateway that serves it.
 
-ghost use Rattle.std.specs.Prelude.{◌≡◌, ◌⊎◌, [], ℕ, Bool, List, None, MatchResult, is_some, option_map, string_bytes, IfOk, OnOk};
+ghost use Rattle.std.specs.Prelude.{◌≡◌, ◌⊎◌, [], ℕ, List, None, MatchResult, is_some, option_map, string_bytes, IfOk, OnOk};
 ghost use Rattle.std.specs.Io.Buffered.{writer_buffer, writer_contents};
 ghost use Rattle.std.specs.Io.KnownBytes.{Appends};
 ghost use Rattle.gw_notices.specs.Startup.{startup_line};
 ghost use Rattle.gw_system.specs.Host.{OpensAtLine};
 ghost use Rattle.gw_system.specs.declared.opening.LogFailure.TheVariants as log_failure;
-ghost use Rattle.gw_service.specs.Kept.{LeavesService, state_machine, waiting_note, whole_machine};
+ghost use Rattle.gw_service.specs.Kept.{IsWaiting, LeavesService, state_machine, waiting_note, whole_machine};
 ghost use Rattle.std.specs.List.{list_any};
 ghost use Rattle.gw_service.specs.Watch.{is_unaudited, unaudited_note};
 ghost use Rattle.gw_service.specs.Serving.{IsFlushedFor, LogIsOpen, LogIsShut, machine};
@@ -107,13 +107,24 @@ fn unaudited_note(config: &Config, options: &RunOptions) -> &'static str
     }
 }
 
-/// What is written if opening the log may wait for its reader.
-fn waiting_note<H: Host>(log: &Option<String>, host: &H) -> &'static str
-    ensures { (waits : Bool) × (result.now ≡ waiting_note waits) }
+/// Whether opening the log may wait for its reader.
+fn is_waiting<H: Host>(log: &Option<String>, host: &H) -> bool
+    ensures { IsWaiting (H.Waits host.now) (option_map string_bytes log.now) result }
 {
     match log {
-        Some(name) if host.waits(name) => "bacgw: the log waits for its reader\n",
-        _ => "",
+        Some(name) => host.waits(name),
+        None => false,
+    }
+}
+
+/// What is written of that.
+fn waiting_note(waits: bool) -> &'static str
+    ensures { result.now ≡ waiting_note waits }
+{
+    if waits {
+        "bacgw: the log waits for its reader\n"
+    } else {
+        ""
     }
 }
 
@@ -139,7 +150,7 @@ pub fn serve_ports<H: Host, W: Write + Drop, E: OctetSink>(
         × LeavesService (whole_machine (machine (OpensAtLine (H.LogOpens host.old) (H.LogIsCut host.old) H.Log.held)
         (H.SocketsOpen host.old) (H.RoutesIp host.old) (H.Closes host.new) H.Log.held H.Sockets.calls)
         (state_machine (H.FileReads host.old) (H.LastDenials host.old) (H.StoreOpens host.old)
-        (H.ReloadsOpen host.old) H.StateStore.held H.Reloads.recorded)) options.now
+        (H.ReloadsOpen host.old) H.StateStore.held H.Reloads.recorded) (H.Waits host.old)) options.now
         (writer_contents W.contents output.old) (writer_contents W.contents output.new) config said result
         × (E.NeverFails errors.old → Appends (E.held errors.old) (E.held errors.new) said) }
     ensures lasting { E.NeverFails errors.old → E.NeverFails errors.new }
@@ -147,6 +158,7 @@ pub fn serve_ports<H: Host, W: Write + Drop, E: OctetSink>(
         (writer_buffer output.old) (writer_buffer output.new)) }
 {
     write_note(unaudited_note(&config, options).as_bytes(), errors);
-    write_note(waiting_note(&options.log, host).as_bytes(), errors);
+    let waits = is_waiting(&options.log, host);
+    write_note(waiting_note(waits).as_bytes(), errors);
     serve_kept(alloc, config, options, host, output, errors)
 }

@@ -77,7 +77,7 @@ fn serve_stamped<H: Host, W: Write + Drop, E: OctetSink>(
         (whole_machine (machine (OpensAtLine (H.LogOpens host.old) (H.LogIsCut host.old) H.Log.held)
         (H.SocketsOpen host.old) (H.RoutesIp host.old) (H.Closes host.new) H.Log.held H.Sockets.calls)
         (state_machine (H.FileReads host.old) (H.LastDenials host.old) (H.StoreOpens host.old)
-        (H.ReloadsOpen host.old) H.StateStore.held H.Reloads.recorded))) options.now
+        (H.ReloadsOpen host.old) H.StateStore.held H.Reloads.recorded) (H.Waits host.old))) options.now
         (writer_contents W.contents output.old) (writer_contents W.contents output.new) config said result
         × (E.NeverFails errors.old → Appends (E.held errors.old) (E.held errors.new) said) }
     ensures lasting { E.NeverFails errors.old → E.NeverFails errors.new }
@@ -111,7 +111,7 @@ pub fn serve_run<H: Host, W: Write + Drop, E: OctetSink>(
         (whole_machine (machine (OpensAtLine (H.LogOpens host.old) (H.LogIsCut host.old) H.Log.held)
         (H.SocketsOpen host.old) (H.RoutesIp host.old) (H.Closes host.new) H.Log.held H.Sockets.calls)
         (state_machine (H.FileReads host.old) (H.LastDenials host.old) (H.StoreOpens host.old)
-        (H.ReloadsOpen host.old) H.StateStore.held H.Reloads.recorded))) options.now
+        (H.ReloadsOpen host.old) H.StateStore.held H.Reloads.recorded) (H.Waits host.old))) options.now
         (writer_contents W.contents output.old) (writer_contents W.contents output.new) config said result
         × (E.NeverFails errors.old → Appends (E.held errors.old) (E.held errors.new) said) }
     ensures lasting { E.NeverFails errors.old → E.NeverFails errors.new }

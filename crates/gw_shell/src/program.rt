@@ -113,7 +113,7 @@ fn serve<H: Host, W: Write + Drop, E: OctetSink>(
         (whole_machine (machine (OpensAtLine (H.LogOpens host.old) (H.LogIsCut host.old) H.Log.held)
         (H.SocketsOpen host.old) (H.RoutesIp host.old) (H.Closes host.new) H.Log.held H.Sockets.calls)
         (state_machine (H.FileReads host.old) (H.LastDenials host.old) (H.StoreOpens host.old)
-        (H.ReloadsOpen host.old) H.StateStore.held H.Reloads.recorded)))
+        (H.ReloadsOpen host.old) H.StateStore.held H.Reloads.recorded) (H.Waits host.old)))
         (writer_contents W.contents output.old) (writer_contents W.contents output.new) options.now
         config said result
         × (E.NeverFails errors.old → Appends (E.held errors.old) (E.held errors.new) said) }
@@ -143,7 +143,7 @@ fn follow<F: ConfigFiles, H: Host, R: OctetSource, W: Write + Drop, E: OctetSink
         (whole_machine (machine (OpensAtLine (H.LogOpens host.old) (H.LogIsCut host.old) H.Log.held)
         (H.SocketsOpen host.old) (H.RoutesIp host.old) (H.Closes host.new) H.Log.held H.Sockets.calls)
         (state_machine (H.FileReads host.old) (H.LastDenials host.old) (H.StoreOpens host.old)
-        (H.ReloadsOpen host.old) H.StateStore.held H.Reloads.recorded))) (R.left input.old)
+        (H.ReloadsOpen host.old) H.StateStore.held H.Reloads.recorded) (H.Waits host.old))) (R.left input.old)
         (writer_contents W.contents output.old) (writer_contents W.contents output.new))
         (λ said. E.NeverFails errors.old → Appends (E.held errors.old) (E.held errors.new) said)
         choice.now result }
@@ -202,7 +202,7 @@ pub fn run<F: ConfigFiles, H: Host, R: OctetSource, W: Write + Drop, E: OctetSin
         (whole_machine (machine (OpensAtLine (H.LogOpens host.old) (H.LogIsCut host.old) H.Log.held)
         (H.SocketsOpen host.old) (H.RoutesIp host.old) (H.Closes host.new) H.Log.held H.Sockets.calls)
         (state_machine (H.FileReads host.old) (H.LastDenials host.old) (H.StoreOpens host.old)
-        (H.ReloadsOpen host.old) H.StateStore.held H.Reloads.recorded))) (R.left input.old)
+        (H.ReloadsOpen host.old) H.StateStore.held H.Reloads.recorded) (H.Waits host.old))) (R.left input.old)
         (writer_contents W.contents output.old) (writer_contents W.contents output.new))
         (writer_buffer output.old) (writer_buffer output.new)
         (λ line. E.NeverFails errors.old → Appends (E.held errors.old) (E.held errors.new) line)

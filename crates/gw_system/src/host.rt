@@ -88,6 +88,9 @@ pub trait Host {
     /// Whether it may route IP itself.
     ghost RoutesIp: { Self → Bool → Type 0 };
 
+    /// Whether opening the log of a name may wait for its reader.
+    ghost Waits: { Self → List ℕ → Bool → Type 0 };
+
     /// How the sockets, and the log where one was opened, may have been when they were closed.
     ghost Closes: { Self → Self.Sockets → Option Self.Log → Type 0 };
 
@@ -138,7 +141,8 @@ pub trait Host {
         ensures { LastDenials self.now name.now (text_found result) };
 
     /// Whether opening the log of this name may wait for its reader, as that of a named pipe does. Not if it can't be looked at.
-    fn waits(&self, name: &str) -> bool;
+    fn waits(&self, name: &str) -> bool
+        ensures { Waits self.now name.now result };
 
     /// Opens the place that holds a text under this name for that, without reading or making anything. Faults:
     /// `NotPermitted` if it is a symbolic link, and those of the system.
@@ -295,6 +299,8 @@ impl<'a, R: Files + Net + Clock> Host for SystemHost<'a, R> {
     ghost SocketsOpen = { λ _ _ _. ⊤ };
 
     ghost RoutesIp = { λ _ _. ⊤ };
+
+    ghost Waits = { λ _ _ _. ⊤ };
 
     ghost Closes = { λ _ _ _. ⊤ };
 

@@ -78,6 +78,8 @@ impl<H: Host> Host for StampedHost<'_, H> {
 
     ghost RoutesIp = { λ machine. H.RoutesIp machine.host.now };
 
+    ghost Waits = { λ machine. H.Waits machine.host.now };
+
     ghost Closes = { λ machine sockets log. machine.closed ≡ Some (sockets, log) };
 
     fn open_log(

@@ -27,9 +27,10 @@ returns-clause-served g c =
     let line = startup_line options.verbose c.args.config (option_map string_bytes options.log) in (
       (note ++ wait) ++ done.0,
       (
-        c.waiting_note.ensures.0,
+        c.is_waiting.result,
+        c.is_waiting.ensures,
         done.0,
-        ap₂ (λ (t u : List ℕ). (t ++ u) ++ done.0) c.unaudited_note.ensures c.waiting_note.ensures.1,
+        ap₂ (λ (t u : List ℕ). (t ++ u) ++ done.0) c.unaudited_note.ensures c.waiting_note.ensures,
         (
           done.1,
           λ plain quiet. plain_is_served given states options (writer_contents g.W.Write.contents c.args.output.now)

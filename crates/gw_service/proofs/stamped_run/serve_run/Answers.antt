@@ -16,7 +16,7 @@ returns-then-options-clause-served g c =
     (machine (OpensAtLine (g.H.Host.LogOpens old) (g.H.Host.LogIsCut old) g.H.Log.OctetSink.held) (g.H.Host.SocketsOpen old)
     (g.H.Host.RoutesIp old) (g.H.Host.Closes c.serve_stamped.new.host) g.H.Log.OctetSink.held g.H.Sockets.Wire.calls)
     (state_machine (g.H.Host.FileReads old) (g.H.Host.LastDenials old) (g.H.Host.StoreOpens old) (g.H.Host.ReloadsOpen old)
-    g.H.StateStore.Store.held g.H.Reloads.Requests.recorded) in
+    g.H.StateStore.Store.held g.H.Reloads.Requests.recorded) (g.H.Host.Waits old) in
     let done = c.serve_stamped.ensures.served in (
       done.0,
       with_them options.stamp
@@ -35,7 +35,7 @@ returns-else-options-clause-served g c =
     (machine (OpensAtLine (g.H.Host.LogOpens old) (g.H.Host.LogIsCut old) g.H.Log.OctetSink.held) (g.H.Host.SocketsOpen old)
     (g.H.Host.RoutesIp old) (g.H.Host.Closes c.serve_ports.new.host) g.H.Log.OctetSink.held g.H.Sockets.Wire.calls)
     (state_machine (g.H.Host.FileReads old) (g.H.Host.LastDenials old) (g.H.Host.StoreOpens old) (g.H.Host.ReloadsOpen old)
-    g.H.StateStore.Store.held g.H.Reloads.Requests.recorded) in
+    g.H.StateStore.Store.held g.H.Reloads.Requests.recorded) (g.H.Host.Waits old) in
     let done = c.serve_ports.ensures.served in (
       done.0,
       without_them options.stamp
