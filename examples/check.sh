@@ -475,6 +475,13 @@ if "$program" run --help | grep -q -e --reload; then
     sleep 1
     "$tool" status --reload "$work/request" < /dev/null > "$work/told" 2>&1
     same 'bacgwctl status' "$? $(sed -n 's/^\(stats seconds=\).*/\1/p' "$work/told")" '0 stats seconds='
+    asking=()
+    for number in 1 2 3; do
+        { "$tool" status --reload "$work/request" < /dev/null > "$work/told.$number" 2>&1 || true; } &
+        asking+=($!)
+    done
+    wait "${asking[@]}"
+    same 'three requests at once' "$(cut -c-14 "$work"/told.[123] | grep -c '^stats seconds=') $(ls "$work"/request* 2> /dev/null)" '3 '
     "$tool" stop --reload "$work/request" < /dev/null > "$work/told" 2>&1
     same 'bacgwctl stop' "$? $(cat "$work/told")" '0 stopped'
     wait "$server"

@@ -77,7 +77,7 @@ fn outcome<T: Drop>(given: io::Result<T>) -> Result<T, StoreFault> {
 
 /// Makes a file of this name, whose mode is this one whatever the process takes from the files that it makes. A link that has the
 /// name isn't followed.
-fn create_file<R: Files>(rt: &R, name: &str, mode: u32) -> io::Result<R::File> {
+pub(crate) fn create_file<R: Files>(rt: &R, name: &str, mode: u32) -> io::Result<R::File> {
     let file = File::options()
         .write(true)
         .create_new(true)

@@ -1,11 +1,11 @@
 //! Files by their names, as requests and their answers use them.
 
-ghost use Rattle.std.specs.Prelude.{◌≡◌, ◌≢◌, ⊤, Some, None, Ok, Result, false, true, List, ℕ, string_bytes, IfOk, OnOk};
+ghost use Rattle.std.specs.Prelude.{◌≡◌, ◌≢◌, ⊤, [], Some, None, Ok, Result, false, true, List, ℕ, string_bytes, IfOk, OnOk};
 ghost use Rattle.gw_system.specs.Folder.{Holds, IsTakenAway, Known, octets_of};
 ghost use Rattle.gw_system.specs.declared.store.Access.{Access};
 ghost use Rattle.gw_wire.specs.declared.store.StoreFault.{StoreFault};
 
-use crate::disk::SystemDisk;
+use crate::disk::{SystemDisk, create_file};
 use crate::reading::{ReadFailure, read_file};
 use crate::replacing::{FileName, show_file};
 use crate::store::{Access, store_fault};
@@ -31,6 +31,12 @@ pub trait Folder {
     fn take_away(&mut self, name: &str) -> Result<bool, StoreFault>
         ensures taken { result ≡ Ok true → IsTakenAway (known self.old name.now) (known self.new name.now) }
         ensures gone { OnOk result (Holds (known self.new name.now) None) }
+        ensures others { (other : List ℕ) → other ≢ name.now → known self.new other ≡ known self.old other };
+
+    /// Makes an empty file of this name, unless something has the name; and answers whether it did.
+    fn make(&mut self, name: &str) -> Result<bool, StoreFault>
+        ensures new { result ≡ Ok true → Holds (known self.old name.now) None }
+        ensures made { result ≡ Ok true → Holds (known self.new name.now) (Some []) }
         ensures others { (other : List ℕ) → other ≢ name.now → known self.new other ≡ known self.old other };
 
     /// Whether a file of this name may be a regular one, and is no link to one.
@@ -73,6 +79,16 @@ impl<R: Files> Folder for SystemFolder<'_, R> {
             Ok(()) => Ok(true),
             Err(error) => match error.kind() {
                 ErrorKind::NotFound => Ok(false),
+                _ => Err(store_fault(&error)),
+            },
+        }
+    }
+
+    fn make(&mut self, name: &str) -> Result<bool, StoreFault> {
+        match create_file(self.rt, name, Access::Owner.mode()) {
+            Ok(_made) => Ok(true),
+            Err(error) => match error.kind() {
+                ErrorKind::AlreadyExists => Ok(false),
                 _ => Err(store_fault(&error)),
             },
         }

@@ -18,7 +18,7 @@ ghost use Rattle.gw_wire.specs.declared.store.StoreFault.{StoreFault};
 use crate::disk::SystemDisk;
 use crate::file_log::{self, FileLog};
 use crate::folder::{Folder, SystemFolder};
-use crate::making::{MadeRequest, make_request};
+use crate::making::{MadeRequest, end_turn, make_in_turn};
 use crate::opening::{LogFailure, SocketFailure, Step};
 use crate::poll_waiter::PollWaiter;
 use crate::reading::{ReadFailure, read_file, read_last_denial, read_last_record};
@@ -163,7 +163,8 @@ pub trait Host {
     ) -> Result<Self::Reloads, AllocError>
         ensures { IfOk result (ReloadsOpen self.now request.now config.now) };
 
-    /// Makes the request of this text by the file of this name, after an older answer was taken away.
+    /// Makes the request of this text by the file of this name, after an older answer was taken away. It waits, some seconds at most,
+    /// for others who made one by that file to have their answer.
     fn make_request(
         &self,
         alloc: Global,
@@ -382,7 +383,8 @@ impl<'a, R: Files + Net + Clock> Host for SystemHost<'a, R> {
         name: &str,
         text: &[u8],
     ) -> Result<MadeRequest, StoreFault> {
-        make_request(&mut SystemFolder { rt: self.rt }, alloc, name, text)
+        let mut folder = SystemFolder { rt: self.rt };
+        make_in_turn(self.rt, &mut folder, alloc, name, text)
     }
 
     fn await_answer(
@@ -399,6 +401,7 @@ impl<'a, R: Files + Net + Clock> Host for SystemHost<'a, R> {
             Ok(None) | Err(_) => &files.request.name,
         };
         let _ = folder.take_away(done);
+        end_turn(&mut folder, &asked.turn);
         found
     }
 

@@ -13,6 +13,7 @@ mod laws;
 mod making;
 mod obstacle;
 mod opening;
+mod pause;
 mod poll_waiter;
 mod reading;
 mod replacing;

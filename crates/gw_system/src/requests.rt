@@ -8,16 +8,14 @@ ghost use Rattle.gw_system.specs.Requests.{Asking, GoesOn, IsAsking, answered, a
 
 use crate::folder::Folder;
 use crate::obstacle::Obstacle;
+use crate::pause::{LOOKS, Pause};
 use crate::reading::ReadFailure;
 use crate::replacing::FileName;
 use crate::request::{MAX_REQUEST, Request, given_by, is_request, is_status, is_stop};
 use crate::store::{Access, name_with};
-use mio::{Events, Poll};
 use std::alloc::{AllocError, Global};
-use std::io;
 use std::marker::Model;
 use std::net::Net;
-use std::time::Duration;
 
 /// What asks a running gateway to read its configuration again, to stop or to say what it counts, and is answered.
 pub trait Requests {
@@ -254,14 +252,6 @@ impl<F: Folder> Requests for FileRequests<F> {
 /// How many octets of an answer are read.
 const MAX_ANSWER: usize = 65_536;
 
-/// How often it is looked for an answer in a second.
-const LOOKS: u32 = 10;
-
-/// Waits for a part of a second.
-fn wait(poll: &mut Poll, events: &mut Events) -> io::Result<()> {
-    poll.poll(events, Some(Duration::from_millis(100)))
-}
-
 /// The answer to a request, if there is one. What is there while the request is, is an older one: whoever takes a request
 /// takes that away first.
 fn answer_to<F: Folder>(
@@ -289,14 +279,14 @@ pub(crate) fn wait_for_answer<F: Folder, R: Net>(
     ensures { IfOk result (λ found. IfSome found (λ text. IsAnswer (F.known folder.now (string_bytes asked.now.request.name))
         (F.known folder.now (string_bytes asked.now.answer.name)) text.items)) }
 {
-    let (Ok(mut poll), Ok(mut events)) = (Poll::new(rt), Events::with_capacity(alloc, 1)) else {
+    let Ok(mut pause) = Pause::new(rt, alloc) else {
         return Err(ReadFailure::Unreadable(Obstacle::Other));
     };
     for _ in 0..u32::from(seconds) * LOOKS {
         if let Some(text) = answer_to(folder, alloc, asked)? {
             return Ok(Some(text));
         }
-        if wait(&mut poll, &mut events).is_err() {
+        if pause.wait().is_err() {
             return Err(ReadFailure::Unreadable(Obstacle::Other));
         }
     }
