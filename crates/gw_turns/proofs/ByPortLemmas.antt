@@ -1,7 +1,7 @@
 -- The counts by port add up, try by try, event by event and turn by turn.
 use Rattle.std.proofs.Common.{◌≡◌, ◌∙◌, ℕ, ◌+◌, ◌-◌, ◌*◌, ◌^◌, ◌<◌, ◌≤◌, Bool, true, false, cond, not, List, [], ◌∷◌, ◌++◌, length, Option, Some, None, refl, sym, ap, subst, add-zero, arith}
 use Rattle.std.specs.Prelude.{sum_by, nat_le, slice_index_or, slice_set}
-use Rattle.std.proofs.lemmas.Bool.{le-leb, lt-leb, lt-ltb}
+use Rattle.std.proofs.lemmas.Bool.{le-leb, lt-leb}
 use Rattle.std.proofs.lemmas.List.{length-set}
 use Rattle.std.proofs.lemmas.List.Concat.{flat_map-cons}
 use Rattle.std.proofs.lemmas.List.Sums.{get_or-le-sum_by, sum_by-cons, sum_by-set}
@@ -30,6 +30,7 @@ use Rattle.gw_turns.specs.declared.ports.PortTally.{PortTally}
 use Rattle.gw_turns.specs.declared.serving.Served.{Served}
 use Rattle.gw_turns.specs.declared.tally.Culprit.{Culprit}
 use Rattle.gw_turns.specs.declared.tally.Tally.{Tally}
+use Rattle.gw_turns.proofs.PaceLemmas.{one_more_of}
 use Rattle.gw_turns.proofs.ReportLemmas.{tally_along}
 use Rattle.gw_turns.proofs.ServeLemmas.{state_along}
 
@@ -162,9 +163,6 @@ tick_drops w =
     ap (λ (d : Option DropReason). drops_of d (effects_at w Tick).denials) (sym (drop_at-tick w))
     ∙ ap (λ (x : Effects). drops_of None x.denials) (effects_at-tick w)
 
-one_more_is : (n : ℕ) → n < 2 ^ 63 → one_more n ≡ n + 1
-one_more_is n few = ap (λ (b : Bool). cond b (n + 1) n) (lt-ltb n (2 ^ 64 - 1) (omega (arith, few)))
-
 -- ---- turns
 
 -- what was counted by port since a gateway began with these counts adds up
@@ -236,7 +234,7 @@ even_turn start w s t (taken_event (Datagram port from octets) tries) p few send
 even_turn start w s t (taken_event Tick tries) p few sends failures =
     let drop = drop_at w Tick in
     let denials = (effects_at w Tick).denials in
-    let ticks : one_more s.ticks ≡ s.ticks + 1 = one_more_is s.ticks (omega (arith, p.taken, few)) in
+    let ticks : one_more s.ticks ≡ s.ticks + 1 = one_more_of s.ticks (omega (arith, p.taken, few)) in
     let tried = all_sent s.ports (one_more s.ticks) tries p.places (omega (arith, p.sends, sends)) (omega (arith, p.failures, failures)) in
     let all = totals t None drop denials in
     let none = tick_drops w in
