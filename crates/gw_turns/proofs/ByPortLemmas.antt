@@ -19,7 +19,7 @@ use Rattle.gw_rules.specs.declared.operation.Operation.TheVariants as operations
 use Rattle.gw_script.specs.Event.{Datagram, Event, Tick}
 use Rattle.gw_turns.specs.ByPort.{AgainIsReportedOnce, PortsAddUp}
 use Rattle.gw_turns.specs.Pace.{one_more}
-use Rattle.gw_turns.specs.Ports.{counted_to, datagrams_at, no_datagrams, no_sends, place_of, received, received_at, sends_at, sent, sent_at, summed_to}
+use Rattle.gw_turns.specs.Ports.{datagrams_at, no_datagrams, no_sends, place_of, received, received_at, sends_at, sent, sent_at, summed_to}
 use Rattle.gw_turns.specs.Reports.{health_text, restored_line}
 use Rattle.gw_turns.specs.Serve.{Try, Turn, count_turn, counts_after, empty_turn, events_of, failed_turn, failures, lost_event, ports_after, successes}
 use Rattle.gw_turns.specs.Serve.{taken_event, ticks_with, turn_events, zero_counts}
@@ -65,7 +65,7 @@ record AreMore (ports later : List PortSends) (won lost : ℕ) : Type 0 where
   failures : failures_of later ≡ failures_of ports + lost
 
 one_sent : (ports : List PortSends) (port ticks : ℕ) (success : Bool) → length ports ≡ MAX_PORTS
-    → sends_of ports + cond success 1 0 < 2 ^ 128 → failures_of ports + cond (not success) 1 0 < 2 ^ 128
+    → sends_of ports + cond success 1 0 < 2 ^ 64 → failures_of ports + cond (not success) 1 0 < 2 ^ 64
     → AreMore ports (sent_at ports port ticks success) (cond success 1 0) (cond (not success) 1 0)
 one_sent ports port ticks true places few few_failed =
     let place = place_of port in
@@ -73,7 +73,7 @@ one_sent ports port ticks true places few few_failed =
     let before = sends_at ports place in
     let after = sent before ticks true in
     let most : before.sends ≤ sends_of ports = get_or-le-sum_by (λ (p : PortSends). p.sends) ports place no_sends inside in
-    let rises : counted_to before.sends 1 ≡ before.sends + 1 = omega (arith, most, few) in
+    let rises : summed_to before.sends 1 ≡ before.sends + 1 = omega (arith, most, few) in
     record {
       places = length-set ports place after ∙ places;
       sends = added (λ (p : PortSends). p.sends) ports place after no_sends 1 inside rises;
@@ -85,7 +85,7 @@ one_sent ports port ticks false places few few_failed =
     let before = sends_at ports place in
     let after = sent before ticks false in
     let most : before.failures ≤ failures_of ports = get_or-le-sum_by (λ (p : PortSends). p.failures) ports place no_sends inside in
-    let rises : counted_to before.failures 1 ≡ before.failures + 1 = omega (arith, most, few_failed) in
+    let rises : summed_to before.failures 1 ≡ before.failures + 1 = omega (arith, most, few_failed) in
     record {
       places = length-set ports place after ∙ places;
       sends = added (λ (p : PortSends). p.sends) ports place after no_sends 0 inside (sym (add-zero before.sends));
@@ -93,7 +93,7 @@ one_sent ports port ticks false places few few_failed =
     }
 
 all_sent : (ports : List PortSends) (ticks : ℕ) (tries : List Try) → length ports ≡ MAX_PORTS
-    → sends_of ports + successes tries < 2 ^ 128 → failures_of ports + failures tries < 2 ^ 128
+    → sends_of ports + successes tries < 2 ^ 64 → failures_of ports + failures tries < 2 ^ 64
     → AreMore ports (ports_after ports ticks tries) (successes tries) (failures tries)
 unfolding ports_after
 all_sent ports ticks [] places few few_failed =
@@ -203,7 +203,7 @@ even_still start w s u t p ports ticks taken sends failures = record {
 }
 
 even_turn : (start : Counts) (w : State) (s : Served) (t : Tally) (turn : Turn) → IsEven start w s t → s.taken + 1 < 2 ^ 61
-    → (count_turn s turn).sends < 2 ^ 128 → (count_turn s turn).send_failures < 2 ^ 128
+    → (count_turn s turn).sends < 2 ^ 64 → (count_turn s turn).send_failures < 2 ^ 64
     → IsEven start (state_from w (turn_events turn)) (count_turn s turn) (tally_from w t (turn_events turn))
 unfolding state_from tally_from tally_at next
 even_turn start w s t empty_turn p few sends failures =
@@ -266,7 +266,7 @@ takes_one s (lost_event event) = omega arith
 takes_one s (taken_event event tries) = omega arith
 
 even_turns : (start : Counts) (w : State) (s : Served) (t : Tally) (turns : List Turn) → IsEven start w s t → s.taken + length turns < 2 ^ 61
-    → (counts_after s turns).sends < 2 ^ 128 → (counts_after s turns).send_failures < 2 ^ 128
+    → (counts_after s turns).sends < 2 ^ 64 → (counts_after s turns).send_failures < 2 ^ 64
     → IsEven start (state_from w (events_of turns)) (counts_after s turns) (tally_from w t (events_of turns))
 unfolding counts_after state_from tally_from
 even_turns start w s t [] p few sends failures = p

@@ -1,12 +1,11 @@
 -- What a gateway announces beside its turns: at the start, once another configuration is in force, and again on a port of which a send
 -- failed.
-use Rattle.std.specs.Prelude.{◌≡◌, ◌⊎◌, ℕ, zero, suc, ◌+◌, ◌<◌, ◌≤◌, Bool, true, false, nat_lt, List, [], length, map, replicate, slice_index_or, slice_set, Option}
+use Rattle.std.specs.Prelude.{◌≡◌, ◌⊎◌, ℕ, zero, suc, ◌+◌, ◌-◌, ◌^◌, ◌<◌, ◌≤◌, min, Bool, true, false, nat_lt, List, [], length, map, replicate, slice_index_or, slice_set, Option}
 use Rattle.std.specs.List.{flat_map, range_with_len}
 use Rattle.gw_addr.specs.declared.TheConstants.{MAX_PORTS}
 use Rattle.gw_core.specs.State.{State}
 use Rattle.gw_relay.specs.Announcement.{announcement_at, announcements}
 use Rattle.gw_relay.specs.State.{Relay}
-use Rattle.gw_turns.specs.Ports.{counted_to}
 use Rattle.gw_turns.specs.Serve.{Try, failures, successes, try_call}
 use Rattle.gw_turns.specs.declared.announcing.Announcing.{Announcing}
 use Rattle.gw_wire.specs.Wire.{Call, Records}
@@ -30,6 +29,10 @@ abbrev pub is_due_at : Announcing → ℕ → Bool
 is_due_at a place = slice_index_or a.due place false
 
 -- ---- on one port
+
+-- the sum of two counts, which doesn't pass the end of 128 bits
+abbrev pub counted_to : ℕ → ℕ → ℕ
+counted_to count more = min (count + more) (2 ^ 128 - 1)
 
 -- once these were tried on the port at a place: it is due again there exactly if one failed, and each is counted
 abbrev pub with_tries : Announcing → ℕ → List Try → Announcing

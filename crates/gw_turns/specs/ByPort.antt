@@ -18,12 +18,13 @@ pub record AddUp (r : Report) : Type 0 where
   pub sends : sum_by (λ p. p.sends) r.ports ≡ r.sends
   pub failures : sum_by (λ p. p.failures) r.ports ≡ r.send_failures
 
--- So it is, under any guard, of a gateway that went on from its first counts for fewer than 2^60 turns, if its sends can be counted.
+-- So it is, under any guard, of a gateway that went on from its first counts for fewer than 2^60 turns, of whose sends fewer than 2^64
+-- succeeded and fewer than 2^64 failed.
 abbrev pub PortsAddUp : {G : Type 0} → (Passes : G → State → Event → G → Bool → Type 0) → Type 0
 PortsAddUp {G} Passes =
     (start : Counts) (before after : Moment G) (turns : List Turn) → start.ticks ≡ before.scene.gateway.ticks
     → before.served ≡ zero_counts → before.tally ≡ no_tally → GoOn Passes before turns after → length turns < 2 ^ 60
-    → after.served.sends < 2 ^ 128 → after.served.send_failures < 2 ^ 128
+    → after.served.sends < 2 ^ 64 → after.served.send_failures < 2 ^ 64
     → AddUp (report_of start after.scene.gateway after.served after.tally)
 
 -- Where each report is of so many seconds, that sends on a port succeed again is in the first one after the tick at which they did, and

@@ -11,12 +11,9 @@ use Rattle.gw_turns.specs.declared.tally.Culprit.{Culprit}
 abbrev pub place_of : ℕ → ℕ
 place_of port = min (port - 1) (MAX_PORTS - 1)
 
--- the sum of two counts, which doesn't pass the end of 64 bits, or of 128
+-- the sum of two counts, which doesn't pass the end of 64 bits
 abbrev pub summed_to : ℕ → ℕ → ℕ
 summed_to count more = min (count + more) (2 ^ 64 - 1)
-
-abbrev pub counted_to : ℕ → ℕ → ℕ
-counted_to count more = min (count + more) (2 ^ 128 - 1)
 
 -- ---- what came
 
@@ -61,8 +58,8 @@ restored (Restored since) ticks = Restored since
 abbrev pub sent : PortSends → (ticks : ℕ) → (success : Bool) → PortSends
 sent p ticks success =
     if success
-    then record { sends = counted_to p.sends 1; failures = p.failures; health = restored p.health ticks }
-    else record { sends = p.sends; failures = counted_to p.failures 1; health = Failing ticks }
+    then record { sends = summed_to p.sends 1; failures = p.failures; health = restored p.health ticks }
+    else record { sends = p.sends; failures = summed_to p.failures 1; health = Failing ticks }
 
 -- the ports after a try on the port of this number
 abbrev pub sent_at : List PortSends → (port ticks : ℕ) → (success : Bool) → List PortSends

@@ -27,13 +27,13 @@ pub enum Health {
     Restored(u64),
 }
 
-/// What came of the sends that were tried on a port. Each count stays at 2^128 - 1.
+/// What came of the sends that were tried on a port. Each count stays at 2^64 - 1.
 #[derive(Clone, Copy)]
 pub struct PortSends {
     /// How many succeeded.
-    pub sends: u128,
+    pub sends: u64,
     /// How many failed.
-    pub failures: u128,
+    pub failures: u64,
     /// How the last ones went.
     pub health: Health,
 }

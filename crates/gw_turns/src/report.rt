@@ -227,8 +227,8 @@ fn write_port<S: OctetSink>(
     write_field("stats port=", number as u128, sink)?;
     write_field(" datagrams=", tally.datagrams as u128, sink)?;
     write_field(" dropped=", tally.drops as u128, sink)?;
-    write_field(" sends=", sends.sends, sink)?;
-    write_field(" send_failures=", sends.failures, sink)?;
+    write_field(" sends=", sends.sends as u128, sink)?;
+    write_field(" send_failures=", sends.failures as u128, sink)?;
     write_whole(sink, b"\n")
 }
 

@@ -48,9 +48,9 @@ pub struct PortCounts {
     /// How many of them weren't passed on, whatever the reason, but for want of memory.
     pub drops: u64,
     /// How many sends on it succeeded.
-    pub sends: u128,
+    pub sends: u64,
     /// How many sends on it failed.
-    pub send_failures: u128,
+    pub send_failures: u64,
 }
 
 /// What is written of a gateway at a moment. What was done is counted from some moment on, such as the start of the program.

@@ -303,15 +303,15 @@ fn put_ports(family: Family, ports: &[PortCounts], out: &mut Vec<u8>) -> Result<
 }
 
 /// What a family counts of a port.
-fn port_number(family: Family, port: PortCounts) -> u128
+fn port_number(family: Family, port: PortCounts) -> u64
     ensures { result ≡ port_number family port }
 {
     match family {
-        Family::PortDatagrams => u128::from(port.datagrams),
-        Family::PortDrops => u128::from(port.drops),
+        Family::PortDatagrams => port.datagrams,
+        Family::PortDrops => port.drops,
         Family::PortSends => port.sends,
         Family::PortSendFailures => port.send_failures,
-        _ => u128::from(port.foreign_devices),
+        _ => port.foreign_devices,
     }
 }
 
@@ -327,7 +327,7 @@ fn put_port(
         family,
         Label::Port,
         Buffer::new().format(number).as_bytes(),
-        port_number(family, port),
+        u128::from(port_number(family, port)),
         out,
     )
 }
