@@ -113,10 +113,10 @@ all_sent ports ticks (t ∷ tries) places few few_failed =
 -- ---- events
 
 -- so many datagrams more came, and weren't passed on for so many reasons
-record AreReceived (ports later : List PortTally) (count drops : ℕ) : Type 0 where
+record AreReceived (ports later : List PortTally) (count reasons : ℕ) : Type 0 where
   places : length later ≡ MAX_PORTS
   datagrams : datagrams_of later ≡ datagrams_of ports + count
-  drops : dropped_of later ≡ dropped_of ports + drops
+  drops : dropped_of later ≡ dropped_of ports + reasons
 
 one_received : (ports : List PortTally) (c : Culprit) (drops : ℕ) → length ports ≡ MAX_PORTS → datagrams_of ports + 1 < 2 ^ 64
     → dropped_of ports + drops < 2 ^ 64 → AreReceived ports (received_at ports (Some c) drops) 1 drops
@@ -225,7 +225,7 @@ even_turn start w s t (taken_event (Datagram port from octets) tries) p few send
       tally_places = got.places;
       places = tried.places;
       taken = omega (arith, got.datagrams, p.taken);
-      ticks = p.ticks;
+      ticks = omega (arith, p.ticks);
       drops = omega (arith, got.drops, p.drops, all);
       few = omega (arith, all, p.few, reasons);
       sends = omega (arith, tried.sends, p.sends);

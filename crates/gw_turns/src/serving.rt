@@ -2,6 +2,7 @@
 //! sent.
 
 ghost use Rattle.std.specs.Prelude.{◌≡◌, ℕ, ◌+◌, ◌-◌, ◌<◌, ◌≤◌, ◌^◌, ◌∷◌, ◌++◌, [], length, IfOk, IfErr, IsErrOf, OnOk};
+ghost use Rattle.gw_script.specs.Event.{event_view};
 ghost use Rattle.gw_turns.specs.Tally.{IsBelow, no_tally};
 ghost use Rattle.gw_turns.specs.ServeTurn.{AreTried, GuardedEnd, HasRoom, LogEnd, TurnEnd, counted_send, event_answer};
 ghost use Rattle.gw_turns.specs.Serve.{AreRefused, ServesAll, Stops, counts_of_answer, lines_of, scene, ticks_with, zero_counts};

@@ -1,6 +1,7 @@
 use Rattle.std.proofs.Common.{◌≡◌, ◌∙◌, ℕ, suc, ◌+◌, length, arith, ap, subst, sym}
 use Rattle.std.specs.Io.KnownBytes.{Appends}
 use Rattle.std.proofs.KnownBytes.{Appends-nil, Appends-trans}
+use Rattle.gw_relay.specs.State.{Relay}
 use Rattle.gw_turns.specs.Ports.{sends_at}
 use Rattle.gw_turns.specs.Reports.{health_lines, health_text, shown}
 use Rattle.gw_turns.specs.declared.ports.Health.{Health}
@@ -39,5 +40,5 @@ returns-clause-ok g c =
     let seconds = c.args.seconds in
     let s = c.args.served.now in
     let ends : c.loop-place.place ≡ length c.args.gateway.now.relay.ports =
-    omega (arith, c.loop-place.auto.place-end, c.loop-place-test.false, ap length c.ports.ensures) in
+    omega (arith, c.loop-place.auto.place-end, c.loop-place-test.false, ap length c.ports-place-end.ensures, ap (λ (r : Relay). length r.ports) c.relay.ensures.parts) in
     subst (λ (n : ℕ). Appends (held c.args.sink.now) (held c.loop-place.sink) (health_lines seconds s n)) ends c.loop-place.invariant.written

@@ -1,4 +1,4 @@
-use Rattle.std.proofs.Common.{◌≡◌, ◌+◌, ◌<◌, ◌∷◌, ◌++◌, [], ℕ, List, Result, length, map, take, get_or, ap, ◌∙◌, arith}
+use Rattle.std.proofs.Common.{◌≡◌, ◌+◌, ◌<◌, ◌∷◌, ◌++◌, [], ℕ, List, Result, length, map, take, get_or, ap, ◌∙◌, arith, refl}
 use Rattle.std.proofs.Common.{subst}
 use Rattle.std.specs.Result.{is_ok}
 use Rattle.std.proofs.lemmas.Grind.{common_steps}
@@ -8,8 +8,15 @@ use Rattle.gw_relay.specs.Sends.{Sending, sending, sendings}
 use Rattle.gw_wire.specs.declared.wire.WireFault.{WireFault}
 use Rattle.gw_wire.specs.Wire.{Records, failures_of, send_call}
 use Rattle.gw_turns.specs.ServeTurn.{counted_send}
-use Rattle.gw_turns.proofs.ServeLemmas.{as_try, failed_once, tried_counted, tried_more}
+use Rattle.gw_turns.proofs.ServeLemmas.{as_try, failed_once, none_tried, tried_counted, tried_more}
 use Rattle.gw_turns.proofs.serving.try_batch.Goals as goal
+
+pub loop-target-init : goal.loop-target-init
+loop-target-init g c = record {
+  tried = none_tried (g.W.Wire.calls c.args.wire.now) c.args.served.now (g.W.Wire.failure_count c.args.wire.now);
+  ports = refl;
+  behind = refl;
+}
 
 pub count_send-requires : goal.count_send-requires
 count_send-requires g c =
@@ -40,14 +47,14 @@ loop-target-preserved g c =
     ∙ ap (λ (octets : List ℕ). record one { octets = octets }) c.octets.ensures in
     let so_far = c.loop-target.invariant in
     let recorded = wire.calls c.loop-target.wire in
-    let records = wire.calls c.send.new.self in
-    let answer = c.send.result in
+    let records = wire.calls c.send-sent.new.self in
+    let answer = c.send-sent.result in
     let success = is_ok answer in
     let called : Records recorded records (send_call answer one ∷ []) =
-    subst (λ (x : Sending). Records recorded records (send_call answer x ∷ [])) same c.send.ensures.calls in
+    subst (λ (x : Sending). Records recorded records (send_call answer x ∷ [])) same c.send-sent.ensures.calls in
     let s = c.loop-target.served in
     let counted : c.count_send.new.self ≡ counted_send s batch.port success =
-    c.count_send.ensures ∙ ap (λ (port : ℕ). counted_send s port c.is_ok.result) c.port-2.ensures
+    c.count_send.ensures ∙ ap (λ (port : ℕ). counted_send s port c.is_ok.result) c.port-in-loop-target.ensures
     ∙ ap (counted_send s batch.port) c.is_ok.ensures.value in
     let failed = wire.failure_count c.loop-target.wire in
     let inside : i < length targets = omega (arith, c.loop-target-test.true) in
@@ -57,9 +64,9 @@ loop-target-preserved g c =
     record {
       tried = tried_more _ _ _ recorded records _ s _ _ _ _ one success so_far.tried split
           (subst (λ x. Records recorded records (x ∷ [])) (as_try answer one) called) counted
-          (c.send.ensures.failures ∙ ap (λ (n : ℕ). failed + n) (failed_once answer));
-      ports = c.send.ensures.ports ∙ so_far.ports;
-      behind = c.send.ensures.behind ∙ so_far.behind;
+          (c.send-sent.ensures.failures ∙ ap (λ (n : ℕ). failed + n) (failed_once answer));
+      ports = c.send-sent.ensures.ports ∙ so_far.ports;
+      behind = c.send-sent.ensures.behind ∙ so_far.behind;
     }
 
 pub returns-clause-tried : goal.returns-clause-tried

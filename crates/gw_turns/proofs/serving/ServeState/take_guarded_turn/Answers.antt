@@ -97,7 +97,7 @@ returns-clause-end g c =
     let sends = g.W.Wire.calls c.try_sends.new.wire in
     let failures = g.W.Wire.failure_count in
     let tried = subst (λ (n : ℕ). AreTried c.in-Ok.taken.effects.sends records sends (record (count_taken was) { ticks = n })
-    c.try_sends.new.served (failures c.receive.new.wire) (failures c.try_sends.new.wire)) c.ticks_with.ensures c.try_sends.ensures.tried in
+    c.try_sends.new.served (failures c.receive.new.wire) (failures c.try_sends.new.wire)) c.ticks_with-self.ensures c.try_sends.ensures.tried in
     guarded_with g.G.Guard.Passes guard c.pass.new.self before middle sends was c.try_sends.new.served c.args.self.now.tally c.count.new.self _ _ event
     c.in-Ok.taken taken logged counted passes tried
 
