@@ -42,7 +42,7 @@ echo '# newer' >> "$pack/bacgw.journald"
 "$pack/install.sh" --root "$root" > /dev/null
 for file in "${edited[@]}"; do [ "$(tail -1 "$file")" = '# mine' ] && [ -f "$file.new" ]; done
 [ "$(tail -1 "$root/usr/local/lib/systemd/journald@bacgw.conf.d/size.conf")" = '# newer' ]
-grep -q '^ExecStart=/usr/local/bin/bacgw ' "$root/etc/systemd/system/bacgw.service"
+grep -q '^ExecStart=/usr/bin/env --ignore-signal=HUP,USR1,USR2 /usr/local/bin/bacgw ' "$root/etc/systemd/system/bacgw.service"
 grep -q '^ExecReload=/usr/local/bin/bacgwctl ' "$root/etc/systemd/system/bacgw.service"
 for name in bacgw bacgwctl; do
     [ -f "$root/usr/local/share/man/man1/$name.1" ] && [ -f "$root/usr/local/share/bash-completion/completions/$name" ]
@@ -54,6 +54,6 @@ for package in "$from"/*.deb; do
     [ -e "$package" ] || continue
     dpkg-deb --extract "$package" "$work/debian"
     answers "$work/debian/usr/bin" "$work/debian/etc/bacgw/site.toml"
-    grep -q '^ExecStart=/usr/bin/bacgw ' "$work/debian/usr/lib/systemd/system/bacgw.service"
+    grep -q '^ExecStart=/usr/bin/env --ignore-signal=HUP,USR1,USR2 /usr/bin/bacgw ' "$work/debian/usr/lib/systemd/system/bacgw.service"
     grep -q '^ExecReload=/usr/bin/bacgwctl ' "$work/debian/usr/lib/systemd/system/bacgw.service"
 done

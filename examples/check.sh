@@ -525,9 +525,12 @@ if command -v cc > /dev/null && "$program" run --help | grep -q -e --stats; then
     cc -std=c11 -O2 -fPIC -shared -o "$work/short_send.so" "$here/../bench/short_send.c"
     for number in 0 1; do
         SHORT_SEND=$number python3 "$here/loopback.py" short "$program" "$work/served.toml" "$work/short_send.so" > "$work/out" 2>&1
+        failing=
+        [ "$number" = 0 ] || failing=$'\nport 1: sends fail'
         same "the failed sends where $number are short" "$(cat "$work/out")" \
             "127.3.0.10 810A0018010800640101300D0C0C0140000119553E91013F
-send_failures=$number"
+send_failures=$number
+stats port=1 datagrams=1 dropped=0 sends=$((1 - number)) send_failures=$number$failing"
     done
 fi
 
@@ -596,7 +599,8 @@ if "$program" run --help | grep -q -e --metrics; then
     timeout 3 "$program" run --config "$work/served.toml" --metrics "$work/bacgw.prom" --turns 200 < /dev/null > "$work/out" 2> "$work/err"
     same 'the ticks of metrics' "$(sed -n 's/^bacgw_ticks_total //p' "$work/bacgw.prom")" 1
     same 'the ports of metrics' "$(grep -c '^bacgw_foreign_devices{' "$work/bacgw.prom")" 2
-    same 'the families of metrics' "$(grep -c '^# TYPE ' "$work/bacgw.prom")" 20
+    same 'the sends by port of metrics' "$(sed -n 's/^bacgw_port_sends_total//p' "$work/bacgw.prom" | xargs)" '{port=1} 0 {port=2} 0'
+    same 'the families of metrics' "$(grep -c '^# TYPE ' "$work/bacgw.prom")" 24
     same 'the version in metrics' "$(sed -n 's/^bacgw_build_info//p' "$work/bacgw.prom")" '{version="0.1.0"} 1'
     same 'the age of a configuration' "$(sed -n 's/^bacgw_configuration_age_seconds //p' "$work/bacgw.prom")" 1
     same 'the mode of metrics' "$(stat -c %a "$work/bacgw.prom")" 644

@@ -5,8 +5,9 @@
     loopback.py rotate PROGRAM FILE LOG      copies the log to LOG.1 and cuts it between two denied reads
     loopback.py ports PROGRAM FILE COUNT     reads a point by each socket of so many ports, while nothing else comes and in a flood
     loopback.py short PROGRAM FILE LIBRARY   runs it for four turns under this library, reads a point, and prints what of its counts
-                                             says how many sends failed
-    loopback.py broadcast PROGRAM FILE       runs it for eight turns, has it send two broadcasts and prints what its counts say of them
+                                             says how many sends failed, in all and on port 1, and on which ports they fail
+    loopback.py broadcast PROGRAM FILE       runs it for eight turns, has it send two broadcasts and prints what its counts of port 2 say
+                                             of them
     loopback.py burst PROGRAM FILE           gives it 16 reads at once, and prints whether all were answered within a second
     loopback.py first PROGRAM FILE OCTETS    gives a run of eight turns these octets, and prints its answer
     loopback.py kept PROGRAM FILE LOG STATE  writes a point, and kills the gateway by SIGKILL once that is acknowledged, twice; and
@@ -255,7 +256,7 @@ def rotate(program, file, log):
 
 
 def short(program, file, library):
-    """Reads the fan of a gateway whose sends go through a library, and prints how many of them it counts as failed."""
+    """Reads the fan of a gateway whose sends go through a library, and prints how many of them it counts as failed, also by port."""
     words = [program, "run", "--config", file, "--turns", "4", "--stats", "60", "--verbose"]
     loaded = {**os.environ, "LD_PRELOAD": library}
     gateway = subprocess.Popen(words, stdin=subprocess.DEVNULL, stderr=subprocess.PIPE, env=loaded)
@@ -263,11 +264,14 @@ def short(program, file, library):
     gateway.stderr.readline()
     read(line, 13, 1, PORT_1)
     _, told = gateway.communicate(timeout=20)
-    print(*re.findall(r"\bsend_failures=\d+", told.decode())[-1:])
+    told = told.decode()
+    print(*re.findall(r"^stats seconds=.*\b(send_failures=\d+)", told, re.M)[-1:])
+    print(*re.findall(r"^stats port=1 .*", told, re.M)[-1:])
+    print("".join(line + "\n" for line in re.findall(r"^port \d: sends .*", told, re.M)[-1:]), end="")
 
 
 def broadcast(program, file):
-    """Gives a gateway two messages for all of network 2, and prints what it counts of them."""
+    """Gives a gateway two messages for all of network 2, and prints what it counts of them on port 2."""
     words = [program, "run", "--config", file, "--turns", "8", "--stats", "60", "--verbose"]
     gateway = subprocess.Popen(words, stdin=subprocess.DEVNULL, stderr=subprocess.PIPE)
     line = open_line(CLIENT)
@@ -275,7 +279,7 @@ def broadcast(program, file):
     for _ in range(2):
         line.sendto(bytes.fromhex("810A000C0120000200FF1008"), (PORT_1, UDP))
     _, told = gateway.communicate(timeout=20)
-    print(*re.findall(r"\bsend(?:s|_failures)=\d+", told.decode())[-2:])
+    print(*re.findall(r"^stats port=2 .*\b(sends=\d+ send_failures=\d+)$", told.decode(), re.M)[-1:])
 
 
 def first(program, file, octets):

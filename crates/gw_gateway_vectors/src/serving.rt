@@ -9,7 +9,7 @@ use gw_cases::{MemWriter, number, number_or_none, put_word, unfolded};
 use gw_core::{Counts, Gateway, Unguarded};
 use gw_turns::{
     Pause, ServeFault, ServeState, ServeStop, Served, has_gone_on, report_of, serve,
-    write_culprits, write_report,
+    write_culprits, write_healths, write_ports, write_report,
 };
 use gw_wire::Wire;
 use std::alloc::Global;
@@ -97,13 +97,20 @@ struct Edges<'a> {
 }
 
 /// Reports what was done since the counts were those of [`BEFORE`].
-fn report(gateway: &Gateway, state: &ServeState, reports: &mut MemWriter) -> io::Result<()> {
+fn report(
+    seconds: Option<u64>,
+    gateway: &Gateway,
+    state: &ServeState,
+    reports: &mut MemWriter,
+) -> io::Result<()> {
     if !has_gone_on(BEFORE, gateway, &state.served) {
         return Err(ErrorKind::InvalidData.into());
     }
     let report = report_of(BEFORE, gateway, &state.served, state.tally);
     let _ = write_report(&report, reports);
-    let _ = write_culprits(None, gateway.counts().ticks, &state.tally, reports);
+    let _ = write_ports(&report, reports);
+    let _ = write_culprits(seconds, gateway.counts().ticks, &state.tally, reports);
+    let _ = write_healths(seconds, gateway, &state.served, reports);
     Ok(())
 }
 
@@ -117,7 +124,7 @@ fn report_due(
     requires { 0 < seconds }
 {
     if gateway.counts().ticks.saturating_sub(BEFORE.ticks) % seconds == 0 {
-        report(gateway, state, reports)?;
+        report(Some(seconds), gateway, state, reports)?;
     }
     Ok(())
 }
@@ -135,7 +142,7 @@ fn report_after(
     match answer {
         Ok(Pause::Tick) => report_due(gateway, state, reports, seconds),
         Ok(_) => Ok(()),
-        Err(_) => report(gateway, state, reports),
+        Err(_) => report(None, gateway, state, reports),
     }
 }
 
@@ -171,7 +178,7 @@ fn serve_reporting(
             return Ok(Err(ServeStop { fault, served }));
         }
     }
-    report(gateway, &state, &mut edges.reports)?;
+    report(None, gateway, &state, &mut edges.reports)?;
     Ok(Ok(state.served))
 }
 

@@ -9,7 +9,7 @@ mod file;
 pub mod laws;
 mod text;
 
-pub use counts::{Counts, Drops, Reloads, StateTries};
+pub use counts::{Counts, Drops, PortCounts, Reloads, StateTries};
 pub use family::{Family, Kind, Label};
 pub use file::Metrics;
 pub use text::put_metrics;

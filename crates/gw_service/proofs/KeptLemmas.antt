@@ -95,11 +95,12 @@ same_counts k w ticks denials =
     ap (λ (n : ℕ). record k { ticks = n }) ticks ∙ ap (λ (n : ℕ). record k { ticks = w.ticks; denials = n }) denials
 
 -- what is reported of a run, by its parts
-is_reporting : (stats : Option ℕ) (rules : Bool) (start other : Counts) (keeps kept reloads read : Bool) → start ≡ other → keeps ≡ kept → reloads ≡ read
-    → reporting stats rules start keeps reloads ≡ reporting stats rules other kept read
-is_reporting stats rules start other keeps kept reloads read starts is_kept is_read =
-    ap (λ (x : Counts). reporting stats rules x keeps reloads) starts ∙ ap (λ (x : Bool). reporting stats rules other x reloads) is_kept
-    ∙ ap (reporting stats rules other kept) is_read
+is_reporting : (stats : Option ℕ) (rules verbose : Bool) (start other : Counts) (keeps kept reloads read : Bool) → start ≡ other → keeps ≡ kept
+    → reloads ≡ read → reporting stats rules start keeps reloads verbose ≡ reporting stats rules other kept read verbose
+is_reporting stats rules verbose start other keeps kept reloads read starts is_kept is_read =
+    ap (λ (x : Counts). reporting stats rules x keeps reloads verbose) starts
+    ∙ ap (λ (x : Bool). reporting stats rules other x reloads verbose) is_kept
+    ∙ ap (λ (x : Bool). reporting stats rules other kept x verbose) is_read
 
 -- A gateway that began so ran so.
 pub ran_kept : {S Q L : Type 0} (given : Given S Q L) (c : Configuration) (how : Service) (start : Counts) (keeps reloads : Bool) (w : State) (k : Kept S)
@@ -109,14 +110,14 @@ pub ran_kept : {S Q L : Type 0} (given : Given S Q L) (c : Configuration) (how :
     → q ≡ recorded_by given.said given.requests → u ≡ counts_since w.ticks → a ≡ first_announcing
     → m ≡ metered (option_map nothing_written given.metrics) → keeps ≡ (is_some given.requests || is_some given.store)
     → reloads ≡ is_some given.requests → outcome ≡ outcome_by answer (failing_in left.keeper)
-    → ((text : List ℕ) × RunsFrom (manner_of given.held (reporting how.stats how.rules start keeps reloads))
-    (end_stats unkept_in no_more (reporting how.stats how.rules start keeps reloads)) start how.turns
+    → ((text : List ℕ) × RunsFrom (manner_of given.held (reporting how.stats how.rules start keeps reloads how.verbose))
+    (end_stats unkept_in no_more (reporting how.stats how.rules start keeps reloads how.verbose)) start how.turns
     (stage c (moment (scene w before.log before.calls) k s t) q u a (troubles_in k) m) answer after left text × (Never → Appends held holds text))
     → (text : List ℕ) × LeavesKept given c how before after text outcome × (Never → Appends held holds text)
 ran_kept {S} given c how start keeps reloads w k s t q u a m before after answer left outcome Never held holds unwatched is_start begins is_kept served tally
     requests is_counts is_announcing is_metered is_keeps is_reloads answers ran =
     let at = stage c (moment (scene w before.log before.calls) k s t) q u a (troubles_in k) m in
-    let same = is_reporting how.stats how.rules start (counts_of w) keeps (is_some given.requests || is_some given.store) reloads (is_some given.requests)
+    let same = is_reporting how.stats how.rules how.verbose start (counts_of w) keeps (is_some given.requests || is_some given.store) reloads (is_some given.requests)
     is_start is_keeps is_reloads in (
       ran.0,
       inl (subst (λ (o : Option (Watching _ _)). RunsBy given o c how before after ran.0 outcome) (sym unwatched) (record {
@@ -148,14 +149,14 @@ pub ran_watched : {S Q L : Type 0} (given : Given S Q L) (watcher : Watching L L
     → q ≡ recorded_by given.said given.requests → u ≡ counts_since w.ticks → a ≡ first_announcing
     → m ≡ metered (option_map nothing_written given.metrics) → keeps ≡ (is_some given.requests || is_some given.store)
     → reloads ≡ is_some given.requests → outcome ≡ outcome_by answer (failing_in left.keeper.second)
-    → ((text : List ℕ) × RunsFrom (watched_manner_of given.held given.log_held (reporting how.stats how.rules start keeps reloads))
-    (end_stats unkept_of more_of (reporting how.stats how.rules start keeps reloads)) start how.turns
+    → ((text : List ℕ) × RunsFrom (watched_manner_of given.held given.log_held (reporting how.stats how.rules start keeps reloads how.verbose))
+    (end_stats unkept_of more_of (reporting how.stats how.rules start keeps reloads how.verbose)) start how.turns
     (stage c (moment (scene w before.log before.calls) k s t) q u a (troubles_of k) m) answer after left text × (Never → Appends held holds text))
     → (text : List ℕ) × LeavesKept given c how before after text outcome × (Never → Appends held holds text)
 ran_watched {S} given watcher c how start keeps reloads w k s t q u a m before after answer left outcome Never held holds watched is_start begins is_kept watches
     served tally requests is_counts is_announcing is_metered is_keeps is_reloads answers ran =
     let at = stage c (moment (scene w before.log before.calls) k s t) q u a (troubles_of k) m in
-    let same = is_reporting how.stats how.rules start (counts_of w) keeps (is_some given.requests || is_some given.store) reloads (is_some given.requests)
+    let same = is_reporting how.stats how.rules how.verbose start (counts_of w) keeps (is_some given.requests || is_some given.store) reloads (is_some given.requests)
     is_start is_keeps is_reloads in (
       ran.0,
       inl (subst (λ (o : Option (Watching _ _)). RunsBy given o c how before after ran.0 outcome) (sym watched) (record {

@@ -4,6 +4,7 @@ mod KeptLemmas
 mod LawLemmas
 mod MeteringLemmas
 mod PlainLemmas
+mod PortLemmas
 mod RunLemmas
 mod ServedLemmas
 mod StampedLemmas

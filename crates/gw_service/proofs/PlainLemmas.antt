@@ -1,8 +1,9 @@
--- A run whose options name neither a state nor a request file, and that nothing watches: it is one of `serve`, and reports nothing.
+-- A run whose options name neither a state nor a request file, and that nothing watches: it is one of `serve`, and reports nothing unless
+-- it is verbose.
 use Rattle.std.proofs.Common.{◌≡◌, ◌∙◌, ℕ, List, [], ◌∷◌, ◌++◌, Bool, true, false, true≢false, Option, Some, None, refl, sym, ap, ap₂, subst, inl, inr}
 use Rattle.std.proofs.lemmas.List.{append-nil}
 use Rattle.std.proofs.lemmas.List.Concat.{flat_map-cons}
-use Rattle.std.specs.Prelude.{Result, Ok, Err, is_some, not, ◌&&◌, ◌||◌, option_map, string_bytes}
+use Rattle.std.specs.Prelude.{Result, Ok, Err, if◌then◌else◌, is_some, not, ◌&&◌, ◌||◌, option_map, string_bytes}
 use Rattle.gw_configuration.specs.Configuration.{Configuration}
 use Rattle.gw_configuration.specs.declared.run_options.RunOptions.{RunOptions}
 use Rattle.gw_core.specs.State.{State}
@@ -30,7 +31,9 @@ use Rattle.gw_service.specs.Kept.{AreRequestsUnder, Given, IsLastDenial, IsMetri
 use Rattle.gw_service.specs.Kept.{IsTrialNote, Names, RunsBy, RunsKept, StateMachine, StoreOpening, first_stage, given, is_plain, manner_of, names_of, ran, reporting_of, stop_text, text_before, unopened, unprepared}
 use Rattle.gw_service.specs.Serving.{Ends, LeavesServed, Machine, Service, service, shut}
 use Rattle.gw_service.specs.Serving.{served as served_by}
-use Rattle.gw_service.specs.Stats.{Reporting, due_by, end_by}
+use Rattle.gw_service.specs.Stats.{Reporting, due_by, end_by, is_due, minute_text, troubles_text}
+use Rattle.gw_turns.specs.declared.serving.Served.{Served}
+use Rattle.gw_turns.specs.declared.tally.Tally.{Tally}
 use Rattle.gw_service.specs.Watch.{IsAuditNamed, IsTrialNamed, IsUnwatched, IsWatcherUnder, WatchNames, is_watched, watch_names}
 use Rattle.gw_service.specs.declared.fault.ServiceFault.{ServiceFault}
 use Rattle.gw_service.specs.declared.fault.ServiceFault.TheVariants as fault
@@ -41,9 +44,15 @@ use Rattle.gw_service.proofs.ServedLemmas.{IsQuiet, as_served, begins_quiet, fir
 
 -- ---- nothing is reported
 
-due_none : (seconds : Option ℕ) (start : Counts) (w : State) (text : ℕ → List ℕ) → seconds ≡ None → due_by seconds start w text ≡ []
-due_none None start w text is = refl
-due_none (Some n) start w text is = absurd cc
+due_none : (seconds : Option ℕ) (start : Counts) (w : State) (minute : List ℕ) (text : ℕ → List ℕ) → seconds ≡ None → minute ≡ []
+    → due_by seconds start w minute text ≡ []
+due_none None start w minute text is none = none
+due_none (Some n) start w minute text is none = absurd cc
+
+-- nothing is said each minute unless the run is verbose
+minute_none : (how : Reporting) (w : State) (s : Served) (t : Tally) → how.verbose ≡ false → minute_text how w s t ≡ []
+minute_none how w s t mute =
+    ap (λ (b : Bool). if b && is_due how.start w 60 then troubles_text (Some 60) w s t else []) mute
 
 end_none : (seconds : Option ℕ) (text : List ℕ) → seconds ≡ None → end_by seconds text ≡ []
 end_none None text is = refl
@@ -69,51 +78,53 @@ tick_silent c look was is report before after unasked no_was no_is none no_befor
 
 link_silent : {S : Type 0} (held : S → Option (List ℕ)) (how : Reporting) (s t : Stage (Kept S)) (link : Link)
     → IsLink (manner_of held how) s link t → s.requests ≡ nobody → s.now.guard ≡ Nowhere → IsQuiet s.now.scene.gateway → how.seconds ≡ None
-    → s.said ≡ no_troubles → s.metrics ≡ None → (link_text link ≡ []) × (t.said ≡ no_troubles) × (t.metrics ≡ None)
-link_silent held how s t (served turns) is none nowhere quiet unreported said unmetered = (refl, is.said ∙ said, is.metrics ∙ unmetered)
-link_silent held how s t (ticked turns look text) is none nowhere quiet unreported said unmetered =
+    → how.verbose ≡ false → s.said ≡ no_troubles → s.metrics ≡ None → (link_text link ≡ []) × (t.said ≡ no_troubles) × (t.metrics ≡ None)
+link_silent held how s t (served turns) is none nowhere quiet unreported mute said unmetered = (refl, is.said ∙ said, is.metrics ∙ unmetered)
+link_silent held how s t (ticked turns look text) is none nowhere quiet unreported mute said unmetered =
     let found = looks_none (IsKeptFor held) s.config t.config _ _ look is.done.looked none in
     let after = link_serves held how s t (ticked turns look text) is none nowhere quiet in
     let now : t.said ≡ no_troubles = is.said ∙ ap troubles_in after.nowhere in
     let still = meters_none (seconds_of how.start t.now.scene.gateway t.now.served t.now.tally) s.metrics t.metrics unmetered is.metrics in (
       is.lines ∙ tick_silent s.config look s.said t.said _ s.metrics t.metrics found.0 said now
-          (due_none how.seconds how.start t.now.scene.gateway _ unreported) unmetered still
+          (due_none how.seconds how.start t.now.scene.gateway _ _ unreported
+          (minute_none how t.now.scene.gateway t.now.served t.now.tally mute)) unmetered still
           (standing_at is.then s.requests s.counts s.announcing),
       now,
       still,
     )
-link_silent held how s t (withheld turns event text) is none nowhere quiet unreported said unmetered =
+link_silent held how s t (withheld turns event text) is none nowhere quiet unreported mute said unmetered =
     let after = link_serves held how s t (withheld turns event text) is none nowhere quiet in
     let now : t.said ≡ no_troubles = is.said ∙ ap troubles_in after.nowhere in (
       is.lines ∙ ap (λ (x : Troubles). notice_of x t.said) said ∙ ap (λ (x : Troubles). notice_of no_troubles x) now,
       now,
       is.metrics ∙ unmetered,
     )
-link_silent held how s t (ended turns text) is none nowhere quiet unreported said unmetered = absurd is
+link_silent held how s t (ended turns text) is none nowhere quiet unreported mute said unmetered = absurd is
 
 chain_silent : {S : Type 0} (held : S → Option (List ℕ)) (how : Reporting) (s t : Stage (Kept S)) (links : List Link)
     → AreLinks (manner_of held how) s links t → s.requests ≡ nobody → s.now.guard ≡ Nowhere → IsQuiet s.now.scene.gateway
-    → how.seconds ≡ None → s.said ≡ no_troubles → s.metrics ≡ None → chain_text links ≡ []
+    → how.seconds ≡ None → how.verbose ≡ false → s.said ≡ no_troubles → s.metrics ≡ None → chain_text links ≡ []
 unfolding AreLinks
-chain_silent held how s t [] chain none nowhere quiet unreported said unmetered = refl
-chain_silent held how s t (link ∷ links) chain none nowhere quiet unreported said unmetered =
+chain_silent held how s t [] chain none nowhere quiet unreported mute said unmetered = refl
+chain_silent held how s t (link ∷ links) chain none nowhere quiet unreported mute said unmetered =
     let still = link_none (manner_of held how) s chain.0 link chain.1 none in
     let after = link_serves held how s chain.0 link chain.1 none nowhere quiet in
-    let first = link_silent held how s chain.0 link chain.1 none nowhere quiet unreported said unmetered in
-    let later = chain_silent held how chain.0 t links chain.2 still.2 after.nowhere after.quiet unreported first.1 first.2 in
+    let first = link_silent held how s chain.0 link chain.1 none nowhere quiet unreported mute said unmetered in
+    let later = chain_silent held how chain.0 t links chain.2 still.2 after.nowhere after.quiet unreported mute first.1 first.2 in
     flat_map-cons link_text link links ∙ ap (λ (x : List ℕ). x ++ chain_text links) first.0 ∙ later
 
 run_silent : {S : Type 0} (held : S → Option (List ℕ)) (how : Reporting) (count : ℕ) (s t : Stage (Kept S)) (answer : Result End ServeFault)
     (links : List Link) → Runs (manner_of held how) count s answer links t → s.requests ≡ nobody → s.now.guard ≡ Nowhere
-    → IsQuiet s.now.scene.gateway → how.seconds ≡ None → s.said ≡ no_troubles → s.metrics ≡ None → chain_text links ≡ []
-run_silent held how count s t (Ok end.Stopped) links runs none nowhere quiet unreported said unmetered =
+    → IsQuiet s.now.scene.gateway → how.seconds ≡ None → how.verbose ≡ false → s.said ≡ no_troubles → s.metrics ≡ None
+    → chain_text links ≡ []
+run_silent held how count s t (Ok end.Stopped) links runs none nowhere quiet unreported mute said unmetered =
     absurd (never_stops (manner_of held how) s t links runs none)
-run_silent held how count s t (Ok end.Turns) links runs none nowhere quiet unreported said unmetered =
-    chain_silent held how s t links runs.chain none nowhere quiet unreported said unmetered
-run_silent held how count s t (Ok end.Unsynced) links runs none nowhere quiet unreported said unmetered =
-    chain_silent held how s t links (unsynced_chain (manner_of held how) count s t links runs) none nowhere quiet unreported said unmetered
-run_silent held how count s t (Err f) links runs none nowhere quiet unreported said unmetered =
-    chain_silent held how s runs.then links runs.chain none nowhere quiet unreported said unmetered
+run_silent held how count s t (Ok end.Turns) links runs none nowhere quiet unreported mute said unmetered =
+    chain_silent held how s t links runs.chain none nowhere quiet unreported mute said unmetered
+run_silent held how count s t (Ok end.Unsynced) links runs none nowhere quiet unreported mute said unmetered =
+    chain_silent held how s t links (unsynced_chain (manner_of held how) count s t links runs) none nowhere quiet unreported mute said unmetered
+run_silent held how count s t (Err f) links runs none nowhere quiet unreported mute said unmetered =
+    chain_silent held how s runs.then links runs.chain none nowhere quiet unreported mute said unmetered
 
 -- nobody asks to stop, so nothing is answered
 no_stop : {S : Type 0} (held : S → Option (List ℕ)) (how : Reporting) (count : ℕ) (s t : Stage (Kept S)) (answer : Result End ServeFault)
@@ -135,8 +146,8 @@ all_silent is chain report no_is no_chain none =
 kept_silent : {S Q L : Type 0} (given : Given S Q L) → given.saved ≡ None → given.line ≡ None → given.store ≡ None → given.metrics ≡ None
     → given.requests ≡ None
     → (c : Configuration) (how : Service) (before after : Ends) (text : List ℕ) (outcome : Result (Unit {0}) ServiceFault) → c.announce ≡ false
-    → how.stats ≡ None → RunsKept given c how before after text outcome → text ≡ []
-kept_silent given no_saved no_line no_store no_metrics no_requests c how before after text outcome announces_none unreported runs =
+    → how.stats ≡ None → how.verbose ≡ false → RunsKept given c how before after text outcome → text ≡ []
+kept_silent given no_saved no_line no_store no_metrics no_requests c how before after text outcome announces_none unreported mute runs =
     let reporting = reporting_of given how runs.gateway in
     let nowhere = first_nowhere given.held given.store c runs.gateway runs.keeper no_store runs.keeps in
     let first = first_stage given c runs.gateway runs.keeper (troubles_in runs.keeper) before in
@@ -147,7 +158,7 @@ kept_silent given no_saved no_line no_store no_metrics no_requests c how before 
     let chain = run_silent given.held reporting how.turns begun runs.runs.last runs.answer runs.runs.links runs.runs.runs
     (ap (λ (x : Stage (Kept _)). x.requests) is ∙ ap (recorded_by given.said) no_requests)
     (ap (λ (x : Stage (Kept _)). x.now.guard) is ∙ nowhere) (ap (λ (x : Stage (Kept _)). x.now.scene.gateway.relay.announce) is ∙ quiet)
-    unreported (ap (λ (x : Stage (Kept _)). x.said) is ∙ said)
+    unreported mute (ap (λ (x : Stage (Kept _)). x.said) is ∙ said)
     (ap (λ (x : Stage (Kept _)). x.metrics) is ∙ ap (λ (x : Option _). metered (option_map nothing_written x)) no_metrics) in
     let unasked = ap (λ (x : Stage (Kept _)). x.requests) is ∙ ap (recorded_by given.said) no_requests in
     let unstopped = no_stop given.held reporting how.turns begun runs.runs.last runs.answer (failing_in runs.left.keeper) runs.runs.links
@@ -158,12 +169,12 @@ kept_silent given no_saved no_line no_store no_metrics no_requests c how before 
 
 silent : {S Q L : Type 0} (given : Given S Q L) → given.saved ≡ None → given.line ≡ None → given.store ≡ None → given.metrics ≡ None
     → given.requests ≡ None → given.watcher ≡ None → (c : Configuration) (how : Service) (before after : Ends) (text : List ℕ)
-    (outcome : Result (Unit {0}) ServiceFault) → c.announce ≡ false → how.stats ≡ None → LeavesKept given c how before after text outcome
-    → text ≡ []
-silent given no_saved no_line no_store no_metrics no_requests no_watcher c how before after text outcome quiet unreported (inl runs) =
-    kept_silent given no_saved no_line no_store no_metrics no_requests c how before after text outcome quiet unreported
+    (outcome : Result (Unit {0}) ServiceFault) → c.announce ≡ false → how.stats ≡ None → how.verbose ≡ false
+    → LeavesKept given c how before after text outcome → text ≡ []
+silent given no_saved no_line no_store no_metrics no_requests no_watcher c how before after text outcome quiet unreported mute (inl runs) =
+    kept_silent given no_saved no_line no_store no_metrics no_requests c how before after text outcome quiet unreported mute
     (subst (λ (w : Option (Watching _ _)). RunsBy given w c how before after text outcome) no_watcher runs)
-silent given no_saved no_line no_store no_metrics no_requests no_watcher c how before after text outcome quiet unreported (inr unbegun) = unbegun.1
+silent given no_saved no_line no_store no_metrics no_requests no_watcher c how before after text outcome quiet unreported mute (inr unbegun) = unbegun.1
 
 -- ---- what is read and opened before
 
@@ -280,14 +291,15 @@ no_note false said none = none
 
 serves_plain : {Log Sockets S Q : Type 0} (m : Machine Log Sockets) (states : StateMachine S Q) (names : Names) (held holds : Option (List ℕ))
     (c : Configuration) (how : Service) (is_verbose : Bool) (line said : List ℕ) (outcome : Result (Unit {0}) ServiceFault) → AreNone names
-    → how.stats ≡ None → c.announce ≡ false → LeavesWithState m states names held holds c how is_verbose line said outcome
+    → how.stats ≡ None → how.verbose ≡ is_verbose → c.announce ≡ false
+    → LeavesWithState m states names held holds c how is_verbose line said outcome
     → LeavesServed m names.log held holds c how.turns is_verbose line said outcome
-serves_plain m states names held holds c how is_verbose line said outcome none unreported quiet (unprepared f sockets opens why is stays unsaid) =
+serves_plain m states names held holds c how is_verbose line said outcome none unreported is_loud quiet (unprepared f sockets opens why is stays unsaid) =
     shut (opening.Log log_failure.Memory) (sockets, opens, inl (refl, stays)) (is ∙ ap Err (unprepared_memory states m.LogOpens names c f none why))
     (no_note is_verbose said unsaid)
-serves_plain m states names held holds c how is_verbose line said outcome none unreported quiet (unopened failure opens is note) =
+serves_plain m states names held holds c how is_verbose line said outcome none unreported is_loud quiet (unopened failure opens is note) =
     shut failure opens is note
-serves_plain m states names held holds c how is_verbose line said outcome none unreported quiet
+serves_plain m states names held holds c how is_verbose line said outcome none unreported is_loud quiet
     (ran before log log_then sockets sockets_then output warning text prepared opens closes stays leaves warns is) =
     let at = given states.held states.said m.held before in
     let no_saved = state_none states.FileReads names.state before.saved none.state prepared.saved in
@@ -300,10 +312,10 @@ serves_plain m states names held holds c how is_verbose line said outcome none u
     let no_text : before.text.items ≡ [] = told.says ∙ ap₂ (λ (x y : List ℕ). x ++ y) (text_none names.state is_verbose c before.saved none.state)
     (note_none states.FileReads names.watch.trial c told.note none.trial told.tried) in
     let serves = as_served at no_saved no_line no_store no_requests c how _ _ text outcome quiet leaves in
-    let nothing = silent at no_saved no_line no_store no_metrics no_requests no_watcher c how _ _ text outcome quiet unreported leaves in
-    served_by log log_then sockets sockets_then output warning opens closes stays serves warns
-    (is ∙ ap (λ (x : List ℕ). ((line ++ warning) ++ x) ++ text) no_text ∙ ap (λ (x : List ℕ). ((line ++ warning) ++ []) ++ x) nothing
-    ∙ append-nil ((line ++ warning) ++ []) ∙ append-nil (line ++ warning))
+    let nothing : is_verbose ≡ false → text ≡ [] = λ mute.
+    silent at no_saved no_line no_store no_metrics no_requests no_watcher c how _ _ text outcome quiet unreported (is_loud ∙ mute) leaves in
+    served_by log log_then sockets sockets_then output warning text opens closes stays serves warns nothing
+    (is ∙ ap (λ (x : List ℕ). ((line ++ warning) ++ x) ++ text) no_text ∙ ap (λ (x : List ℕ). x ++ text) (append-nil (line ++ warning)))
 
 none_of : {A : Type 0} (x : Option A) → is_some x ≡ false → x ≡ None
 none_of None is = refl
@@ -322,7 +334,7 @@ or_parts true b is = absurd cc
 
 pub plain_is_served : {Log Sockets S Q : Type 0} (m : Machine Log Sockets) (states : StateMachine S Q) (options : RunOptions)
     (held holds : Option (List ℕ)) (c : Configuration) (line said : List ℕ) (outcome : Result (Unit {0}) ServiceFault) → is_plain options ≡ true
-    → c.announce ≡ false → LeavesWithState m states (names_of options) held holds c (service options.turns options.stats options.stats_rules) options.verbose line said outcome
+    → c.announce ≡ false → LeavesWithState m states (names_of options) held holds c (service options.turns options.stats options.stats_rules options.verbose) options.verbose line said outcome
     → LeavesServed m (option_map string_bytes options.log) held holds c options.turns options.verbose line said outcome
 plain_is_served m states options held holds c line said outcome plain quiet leaves =
     let names = names_of options in
@@ -330,7 +342,7 @@ plain_is_served m states options held holds c line said outcome plain quiet leav
     let trial = or_parts (is_some names.watch.trial) (is_some names.watch.audit || names.watch.counts) parts.2 in
     let audit = or_parts (is_some names.watch.audit) names.watch.counts trial.1 in
     let counts = or_parts (is_some options.stats) (is_some options.metrics) audit.1 in
-    serves_plain m states names held holds c (service options.turns options.stats options.stats_rules) options.verbose line said outcome
+    serves_plain m states names held holds c (service options.turns options.stats options.stats_rules options.verbose) options.verbose line said outcome
     (record {
       state = ap (option_map string_bytes) (none_of options.state parts.0);
       metrics = ap (option_map string_bytes) (none_of options.metrics counts.1);
@@ -338,4 +350,4 @@ plain_is_served m states options held holds c line said outcome plain quiet leav
       trial = none_of names.watch.trial trial.0;
       audit = none_of names.watch.audit audit.0;
       watched = parts.2;
-    }) (none_of options.stats counts.0) quiet leaves
+    }) (none_of options.stats counts.0) refl quiet leaves

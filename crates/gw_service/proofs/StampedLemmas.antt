@@ -16,8 +16,8 @@ served_closes : {Log Sockets : Type 0} (m : Machine Log Sockets) (Closes : Socke
     → LeavesServed (record m { Closes = Closes }) name held holds c turns is_verbose line said outcome
 served_closes m Closes so name held holds c turns is_verbose line said outcome (shut failure opens is note) = shut failure opens is note
 served_closes m Closes so name held holds c turns is_verbose line said outcome
-    (served log log_then sockets sockets_then output warning opens closes stays serves warns is) =
-    served log log_then sockets sockets_then output warning opens (so sockets_then log_then closes) stays serves warns is
+    (served log log_then sockets sockets_then output warning minutes opens closes stays serves warns mute is) =
+    served log log_then sockets sockets_then output warning minutes opens (so sockets_then log_then closes) stays serves warns mute is
 
 kept_closes : {Log Sockets S Q : Type 0} (m : Machine Log Sockets) (states : StateMachine S Q) (Closes : Sockets → Option Log → Type 0)
     → ((sockets : Sockets) (log : Option Log) → m.Closes sockets log → Closes sockets log) → (names : Names) (held holds : Option (List ℕ))
@@ -40,7 +40,7 @@ pub service_closes : {Log Sockets S Q : Type 0} (m : Machine Log Sockets) (state
 service_closes m states Waits Closes so options held holds c said outcome leaves =
     let name = option_map string_bytes options.log in
     let line = startup_line options.verbose c name in
-    let how = service options.turns options.stats options.stats_rules in (
+    let how = service options.turns options.stats options.stats_rules options.verbose in (
       leaves.0,
       leaves.1,
       leaves.2,

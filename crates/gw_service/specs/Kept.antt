@@ -244,10 +244,11 @@ first_stage given c w keeper troubles ends =
     first_announcing troubles (metered (option_map nothing_written given.metrics))
 
 -- What is reported of such a run, of which a gateway in this state begins: whether each report counts the asks of each rule; how
--- often its state couldn't be kept, if it is or requests are looked for; and how often its configuration was read again, if they are.
+-- often its state couldn't be kept, if it is or requests are looked for; how often its configuration was read again, if they are; and
+-- what is said each minute, if it is verbose.
 abbrev pub reporting_of : {S Q L : Type 0} → Given S Q L → Service → State → Reporting
 reporting_of given how w =
-    reporting how.stats how.rules (counts_of w) (is_some given.requests || is_some given.store) (is_some given.requests)
+    reporting how.stats how.rules (counts_of w) (is_some given.requests || is_some given.store) (is_some given.requests) how.verbose
 
 -- what is left of a run: what kept its state, and what was asked and answered
 pub record Rest (K : Type 0) : Type 0 where
@@ -432,7 +433,7 @@ abbrev pub LeavesChosen : {Log Sockets S Q : Type 0} → WholeMachine Log Socket
 LeavesChosen whole options held holds c said outcome =
     let name = option_map string_bytes options.log in
     let line = startup_line options.verbose c name in
-    LeavesWithState whole.machine whole.states (names_of options) held holds c (service options.turns options.stats options.stats_rules) options.verbose line said outcome
+    LeavesWithState whole.machine whole.states (names_of options) held holds c (service options.turns options.stats options.stats_rules options.verbose) options.verbose line said outcome
     × (is_plain options ≡ true → c.announce ≡ false → LeavesServed whole.machine name held holds c options.turns options.verbose line said outcome)
 
 -- whether opening the log may wait for its reader: if it is in a file, what the machine says of that

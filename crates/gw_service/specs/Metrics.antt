@@ -1,15 +1,17 @@
 -- The metrics of a run, which are put into a store.
-use Rattle.std.specs.Prelude.{◌≡◌, ℕ, ◌+◌, ◌-◌, ◌^◌, min, if◌then◌else◌, List, length, map, Option, Some, None}
+use Rattle.std.specs.Prelude.{◌≡◌, ℕ, ◌+◌, ◌-◌, ◌^◌, min, if◌then◌else◌, List, [], ◌∷◌, length, Option, Some, None}
 use Rattle.gw_core.specs.State.{State}
 use Rattle.gw_core.specs.declared.event.Counts as gateway
 use Rattle.gw_notices.specs.metrics.Text.{metrics_text}
 use Rattle.gw_notices.specs.declared.metrics.counts.Counts.{Counts}
 use Rattle.gw_notices.specs.declared.metrics.counts.Drops.{Drops}
+use Rattle.gw_notices.specs.declared.metrics.counts.PortCounts.{PortCounts}
 use Rattle.gw_notices.specs.declared.metrics.counts.Reloads.{Reloads}
 use Rattle.gw_notices.specs.declared.metrics.counts.StateTries.{StateTries}
 use Rattle.gw_notices.specs.metrics.Writing.{IsTried, Writing, WritesAtTick}
 use Rattle.gw_relay.specs.declared.port.PortState.{PortState}
 use Rattle.gw_rules.specs.declared.rule.Rule.{Rule}
+use Rattle.gw_turns.specs.Ports.{datagrams_at, sends_at}
 use Rattle.gw_turns.specs.Reports.{has_gone_on, report_of}
 use Rattle.gw_turns.specs.declared.announcing.Announcing.{Announcing}
 use Rattle.gw_turns.specs.declared.report.Report.{Report}
@@ -52,9 +54,27 @@ reloads_of counts = record { taken_over = counts.taken_over; refused = counts.re
 abbrev pub device_count : PortState → ℕ
 device_count state = length state.fdt.rows
 
--- What is written of a run: what was measured, how many asks each of these rules decided, how many foreign devices each port
--- has, and how many texts were lost. What was received was taken, or memory was refused for it.
-pub record AreCounts (m : Measures) (in_force : List Rule) (decided : Option (List ℕ)) (devices : List ℕ) (lost : ℕ) (c : Counts)
+-- what is written of the port at a place: what was done on it, and how many foreign devices are registered there
+abbrev pub port_counts : Report → (place : ℕ) → PortState → PortCounts
+port_counts r place state = record {
+  foreign_devices = device_count state;
+  datagrams = (datagrams_at r.tally.ports place).datagrams;
+  drops = (datagrams_at r.tally.ports place).drops;
+  sends = (sends_at r.ports place).sends;
+  send_failures = (sends_at r.ports place).failures;
+}
+
+-- of the ports from a place on, in order
+unfoldable pub counts_from : Report → (place : ℕ) → List PortState → List PortCounts
+counts_from r place [] = []
+counts_from r place (state ∷ states) = port_counts r place state ∷ counts_from r (place + 1) states
+
+abbrev pub ports_of : Report → List PortState → List PortCounts
+ports_of r states = counts_from r 0 states
+
+-- What is written of a run: what was measured, how many asks each of these rules decided, what is counted of each port, and how many
+-- texts were lost. What was received was taken, or memory was refused for it.
+pub record AreCounts (m : Measures) (in_force : List Rule) (decided : Option (List ℕ)) (ports : List PortCounts) (lost : ℕ) (c : Counts)
     : Type 0 where
   pub ticks : c.ticks ≡ m.report.seconds
   pub received : c.received ≡ min (m.report.datagrams + m.report.memory_drops) (2 ^ 64 - 1)
@@ -69,7 +89,7 @@ pub record AreCounts (m : Measures) (in_force : List Rule) (decided : Option (Li
   pub rules : c.rules.now ≡ in_force
   pub decisions : c.decisions.now ≡ decided
   pub unwatched : c.unwatched ≡ m.losses.unwatched
-  pub foreign_devices : c.foreign_devices.now ≡ devices
+  pub ports : c.ports.now ≡ ports
   pub peers : c.peers ≡ m.report.peers
   pub learned_routes : c.learned_routes ≡ m.report.learned_routes
   pub reloads : c.reloads ≡ reloads_of m.reloads
@@ -82,13 +102,13 @@ pub record AreCounts (m : Measures) (in_force : List Rule) (decided : Option (Li
 -- the text of that is put into the store, if it is due
 abbrev pub PutsInto : {S : Type 0} → (S → Option (List ℕ)) → Writing S → Measures → State → Option (List ℕ) → Writing S → Type 0
 PutsInto held before m w decisions after =
-    (c : Counts) × AreCounts m w.rules decisions (map device_count w.relay.ports) before.lost c
+    (c : Counts) × AreCounts m w.rules decisions (ports_of m.report w.relay.ports) before.lost c
     × WritesAtTick held before m.report.seconds (metrics_text c) after
 
 -- or whether it is due or not
 abbrev pub PutsNow : {S : Type 0} → (S → Option (List ℕ)) → Writing S → Measures → State → Option (List ℕ) → Writing S → Type 0
 PutsNow held before m w decisions after =
-    (c : Counts) × AreCounts m w.rules decisions (map device_count w.relay.ports) before.lost c
+    (c : Counts) × AreCounts m w.rules decisions (ports_of m.report w.relay.ports) before.lost c
     × IsTried held before m.report.seconds (metrics_text c) after
 
 abbrev pub PutsLast : {S : Type 0} → (S → Option (List ℕ)) → Option (Writing S) → Option Measures → State → Option (List ℕ)

@@ -1,6 +1,6 @@
 -- What `run` opens: the log and the sockets; and what serving them from the gateway's first state leaves, over the definitions of
 -- `gw_core` and `gw_turns`.
-use Rattle.std.specs.Prelude.{◌≡◌, ◌⊎◌, ⊤, ℕ, ◌≤◌, Bool, List, [], ◌∷◌, ◌++◌, Option, Some, None, Result, Ok, Err}
+use Rattle.std.specs.Prelude.{◌≡◌, ◌⊎◌, ⊤, ℕ, ◌≤◌, Bool, false, List, [], ◌∷◌, ◌++◌, Option, Some, None, Result, Ok, Err}
 use Rattle.std.specs.Io.KnownBytes.{Keeps}
 use Rattle.gw_core.specs.History.{state_after, no_counts}
 use Rattle.gw_script.specs.Event as event
@@ -36,15 +36,16 @@ ends log calls = record { log = log; calls = calls }
 abbrev pub first_scene : Configuration → Ends → Scene
 first_scene c ends = scene (state_after c no_counts []) ends.log ends.calls
 
--- how it is served: for how many turns; and how many seconds lie between two reports, where some are reported, and whether each
--- counts the asks of each rule
+-- how it is served: for how many turns; how many seconds lie between two reports, where some are reported, and whether each
+-- counts the asks of each rule; and whether it is verbose
 pub record Service : Type 0 where
   pub turns : ℕ
   pub stats : Option ℕ
   pub rules : Bool
+  pub verbose : Bool
 
-abbrev pub service : ℕ → Option ℕ → (rules : Bool) → Service
-service turns stats rules = record { turns = turns; stats = stats; rules = rules }
+abbrev pub service : ℕ → Option ℕ → (rules verbose : Bool) → Service
+service turns stats rules verbose = record { turns = turns; stats = stats; rules = rules; verbose = verbose }
 
 -- All turns were served, and the gateway is as they left it.
 pub record ServesWhole (c : Configuration) (turns : ℕ) (before after : Ends) : Type 0 where
@@ -149,7 +150,8 @@ ArentOpen LogOpens SocketsOpen name held holds (opening.Log f) =
 ArentOpen LogOpens SocketsOpen name held holds (opening.Sockets failure) = SocketsOpen (Err failure) × (holds ≡ held)
 
 -- What a run of `serve` leaves under a configuration: not all can be opened, and why may be written; or all was opened, this
--- line was written and a warning of the machine, and then it was served from the gateway's first state, and closed.
+-- line was written and a warning of the machine, and then it was served from the gateway's first state, and closed. Only if it is verbose
+-- something else may be written, of what was dropped and of sends that fail.
 pub data LeavesServed {Log Sockets : Type 0} (machine : Machine Log Sockets) (name : Option (List ℕ))
     (held holds : Option (List ℕ))
     (c : Configuration) (turns : ℕ) (is_verbose : Bool) (line said : List ℕ) (outcome : Result (Unit {0}) ServiceFault)
@@ -157,10 +159,10 @@ pub data LeavesServed {Log Sockets : Type 0} (machine : Machine Log Sockets) (na
   shut : (failure : OpenFailure) → ArentOpen machine.LogOpens (machine.SocketsOpen c.ports) name held holds failure →
       outcome ≡ Err (fault_of_opening failure) → IsNote is_verbose failure said →
       LeavesServed machine name held holds c turns is_verbose line said outcome
-  served : (log log_then : Option Log) (sockets sockets_then : Sockets) (output : Option (List ℕ)) (warning : List ℕ) →
+  served : (log log_then : Option Log) (sockets sockets_then : Sockets) (output : Option (List ℕ)) (warning minutes : List ℕ) →
       AreOpen machine.LogOpens (machine.SocketsOpen c.ports) name held output log sockets →
       machine.Closes sockets_then log_then → LogStays log log_then output holds →
       Serves c turns (ends (log_held machine.held log output) (machine.calls sockets))
       (ends (log_held machine.held log_then holds) (machine.calls sockets_then)) outcome →
-      IsWarning machine.RoutesIp is_verbose warning → said ≡ line ++ warning →
+      IsWarning machine.RoutesIp is_verbose warning → (is_verbose ≡ false → minutes ≡ []) → said ≡ (line ++ warning) ++ minutes →
       LeavesServed machine name held holds c turns is_verbose line said outcome

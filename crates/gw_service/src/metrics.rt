@@ -1,10 +1,10 @@
 //! The metrics of a run, which are put into a store.
 
-ghost use Rattle.std.specs.Prelude.{◌≡◌, ◌≤◌, length, map, option_map};
+ghost use Rattle.std.specs.Prelude.{◌≡◌, ◌<◌, ◌≤◌, length, option_map};
 ghost use Rattle.gw_addr.specs.declared.TheConstants.{MAX_PORTS};
 ghost use Rattle.gw_notices.specs.metrics.Writing.{nothing_written};
 ghost use Rattle.gw_service.specs.Metering.{failing_by, lost_by, metered};
-ghost use Rattle.gw_service.specs.Metrics.{AreCounts, PutsDue, PutsInto, PutsLast, PutsNow, device_count, drops_of, reloads_of};
+ghost use Rattle.gw_service.specs.Metrics.{AreCounts, PutsDue, PutsInto, PutsLast, PutsNow, drops_of, port_counts, ports_of, reloads_of};
 
 use crate::keeping::StateKeeper;
 use arrayvec::ArrayVec;
@@ -12,7 +12,7 @@ use gw_addr::MAX_PORTS;
 use gw_core::Gateway;
 use gw_decisions::tally::Tally;
 use gw_notices::metrics::Metrics;
-use gw_notices::metrics::{Counts, Drops, Reloads, StateTries};
+use gw_notices::metrics::{Counts, Drops, PortCounts, Reloads, StateTries};
 use gw_notices::{Losses, ReloadCounts};
 use gw_relay::PortState;
 use gw_rules::RuleList;
@@ -61,28 +61,44 @@ fn reloads_of(counts: ReloadCounts) -> Reloads
     }
 }
 
-/// How many foreign devices are registered at each port, in order.
-fn devices_of(ports: &[PortState]) -> ArrayVec<u64, MAX_PORTS>
+/// What is written of the port at a place: what was done on it, and how many foreign devices are registered there.
+fn port_counts(report: &Report, place: usize, port: &PortState) -> PortCounts
+    requires { place < MAX_PORTS }
+    ensures { result ≡ port_counts report.now place port.now }
+{
+    let tally = report.tally.ports[place];
+    let sends = report.ports[place];
+    PortCounts {
+        foreign_devices: port.fdt.count() as u64,
+        datagrams: tally.datagrams,
+        drops: tally.drops,
+        sends: sends.sends,
+        send_failures: sends.failures,
+    }
+}
+
+/// What is written of each port, in order.
+fn ports_of(report: &Report, ports: &[PortState]) -> ArrayVec<PortCounts, MAX_PORTS>
     requires few { length ports.now ≤ MAX_PORTS }
-    ensures { result.items ≡ map device_count ports.now }
+    ensures { result.items ≡ ports_of report.now ports.now }
 {
     let mut counts = ArrayVec::new();
-    for port in ports {
-        counts.push(port.fdt.count() as u64);
+    for place in 0..ports.len() {
+        counts.push(port_counts(report, place, &ports[place]));
     }
     counts
 }
 
-/// What is written of a run: what was measured, how many asks each of these rules decided, how many foreign devices each
-/// port has, and how many texts were lost.
+/// What is written of a run: what was measured, how many asks each of these rules decided, what is counted of each port, and how
+/// many texts were lost.
 fn counts_of<'a>(
     measures: &Measures,
     rules: &'a RuleList,
     decisions: &'a Option<Tally>,
-    foreign_devices: &'a [u64],
+    ports: &'a [PortCounts],
     lost_metrics: u64,
 ) -> Counts<'a>
-    ensures { AreCounts measures.now rules.now decisions.now foreign_devices.now lost_metrics result }
+    ensures { AreCounts measures.now rules.now decisions.now ports.now lost_metrics result }
 {
     let Measures {
         report,
@@ -106,7 +122,7 @@ fn counts_of<'a>(
         rules,
         decisions,
         unwatched: losses.unwatched,
-        foreign_devices,
+        ports,
         peers: report.peers,
         learned_routes: report.learned_routes,
         reloads: reloads_of(reloads),
@@ -128,13 +144,13 @@ fn put_into<S: Store + Drop>(
 )
     ensures { PutsInto S.held metrics.old measures.now gateway.now decisions.now metrics.new }
 {
-    let devices = devices_of(gateway.relay().ports());
+    let ports = ports_of(&measures.report, gateway.relay().ports());
     let lost = metrics.lost();
     let counts = counts_of(
         measures,
         gateway.rules(),
         decisions,
-        devices.as_slice(),
+        ports.as_slice(),
         lost,
     );
     metrics.at_tick(alloc, measures.report.seconds, &counts);
@@ -150,13 +166,13 @@ fn put_now<S: Store + Drop>(
 )
     ensures { PutsNow S.held metrics.old measures.now gateway.now decisions.now metrics.new }
 {
-    let devices = devices_of(gateway.relay().ports());
+    let ports = ports_of(&measures.report, gateway.relay().ports());
     let lost = metrics.lost();
     let counts = counts_of(
         measures,
         gateway.rules(),
         decisions,
-        devices.as_slice(),
+        ports.as_slice(),
         lost,
     );
     metrics.put_now(alloc, measures.report.seconds, &counts);

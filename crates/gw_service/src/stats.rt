@@ -1,10 +1,10 @@
-//! Reports of a run, each so many seconds and at its end.
+//! Reports of a run, each so many seconds and at its end; and what is said each minute of a verbose one.
 
 ghost use Rattle.std.proofs.Props.{props};
-ghost use Rattle.std.specs.Prelude.{◌≡◌, ◌-◌, ◌/◌, ◌%◌, ◌==◌, ◌||◌, ◌<◌, ◌≤◌, IfOk, IfSome, IsOk, IsTrue, OnOk, if◌then◌else◌, [], List, ℕ, true};
+ghost use Rattle.std.specs.Prelude.{◌≡◌, ◌-◌, ◌/◌, ◌%◌, ◌==◌, ◌&&◌, ◌||◌, ◌<◌, ◌≤◌, IfOk, IfSome, IsOk, IsTrue, OnOk, if◌then◌else◌, [], List, ℕ, true};
 ghost use Rattle.std.specs.Io.KnownBytes.{Appends};
 ghost use Rattle.gw_service.specs.Metrics.{measures_of};
-ghost use Rattle.gw_service.specs.Stats.{all_stats, due_stats, end_stats, ends_hour, is_due, reporting, stats_text, tries_text, whole, with_rules};
+ghost use Rattle.gw_service.specs.Stats.{all_stats, due_stats, end_stats, ends_hour, is_due, minute_text, reporting, stats_text, tries_text, troubles_text, whole, with_rules};
 
 use crate::keeping::StateKeeper;
 use crate::metrics::Measures;
@@ -12,7 +12,8 @@ use gw_core::{Counts, Gateway};
 use gw_notices::{ReloadCounts, write_lost_metrics, write_put_off, write_reloads, write_unkept};
 use gw_script::{OctetSink, WriteFailed};
 use gw_turns::{
-    Announcing, ServeState, has_gone_on, report_of, write_announcing, write_culprits, write_report,
+    Announcing, ServeState, has_gone_on, report_of, write_announcing, write_culprits,
+    write_healths, write_ports, write_report,
 };
 use std::alloc::Global;
 
@@ -28,8 +29,8 @@ pub(crate) struct RunCounts {
 }
 
 /// When a report is due: the counts of the gateway at first, and the seconds from one to the next, if reports are asked for;
-/// and whether it says how many asks each rule decided, how often the state couldn't be kept, and how often the configuration
-/// was read again.
+/// whether it says how many asks each rule decided, how often the state couldn't be kept, and how often the configuration
+/// was read again; and whether something is said each minute, if reports aren't asked for.
 #[derive(Clone, Copy)]
 pub struct Schedule {
     /// The counts of the gateway at first.
@@ -42,6 +43,8 @@ pub struct Schedule {
     pub keeps: bool,
     /// Whether the configuration is read again if that is asked for.
     pub reloads: bool,
+    /// Whether it is said each minute what was dropped and on which ports sends fail, if reports aren't asked for.
+    pub verbose: bool,
     pub ghost some: { IfSome seconds (λ n. 0 < n) } by { Prim.hlevel props },
 }
 
@@ -52,6 +55,9 @@ fn is_due(start: Counts, gateway: &Gateway, seconds: u64) -> bool
 {
     gateway.counts().ticks.saturating_sub(start.ticks) % seconds == 0
 }
+
+/// How many seconds a minute has.
+const MINUTE: u64 = 60;
 
 /// How many seconds an hour has.
 const HOUR: u64 = 3600;
@@ -64,11 +70,28 @@ fn ends_hour(start: Counts, gateway: &Gateway, seconds: u64) -> bool
     elapsed / HOUR != elapsed.saturating_sub(seconds) / HOUR
 }
 
+/// Writes from whom the last datagrams came that were dropped, and on which ports sends fail or succeed again: in the last so many seconds,
+/// or whenever it was.
+fn write_troubles<E: OctetSink>(
+    seconds: Option<u64>,
+    gateway: &Gateway,
+    state: &ServeState,
+    errors: &mut E,
+) -> Result<(), WriteFailed>
+    ensures ok { OnOk result (Appends (E.held errors.old) (E.held errors.new)
+        (troubles_text seconds gateway.now state.now.served state.now.tally)) }
+    ensures sure { E.NeverFails errors.old → IsOk result }
+    ensures lasts { E.NeverFails errors.old → E.NeverFails errors.new }
+{
+    write_culprits(seconds, gateway.counts().ticks, &state.tally, errors)?;
+    write_healths(seconds, gateway, &state.served, errors)
+}
+
 impl Schedule {
     /// The same schedule, of the whole time, with how many asks each rule decided.
     fn whole(&self) -> Schedule
-        ensures { reporting result.seconds result.rules result.start result.keeps result.reloads
-            ≡ whole (reporting self.now.seconds self.now.rules self.now.start self.now.keeps self.now.reloads) }
+        ensures { reporting result.seconds result.rules result.start result.keeps result.reloads result.verbose
+            ≡ whole (reporting self.now.seconds self.now.rules self.now.start self.now.keeps self.now.reloads self.now.verbose) }
     {
         Schedule {
             start: self.start,
@@ -76,13 +99,14 @@ impl Schedule {
             rules: true,
             keeps: self.keeps,
             reloads: self.reloads,
+            verbose: self.verbose,
         }
     }
 
     /// The same schedule, where each report says how many asks each rule decided, or doesn't.
     fn with_rules(&self, rules: bool) -> Schedule
-        ensures { reporting result.seconds result.rules result.start result.keeps result.reloads
-            ≡ with_rules (reporting self.now.seconds self.now.rules self.now.start self.now.keeps self.now.reloads) rules }
+        ensures { reporting result.seconds result.rules result.start result.keeps result.reloads result.verbose
+            ≡ with_rules (reporting self.now.seconds self.now.rules self.now.start self.now.keeps self.now.reloads self.now.verbose) rules }
     {
         Schedule {
             start: self.start,
@@ -90,6 +114,7 @@ impl Schedule {
             rules,
             keeps: self.keeps,
             reloads: self.reloads,
+            verbose: self.verbose,
         }
     }
 
@@ -103,7 +128,7 @@ impl Schedule {
         counts: RunCounts,
         errors: &mut E,
     ) -> Result<(), WriteFailed>
-        ensures ok { let how = reporting self.now.seconds self.now.rules self.now.start self.now.keeps self.now.reloads in
+        ensures ok { let how = reporting self.now.seconds self.now.rules self.now.start self.now.keeps self.now.reloads self.now.verbose in
             OnOk result (Appends (E.held errors.old) (E.held errors.new)
             (tries_text K.unkept K.more how keeper.now counts.reloads counts.announcing counts.lost_metrics gateway.now)) }
         ensures sure { E.NeverFails errors.old → IsOk result }
@@ -126,7 +151,7 @@ impl Schedule {
         counts: RunCounts,
         errors: &mut E,
     ) -> Result<(), WriteFailed>
-        ensures ok { let how = reporting self.now.seconds self.now.rules self.now.start self.now.keeps self.now.reloads in
+        ensures ok { let how = reporting self.now.seconds self.now.rules self.now.start self.now.keeps self.now.reloads self.now.verbose in
             OnOk result (Appends (E.held errors.old) (E.held errors.new)
             (stats_text how gateway.now state.now.served state.now.tally
             (tries_text K.unkept K.more how keeper.now counts.reloads counts.announcing counts.lost_metrics gateway.now))) }
@@ -138,7 +163,8 @@ impl Schedule {
         }
         let report = report_of(self.start, gateway, &state.served, state.tally);
         write_report(&report, errors)?;
-        write_culprits(self.seconds, gateway.counts().ticks, &state.tally, errors)?;
+        write_ports(&report, errors)?;
+        write_troubles(self.seconds, gateway, state, errors)?;
         self.write_tries(gateway, keeper, counts, errors)
     }
 
@@ -151,7 +177,7 @@ impl Schedule {
         keeper: &K,
         counts: RunCounts,
     ) -> Result<Vec<u8>, WriteFailed>
-        ensures { let how = reporting self.now.seconds self.now.rules self.now.start self.now.keeps self.now.reloads in
+        ensures { let how = reporting self.now.seconds self.now.rules self.now.start self.now.keeps self.now.reloads self.now.verbose in
             IfOk result (λ text. text.items ≡ all_stats K.unkept K.more how keeper.now counts.reloads counts.announcing
             counts.lost_metrics gateway.now state.now.served state.now.tally) }
     {
@@ -186,8 +212,20 @@ impl Schedule {
         }
     }
 
+    /// Writes what was dropped and on which ports sends fail in the last minute, if the run is verbose and a full one has passed.
+    fn report_minute<E: OctetSink>(&self, gateway: &Gateway, state: &ServeState, errors: &mut E)
+        ensures said { let how = reporting self.now.seconds self.now.rules self.now.start self.now.keeps self.now.reloads self.now.verbose in
+            E.NeverFails errors.old → Appends (E.held errors.old) (E.held errors.new)
+            (minute_text how gateway.now state.now.served state.now.tally) }
+        ensures lasts { E.NeverFails errors.old → E.NeverFails errors.new }
+    {
+        if self.verbose && is_due(self.start, gateway, MINUTE) {
+            let _ = write_troubles(Some(MINUTE), gateway, state, errors);
+        }
+    }
+
     /// Writes a report at a tick, if one is due. It says how many asks each rule decided if all do, or if an hour ended since the
-    /// one before.
+    /// one before. If reports aren't asked for, a verbose run says what is due each minute.
     pub(crate) fn report_due<K: StateKeeper, E: OctetSink>(
         &self,
         gateway: &Gateway,
@@ -196,17 +234,20 @@ impl Schedule {
         counts: RunCounts,
         errors: &mut E,
     )
-        ensures said { let how = reporting self.now.seconds self.now.rules self.now.start self.now.keeps self.now.reloads in
+        ensures said { let how = reporting self.now.seconds self.now.rules self.now.start self.now.keeps self.now.reloads self.now.verbose in
             E.NeverFails errors.old → Appends (E.held errors.old) (E.held errors.new)
             (due_stats K.unkept K.more how keeper.now counts.reloads counts.announcing counts.lost_metrics gateway.now state.now.served state.now.tally) }
         ensures lasts { E.NeverFails errors.old → E.NeverFails errors.new }
     {
-        if let Some(seconds) = self.seconds {
-            if is_due(self.start, gateway, seconds) {
-                let rules = self.rules || ends_hour(self.start, gateway, seconds);
-                let schedule = self.with_rules(rules);
-                let _ = schedule.write_stats(gateway, state, keeper, counts, errors);
+        match self.seconds {
+            Some(seconds) => {
+                if is_due(self.start, gateway, seconds) {
+                    let rules = self.rules || ends_hour(self.start, gateway, seconds);
+                    let schedule = self.with_rules(rules);
+                    let _ = schedule.write_stats(gateway, state, keeper, counts, errors);
+                }
             }
+            None => self.report_minute(gateway, state, errors),
         }
     }
 
@@ -219,7 +260,7 @@ impl Schedule {
         counts: RunCounts,
         errors: &mut E,
     )
-        ensures said { let how = reporting self.now.seconds self.now.rules self.now.start self.now.keeps self.now.reloads in
+        ensures said { let how = reporting self.now.seconds self.now.rules self.now.start self.now.keeps self.now.reloads self.now.verbose in
             E.NeverFails errors.old → Appends (E.held errors.old) (E.held errors.new)
             (end_stats K.unkept K.more how keeper.now counts.reloads counts.announcing counts.lost_metrics gateway.now state.now.served state.now.tally) }
         ensures lasts { E.NeverFails errors.old → E.NeverFails errors.new }

@@ -8,7 +8,7 @@ use Rattle.gw_core.specs.declared.gateway.Taken.{Taken}
 use Rattle.gw_core.specs.Effects.{effects_at}
 use Rattle.gw_core.specs.State.{State}
 use Rattle.gw_relay.specs.Sends.{Sending}
-use Rattle.gw_turns.specs.Serve.{EndsBy, LeadTo, Scene, Turn, count_fault, count_turn, counts_after, empty_turn, events_of, failed_turn, failures, lines_of, lost_event, scene, successes, taken_event, turn_events}
+use Rattle.gw_turns.specs.Serve.{EndsBy, LeadTo, Scene, Turn, count_fault, count_turn, counts_after, empty_turn, events_of, failed_turn, failures, lines_of, lost_event, scene, successes, taken_event, ticks_with, turn_events}
 use Rattle.gw_turns.specs.ServeTurn.{AreTried, GuardedEnd, TurnEnd}
 use Rattle.gw_core.specs.declared.asked.Asked.{Asked}
 use Rattle.gw_turns.specs.Stretch.{AreGuarded, GuardsTurn, IsLoggedLast, Moment, count_taken, moment}
@@ -66,7 +66,7 @@ guarded_without Passes g a m s t was turn none went counted = (
 pub guarded_with : {G : Type 0} (Passes : G → State → Event → G → Bool → Type 0) (g h : G) (a m : Scene) (records : Option (List Call))
     (s u : Served) (was is : Tally) (n k : ℕ) (event : Event) (taken : Taken) → IsTaken a.gateway event m.gateway taken → IsLoggedLast a event m
     → is ≡ tally_from a.gateway was (event ∷ []) → Passes g a.gateway event h true
-    → AreTried taken.effects.sends m.calls records (count_taken s) u n k
+    → AreTried taken.effects.sends m.calls records (record (count_taken s) { ticks = ticks_with s.ticks event }) u n k
     → GuardedEnd Passes (moment a g s was) (Ok true) (moment (scene m.gateway m.log records) h u is)
 guarded_with Passes g h a m records s u was is n k event taken was_taken logged counted passes tried =
     let turn = taken_event event tried.tries in (

@@ -9,3 +9,4 @@ pub mod AlikeLemmas
 pub mod KeepingLemmas
 pub mod PaceLemmas
 pub mod AnnouncingLemmas
+pub mod ByPortLemmas

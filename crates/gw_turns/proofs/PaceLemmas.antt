@@ -27,18 +27,16 @@ may_not_rest p may resting =
     let some = ltb-true 0 p.left resting in
     omega (arith, none, some)
 
-one_more_of : (n : ℕ) → n < 64 → one_more n ≡ n + 1
-one_more_of n few =
-    let inside : n < 2 ^ 64 - 1 = omega (arith, few) in
-    rw (lt-ltb n (2 ^ 64 - 1) inside) refl
+pub one_more_of : (n : ℕ) → n < 2 ^ 64 - 1 → one_more n ≡ n + 1
+one_more_of n inside = rw (lt-ltb n (2 ^ 64 - 1) inside) refl
 
 -- the two ways of an event: nothing was tried, or once
 abbrev Few : {S : Type 0} → Keeping S → Keeping S → Type 0
 Few k l = ((l.store ≡ k.store) × (l.pace.replaces ≡ k.pace.replaces)) ⊎ ((k.pace.replaces < 64) × (l.pace.replaces ≡ k.pace.replaces + 1))
 
 few_tried : {S : Type 0} (k l : Keeping S) (kept : Bool) → may_try k.pace ≡ true → l.pace ≡ paced kept k.pace → Few k l
-few_tried k l true may is = inr (may_few k.pace may, ap (λ (p : Pace). p.replaces) is ∙ one_more_of k.pace.replaces (may_few k.pace may))
-few_tried k l false may is = inr (may_few k.pace may, ap (λ (p : Pace). p.replaces) is ∙ one_more_of k.pace.replaces (may_few k.pace may))
+few_tried k l true may is = inr (may_few k.pace may, ap (λ (p : Pace). p.replaces) is ∙ one_more_of k.pace.replaces (omega (arith, may_few k.pace may)))
+few_tried k l false may is = inr (may_few k.pace may, ap (λ (p : Pace). p.replaces) is ∙ one_more_of k.pace.replaces (omega (arith, may_few k.pace may)))
 
 few_same : {S : Type 0} (k l : Keeping S) → l ≡ k → Few k l
 few_same k l same = inl (ap (λ (j : Keeping _). j.store) same, ap (λ (j : Keeping _). j.pace.replaces) same)

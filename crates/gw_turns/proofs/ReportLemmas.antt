@@ -6,7 +6,7 @@ use Rattle.std.proofs.KnownBytes.{Appends-trans}
 use Rattle.gw_script.specs.Event.{Event}
 use Rattle.gw_turns.specs.declared.tally.Tally.{Tally}
 use Rattle.gw_core.specs.History.{next, state_from}
-use Rattle.gw_turns.specs.Tally.{tally_at, tally_from, with_tally}
+use Rattle.gw_turns.specs.Tally.{tally_at, tally_from}
 use Rattle.gw_core.specs.State.{State}
 
 -- a text after another, if the last write succeeds
@@ -20,4 +20,4 @@ pub tally_along : (w : State) (k : Tally) (first later : List Event)
     → tally_from w k (first ++ later) ≡ tally_from (state_from w first) (tally_from w k first) later
 unfolding tally_from state_from
 tally_along w k [] later = refl
-tally_along w k (e ∷ first) later = tally_along (next w e) (with_tally k (tally_at w e)) first later
+tally_along w k (e ∷ first) later = tally_along (next w e) (tally_at w k e) first later

@@ -1,7 +1,8 @@
 -- Turns one after the other, and the result of one turn.
 use Rattle.std.proofs.Common.{◌≡◌, ℕ, ◌+◌, ◌-◌, ◌*◌, ◌^◌, ◌<◌, ◌≤◌, List, [], ◌∷◌, ◌++◌, length, map, Option, Some, None, Bool, true}
 use Rattle.std.proofs.Common.{false, not, cond, refl, sym, ap, ap₂, subst, ◌∙◌, append_assoc, add_assoc, add-zero, arith, inl, inr}
-use Rattle.std.specs.Prelude.{Ok, Err}
+use Rattle.std.specs.Prelude.{Result, Ok, Err}
+use Rattle.std.specs.Result.{is_ok}
 use Rattle.std.specs.List.{flat_map}
 use Rattle.std.specs.Option.{option_map}
 use Rattle.std.specs.Io.KnownBytes.{Appends}
@@ -18,9 +19,11 @@ use Rattle.gw_relay.specs.Sends.{Sending}
 use Rattle.gw_audit.specs.declared.denial.Denial.{Denial}
 use Rattle.gw_rules.specs.declared.operation.Operation.TheVariants as operations
 use Rattle.gw_core.specs.Drops.{drop_at}
+use Rattle.gw_turns.specs.Ports.{sent_at}
 use Rattle.gw_turns.specs.Tally.{IsBelow, culprit_of, denies, is_malformed, is_no_peer, is_own_network, no_tally, number_if, tally_at}
-use Rattle.gw_turns.specs.Tally.{tally_from, tally_of, with_tally}
+use Rattle.gw_turns.specs.Tally.{tally_from, tally_with}
 use Rattle.gw_core.specs.declared.drops.DropReason.{DropReason}
+use Rattle.gw_turns.specs.declared.ports.PortSends.{PortSends}
 use Rattle.gw_turns.specs.declared.tally.Culprit.{Culprit}
 use Rattle.gw_turns.specs.declared.tally.Tally.{Tally}
 use Rattle.gw_turns.specs.declared.serving.Served.{Served}
@@ -30,11 +33,12 @@ use Rattle.gw_core.specs.Effects.{effects_at, passes_end}
 use Rattle.gw_core.specs.History.{next, run_from, state_from, log as denials_of_run}
 use Rattle.gw_turns.specs.Serve.{AreRefused, AreTurns, EndsBy, IsTakenLast, IsTurn, Scene, ServesAll, Stops, Try, Turn, LeadTo, count_fault}
 use Rattle.gw_turns.specs.Serve.{count_turn, counts_after, turn_events, events_of, failures, lines_of, log_of, zero_counts, successes}
-use Rattle.gw_turns.specs.Serve.{empty_turn, failed_turn, lost_event, taken_event, try_call, turn_calls}
-use Rattle.gw_turns.specs.ServeTurn.{AreTried, HasRoom, LogEnd, TurnEnd, event_answer}
+use Rattle.gw_turns.specs.Serve.{empty_turn, failed_turn, lost_event, ports_after, taken_event, try_call, turn_calls}
+use Rattle.gw_turns.specs.ServeTurn.{AreTried, HasRoom, LogEnd, TurnEnd, counted_send, event_answer}
 use Rattle.gw_turns.specs.Stretch.{wire_counts}
 use Rattle.gw_core.specs.State.{State}
-use Rattle.gw_wire.specs.Wire.{Call, Records, arrival, arrival_of, receive_call}
+use Rattle.gw_wire.specs.Wire.{Call, Records, arrival, arrival_of, failures_of, receive_call, send_call}
+use Rattle.gw_wire.specs.declared.wire.WireFault.{WireFault}
 
 -- ---- what a wire reports
 
@@ -177,8 +181,25 @@ tries_counted (t ∷ tries) =
     let lost = sum_by-cons (λ (x : Try). cond (not x.success) 1 0) t tries in
     omega (arith, first, tries_counted tries, won, lost)
 
+-- the ports after tries one after the other
+ports_along : (ports : List PortSends) (ticks : ℕ) (first later : List Try)
+    → ports_after (ports_after ports ticks first) ticks later ≡ ports_after ports ticks (first ++ later)
+unfolding ports_after
+ports_along ports ticks [] later = refl
+ports_along ports ticks (t ∷ first) later = ports_along (sent_at ports t.sending.port ticks t.success) ticks first later
+
+-- the call that a send was is that of a try
+pub as_try : (r : Result Unit WireFault) (s : Sending) → send_call r s ≡ try_call (record { sending = s; success = is_ok r })
+as_try (Ok done) s = refl
+as_try (Err fault) s = refl
+
+pub failed_once : (r : Result Unit WireFault) → failures_of r ≡ cond (not (is_ok r)) 1 0
+failed_once (Ok done) = refl
+failed_once (Err fault) = refl
+
 -- no datagram was tried yet
 pub none_tried : (recorded : Option (List Call)) (s : Served) (n : ℕ) → AreTried [] recorded recorded s s n n
+unfolding ports_after
 none_tried recorded s n = record {
   tries = [];
   are = refl;
@@ -190,12 +211,14 @@ none_tried recorded s n = record {
 -- one datagram was tried
 pub tried_one : (recorded records : Option (List Call)) (s t : Served) (n m : ℕ) (sending : Sending) (success : Bool)
     → Records recorded records (try_call (record { sending = sending; success = success }) ∷ [])
-    → t ≡ record s { sends = s.sends + cond success 1 0; send_failures = s.send_failures + cond (not success) 1 0 }
+    → t ≡ counted_send s sending.port success
     → m ≡ n + cond (not success) 1 0 → AreTried (sending ∷ []) recorded records s t n m
+unfolding ports_after
 tried_one recorded records s t n m sending success call counted rose =
     let one : Try = record { sending = sending; success = success } in
     let wins = cond success 1 0 in
     let losses = cond (not success) 1 0 in
+    let ports = sent_at s.ports sending.port s.ticks success in
     let won : wins ≡ successes (one ∷ []) = sym (sum_by-cons (λ (x : Try). cond x.success 1 0) one [] ∙ add-zero wins) in
     let lost : losses ≡ failures (one ∷ []) = sym (sum_by-cons (λ (x : Try). cond (not x.success) 1 0) one [] ∙ add-zero losses) in
     record {
@@ -203,8 +226,8 @@ tried_one recorded records s t n m sending success call counted rose =
       are = refl;
       calls = call;
       counts = counted
-          ∙ ap (λ (x : ℕ). record s { sends = s.sends + x; send_failures = s.send_failures + losses }) won
-          ∙ ap (λ (x : ℕ). record s { sends = s.sends + successes (one ∷ []); send_failures = s.send_failures + x }) lost;
+          ∙ ap (λ (x : ℕ). record s { sends = s.sends + x; send_failures = s.send_failures + losses; ports = ports }) won
+          ∙ ap (λ (x : ℕ). record s { sends = s.sends + successes (one ∷ []); send_failures = s.send_failures + x; ports = ports }) lost;
       failed = rose ∙ ap (λ (x : ℕ). n + x) lost;
     }
 
@@ -220,14 +243,24 @@ tried_along sendings more recorded between records s t u n m o p q =
     add_assoc s.sends (successes p.tries) (successes q.tries) ∙ ap (λ (x : ℕ). s.sends + x) won in
     let failed_sends : s.send_failures + failures p.tries + failures q.tries ≡ s.send_failures + failures tries =
     add_assoc s.send_failures (failures p.tries) (failures q.tries) ∙ ap (λ (x : ℕ). s.send_failures + x) lost in
+    let ports = ports_after (ports_after s.ports s.ticks p.tries) s.ticks q.tries in
     record {
       tries = tries;
       are = map-append (λ x. x.sending) p.tries q.tries ∙ ap₂ (λ (l k : List Sending). l ++ k) p.are q.are;
       calls = subst (Records recorded records) (sym (map-append try_call p.tries q.tries)) (tells_more recorded between records _ _ p.calls q.calls);
       counts = q.counts
-          ∙ ap (λ (x : Served). record x { sends = x.sends + successes q.tries; send_failures = x.send_failures + failures q.tries }) p.counts
-          ∙ ap (λ (x : ℕ). record s { sends = x; send_failures = s.send_failures + failures p.tries + failures q.tries }) sends
-          ∙ ap (λ (x : ℕ). record s { sends = s.sends + successes tries; send_failures = x }) failed_sends;
+          ∙ ap (λ (x : Served). record x {
+            sends = x.sends + successes q.tries;
+            send_failures = x.send_failures + failures q.tries;
+            ports = ports_after x.ports x.ticks q.tries;
+          }) p.counts
+          ∙ ap (λ (x : ℕ). record s { sends = x; send_failures = s.send_failures + failures p.tries + failures q.tries; ports = ports }) sends
+          ∙ ap (λ (x : ℕ). record s { sends = s.sends + successes tries; send_failures = x; ports = ports }) failed_sends
+          ∙ ap (λ (x : List PortSends). record s {
+            sends = s.sends + successes tries;
+            send_failures = s.send_failures + failures tries;
+            ports = x;
+          }) (ports_along s.ports s.ticks p.tries q.tries);
       failed = q.failed ∙ ap (λ (x : ℕ). x + failures q.tries) p.failed ∙ add_assoc n (failures p.tries) (failures q.tries)
           ∙ ap (λ (x : ℕ). n + x) lost;
     }
@@ -237,7 +270,7 @@ pub tried_more : (sendings more : List Sending) (recorded between records : Opti
     (sending : Sending) (success : Bool)
     → AreTried sendings recorded between s t n m → more ≡ sendings ++ sending ∷ []
     → Records between records (try_call (record { sending = sending; success = success }) ∷ [])
-    → u ≡ record t { sends = t.sends + cond success 1 0; send_failures = t.send_failures + cond (not success) 1 0 }
+    → u ≡ counted_send t sending.port success
     → o ≡ m + cond (not success) 1 0 → AreTried more recorded records s u n o
 tried_more sendings more recorded between records s t u n m o sending success p split call counted rose =
     subst (λ (l : List Sending). AreTried l recorded records s u n o) (sym split)
@@ -298,12 +331,12 @@ untallied w k = refl
 -- of one that is taken it counts what was reported of it
 pub tallied : (w : State) (k l : Tally) (event : Event) (tick : ℕ) (effects : Effects) (drop : Option DropReason) → tick ≡ w.ticks
     → effects ≡ effects_at w event → drop ≡ drop_at w event
-    → l ≡ with_tally k (tally_of (culprit_of tick event) drop effects.denials) → l ≡ tally_from w k (event ∷ [])
+    → l ≡ tally_with k (culprit_of tick event) drop effects.denials → l ≡ tally_from w k (event ∷ [])
 unfolding tally_from tally_at
 tallied w k l event tick effects drop now given why counted =
-    counted ∙ ap (λ (n : ℕ). with_tally k (tally_of (culprit_of n event) drop effects.denials)) now
-    ∙ ap (λ (x : Effects). with_tally k (tally_of (culprit_of w.ticks event) drop x.denials)) given
-    ∙ ap (λ (x : Option DropReason). with_tally k (tally_of (culprit_of w.ticks event) x (effects_at w event).denials)) why
+    counted ∙ ap (λ (n : ℕ). tally_with k (culprit_of n event) drop effects.denials) now
+    ∙ ap (λ (x : Effects). tally_with k (culprit_of w.ticks event) drop x.denials) given
+    ∙ ap (λ (x : Option DropReason). tally_with k (culprit_of w.ticks event) x (effects_at w event).denials) why
 
 number_most : (b : Bool) → number_if b ≤ 1
 number_most true = omega arith
@@ -329,7 +362,7 @@ below_weaker n m k le below = record {
 
 -- one event more counts at most one of each
 pub below_counted : (n m : ℕ) (k l : Tally) (culprit : Option Culprit) (drop : Option DropReason) (denials : List Denial) → m ≡ n + 1
-    → l ≡ with_tally k (tally_of culprit drop denials) → IsBelow n k → IsBelow m l
+    → l ≡ tally_with k culprit drop denials → IsBelow n k → IsBelow m l
 below_counted n m k l culprit drop denials more counted below = record {
   enter = omega (arith, more, ap (λ (x : Tally). x.enter) counted, below.enter, number_most (denies operations.Enter denials));
   claim = omega (arith, more, ap (λ (x : Tally). x.claim) counted, below.claim, number_most (denies operations.Claim denials));

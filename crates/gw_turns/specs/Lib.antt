@@ -1,3 +1,4 @@
+pub mod Ports
 pub mod Tally
 pub mod Serve
 pub mod ServeTurn
@@ -9,3 +10,4 @@ pub mod Logged
 pub mod Both
 pub mod Keeping
 pub mod Announcing
+pub mod ByPort

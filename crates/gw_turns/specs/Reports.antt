@@ -1,5 +1,5 @@
 -- What is reported of serving: what was done so far, and what the tables hold.
-use Rattle.std.specs.Prelude.{ℕ, ◌+◌, ◌-◌, ◌==◌, ◌≤◌, ◌&&◌, nat_le, Bool, if◌then◌else◌, List, [], ◌∷◌, ◌++◌, Option, Some, None, codes}
+use Rattle.std.specs.Prelude.{ℕ, zero, suc, ◌+◌, ◌-◌, ◌==◌, ◌≤◌, ◌&&◌, nat_le, Bool, if◌then◌else◌, List, [], ◌∷◌, ◌++◌, Option, Some, None, codes}
 use Rattle.std.specs.Prelude.{decimal, length, sum_by}
 use Rattle.gw_tables.specs.bdt_fdt.Peers.{peers}
 use Rattle.gw_relay.specs.declared.port.PortState.{PortState}
@@ -7,6 +7,11 @@ use Rattle.gw_core.specs.State.{State}
 use Rattle.gw_core.specs.declared.event.Counts.{Counts}
 use Rattle.gw_turns.specs.declared.announcing.Announcing.{Announcing}
 use Rattle.gw_addr.specs.Address.{text_of}
+use Rattle.gw_turns.specs.Ports.{datagrams_at, sends_at}
+use Rattle.gw_turns.specs.declared.ports.Health.{Health}
+use Rattle.gw_turns.specs.declared.ports.Health.TheVariants.{Sound, Failing, Restored}
+use Rattle.gw_turns.specs.declared.ports.PortSends.{PortSends}
+use Rattle.gw_turns.specs.declared.ports.PortTally.{PortTally}
 use Rattle.gw_turns.specs.declared.tally.Culprit.{Culprit}
 use Rattle.gw_turns.specs.declared.tally.Tally.{Tally}
 use Rattle.gw_turns.specs.declared.report.Report.{Report}
@@ -45,6 +50,8 @@ report_of start w s tally = record {
   peers = peer_count w.relay.ports;
   learned_routes = length w.relay.routes.learned;
   tally = tally;
+  port_count = length w.relay.ports;
+  ports = s.ports;
 }
 
 -- a field of a line: its name, as written before the number, and the number in decimal
@@ -87,6 +94,23 @@ tally_text t = refusals_text t ++ drops_text t ++ 10 ∷ []
 unfoldable pub report_line : Report → List ℕ
 report_line r = events_text r ++ calls_text r ++ tables_text r ++ tally_text r.tally
 
+-- ---- by port
+
+-- what came to the port of this number and wasn't passed on, and what came of the sends on it
+abbrev pub port_line : (number : ℕ) → PortTally → PortSends → List ℕ
+port_line number t s =
+    field (codes "stats port=") number ++ (field (codes " datagrams=") t.datagrams ++ (field (codes " dropped=") t.drops
+    ++ (field (codes " sends=") s.sends ++ (field (codes " send_failures=") s.failures ++ codes "\n"))))
+
+-- the lines of the first so many ports, in order
+unfoldable pub port_lines : Report → (count : ℕ) → List ℕ
+port_lines r zero = []
+port_lines r (suc place) = port_lines r place ++ port_line (place + 1) (datagrams_at r.tally.ports place) (sends_at r.ports place)
+
+-- those of the gateway's ports
+abbrev pub ports_text : Report → List ℕ
+ports_text r = port_lines r r.port_count
+
 -- ---- whom the last datagrams came from that were dropped
 
 -- of so many that were dropped for a reason
@@ -110,6 +134,39 @@ culprits_text seconds now t =
     culprit_text (codes " malformed, last from ") t.malformed (fresh seconds now t.last.malformed)
     ++ (culprit_text (codes " of own network, last from ") t.own_network (fresh seconds now t.last.own_network)
     ++ culprit_text (codes " of no peer, last from ") t.no_peer (fresh seconds now t.last.no_peer))
+
+-- ---- how the sends on each port go
+
+abbrev pub failing_line : (number : ℕ) → List ℕ
+failing_line number = field (codes "port ") number ++ codes ": sends fail\n"
+
+abbrev pub restored_line : (number : ℕ) → List ℕ
+restored_line number = field (codes "port ") number ++ codes ": sends succeed again\n"
+
+-- How the sends on a port go, as far as that is reported: that the last one failed, if that was in the last so many seconds; and that they
+-- succeed again, if they do so since then. Of all time: that the last one failed.
+abbrev pub shown : (seconds : Option ℕ) → (now : ℕ) → Health → Health
+shown seconds now Sound = Sound
+shown None now (Failing last) = Failing last
+shown (Some seconds) now (Failing last) = if nat_le (now - last) seconds then Failing last else Sound
+shown None now (Restored since) = Sound
+shown (Some seconds) now (Restored since) = if nat_le (now - since) seconds then Restored since else Sound
+
+-- so it is reported of the port of this number
+abbrev pub health_text : (number : ℕ) → Health → List ℕ
+health_text number Sound = []
+health_text number (Failing last) = failing_line number
+health_text number (Restored since) = restored_line number
+
+-- of the first so many ports, in order, by the ticks that were taken
+unfoldable pub health_lines : (seconds : Option ℕ) → Served → (count : ℕ) → List ℕ
+health_lines seconds s zero = []
+health_lines seconds s (suc place) =
+    health_lines seconds s place ++ health_text (place + 1) (shown seconds s.ticks (sends_at s.ports place).health)
+
+-- of the ports of a gateway in this state
+abbrev pub healths_text : (seconds : Option ℕ) → State → Served → List ℕ
+healths_text seconds w s = health_lines seconds s (length w.relay.ports)
 
 -- ---- announcements
 

@@ -6,9 +6,12 @@ use Rattle.std.specs.List.{flat_map}
 use Rattle.std.specs.Io.KnownBytes.{Appends}
 use Rattle.gw_audit.specs.declared.denial.Denial.{Denial}
 use Rattle.gw_audit.specs.Line.{line_text}
-use Rattle.gw_script.specs.Event.{Event}
+use Rattle.gw_script.specs.Event.{Datagram, Event, Tick}
 use Rattle.gw_core.specs.declared.effects.Effects.{Effects}
 use Rattle.gw_relay.specs.Sends.{Sending}
+use Rattle.gw_turns.specs.Pace.{one_more}
+use Rattle.gw_turns.specs.Ports.{nothing_sent, sent_at}
+use Rattle.gw_turns.specs.declared.ports.PortSends.{PortSends}
 use Rattle.gw_turns.specs.declared.serving.Served.{Served}
 use Rattle.gw_turns.specs.declared.serving.ServeFault.{ServeFault}
 use Rattle.gw_turns.specs.declared.serving.ServeFault.TheVariants.{Log, Memory, CountEnd}
@@ -68,6 +71,16 @@ successes tries = count_by (λ t. t.success) tries
 abbrev pub failures : List Try → ℕ
 failures tries = count_by (λ t. not t.success) tries
 
+-- how many ticks were taken, after an event more
+abbrev pub ticks_with : ℕ → Event → ℕ
+ticks_with ticks (Datagram port from octets) = ticks
+ticks_with ticks Tick = one_more ticks
+
+-- what came of the sends by port, after these tries, when so many ticks had been taken
+unfoldable pub ports_after : List PortSends → (ticks : ℕ) → List Try → List PortSends
+ports_after ports ticks [] = ports
+ports_after ports ticks (t ∷ tries) = ports_after (sent_at ports t.sending.port ticks t.success) ticks tries
+
 -- the counts after one turn more
 abbrev pub count_turn : Served → Turn → Served
 count_turn s empty_turn = record s { turns = s.turns + 1 }
@@ -78,6 +91,8 @@ count_turn s (taken_event event tries) = record s {
   taken = s.taken + 1;
   sends = s.sends + successes tries;
   send_failures = s.send_failures + failures tries;
+  ticks = ticks_with s.ticks event;
+  ports = ports_after s.ports (ticks_with s.ticks event) tries;
 }
 
 -- ---- turns, one after the other
@@ -98,6 +113,8 @@ zero_counts = record {
   recv_failures = 0;
   sends = 0;
   send_failures = 0;
+  ticks = 0;
+  ports = nothing_sent;
 }
 
 unfoldable pub counts_after : Served → List Turn → Served

@@ -1,5 +1,5 @@
 -- What comes of the parts of one turn. It only helps proofs.
-use Rattle.std.specs.Prelude.{◌≡◌, ℕ, ◌+◌, ◌^◌, ◌<◌, ◌≤◌, Bool, true, false, List, [], ◌∷◌, ◌++◌, map, Option, Result, Ok, Err}
+use Rattle.std.specs.Prelude.{◌≡◌, ℕ, ◌+◌, ◌^◌, ◌<◌, ◌≤◌, Bool, true, false, not, List, [], ◌∷◌, ◌++◌, map, Option, Result, Ok, Err}
 use Rattle.std.specs.Option.{option_map}
 use Rattle.std.specs.Io.KnownBytes.{Appends}
 use Rattle.gw_audit.specs.declared.denial.Denial.{Denial}
@@ -15,11 +15,12 @@ use Rattle.gw_core.specs.declared.fault.StepFault.{StepFault}
 use Rattle.gw_core.specs.declared.fault.StepFault.TheVariants as step
 use Rattle.gw_turns.specs.Pace.{one_more}
 use Rattle.gw_turns.specs.Stretch.{GoOn, IsFaulty, IsWithheld, Moment, wire_counts}
-use Rattle.gw_turns.specs.Tally.{tally_from}
+use Rattle.gw_turns.specs.Ports.{sent_at}
+use Rattle.gw_turns.specs.Tally.{number_if, tally_from}
 use Rattle.gw_turns.specs.declared.tally.Tally.{Tally}
 use Rattle.gw_wire.specs.Wire.{Call, Records}
 use Rattle.gw_turns.specs.Serve.{Scene, Try, Turn, LeadTo, EndsBy, count_turn, count_fault, failures, lines_of}
-use Rattle.gw_turns.specs.Serve.{successes, try_call, turn_events}
+use Rattle.gw_turns.specs.Serve.{ports_after, successes, try_call, turn_events}
 
 -- what was received, without where its octets lie in memory
 abbrev pub event_answer : Result (Option LentEvent) WireFault → Result (Option Event) WireFault
@@ -63,11 +64,23 @@ LogEnd denials before after (Err Log) =
 LogEnd denials before after (Err Memory) = ¬ (denials ≡ []) × (after ≡ before)
 LogEnd denials before after (Err CountEnd) = ⊥
 
+-- the counts after a send that was tried on the port of this number, by whether it succeeded
+abbrev pub counted_send : Served → (port : ℕ) → (success : Bool) → Served
+counted_send s port success = record s {
+  sends = s.sends + number_if success;
+  send_failures = s.send_failures + number_if (not success);
+  ports = sent_at s.ports port s.ticks success;
+}
+
 -- these datagrams were tried to be sent, once and in order, and what came of each is counted
 pub record AreTried (sendings : List Sending) (recorded records : Option (List Call)) (s t : Served) (wire_failures then : ℕ)
     : Type 0 where
   pub tries : List Try
   pub are : map (λ x. x.sending) tries ≡ sendings
   pub calls : Records recorded records (map try_call tries)
-  pub counts : t ≡ record s { sends = s.sends + successes tries; send_failures = s.send_failures + failures tries }
+  pub counts : t ≡ record s {
+    sends = s.sends + successes tries;
+    send_failures = s.send_failures + failures tries;
+    ports = ports_after s.ports s.ticks tries;
+  }
   pub failed : then ≡ wire_failures + failures tries

@@ -14,6 +14,7 @@ use Rattle.gw_core.specs.declared.drops.DropReason.TheVariants.{Malformed, OwnNe
 use Rattle.gw_core.specs.Effects.{effects_at}
 use Rattle.gw_core.specs.History.{next}
 use Rattle.gw_core.specs.State.{State}
+use Rattle.gw_turns.specs.Ports.{nothing_received, received_at}
 use Rattle.gw_turns.specs.declared.tally.Culprit.{Culprit}
 use Rattle.gw_turns.specs.declared.tally.Culprits.{Culprits}
 use Rattle.gw_turns.specs.declared.tally.Tally.{Tally}
@@ -45,6 +46,12 @@ abbrev pub culprit_of : (tick : ℕ) → Event → Option Culprit
 culprit_of tick (Datagram port from octets) = Some (record { tick = tick; port = port; sender = from })
 culprit_of tick Tick = None
 
+-- for how many reasons an event that is dropped so, and of which this is denied, isn't passed on
+abbrev pub drops_of : Option DropReason → List Denial → ℕ
+drops_of drop denials =
+    number_if (denies operations.Enter denials) + number_if (denies operations.Claim denials)
+    + number_if (is_malformed drop) + number_if (is_own_network drop) + number_if (is_no_peer drop)
+
 -- that one, if something is so
 abbrev pub only_if : Bool → Option Culprit → Option Culprit
 only_if is culprit = if is then culprit else None
@@ -61,46 +68,48 @@ newer_of old new = record {
   no_peer = newer old.no_peer new.no_peer;
 }
 
--- the tally of one event, by where it came from, why it is dropped and what is denied of it
-abbrev pub tally_of : Option Culprit → Option DropReason → List Denial → Tally
-tally_of culprit drop denials = record {
-  enter = number_if (denies operations.Enter denials);
-  claim = number_if (denies operations.Claim denials);
-  malformed = number_if (is_malformed drop);
-  own_network = number_if (is_own_network drop);
-  no_peer = number_if (is_no_peer drop);
-  last = record {
-    malformed = only_if (is_malformed drop) culprit;
-    own_network = only_if (is_own_network drop) culprit;
-    no_peer = only_if (is_no_peer drop) culprit;
-  };
+-- the one of an event, by why it is dropped
+abbrev pub culprits_of : Option Culprit → Option DropReason → Culprits
+culprits_of culprit drop = record {
+  malformed = only_if (is_malformed drop) culprit;
+  own_network = only_if (is_own_network drop) culprit;
+  no_peer = only_if (is_no_peer drop) culprit;
 }
 
 abbrev pub no_culprits : Culprits
 no_culprits = record { malformed = None; own_network = None; no_peer = None }
 
 abbrev pub no_tally : Tally
-no_tally = record { enter = 0; claim = 0; malformed = 0; own_network = 0; no_peer = 0; last = no_culprits }
-
--- a tally with another one
-abbrev pub with_tally : Tally → Tally → Tally
-with_tally a b = record {
-  enter = a.enter + b.enter;
-  claim = a.claim + b.claim;
-  malformed = a.malformed + b.malformed;
-  own_network = a.own_network + b.own_network;
-  no_peer = a.no_peer + b.no_peer;
-  last = newer_of a.last b.last;
+no_tally = record {
+  enter = 0;
+  claim = 0;
+  malformed = 0;
+  own_network = 0;
+  no_peer = 0;
+  last = no_culprits;
+  ports = nothing_received;
 }
 
--- the tally of an event in this state
-unfoldable pub tally_at : State → Event → Tally
-tally_at w e = tally_of (culprit_of w.ticks e) (drop_at w e) (effects_at w e).denials
+-- a tally after one event more, by where it came from, why it is dropped and what is denied of it
+abbrev pub tally_with : Tally → Option Culprit → Option DropReason → List Denial → Tally
+tally_with t culprit drop denials = record {
+  enter = t.enter + number_if (denies operations.Enter denials);
+  claim = t.claim + number_if (denies operations.Claim denials);
+  malformed = t.malformed + number_if (is_malformed drop);
+  own_network = t.own_network + number_if (is_own_network drop);
+  no_peer = t.no_peer + number_if (is_no_peer drop);
+  last = newer_of t.last (culprits_of culprit drop);
+  ports = received_at t.ports culprit (drops_of drop denials);
+}
+
+-- the tally after an event that is taken in this state
+unfoldable pub tally_at : State → Tally → Event → Tally
+tally_at w tally e = tally_with tally (culprit_of w.ticks e) (drop_at w e) (effects_at w e).denials
 
 -- the tally after these events, which are taken from this state on
 unfoldable pub tally_from : State → Tally → List Event → Tally
 tally_from w tally [] = tally
-tally_from w tally (e ∷ events) = tally_from (next w e) (with_tally tally (tally_at w e)) events
+tally_from w tally (e ∷ events) = tally_from (next w e) (tally_at w tally e) events
 
 -- each count is at most so much
 pub record IsBelow (most : ℕ) (tally : Tally) : Type 0 where

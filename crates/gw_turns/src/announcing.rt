@@ -89,7 +89,7 @@ impl Announcing {
         let Ok(sends) = gateway.announce(alloc, place as u8 + 1) else {
             return self.put_off();
         };
-        let mut tried = Served::default();
+        let mut tried = Served::none();
         try_sends(wire, &sends, &mut tried);
         self.due[place] = tried.send_failures > 0;
         self.sends = self.sends.saturating_add(tried.sends);

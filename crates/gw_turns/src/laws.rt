@@ -2,6 +2,7 @@
 
 ghost use Rattle.std.specs.Prelude.{◌≡◌};
 ghost use Rattle.gw_turns.specs.Announcing.{NothingDueNothingDone, PortsAreAll, UnannouncedIsSilent};
+ghost use Rattle.gw_turns.specs.ByPort.{AgainIsReportedOnce, PortsAddUp};
 ghost use Rattle.gw_turns.specs.Both.{GoOnUnderFirst, GoOnUnderSecond, IsUnderFirst, IsUnderSecond};
 ghost use Rattle.gw_turns.specs.Keeping.{AlikeButTicksIsEqual, AlikeIsEqual, EqualButTicksIsAlike, EqualIsAlike, EventsTryFew, FailingIsSpared, FreshIsSpared, RecentIsYoung, RestsAtTicks, RestsEnd, TicksBeginAnew, TicksKeepRecent, TicksKeepYoung};
 ghost use Rattle.gw_turns.specs.Logged.{ServingLogsFirst, StopsLogFirst, StretchesLogFirst};
@@ -89,4 +90,15 @@ pub fn two_guards<G: Guard, H: Guard>()
     ensures second { GoOnUnderSecond G.Passes H.Passes }
     ensures second_alone { IsUnderSecond G.Passes H.Passes }
     ensures first_passed { GoOnUnderFirst G.Passes H.Passes }
+{}
+
+/// What is counted by port adds up, over all ports, to the totals of the report's line: how many datagrams came, how many weren't passed
+/// on, and how many sends succeeded and failed. It is so under any guard.
+pub fn by_port<G: Guard>()
+    ensures { PortsAddUp G.Passes }
+{}
+
+/// Where each report is of so many seconds, that sends on a port succeed again is in the first one after they did, and in no later one.
+pub fn restored_once()
+    ensures { AgainIsReportedOnce }
 {}

@@ -6,6 +6,7 @@ mod announcing;
 mod keeper;
 pub mod laws;
 mod pace;
+mod ports;
 mod report;
 mod seen;
 mod serving;
@@ -16,7 +17,11 @@ pub use alike::Part;
 pub use announcing::Announcing;
 pub use keeper::Keeper;
 pub use pace::Pace;
-pub use report::{Report, has_gone_on, report_of, write_announcing, write_culprits, write_report};
+pub use ports::{Health, PortSends, PortTally};
+pub use report::{
+    Report, has_gone_on, report_of, write_announcing, write_culprits, write_healths, write_ports,
+    write_report,
+};
 pub use seen::Refusals;
 pub use serving::{ServeFault, ServeState, ServeStop, Served, serve};
 pub use stretch::Pause;

@@ -6,12 +6,13 @@ ghost use Rattle.gw_addr.specs.Address.{text_of};
 ghost use Rattle.gw_addr.specs.declared.TheConstants.{MAX_PORTS};
 ghost use Rattle.gw_tables.specs.bdt_fdt.Peers.{peers};
 ghost use Rattle.gw_tables.specs.declared.bdt_fdt.bdt.TheConstants.{MAX_ENTRIES};
-ghost use Rattle.gw_turns.specs.Reports.{HasGoneOn, announced_text, announcing_line, announcing_text, calls_text, culprit_line, culprit_text, culprits_text, drops_text, events_text, field, fresh, has_gone_on, peer_count, refusals_text, registrations, report_line, report_of, tables_text, tally_text};
+ghost use Rattle.gw_turns.specs.Reports.{HasGoneOn, announced_text, announcing_line, announcing_text, calls_text, culprit_line, culprit_text, culprits_text, drops_text, events_text, failing_line, field, fresh, has_gone_on, health_text, healths_text, peer_count, port_line, ports_text, refusals_text, registrations, report_line, report_of, restored_line, shown, tables_text, tally_text};
 
 use crate::announcing::Announcing;
+use crate::ports::{Health, PortSends, PortTally};
 use crate::serving::Served;
 use crate::tally::{Culprit, Tally};
-use gw_addr::BipAddr;
+use gw_addr::{BipAddr, MAX_PORTS};
 use gw_core::{Counts, Gateway};
 use gw_relay::PortState;
 use gw_script::{OctetSink, WriteFailed, write_whole};
@@ -40,8 +41,12 @@ pub struct Report {
     pub peers: u64,
     /// How many networks have a learned route.
     pub learned_routes: u64,
-    /// How many datagrams weren't passed on.
+    /// How many datagrams weren't passed on, and how many came to each port.
     pub tally: Tally,
+    /// How many ports the gateway has.
+    pub port_count: usize,
+    /// What came of the sends on each port.
+    pub ports: [PortSends; MAX_PORTS],
 }
 
 /// How many foreign devices are registered at the ports.
@@ -93,7 +98,8 @@ pub fn has_gone_on(start: Counts, gateway: &Gateway, served: &Served) -> bool
 /// What is reported of a gateway that began with these counts, when so much was done.
 pub fn report_of(start: Counts, gateway: &Gateway, served: &Served, tally: Tally) -> Report
     requires since { HasGoneOn start gateway.now served.now }
-    ensures { result ≡ report_of start gateway.now served.now tally }
+    ensures report { result ≡ report_of start gateway.now served.now tally }
+    ensures few { result.port_count ≤ MAX_PORTS }
 {
     let counts = gateway.counts();
     let relay = gateway.relay();
@@ -110,6 +116,8 @@ pub fn report_of(start: Counts, gateway: &Gateway, served: &Served, tally: Tally
         peers: peer_count(relay.ports()),
         learned_routes: relay.routes().learned_count() as u64,
         tally,
+        port_count: relay.ports().len(),
+        ports: served.ports,
     }
 }
 
@@ -205,6 +213,39 @@ pub fn write_report<S: OctetSink>(report: &Report, sink: &mut S) -> Result<(), W
     write_tally(&report.tally, sink)
 }
 
+/// Writes the line of the port of this number: what came to it, and what came of the sends on it.
+fn write_port<S: OctetSink>(
+    number: usize,
+    tally: PortTally,
+    sends: PortSends,
+    sink: &mut S,
+) -> Result<(), WriteFailed>
+    ensures ok { OnOk result (Appends (S.held sink.old) (S.held sink.new) (port_line number tally sends)) }
+    ensures sure { S.NeverFails sink.old → IsOk result }
+    ensures lasts { S.NeverFails sink.old → S.NeverFails sink.new }
+{
+    write_field("stats port=", number as u128, sink)?;
+    write_field(" datagrams=", tally.datagrams as u128, sink)?;
+    write_field(" dropped=", tally.drops as u128, sink)?;
+    write_field(" sends=", sends.sends as u128, sink)?;
+    write_field(" send_failures=", sends.failures as u128, sink)?;
+    write_whole(sink, b"\n")
+}
+
+/// Writes a line for each port of the gateway, in order.
+pub fn write_ports<S: OctetSink>(report: &Report, sink: &mut S) -> Result<(), WriteFailed>
+    requires few { report.now.port_count ≤ MAX_PORTS }
+    ensures ok { OnOk result (Appends (S.held sink.old) (S.held sink.new) (ports_text report.now)) }
+    ensures sure { S.NeverFails sink.old → IsOk result }
+    ensures lasts { S.NeverFails sink.old → S.NeverFails sink.new }
+{
+    for place in 0..report.port_count {
+        let sends = report.ports[place];
+        write_port(place + 1, report.tally.ports[place], sends, sink)?;
+    }
+    Ok(())
+}
+
 /// Writes an address.
 fn write_address<S: OctetSink>(address: BipAddr, sink: &mut S) -> Result<(), WriteFailed>
     ensures ok { OnOk result (Appends (S.held sink.old) (S.held sink.new) (text_of address)) }
@@ -287,6 +328,81 @@ pub fn write_culprits<S: OctetSink>(
     )?;
     let no_peer = fresh(seconds, now, last.no_peer);
     write_culprit(" of no peer, last from ", tally.no_peer, no_peer, sink)
+}
+
+/// How the sends on a port go, as far as that is reported: that the last one failed, if that was in the last so many seconds, and that
+/// they succeed again, if they do so since then; of all time, that the last one failed.
+fn shown(seconds: Option<u64>, now: u64, health: Health) -> Health
+    ensures { result ≡ shown seconds now health }
+{
+    match health {
+        Health::Sound => Health::Sound,
+        Health::Failing(last) => match seconds {
+            Some(seconds) if now.saturating_sub(last) > seconds => Health::Sound,
+            _ => Health::Failing(last),
+        },
+        Health::Restored(since) => match seconds {
+            Some(seconds) if now.saturating_sub(since) <= seconds => Health::Restored(since),
+            _ => Health::Sound,
+        },
+    }
+}
+
+/// Writes that sends on the port of this number fail.
+fn write_failing<S: OctetSink>(number: usize, sink: &mut S) -> Result<(), WriteFailed>
+    ensures ok { OnOk result (Appends (S.held sink.old) (S.held sink.new) (failing_line number)) }
+    ensures sure { S.NeverFails sink.old → IsOk result }
+    ensures lasts { S.NeverFails sink.old → S.NeverFails sink.new }
+{
+    write_field("port ", number as u128, sink)?;
+    write_whole(sink, b": sends fail\n")
+}
+
+/// Writes that sends on the port of this number succeed again.
+fn write_restored<S: OctetSink>(number: usize, sink: &mut S) -> Result<(), WriteFailed>
+    ensures ok { OnOk result (Appends (S.held sink.old) (S.held sink.new) (restored_line number)) }
+    ensures sure { S.NeverFails sink.old → IsOk result }
+    ensures lasts { S.NeverFails sink.old → S.NeverFails sink.new }
+{
+    write_field("port ", number as u128, sink)?;
+    write_whole(sink, b": sends succeed again\n")
+}
+
+/// Writes how the sends on the port of this number go, unless none failed.
+fn write_health<S: OctetSink>(
+    number: usize,
+    health: Health,
+    sink: &mut S,
+) -> Result<(), WriteFailed>
+    ensures ok { OnOk result (Appends (S.held sink.old) (S.held sink.new) (health_text number health)) }
+    ensures sure { S.NeverFails sink.old → IsOk result }
+    ensures lasts { S.NeverFails sink.old → S.NeverFails sink.new }
+{
+    match health {
+        Health::Sound => Ok(()),
+        Health::Failing(_) => write_failing(number, sink),
+        Health::Restored(_) => write_restored(number, sink),
+    }
+}
+
+/// Writes, for each port in order, that sends on it fail, if the last one failed in the last so many seconds, or that they succeed again,
+/// if they do so since then; of all time, that the last one failed.
+pub fn write_healths<S: OctetSink>(
+    seconds: Option<u64>,
+    gateway: &Gateway,
+    served: &Served,
+    sink: &mut S,
+) -> Result<(), WriteFailed>
+    ensures ok { OnOk result (Appends (S.held sink.old) (S.held sink.new) (healths_text seconds gateway.now served.now)) }
+    ensures sure { S.NeverFails sink.old → IsOk result }
+    ensures lasts { S.NeverFails sink.old → S.NeverFails sink.new }
+{
+    for place in 0..gateway.relay().ports().len() {
+        let sends = served.ports[place];
+        let health = shown(seconds, served.ticks, sends.health);
+        write_health(place + 1, health, sink)?;
+    }
+    Ok(())
 }
 
 /// Writes how many sends of announcements succeeded and failed.

@@ -2,16 +2,20 @@
 //! sent.
 
 ghost use Rattle.std.specs.Prelude.{◌≡◌, ℕ, ◌+◌, ◌-◌, ◌<◌, ◌≤◌, ◌^◌, ◌∷◌, ◌++◌, [], length, IfOk, IfErr, IsErrOf, OnOk};
+ghost use Rattle.gw_script.specs.Event.{event_view};
 ghost use Rattle.gw_turns.specs.Tally.{IsBelow, no_tally};
-ghost use Rattle.gw_turns.specs.ServeTurn.{AreTried, GuardedEnd, HasRoom, LogEnd, TurnEnd, event_answer};
-ghost use Rattle.gw_turns.specs.Serve.{AreRefused, ServesAll, Stops, counts_of_answer, lines_of, scene, zero_counts};
+ghost use Rattle.gw_turns.specs.ServeTurn.{AreTried, GuardedEnd, HasRoom, LogEnd, TurnEnd, counted_send, event_answer};
+ghost use Rattle.gw_turns.specs.Serve.{AreRefused, ServesAll, Stops, counts_of_answer, lines_of, scene, ticks_with, zero_counts};
 ghost use Rattle.gw_turns.specs.Served.{IsServing};
 ghost use Rattle.gw_turns.specs.Stretch.{CanCount, moment, wire_counts};
 ghost use Rattle.gw_wire.specs.Wire.{Records, failures_of, receive_call};
 ghost use Rattle.gw_relay.specs.Sends.{sendings_of};
 
+use crate::pace::one_more;
+use crate::ports::{PortSends, count_sent};
 use crate::seen::{Refusals, take_seen};
-use crate::tally::Tally;
+use crate::tally::{Tally, number_if};
+use gw_addr::MAX_PORTS;
 use gw_audit::{Denials, line};
 use gw_core::{Gateway, Guard, StepFault, Unguarded};
 use gw_relay::{Batch, Sends};
@@ -21,7 +25,7 @@ use std::alloc::{AllocError, Global};
 use thiserror::Error;
 
 /// What was done in some turns.
-#[derive(Clone, Copy, Default)]
+#[derive(Clone, Copy)]
 pub struct Served {
     /// How many turns there were: receives, also those that failed or found nothing.
     pub turns: u64,
@@ -35,6 +39,10 @@ pub struct Served {
     pub sends: u128,
     /// How many sends failed.
     pub send_failures: u128,
+    /// How many of the events were ticks. It stays at 2^64 - 1.
+    pub ticks: u64,
+    /// What came of the sends on each port, in order of their numbers.
+    pub ports: [PortSends; MAX_PORTS],
 }
 
 /// Why serving ends before its turns do.
@@ -58,6 +66,44 @@ pub struct ServeStop {
     pub fault: ServeFault,
     /// What was done until then.
     pub served: Served,
+}
+
+/// How many ticks were taken, after an event more.
+fn ticks_with(ticks: u64, event: &Event<'_>) -> u64
+    ensures { result ≡ ticks_with ticks (event_view event.now) }
+{
+    match *event {
+        Event::Datagram { .. } => ticks,
+        Event::Tick => one_more(ticks),
+    }
+}
+
+impl Served {
+    /// Nothing was done.
+    pub fn none() -> Self
+        ensures { result ≡ zero_counts }
+    {
+        Served {
+            turns: 0,
+            taken: 0,
+            memory_drops: 0,
+            recv_failures: 0,
+            sends: 0,
+            send_failures: 0,
+            ticks: 0,
+            ports: [PortSends::none(); MAX_PORTS],
+        }
+    }
+
+    /// Counts a send that was tried on the port of this number, by whether it succeeded.
+    fn count_send(&mut self, port: u8, success: bool)
+        requires { wire_counts self.old < 2 ^ 128 - 1 }
+        ensures { self.new ≡ counted_send self.old port success }
+    {
+        self.sends += u128::from(number_if(success));
+        self.send_failures += u128::from(number_if(!success));
+        count_sent(&mut self.ports, port, self.ticks, success);
+    }
 }
 
 /// Serves a wire for so many turns. A turn is one receive. Of an event that comes, the lines of all
@@ -137,8 +183,8 @@ impl ServeState {
         ServeState {
             datagram: [0; RECEIVE_ROOM],
             lines: Vec::new(alloc),
-            served: Served::default(),
-            tally: Tally::default(),
+            served: Served::none(),
+            tally: Tally::none(),
             refusals: Refusals::none(),
         }
     }
@@ -238,6 +284,7 @@ impl ServeState {
         if !guard.pass(alloc, gateway, &taken, asked.as_ref()) {
             return Ok(false);
         }
+        self.served.ticks = ticks_with(self.served.ticks, &event);
         try_sends(wire, &taken.effects.sends, &mut self.served);
         Ok(true)
     }
@@ -327,9 +374,7 @@ fn try_batch<W: Wire>(wire: &mut W, batch: &Batch, served: &mut Served)
     ensures behind { W.behind wire.new ≡ W.behind wire.old }
 {
     for target in batch.targets() {
-        match wire.send(batch.port(), *target, batch.octets()) {
-            Ok(()) => served.sends += 1,
-            Err(_) => served.send_failures += 1,
-        }
+        let sent = wire.send(batch.port(), *target, batch.octets());
+        served.count_send(batch.port(), sent.is_ok());
     }
 }

@@ -3,9 +3,10 @@
 ghost use Rattle.std.specs.Prelude.{◌≡◌, ◌+◌, ◌<◌, ◌≤◌, ◌^◌};
 ghost use Rattle.std.specs.List.{list_any};
 ghost use Rattle.gw_script.specs.Event.{event_view};
-ghost use Rattle.gw_turns.specs.Tally.{IsBelow, culprit_of, denies, is_for, newer, number_if, only_if, tally_of, with_tally};
+ghost use Rattle.gw_turns.specs.Tally.{IsBelow, culprit_of, denies, is_for, newer, no_culprits, no_tally, number_if, only_if, tally_with};
 
-use gw_addr::BipAddr;
+use crate::ports::{PortTally, count_received};
+use gw_addr::{BipAddr, MAX_PORTS};
 use gw_audit::{Denial, Denials};
 use gw_core::DropReason;
 use gw_rules::Operation;
@@ -23,7 +24,7 @@ pub struct Culprit {
 }
 
 /// The last datagram that was dropped for each reason, if one was.
-#[derive(Clone, Copy, Default)]
+#[derive(Clone, Copy)]
 pub struct Culprits {
     /// As [`DropReason::Malformed`].
     pub malformed: Option<Culprit>,
@@ -33,8 +34,8 @@ pub struct Culprits {
     pub no_peer: Option<Culprit>,
 }
 
-/// How many datagrams weren't passed on, by the reason; what a quiet rule denied isn't counted.
-#[derive(Clone, Copy, Default)]
+/// How many datagrams weren't passed on, by the reason, and how many came, by the port; what a quiet rule denied isn't counted.
+#[derive(Clone, Copy)]
 pub struct Tally {
     /// How many the policy didn't let enter.
     pub enter: u64,
@@ -48,6 +49,8 @@ pub struct Tally {
     pub no_peer: u64,
     /// The last one of these three.
     pub last: Culprits,
+    /// How many came to each port, in order of their numbers, and how many of them weren't passed on.
+    pub ports: [PortTally; MAX_PORTS],
 }
 
 /// Where and when an event that is a datagram came from.
@@ -82,7 +85,7 @@ fn newer(old: Option<Culprit>, new: Option<Culprit>) -> Option<Culprit>
 }
 
 /// One if something is so, and else none.
-fn number_if(is: bool) -> u64
+pub(crate) fn number_if(is: bool) -> u64
     ensures number { result ≡ number_if is }
     ensures most { result ≤ 1 }
 {
@@ -107,7 +110,35 @@ fn denies(operation: Operation, denials: &[Denial]) -> bool
     denials.iter().any(|denial| is_for(number, denial))
 }
 
+impl Culprits {
+    /// Nothing was dropped.
+    fn none() -> Self
+        ensures { result ≡ no_culprits }
+    {
+        Culprits {
+            malformed: None,
+            own_network: None,
+            no_peer: None,
+        }
+    }
+}
+
 impl Tally {
+    /// Nothing was counted.
+    pub fn none() -> Self
+        ensures { result ≡ no_tally }
+    {
+        Tally {
+            enter: 0,
+            claim: 0,
+            malformed: 0,
+            own_network: 0,
+            no_peer: 0,
+            last: Culprits::none(),
+            ports: [PortTally::none(); MAX_PORTS],
+        }
+    }
+
     /// Counts an event that was taken at this tick, by why it was dropped and what was denied of it.
     pub fn count(
         &mut self,
@@ -117,20 +148,27 @@ impl Tally {
         denials: &Denials,
     )
         requires room { IsBelow (2 ^ 63) self.old }
-        ensures { self.new ≡ with_tally self.old (tally_of (culprit_of tick (event_view event.now)) drop denials.now) }
+        ensures { self.new ≡ tally_with self.old (culprit_of tick (event_view event.now)) drop denials.now }
     {
         let culprit = culprit_of(tick, event);
-        let malformed = matches!(drop, Some(DropReason::Malformed));
-        let own_network = matches!(drop, Some(DropReason::OwnNetwork));
-        let no_peer = matches!(drop, Some(DropReason::NoPeer));
+        let is_malformed = matches!(drop, Some(DropReason::Malformed));
+        let is_own_network = matches!(drop, Some(DropReason::OwnNetwork));
+        let is_no_peer = matches!(drop, Some(DropReason::NoPeer));
         let denials = denials.as_slice();
-        self.enter += number_if(denies(Operation::Enter, denials));
-        self.claim += number_if(denies(Operation::Claim, denials));
-        self.malformed += number_if(malformed);
-        self.own_network += number_if(own_network);
-        self.no_peer += number_if(no_peer);
-        self.last.malformed = newer(self.last.malformed, only_if(malformed, culprit));
-        self.last.own_network = newer(self.last.own_network, only_if(own_network, culprit));
-        self.last.no_peer = newer(self.last.no_peer, only_if(no_peer, culprit));
+        let enter = number_if(denies(Operation::Enter, denials));
+        let claim = number_if(denies(Operation::Claim, denials));
+        let malformed = number_if(is_malformed);
+        let own_network = number_if(is_own_network);
+        let no_peer = number_if(is_no_peer);
+        self.enter += enter;
+        self.claim += claim;
+        self.malformed += malformed;
+        self.own_network += own_network;
+        self.no_peer += no_peer;
+        self.last.malformed = newer(self.last.malformed, only_if(is_malformed, culprit));
+        self.last.own_network = newer(self.last.own_network, only_if(is_own_network, culprit));
+        self.last.no_peer = newer(self.last.no_peer, only_if(is_no_peer, culprit));
+        let drops = enter + claim + malformed + own_network + no_peer;
+        count_received(&mut self.ports, culprit, drops);
     }
 }

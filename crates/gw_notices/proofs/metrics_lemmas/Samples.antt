@@ -3,7 +3,8 @@ use Rattle.std.proofs.Common.{◌≡◌, ◌∙◌, ◌+◌, ◌++◌, ℕ, List
 use Rattle.std.proofs.lemmas.Grind.{flat_map-append}
 use Rattle.gw_rules.specs.declared.rule.Rule.{Rule}
 use Rattle.gw_script.specs.Order.{in_order}
-use Rattle.gw_notices.specs.metrics.Text.{Count, Help, KindOf, Line, Sample, decision_samples, family_lines, full_line, lines_text, numbered, port_line, port_sample, default_sample, rule_line, rule_sample}
+use Rattle.gw_notices.specs.metrics.Text.{Count, Help, KindOf, Line, Sample, decision_samples, family_lines, full_line, lines_text, numbered, port_line, port_sample, port_samples, default_sample, rule_line, rule_sample}
+use Rattle.gw_notices.specs.declared.metrics.counts.PortCounts.{PortCounts}
 use Rattle.gw_notices.specs.declared.metrics.family.Family.{Family}
 use Rattle.gw_notices.specs.declared.metrics.family.Family.TheVariants as family
 
@@ -31,20 +32,17 @@ one_more before now new lines line so_far then =
     ∙ ap (λ (t : List ℕ). before ++ (lines_text lines ++ t)) (sym (append-nil (full_line line)))
     ∙ ap (λ (t : List ℕ). before ++ t) (sym (flat_map-append full_line lines (line ∷ [])))
 
--- what is appended of numbered samples after what a family is
-pub ported : (counts before head new : List ℕ)
-    → head ≡ before ++ lines_text (Help family.ForeignDevices ∷ KindOf family.ForeignDevices ∷ [])
-    → new ≡ head ++ in_order port_line 1 counts
-    → new ≡ before ++ lines_text (family_lines family.ForeignDevices (Some (numbered port_sample 1 counts)))
-ported counts before head new begun last =
-    let top = lines_text (Help family.ForeignDevices ∷ KindOf family.ForeignDevices ∷ []) in
-    let all = in_order port_line 1 counts in
+-- what is appended of the samples of ports after what a family is
+pub ported : (f : Family) (ports : List PortCounts) (before head new : List ℕ) → head ≡ before ++ lines_text (Help f ∷ KindOf f ∷ [])
+    → new ≡ head ++ in_order (port_line f) 1 ports → new ≡ before ++ lines_text (family_lines f (port_samples f ports))
+ported f ports before head new begun last =
+    let top = lines_text (Help f ∷ KindOf f ∷ []) in
+    let all = in_order (port_line f) 1 ports in
     last
     ∙ ap (λ (t : List ℕ). t ++ all) begun
     ∙ append_assoc before top all
-    ∙ ap (λ (t : List ℕ). before ++ t) (head_first family.ForeignDevices all)
-    ∙ ap (λ (t : List ℕ). before ++ (full_line (Help family.ForeignDevices) ++ (full_line (KindOf family.ForeignDevices) ++ t)))
-    (sym (numbered_lines family.ForeignDevices port_sample 1 counts))
+    ∙ ap (λ (t : List ℕ). before ++ t) (head_first f all)
+    ∙ ap (λ (t : List ℕ). before ++ (full_line (Help f) ++ (full_line (KindOf f) ++ t))) (sym (numbered_lines f (port_sample f) 1 ports))
 
 -- and of those of the rules, after the one for no rule
 pub decided : (list : List Rule) (counts before head first new : List ℕ)

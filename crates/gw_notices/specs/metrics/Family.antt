@@ -23,6 +23,10 @@ families =
     ∷ family.Denials
     ∷ family.Decisions
     ∷ family.Unwatched
+    ∷ family.PortDatagrams
+    ∷ family.PortDrops
+    ∷ family.PortSends
+    ∷ family.PortSendFailures
     ∷ family.ForeignDevices
     ∷ family.Peers
     ∷ family.LearnedRoutes
@@ -48,6 +52,10 @@ family_name family.ReceiveFailures = codes "bacgw_receive_failures_total"
 family_name family.Denials = codes "bacgw_denials_total"
 family_name family.Decisions = codes "bacgw_decisions_total"
 family_name family.Unwatched = codes "bacgw_unwatched_events_total"
+family_name family.PortDatagrams = codes "bacgw_port_datagrams_total"
+family_name family.PortDrops = codes "bacgw_port_drops_total"
+family_name family.PortSends = codes "bacgw_port_sends_total"
+family_name family.PortSendFailures = codes "bacgw_port_send_failures_total"
 family_name family.ForeignDevices = codes "bacgw_foreign_devices"
 family_name family.Peers = codes "bacgw_peers"
 family_name family.LearnedRoutes = codes "bacgw_learned_routes"
@@ -72,6 +80,10 @@ family_help family.ReceiveFailures = codes "Receives that failed."
 family_help family.Denials = codes "Asks that were denied, each with its line in the log."
 family_help family.Decisions = codes "Asks that each rule decided, and those that none did (default), since the start or the last reload."
 family_help family.Unwatched = codes "Events whose asks were not counted, since memory was refused."
+family_help family.PortDatagrams = codes "Datagrams that came to the port and were taken, dropped ones included."
+family_help family.PortDrops = codes "Datagrams that came to the port and were not passed on, whatever the reason."
+family_help family.PortSends = codes "Datagrams that the system took on the port."
+family_help family.PortSendFailures = codes "Datagrams that the system refused on the port."
 family_help family.ForeignDevices = codes "Foreign devices that are registered, by the port."
 family_help family.Peers = codes "Other broadcast managers of all ports."
 family_help family.LearnedRoutes = codes "Networks whose router was learned."
@@ -97,6 +109,10 @@ family_kind family.ReceiveFailures = Counter
 family_kind family.Denials = Counter
 family_kind family.Decisions = Counter
 family_kind family.Unwatched = Counter
+family_kind family.PortDatagrams = Counter
+family_kind family.PortDrops = Counter
+family_kind family.PortSends = Counter
+family_kind family.PortSendFailures = Counter
 family_kind family.ForeignDevices = Gauge
 family_kind family.Peers = Gauge
 family_kind family.LearnedRoutes = Gauge

@@ -4,6 +4,7 @@ use Rattle.std.specs.List.{flat_map}
 use Rattle.gw_rules.specs.declared.rule.Rule.{Rule}
 use Rattle.gw_notices.specs.declared.metrics.counts.Counts.{Counts}
 use Rattle.gw_notices.specs.declared.metrics.counts.Drops.{Drops}
+use Rattle.gw_notices.specs.declared.metrics.counts.PortCounts.{PortCounts}
 use Rattle.gw_notices.specs.declared.metrics.counts.Reloads.{Reloads}
 use Rattle.gw_notices.specs.declared.metrics.counts.StateTries.{StateTries}
 use Rattle.gw_notices.specs.declared.metrics.family.Family.{Family}
@@ -99,12 +100,24 @@ decided_samples rules (Some counts) =
 abbrev pub rule_line : List ℕ → ℕ → Rule → List ℕ
 rule_line counts number rule = full_line (Count family.Decisions (rule_sample counts number rule))
 
--- the sample of the port of this number
-abbrev pub port_sample : ℕ → ℕ → Sample
-port_sample number count = labelled label.Port (decimal number) count
+-- what a family counts of a port
+abbrev pub port_number : Family → PortCounts → ℕ
+port_number family.PortDatagrams p = p.datagrams
+port_number family.PortDrops p = p.drops
+port_number family.PortSends p = p.sends
+port_number family.PortSendFailures p = p.send_failures
+port_number other p = p.foreign_devices
 
-abbrev pub port_line : ℕ → ℕ → List ℕ
-port_line number count = full_line (Count family.ForeignDevices (port_sample number count))
+-- the sample of the port of this number
+abbrev pub port_sample : Family → ℕ → PortCounts → Sample
+port_sample f number p = labelled label.Port (decimal number) (port_number f p)
+
+abbrev pub port_line : Family → ℕ → PortCounts → List ℕ
+port_line f number p = full_line (Count f (port_sample f number p))
+
+-- the samples of a family that counts by port
+abbrev pub port_samples : Family → List PortCounts → Option (List Sample)
+port_samples f ports = Some (numbered (port_sample f) 1 ports)
 
 abbrev pub reload_samples : Reloads → List Sample
 reload_samples r =
@@ -144,7 +157,11 @@ samples_of c family.ReceiveFailures = single c.receive_failures
 samples_of c family.Denials = single c.denials
 samples_of c family.Decisions = decided_samples c.rules.now c.decisions.now
 samples_of c family.Unwatched = single c.unwatched
-samples_of c family.ForeignDevices = Some (numbered port_sample 1 c.foreign_devices.now)
+samples_of c family.PortDatagrams = port_samples family.PortDatagrams c.ports.now
+samples_of c family.PortDrops = port_samples family.PortDrops c.ports.now
+samples_of c family.PortSends = port_samples family.PortSends c.ports.now
+samples_of c family.PortSendFailures = port_samples family.PortSendFailures c.ports.now
+samples_of c family.ForeignDevices = port_samples family.ForeignDevices c.ports.now
 samples_of c family.Peers = single c.peers
 samples_of c family.LearnedRoutes = single c.learned_routes
 samples_of c family.Reloads = Some (reload_samples c.reloads)

@@ -38,6 +38,21 @@ pub struct StateTries {
     pub unkept: u64,
 }
 
+/// What is written of a port.
+#[derive(Clone, Copy)]
+pub struct PortCounts {
+    /// How many foreign devices are registered at it.
+    pub foreign_devices: u64,
+    /// How many datagrams came to it.
+    pub datagrams: u64,
+    /// How many of them weren't passed on, whatever the reason, but for want of memory.
+    pub drops: u64,
+    /// How many sends on it succeeded.
+    pub sends: u64,
+    /// How many sends on it failed.
+    pub send_failures: u64,
+}
+
 /// What is written of a gateway at a moment. What was done is counted from some moment on, such as the start of the program.
 #[derive(Clone, Copy)]
 pub struct Counts<'a> {
@@ -67,8 +82,8 @@ pub struct Counts<'a> {
     pub decisions: &'a Option<Tally>,
     /// How many events weren't counted there, since memory was refused.
     pub unwatched: u64,
-    /// How many foreign devices are registered at each port, in order.
-    pub foreign_devices: &'a [u64],
+    /// What is written of each port, in order.
+    pub ports: &'a [PortCounts],
     /// How many peers all ports have.
     pub peers: u64,
     /// How many networks have a learned route.

@@ -32,6 +32,14 @@ pub enum Family {
     Decisions,
     /// How many events weren't counted there.
     Unwatched,
+    /// How many datagrams came to each port.
+    PortDatagrams,
+    /// How many of them weren't passed on, by the port.
+    PortDrops,
+    /// How many sends on each port succeeded.
+    PortSends,
+    /// How many sends on each port failed.
+    PortSendFailures,
     /// How many foreign devices are registered, by the port.
     ForeignDevices,
     /// How many peers the ports have.
@@ -108,7 +116,7 @@ impl Label {
 
 impl Family {
     /// All families, in the order of the text.
-    pub const ALL: [Family; 22] = [
+    pub const ALL: [Family; 26] = [
         Family::Build,
         Family::Ticks,
         Family::Received,
@@ -122,6 +130,10 @@ impl Family {
         Family::Denials,
         Family::Decisions,
         Family::Unwatched,
+        Family::PortDatagrams,
+        Family::PortDrops,
+        Family::PortSends,
+        Family::PortSendFailures,
         Family::ForeignDevices,
         Family::Peers,
         Family::LearnedRoutes,
@@ -151,6 +163,10 @@ impl Family {
             Family::Denials => "bacgw_denials_total",
             Family::Decisions => "bacgw_decisions_total",
             Family::Unwatched => "bacgw_unwatched_events_total",
+            Family::PortDatagrams => "bacgw_port_datagrams_total",
+            Family::PortDrops => "bacgw_port_drops_total",
+            Family::PortSends => "bacgw_port_sends_total",
+            Family::PortSendFailures => "bacgw_port_send_failures_total",
             Family::ForeignDevices => "bacgw_foreign_devices",
             Family::Peers => "bacgw_peers",
             Family::LearnedRoutes => "bacgw_learned_routes",
@@ -198,6 +214,12 @@ impl Family {
             Family::Decisions =>
                 "Asks that each rule decided, and those that none did (default), since the start or the last reload.",
             Family::Unwatched => "Events whose asks were not counted, since memory was refused.",
+            Family::PortDatagrams =>
+                "Datagrams that came to the port and were taken, dropped ones included.",
+            Family::PortDrops =>
+                "Datagrams that came to the port and were not passed on, whatever the reason.",
+            Family::PortSends => "Datagrams that the system took on the port.",
+            Family::PortSendFailures => "Datagrams that the system refused on the port.",
             Family::ForeignDevices => "Foreign devices that are registered, by the port.",
             Family::Peers => "Other broadcast managers of all ports.",
             Family::LearnedRoutes => "Networks whose router was learned.",

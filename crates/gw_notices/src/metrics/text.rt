@@ -4,9 +4,9 @@ ghost use Rattle.std.specs.Prelude.{◌≡◌, ◌++◌, ◌+◌, [], ◌∷◌,
 ghost use Rattle.std.specs.List.{flat_map};
 ghost use Rattle.gw_script.specs.Order.{in_order};
 ghost use Rattle.gw_notices.specs.metrics.Family.{families};
-ghost use Rattle.gw_notices.specs.metrics.Text.{Count, Help, KindOf, build_samples, decided_samples, decision_samples, drop_samples, family_lines, family_text, full_line, kept_samples, labelled, label_text, lines_text, lost_samples, metrics_text, number_if, numbered, plain, port_line, port_sample, reload_samples, rule_line, single, unkept_samples};
+ghost use Rattle.gw_notices.specs.metrics.Text.{Count, Help, KindOf, build_samples, decided_samples, decision_samples, drop_samples, family_lines, family_text, full_line, kept_samples, labelled, label_text, lines_text, lost_samples, metrics_text, number_if, plain, port_line, port_number, port_samples, reload_samples, rule_line, single, unkept_samples};
 
-use crate::metrics::counts::{Counts, Drops, Reloads, StateTries};
+use crate::metrics::counts::{Counts, Drops, PortCounts, Reloads, StateTries};
 use crate::metrics::escape::put_escaped;
 use crate::metrics::family::{Family, Label};
 use gw_addr::{keep_whole, put_decimal, put_slice};
@@ -79,7 +79,11 @@ fn put_family(family: Family, counts: &Counts<'_>, out: &mut Vec<u8>) -> Result<
         Family::Denials => put_single(family, u128::from(counts.denials), out),
         Family::Decisions => put_decisions(counts.rules, counts.decisions, out),
         Family::Unwatched => put_single(family, u128::from(counts.unwatched), out),
-        Family::ForeignDevices => put_foreign_devices(counts.foreign_devices, out),
+        Family::PortDatagrams => put_by_port(family, counts.ports, out),
+        Family::PortDrops => put_by_port(family, counts.ports, out),
+        Family::PortSends => put_by_port(family, counts.ports, out),
+        Family::PortSendFailures => put_by_port(family, counts.ports, out),
+        Family::ForeignDevices => put_by_port(family, counts.ports, out),
         Family::Peers => put_single(family, u128::from(counts.peers), out),
         Family::LearnedRoutes => put_single(family, u128::from(counts.learned_routes), out),
         Family::Reloads => put_reloads(counts.reloads, out),
@@ -101,7 +105,7 @@ fn put_head(family: Family, out: &mut Vec<u8>) -> Result<(), AllocError>
     put_kind(family, out)
 }
 
-#[tactic(auto, unfolding(crate::specs::Text::full_line))]
+#[tactic(auto, unfolding(crate::specs::metrics::Text::full_line))]
 fn put_help(family: Family, out: &mut Vec<u8>) -> Result<(), AllocError>
     ensures { OnOk result (out.new.items ≡ out.old.items ++ full_line (Help family)) }
 {
@@ -112,7 +116,7 @@ fn put_help(family: Family, out: &mut Vec<u8>) -> Result<(), AllocError>
     put_slice(out, b"\n")
 }
 
-#[tactic(auto, unfolding(crate::specs::Text::full_line))]
+#[tactic(auto, unfolding(crate::specs::metrics::Text::full_line))]
 fn put_kind(family: Family, out: &mut Vec<u8>) -> Result<(), AllocError>
     ensures { OnOk result (out.new.items ≡ out.old.items ++ full_line (KindOf family)) }
 {
@@ -133,7 +137,7 @@ fn put_number(number: u128, out: &mut Vec<u8>) -> Result<(), AllocError>
 }
 
 /// Appends a sample that has no label.
-#[tactic(auto, unfolding(crate::specs::Text::full_line))]
+#[tactic(auto, unfolding(crate::specs::metrics::Text::full_line))]
 fn put_plain(family: Family, number: u128, out: &mut Vec<u8>) -> Result<(), AllocError>
     ensures { OnOk result (out.new.items ≡ out.old.items ++ full_line (Count family (plain number))) }
 {
@@ -153,7 +157,7 @@ fn put_label(label: Label, value: &[u8], out: &mut Vec<u8>) -> Result<(), AllocE
 }
 
 /// Appends a sample that has a label of this value.
-#[tactic(auto, unfolding(crate::specs::Text::full_line))]
+#[tactic(auto, unfolding(crate::specs::metrics::Text::full_line))]
 fn put_labelled(
     family: Family,
     label: Label,
@@ -277,31 +281,53 @@ fn put_rule(rule: &Rule, count: u64, out: &mut Vec<u8>) -> Result<(), AllocError
     )
 }
 
-fn put_foreign_devices(counts: &[u64], out: &mut Vec<u8>) -> Result<(), AllocError>
-    ensures { OnOk result (out.new.items ≡ out.old.items
-        ++ lines_text (family_lines Family.ForeignDevices (Some (numbered port_sample 1 counts.now)))) }
+/// Appends a family that counts by port.
+fn put_by_port(
+    family: Family,
+    ports: &[PortCounts],
+    out: &mut Vec<u8>,
+) -> Result<(), AllocError>
+    ensures { OnOk result (out.new.items ≡ out.old.items ++ lines_text (family_lines family (port_samples family ports.now))) }
 {
-    put_head(Family::ForeignDevices, out)?;
-    put_ports(counts, out)
+    put_head(family, out)?;
+    put_ports(family, ports, out)
 }
 
-fn put_ports(counts: &[u64], out: &mut Vec<u8>) -> Result<(), AllocError>
-    ensures { OnOk result (out.new.items ≡ out.old.items ++ in_order port_line 1 counts.now) }
+fn put_ports(family: Family, ports: &[PortCounts], out: &mut Vec<u8>) -> Result<(), AllocError>
+    ensures { OnOk result (out.new.items ≡ out.old.items ++ in_order (port_line family) 1 ports.now) }
 {
-    for place in 0..counts.len() {
-        put_port(place + 1, counts[place], out)?;
+    for place in 0..ports.len() {
+        put_port(family, place + 1, ports[place], out)?;
     }
     Ok(())
 }
 
-fn put_port(number: usize, count: u64, out: &mut Vec<u8>) -> Result<(), AllocError>
-    ensures { OnOk result (out.new.items ≡ out.old.items ++ port_line number count) }
+/// What a family counts of a port.
+fn port_number(family: Family, port: PortCounts) -> u64
+    ensures { result ≡ port_number family port }
+{
+    match family {
+        Family::PortDatagrams => port.datagrams,
+        Family::PortDrops => port.drops,
+        Family::PortSends => port.sends,
+        Family::PortSendFailures => port.send_failures,
+        _ => port.foreign_devices,
+    }
+}
+
+fn put_port(
+    family: Family,
+    number: usize,
+    port: PortCounts,
+    out: &mut Vec<u8>,
+) -> Result<(), AllocError>
+    ensures { OnOk result (out.new.items ≡ out.old.items ++ port_line family number port) }
 {
     put_labelled(
-        Family::ForeignDevices,
+        family,
         Label::Port,
         Buffer::new().format(number).as_bytes(),
-        u128::from(count),
+        u128::from(port_number(family, port)),
         out,
     )
 }

@@ -1,11 +1,18 @@
-use Rattle.std.proofs.Common.{◌≡◌, ◌+◌, ◌<◌, ◌∷◌, ◌++◌, [], List, length, take, sym, ap, subst, ◌∙◌, arith}
+use Rattle.std.proofs.Common.{◌≡◌, ◌+◌, ◌<◌, ◌∷◌, ◌++◌, [], List, length, take, sym, ap, subst, ◌∙◌, arith, refl}
 use Rattle.std.specs.List.{flat_map}
 use Rattle.std.proofs.lemmas.List.{flat_map_more, take_more}
 use Rattle.std.proofs.lemmas.List.Folds.{length-flat_map-take}
 use Rattle.gw_relay.specs.Sends.{Batch, Sending, sendings_of}
 use Rattle.gw_turns.specs.ServeTurn.{AreTried}
-use Rattle.gw_turns.proofs.ServeLemmas.{tried_along, tried_counted, tried_failures}
+use Rattle.gw_turns.proofs.ServeLemmas.{none_tried, tried_along, tried_counted, tried_failures}
 use Rattle.gw_turns.proofs.serving.try_sends.Goals as goal
+
+pub loop-batch-init : goal.loop-batch-init
+loop-batch-init g c = record {
+  tried = none_tried (g.W.Wire.calls c.args.wire.now) c.args.served.now (g.W.Wire.failure_count c.args.wire.now);
+  ports = refl;
+  behind = refl;
+}
 
 pub try_batch-requires-clause-counts : goal.try_batch-requires-clause-counts
 try_batch-requires-clause-counts g c =

@@ -4,4 +4,4 @@ use Rattle.gw_notices.specs.metrics.Text.{port_line}
 use Rattle.gw_notices.proofs.metrics.text.put_ports.Given as goal
 
 abbrev pub invariant-loop-place : goal.invariant-loop-place
-invariant-loop-place l = l.out.items ≡ l.fn.out.items ++ in_order port_line 1 (take l.place l.counts)
+invariant-loop-place l = l.out.items ≡ l.fn.out.items ++ in_order (port_line l.family) 1 (take l.place l.ports)

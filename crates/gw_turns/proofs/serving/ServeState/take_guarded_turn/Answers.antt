@@ -1,11 +1,11 @@
-use Rattle.std.proofs.Common.{◌≡◌, None, Some, Err, Bool, true, refl, ap, subst, arith}
+use Rattle.std.proofs.Common.{◌≡◌, ℕ, None, Some, Err, Bool, true, refl, ap, subst, arith}
 use Rattle.std.proofs.lemmas.Grind.{common_steps}
 use Rattle.std.specs.Io.KnownBytes.{Appends}
 use Rattle.gw_script.specs.Event.{event_view}
 use Rattle.gw_script.proofs.Passing.{passes_on}
 use Rattle.gw_core.specs.declared.effects.Effects.{Effects}
 use Rattle.gw_turns.specs.Serve.{empty_turn, failed_turn, lines_of, lost_event, scene}
-use Rattle.gw_turns.specs.ServeTurn.{GuardedEnd}
+use Rattle.gw_turns.specs.ServeTurn.{AreTried, GuardedEnd}
 use Rattle.gw_turns.specs.Stretch.{IsLoggedLast, count_taken, moment}
 use Rattle.gw_turns.proofs.GuardLemmas.{guarded_fault, guarded_with, guarded_without, seen_by}
 use Rattle.gw_turns.proofs.ServeLemmas.{arrives, ends_by, lead_without, tallied, tried_counted}
@@ -93,8 +93,13 @@ returns-clause-end g c =
     (c.in-Ok.ensures.seen refl) in
     let passes = subst (λ (b : Bool). g.G.Guard.Passes guard c.args.gateway.now event c.pass.new.self b) c.if-not-pass.false
     (c.pass.ensures c.args.gateway.now event taken seen) in
-    guarded_with g.G.Guard.Passes guard c.pass.new.self before middle (g.W.Wire.calls c.try_sends.new.wire) c.args.self.now.served
-    c.try_sends.new.served c.args.self.now.tally c.count.new.self _ _ event c.in-Ok.taken taken logged counted passes c.try_sends.ensures.tried
+    let was = c.args.self.now.served in
+    let sends = g.W.Wire.calls c.try_sends.new.wire in
+    let failures = g.W.Wire.failure_count in
+    let tried = subst (λ (n : ℕ). AreTried c.in-Ok.taken.effects.sends records sends (record (count_taken was) { ticks = n })
+    c.try_sends.new.served (failures c.receive.new.wire) (failures c.try_sends.new.wire)) c.ticks_with-self.ensures c.try_sends.ensures.tried in
+    guarded_with g.G.Guard.Passes guard c.pass.new.self before middle sends was c.try_sends.new.served c.args.self.now.tally c.count.new.self _ _ event
+    c.in-Ok.taken taken logged counted passes tried
 
 pub returns-clause-few : goal.returns-clause-few
 returns-clause-few g c = omega (arith, tried_counted _ _ _ _ _ _ _ c.try_sends.ensures.tried, c.try_sends.ensures.few)

@@ -1,0 +1,11 @@
+use Rattle.std.specs.Io.KnownBytes.{Appends}
+use Rattle.gw_turns.specs.Reports.{port_lines}
+use Rattle.gw_turns.proofs.report.write_ports.Given as goal
+
+-- The lines of the ports so far were written, and what never fails goes on to never fail.
+abbrev pub invariant-loop-place : goal.invariant-loop-place
+invariant-loop-place g l =
+    let sink = g.S.OctetSink in record {
+      written : Appends (sink.held l.fn.sink) (sink.held l.sink) (port_lines l.report l.place);
+      lasts : sink.NeverFails l.fn.sink → sink.NeverFails l.sink;
+    }
