@@ -11,6 +11,7 @@ mod seen;
 mod serving;
 mod stretch;
 mod tally;
+mod unwritten;
 
 pub use alike::Part;
 pub use announcing::Announcing;
@@ -21,3 +22,4 @@ pub use seen::Refusals;
 pub use serving::{ServeFault, ServeState, ServeStop, Served, serve};
 pub use stretch::Pause;
 pub use tally::{Culprit, Culprits, Tally};
+pub use unwritten::write_out;
