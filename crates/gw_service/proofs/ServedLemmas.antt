@@ -266,9 +266,10 @@ by_fault c turns last before after serving.Memory done stops = inl (record { gat
 by_fault c turns last before after serving.CountEnd done stops = record { gateway = last; served = done; stops = stops }
 
 stopped : (c : Configuration) (count : ℕ) (before after : Ends) (moment last : Scene) (turns : List Turn) (f : ServeFault) (event : Event)
-    → length turns < count → LeadTo (first_scene c before) turns moment → EndsBy f moment event last → last.log ≡ after.log
+    (unwritten : List ℕ)
+    → length turns < count → LeadTo (first_scene c before) turns moment → EndsBy f unwritten moment event last → last.log ≡ after.log
     → last.calls ≡ after.calls → Serves c count before after (Err (fault_of_serving f))
-stopped c count before after moment last turns f event fewer went ends log calls =
+stopped c count before after moment last turns f event unwritten fewer went ends log calls =
     let same = scene_as last last.gateway after.log after.calls refl log calls in
     by_fault c count last.gateway before after f (count_fault (counts_of turns) f) (record {
       turns = turns;
@@ -276,7 +277,8 @@ stopped c count before after moment last turns f event fewer went ends log calls
       moment = moment;
       went = went;
       event = event;
-      last = subst (λ (x : Scene). EndsBy f moment event x) same ends;
+      unwritten = unwritten;
+      last = subst (λ (x : Scene). EndsBy f unwritten moment event x) same ends;
       counts = refl;
     })
 
@@ -334,7 +336,7 @@ run_serves held how count c before after s t (Err f) failing links runs none now
     let from = lead_along (first_scene c before) s.now.scene runs.then.now.scene [] led.turns at led.led in
     let end = runs.ends.ends in
     let counted = ap (λ (x : Served). x.turns) led.counts in
-    stopped c count before after end.then.scene t.now.scene (led.turns ++ end.turns) f end.event
+    stopped c count before after end.then.scene t.now.scene (led.turns ++ end.turns) f end.event runs.unwritten
     (omega (arith, runs.most, end.fewer, counted, turns_counted s.now.served led.turns, length-append led.turns end.turns))
     (lead_along (first_scene c before) runs.then.now.scene end.then.scene led.turns end.turns from end.went.went) end.last.last log calls
 
