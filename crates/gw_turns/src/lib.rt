@@ -16,7 +16,7 @@ mod unwritten;
 pub use alike::Part;
 pub use announcing::Announcing;
 pub use keeper::Keeper;
-pub use pace::Pace;
+pub use pace::{Pace, one_more};
 pub use report::{Report, has_gone_on, report_of, write_announcing, write_culprits, write_report};
 pub use seen::Refusals;
 pub use serving::{ServeFault, ServeState, ServeStop, Served, serve};

@@ -36,6 +36,7 @@ pub fn write_out<L: OctetSink>(text: &mut Vec<u8>, log: &mut L) -> bool
     ensures parts { (front : List ℕ) × (text.old.items ≡ front ++ text.new.items)
         × Appends (L.held log.old) (L.held log.new) front }
     ensures all { result ≡ true → text.new.items ≡ [] }
+    ensures shorter { length text.new.items ≤ length text.old.items }
     ensures sure { L.NeverFails log.old → result ≡ true }
     ensures lasting { L.NeverFails log.old → L.NeverFails log.new }
 {
