@@ -1,5 +1,6 @@
 mod ChainLemmas
 mod EndLemmas
+mod HoldingLemmas
 mod KeptLemmas
 mod LawLemmas
 mod MeteringLemmas

@@ -260,7 +260,7 @@ impl<K: StateKeeper, Q: Requests, M: Store + Drop> Running<K, Q, M> {
     /// Serves a stretch of at most so many turns, and does what is due after it: after a tick it makes the log last first, and then
     /// does also what is to be announced. If another tick is due already, what is due is left to that one. It answers how the run
     /// ends, if it is to stop, or the log can't be made to last; then nothing else is done. Faults: those of serving.
-    fn advance<W: Wire, L: Notes, E: OctetSink>(
+    pub(crate) fn advance<W: Wire, L: Notes, E: OctetSink>(
         &mut self,
         alloc: Global,
         wire: &mut W,
@@ -429,7 +429,7 @@ impl<K: StateKeeper, Q: Requests, M: Store + Drop> Running<K, Q, M> {
 
     /// Does what is due at the end of a run that ended so: keeps its state once more, and reports what was done, and what else is
     /// due if it was asked to stop.
-    fn end<E: OctetSink>(
+    pub(crate) fn end<E: OctetSink>(
         &mut self,
         alloc: Global,
         answer: Result<End, ServeFault>,

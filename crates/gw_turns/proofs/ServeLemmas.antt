@@ -62,7 +62,7 @@ unfolding run_from state_from
 run_along w [] m = refl
 run_along w (e ∷ l) m = ap (λ (r : List Effects). effects_at w e ∷ r) (run_along (next w e) l m)
 
-log_along : (r s : List Effects) → log_of (r ++ s) ≡ log_of r ++ log_of s
+pub log_along : (r s : List Effects) → log_of (r ++ s) ≡ log_of r ++ log_of s
 log_along r s = ap lines_of (flat_map-append (λ x. x.denials) r s) ∙ flat_map-append line_text (denials_of_run r) (denials_of_run s)
 
 -- ---- turns, one list after the other
