@@ -273,7 +273,9 @@ goes_on (Err fault) = false
 -- what comes of a stretch and of what is done after it, by its answer: steps, or serving ended so
 abbrev pub GoesTo : {K : Type 0} → Manner (Holding K) → Hold K → Result (Option End) ServeFault → (text : List ℕ) → Hold K → Type 0
 GoesTo manner s (Ok None) text t = (steps : List Step) × AreSteps manner s steps t × (text ≡ steps_text steps)
-GoesTo manner s (Ok (Some how)) text t = EndsHolding manner (Ok how) s text t
+GoesTo manner s (Ok (Some end.Turns)) text t = ⊥
+GoesTo manner s (Ok (Some end.Stopped)) text t = EndsHolding manner (Ok end.Stopped) s text t
+GoesTo manner s (Ok (Some end.Unsynced)) text t = EndsHolding manner (Ok end.Unsynced) s text t
 GoesTo manner s (Err fault) text t = EndsHolding manner (Err fault) s text t
 
 -- what waits, if something does, was tried to be written

@@ -202,6 +202,7 @@ impl<K: StateKeeper, Q: Requests, M: Store + Drop> HoldingRun<K, Q, M> {
         let ended = self.step_on_waiting(alloc, wire, errors, schedule, turns);
         if goes_on(ended) && ticks < self.running.gateway.counts().ticks {
             self.write(log, errors);
+            return Ok(None);
         }
         ended
     }
