@@ -17,15 +17,8 @@ use Rattle.gw_turns.specs.declared.serving.ServeFault.TheVariants as serving
 use Rattle.gw_wire.specs.Wire.{Call, Records, arrival}
 use Rattle.gw_notices.specs.declared.troubles.Troubles.{Troubles}
 use Rattle.gw_system.specs.Requests.{Asking}
-use Rattle.gw_service.specs.Chain.{Begins, EndsSo, IsLink, IsServed, IsTicked, Link, Manner, Stage, ended, link_text, manner, served, stage, stopping, ticked, withheld}
-use Rattle.gw_core.specs.declared.event.Counts.{Counts}
-use Rattle.gw_notices.specs.Notices.{no_troubles, notice_of}
-use Rattle.gw_notices.specs.declared.reload.ReloadCounts.{ReloadCounts}
-use Rattle.gw_turns.specs.declared.serving.Served.{Served}
-use Rattle.gw_turns.specs.declared.tally.Tally.{Tally}
-use Rattle.gw_service.specs.Kept.{EndsRun, Rest}
+use Rattle.gw_service.specs.Chain.{EndsSo, IsLink, IsServed, IsTicked, Link, Manner, Stage, ended, link_text, manner, served, stage, stopping, ticked, withheld}
 use Rattle.gw_service.specs.Metering.{metered, meters_by}
-use Rattle.gw_service.specs.Serving.{Ends}
 use Rattle.gw_service.specs.Stats.{Reporting, all_stats, due_stats}
 use Rattle.gw_service.specs.declared.holding.Holding.{Holding}
 use Rattle.gw_service.specs.declared.running.End.{End}
@@ -59,6 +52,10 @@ TicksHolding Ticks h w i = DoesHolding (λ k l. Ticks k w l) h i
 
 abbrev pub AdoptsHolding : {K : Type 0} → (K → Configuration → State → K → Type 0) → Holding K → Configuration → State → Holding K → Type 0
 AdoptsHolding Adopts h c w i = DoesHolding (λ k l. Adopts k c w l) h i
+
+-- a keeper while nothing waits and nothing was withheld
+abbrev pub unheld : {K : Type 0} → K → Holding K
+unheld keeper = record { keeper = keeper; waiting = 0; withheld = 0 }
 
 -- ---- what is reported
 
@@ -308,20 +305,3 @@ pub record RunsHolding {K : Type 0} (manner : Manner (Holding K)) (count : ℕ) 
   pub finishes : Finishes ended last_text last
   pub answers : answer ≡ answer_holding last.waiting how
   pub says : text ≡ served_text ++ last_text
-
--- A run from a stage, while nothing waits: what isn't kept or recorded is reported first, then what is due is announced, and last is
--- what it does at its end.
-pub record RunsFromHolding {K : Type 0} (manner : Manner (Holding K))
-    (last_report : Holding K → ReloadCounts → Announcing → Option ℕ → State → Served → Tally → List ℕ)
-    (start : Counts) (turns : ℕ) (first : Stage (Holding K)) (answer : Result End ServeFault) (after : Ends) (left : Rest (Holding K)) (text : List ℕ)
-    : Type 0 where
-  pub begun : Stage (Holding K)
-  pub begins : Begins first begun
-  pub last : Hold K
-  pub run_text : List ℕ
-  pub runs : RunsHolding manner turns (hold begun []) answer run_text last
-  pub log : last.stage.now.scene.log ≡ after.log
-  pub calls : last.stage.now.scene.calls ≡ after.calls
-  pub end_text : List ℕ
-  pub ends : EndsRun manner last_report start answer last.stage left end_text
-  pub said : text ≡ (notice_of no_troubles first.said ++ run_text) ++ end_text

@@ -57,19 +57,6 @@ fn write_held<E: OctetSink>(withheld: u64, waiting: u64, errors: &mut E) -> Resu
 }
 
 impl<K> Holding<K> {
-    /// This keeper, while nothing waits and nothing was withheld.
-    pub(crate) fn new(keeper: K) -> Self
-        ensures keeper { result.keeper ≡ keeper }
-        ensures waiting { result.waiting ≡ 0 }
-        ensures withheld { result.withheld ≡ 0 }
-    {
-        Holding {
-            keeper,
-            waiting: 0,
-            withheld: 0,
-        }
-    }
-
     /// Whether an event that was taken is withheld: lines wait, and it denies something.
     fn withholds(&self, taken: &Taken) -> bool
         ensures { result ≡ (not (self.now.waiting == 0) && not (length taken.now.effects.denials == 0)) }
