@@ -13,10 +13,19 @@ use Rattle.gw_turns.specs.Pace.{one_more}
 use Rattle.gw_turns.specs.Serve.{Turn, taken_event}
 use Rattle.gw_turns.specs.declared.serving.ServeFault.{ServeFault}
 use Rattle.gw_turns.specs.declared.serving.ServeFault.TheVariants as serving
-use Rattle.gw_service.specs.Chain.{Advances, Edge, EndsSo, IsLink, IsServed, IsTicked, Manner, Stage, stopping}
+use Rattle.gw_service.specs.Chain.{Advances, Begins, Edge, EndsSo, IsLink, IsServed, IsTicked, Manner, Stage, stopping}
 use Rattle.gw_service.specs.Holding.{AreSteps, EndsHolding, Finishes, GoesTo, Hold, IsStep, OverLog, OverWaiting, RunsHolding, ServesHolding, Step}
-use Rattle.gw_service.specs.Holding.{answer_holding, counting, failed, has_log_failed, held, hold, over, step_text, steps_text, straight, waits_line, written}
-use Rattle.gw_service.specs.Kept.{is_stopped}
+use Rattle.gw_service.specs.Holding.{answer_holding, counting, failed, goes_on, has_log_failed, held, hold, over, step_text, steps_text, straight, waits_line, written}
+use Rattle.gw_core.specs.State.{State}
+use Rattle.gw_core.specs.declared.event.Counts.{Counts}
+use Rattle.gw_notices.specs.Notices.{no_troubles, notice_of}
+use Rattle.gw_notices.specs.declared.reload.ReloadCounts.{ReloadCounts}
+use Rattle.gw_notices.specs.declared.troubles.Troubles.{Troubles}
+use Rattle.gw_turns.specs.declared.announcing.Announcing.{Announcing}
+use Rattle.gw_turns.specs.declared.serving.Served.{Served}
+use Rattle.gw_turns.specs.declared.tally.Tally.{Tally}
+use Rattle.gw_service.specs.Kept.{EndsRun, Rest, RunsFromHolding, is_stopped}
+use Rattle.gw_service.specs.Serving.{Ends}
 use Rattle.gw_service.specs.declared.holding.Holding.{Holding}
 use Rattle.gw_service.specs.declared.running.End.{End}
 use Rattle.gw_service.specs.declared.running.End.TheVariants as end
@@ -123,6 +132,13 @@ goes_failed m count s then was is (Err serving.Log) text edge none grew fails co
     (record { none = none; then = then; count = count; ends = ends; turns_are = refl; event_is = refl; stage = refl })
     (ap (λ (l : List ℕ). l ++ waits_line) comes.1)
 
+-- one after which serving goes on
+pub goes_on_by : {K : Type 0} (m : Manner (Holding K)) (s t : Hold K) (answer : Result (Option End) ServeFault) (text : List ℕ)
+    → goes_on answer ≡ true → GoesTo m s answer text t → GoesTo m s (Ok None) text t
+goes_on_by m s t (Ok None) text is goes = goes
+goes_on_by m s t (Ok (Some how)) text is goes = absurd cc
+goes_on_by m s t (Err fault) text is goes = absurd cc
+
 -- and what waits is tried to be written
 pub goes_written : {K : Type 0} (m : Manner (Holding K)) (s t u : Hold K) (text more : List ℕ) → GoesTo m s (Ok None) text t
     → Finishes t more u → GoesTo m s (Ok None) (text ++ more) u
@@ -171,16 +187,16 @@ stepped_more m o p q first now next Never Then was middle is steps gone lasts = 
     )
 
 -- how serving ends, from each configuration of this origin
-abbrev pub Served : {K : Type 0} → Manner (Holding K) → ℕ → Origin → (Configuration → Hold K) → Result End ServeFault → Origin
+abbrev pub ServedSo : {K : Type 0} → Manner (Holding K) → ℕ → Origin → (Configuration → Hold K) → Result End ServeFault → Origin
     → (Configuration → Hold K) → (Never : Type 0) → (was is : Option (List ℕ)) → Type 0
-Served m count o first how p last Never was is =
+ServedSo m count o first how p last Never was is =
     (c : Configuration) → o ≡ origin_of c → (d : Configuration) × (text : List ℕ) × (p ≡ origin_of d)
     × ServesHolding m count (first c) how text (last d) × (Never → Appends was is text)
 
 pub served_whole : {K : Type 0} (m : Manner (Holding K)) (count : ℕ) (o p : Origin) (first last : Configuration → Hold K) (Never : Type 0)
     (was is : Option (List ℕ)) → Stepped m o first p last Never was is
     → ((c d : Configuration) → (last d).stage.now.served.turns ≡ (first c).stage.now.served.turns + count)
-    → Served m count o first (Ok end.Turns) p last Never was is
+    → ServedSo m count o first (Ok end.Turns) p last Never was is
 served_whole m count o p first last Never was is steps all = λ c from.
     let led = steps c from in (
       led.0,
@@ -203,7 +219,7 @@ ended_so : {K : Type 0} (m : Manner (Holding K)) (count : ℕ) (o p q : Origin) 
     (Never Then : Type 0) (was middle is : Option (List ℕ)) → Stepped m o first p now Never was middle
     → ((c : Configuration) → p ≡ origin_of c → (d : Configuration) × (text : List ℕ) × (q ≡ origin_of d)
     × EndsHolding m how (now c) text (last d) × (Then → Appends middle is text))
-    → (Never → Then) → ¬ (how ≡ Ok end.Turns) → Served m count o first how q last Never was is
+    → (Never → Then) → ¬ (how ≡ Ok end.Turns) → ServedSo m count o first how q last Never was is
 ended_so m count o p q first now last how Never Then was middle is steps ends lasts other = λ c from.
     let before = steps c from in
     let after = ends before.0 before.2 in (
@@ -233,7 +249,7 @@ fault_else fault e = cc
 
 pub served_so : {K : Type 0} (m : Manner (Holding K)) (count : ℕ) (o p q : Origin) (first now last : Configuration → Hold K) (how : End)
     (Never Then : Type 0) (was middle is : Option (List ℕ)) → Stepped m o first p now Never was middle
-    → Gone m p now (Ok (Some how)) q last Then middle is → (Never → Then) → Served m count o first (Ok how) q last Never was is
+    → Gone m p now (Ok (Some how)) q last Then middle is → (Never → Then) → ServedSo m count o first (Ok how) q last Never was is
 served_so m count o p q first now last end.Turns Never Then was middle is steps gone lasts = λ c from.
     let before = steps c from in
     absurd (gone before.0 before.2).3
@@ -244,7 +260,7 @@ served_so m count o p q first now last end.Unsynced Never Then was middle is ste
 
 pub served_fault : {K : Type 0} (m : Manner (Holding K)) (count : ℕ) (o p q : Origin) (first now last : Configuration → Hold K) (fault : ServeFault)
     (Never Then : Type 0) (was middle is : Option (List ℕ)) → Stepped m o first p now Never was middle
-    → Gone m p now (Err fault) q last Then middle is → (Never → Then) → Served m count o first (Err fault) q last Never was is
+    → Gone m p now (Err fault) q last Then middle is → (Never → Then) → ServedSo m count o first (Err fault) q last Never was is
 served_fault m count o p q first now last fault Never Then was middle is steps gone lasts =
     ended_so m count o p q first now last (Err fault) Never Then was middle is steps gone lasts (fault_else fault)
 
@@ -254,3 +270,41 @@ pub stopped_before : (written : Bool) (how : Result End ServeFault) → is_stopp
     → is_stopped how ≡ true
 stopped_before true how e = e
 stopped_before false how e = absurd cc
+
+-- a run reports first what isn't kept or recorded, and last it does what is due at its end
+pub ran_holding : {K : Type 0} (m : Manner (Holding K)) (report : Holding K → ReloadCounts → Announcing → Option ℕ → State → Served → Tally → List ℕ)
+    (start : Counts) (count : ℕ) (at begun : Troubles → Stage (Holding K)) (p : Origin) (was is troubles : Troubles) (waiting : List ℕ)
+    (last : Configuration → Hold K)
+    (answer : Result End ServeFault) (after : Ends) (left : Rest (Holding K)) (Never Then Last : Type 0) (held middle third holds : Option (List ℕ))
+    → was ≡ no_troubles → is ≡ troubles → waiting ≡ [] → ((t : Troubles) → (at t).said ≡ t) → ((t : Troubles) → Begins (at t) (begun t))
+    → ((d : Configuration) × (text : List ℕ) × (p ≡ origin_of d) × RunsHolding m count (hold (begun is) waiting) answer text (last d)
+    × (Then → Appends middle third text))
+    → ((d : Configuration) → (last d).stage.now.scene.log ≡ after.log) → ((d : Configuration) → (last d).stage.now.scene.calls ≡ after.calls)
+    → (Never → Appends held middle (notice_of was is)) → (Never → Then) → (Then → Last)
+    → ((d : Configuration) → (text : List ℕ) × EndsRun m report start answer (last d).stage left text × (Last → Appends third holds text))
+    → (text : List ℕ) × RunsFromHolding m report start count (at troubles) answer after left text × (Never → Appends held holds text)
+ran_holding m report start count at begun p was is troubles waiting last answer after left Never Then Last held middle third holds untold failing none records
+    begins led log calls noticed lasts goes_on ended =
+    let notice = notice_of no_troubles troubles in
+    let final = ended led.0 in
+    let same : notice_of was is ≡ notice =
+    ap (λ (x : Troubles). notice_of x is) untold ∙ ap (notice_of no_troubles) failing in (
+      (notice ++ led.1) ++ final.0,
+      record {
+        begun = begun troubles;
+        begins = begins troubles;
+        last = last led.0;
+        run_text = led.1;
+        runs = subst (λ (l : List ℕ). RunsHolding m count (hold (begun troubles) l) answer led.1 (last led.0)) none
+            (subst (λ (x : Troubles). RunsHolding m count (hold (begun x) waiting) answer led.1 (last led.0)) failing led.3);
+        log = log led.0;
+        calls = calls led.0;
+        end_text = final.0;
+        ends = final.1;
+        said = ap (λ (x : Troubles). (notice_of no_troubles x ++ led.1) ++ final.0) (sym (records troubles));
+      },
+      λ never. appends_two held third holds (notice ++ led.1) final.0
+          (appends_two held middle third notice led.1
+          (subst (λ (x : List ℕ). Appends held middle x) same (noticed never)) (led.4 (lasts never)))
+          (final.2 (goes_on (lasts never))),
+    )

@@ -96,6 +96,20 @@ stage_of recorded c r log calls =
     stage c (moment (scene r.gateway log calls) r.keeper r.state.served r.state.tally) (recorded r.requests) r.counts r.announcing r.said
     (metered r.metrics)
 
+-- the same gateway, whose keeper withholds what is denied while lines wait
+abbrev pub holding_of : {K Q M : Type 0} → Running K Q M → Running (Holding K) Q M
+holding_of r = record {
+  gateway = r.gateway;
+  origin = r.origin;
+  keeper = unheld r.keeper;
+  requests = r.requests;
+  counts = r.counts;
+  announcing = r.announcing;
+  state = r.state;
+  said = r.said;
+  metrics = r.metrics;
+}
+
 -- what there is between two steps: a stage of the run, and the lines that wait for its log
 pub record Hold (K : Type 0) : Type 0 where
   pub stage : Stage (Holding K)

@@ -8,7 +8,7 @@ ghost use Rattle.gw_state.specs.Saved.{origin_of};
 ghost use Rattle.gw_system.specs.Requests.{IsAsking};
 ghost use Rattle.gw_turns.specs.Pace.{one_more};
 ghost use Rattle.gw_turns.specs.Stretch.{CanCount};
-ghost use Rattle.gw_service.specs.Holding.{Finishes, GoesTo, RunsHolding, ServesHolding, answer_holding, goes_on, has_log_failed, hold, holding_manner, more_holding, stage_of, unheld, waits_line, written_line};
+ghost use Rattle.gw_service.specs.Holding.{Finishes, GoesTo, RunsHolding, ServesHolding, answer_holding, goes_on, has_log_failed, hold, holding_manner, more_holding, holding_of, stage_of, waits_line, written_line};
 ghost use Rattle.gw_service.specs.Kept.{RunsFromHolding, is_stopped, rest};
 ghost use Rattle.gw_service.specs.Serving.{ends};
 ghost use Rattle.gw_service.specs.Stats.{end_stats};
@@ -50,15 +50,7 @@ impl<K: Drop, Q: Drop, M: Store + Drop> Drop for HoldingRun<K, Q, M> {
 impl<K, Q, M: Store + Drop> Running<K, Q, M> {
     /// The same gateway, which goes on if its log fails. Nothing waits.
     pub(crate) fn holding(self, alloc: Global) -> HoldingRun<K, Q, M>
-        ensures gateway { result.running.gateway ≡ self.gateway }
-        ensures origin { result.running.origin ≡ self.origin }
-        ensures keeper { result.running.keeper ≡ unheld self.keeper }
-        ensures requests { result.running.requests ≡ self.requests }
-        ensures counts { result.running.counts ≡ self.counts }
-        ensures announcing { result.running.announcing ≡ self.announcing }
-        ensures state { result.running.state ≡ self.state }
-        ensures said { result.running.said ≡ self.said }
-        ensures metrics { result.running.metrics ≡ self.metrics }
+        ensures running { result.running ≡ holding_of self }
         ensures waiting { result.waiting ≡ [] }
     {
         let Running {

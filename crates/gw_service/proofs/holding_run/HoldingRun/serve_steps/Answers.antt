@@ -5,7 +5,7 @@ use Rattle.gw_turns.specs.declared.serving.ServeFault.{ServeFault}
 use Rattle.gw_service.specs.Holding.{Hold, hold, holding_manner, stage_of}
 use Rattle.gw_service.specs.declared.running.End.{End}
 use Rattle.gw_service.specs.Scheduled.{reporting_by}
-use Rattle.gw_service.proofs.HoldingRunLemmas.{Gone, Served, served_fault, served_so, stepped_more, stepped_none}
+use Rattle.gw_service.proofs.HoldingRunLemmas.{Gone, ServedSo, served_fault, served_so, stepped_more, stepped_none}
 use Rattle.gw_service.proofs.holding_run.HoldingRun.serve_steps.Goals as goal
 
 pub loop-init : goal.loop-init
@@ -71,7 +71,7 @@ returns-in_err-ended-clause-serves g c =
     (g.W.Wire.calls c.loop.wire)) now.waiting in
     let last : Configuration → Hold _ = λ (config : Configuration). hold (stage_of g.Q.Requests.recorded config new.running (g.L.OctetSink.held c.step.new.log)
     (g.W.Wire.calls c.step.new.wire)) new.waiting in
-    passes_on (λ (r : Result End ServeFault). Served how c.args.turns old.running.origin first r new.running.origin last (never c.args.errors.now)
+    passes_on (λ (r : Result End ServeFault). ServedSo how c.args.turns old.running.origin first r new.running.origin last (never c.args.errors.now)
     (held c.args.errors.now) (held c.step.new.errors)) fault c.from_residual.result c.from_residual.ensures
     (served_fault how c.args.turns old.running.origin now.running.origin new.running.origin first at last fault
     (never c.args.errors.now) (never c.loop.errors) (held c.args.errors.now) (held c.loop.errors) (held c.step.new.errors)
