@@ -4,7 +4,7 @@ use Rattle.std.proofs.KnownBytes.{Appends-nil, Appends-trans}
 use Rattle.std.proofs.lemmas.Bool.{eqb-true}
 use Rattle.std.proofs.lemmas.List.{append-nil}
 use Rattle.std.proofs.lemmas.List.Concat.{flat_map-cons}
-use Rattle.std.specs.Prelude.{◌==◌}
+use Rattle.std.specs.Prelude.{◌==◌, if◌then◌else◌}
 use Rattle.std.specs.List.{flat_map}
 use Rattle.std.specs.Io.KnownBytes.{Appends, append_known}
 use Rattle.gw_audit.specs.declared.denial.Denial.{Denial}
@@ -14,12 +14,13 @@ use Rattle.gw_core.specs.State.{State}
 use Rattle.gw_core.specs.declared.effects.Effects.{Effects}
 use Rattle.gw_script.specs.Event.{Event}
 use Rattle.gw_turns.proofs.ServeLemmas.{log_along, run_along, tells_none}
+use Rattle.gw_turns.specs.Pace.{one_more}
 use Rattle.gw_turns.specs.Serve.{AreTurns, Scene, Turn, calls_of, empty_turn, events_of, failed_turn, lines_of, log_of, lost_event, taken_event, turn_events}
 use Rattle.gw_turns.specs.Stretch.{AreGuarded, GoOn, GuardsTurn, Moment}
 use Rattle.gw_wire.specs.Wire.{Call, Records}
 use Rattle.gw_service.specs.Chain.{IsLink, Link, Manner, Stage, ended, served, ticked, withheld}
 use Rattle.gw_service.specs.Holding.{AreLastCalls, Hold, IsStep, IsWritten, OverLog, OverWaiting, PassesHolding, SendsLogged, Step, StepsLogFirst, StepsLoseNothing}
-use Rattle.gw_service.specs.Holding.{counting, failed, held, link_last, link_turns, over, step_events, straight, written}
+use Rattle.gw_service.specs.Holding.{counting, failed, held, link_last, link_turns, over, step_events, straight, waits_too, written}
 use Rattle.gw_service.specs.declared.holding.Holding.{Holding}
 
 -- ---- what passes while lines wait
@@ -45,6 +46,45 @@ goes_quiet Passes h i w event some p =
     let denials = (effects_at w event).denials in
     no_length denials (eqb-true (length denials) 0
     (none_denied p.answer (h.waiting == 0) (length denials == 0) p.goes (not_none h.waiting (h.waiting == 0) refl some)))
+
+and_false : (a : Bool) → false ≡ (a && false)
+and_false true = refl
+and_false false = refl
+
+and_true : (a : Bool) → a ≡ (a && true)
+and_true true = refl
+and_true false = refl
+
+-- what is withheld so, and what isn't
+pub withheld_by : {K : Type 0} (Passes : K → State → Event → K → Bool → Type 0) (h i : Holding K) (w : State) (event : Event) (x : Effects)
+    (answer waits : Bool) → x ≡ effects_at w event → waits ≡ (not (h.waiting == 0) && not (length x.denials == 0)) → waits ≡ true
+    → Passes h.keeper w event i.keeper answer → i.waiting ≡ h.waiting → i.withheld ≡ one_more h.withheld
+    → PassesHolding Passes h w event i false
+withheld_by Passes h i w event x answer waits does is yes passed waiting counted =
+    let too : waits_too h w event ≡ true =
+    ap (λ (y : Effects). not (h.waiting == 0) && not (length y.denials == 0)) (sym does) ∙ sym is ∙ yes in
+    record {
+      answer = answer;
+      passed = passed;
+      waiting = waiting;
+      withheld = counted ∙ ap (λ (b : Bool). if b then one_more h.withheld else h.withheld) (sym too);
+      goes = and_false answer ∙ ap (λ (b : Bool). answer && not b) (sym too);
+    }
+
+pub passed_by : {K : Type 0} (Passes : K → State → Event → K → Bool → Type 0) (h i : Holding K) (w : State) (event : Event) (x : Effects)
+    (answer waits : Bool) → x ≡ effects_at w event → waits ≡ (not (h.waiting == 0) && not (length x.denials == 0)) → waits ≡ false
+    → Passes h.keeper w event i.keeper answer → i.waiting ≡ h.waiting → i.withheld ≡ h.withheld
+    → PassesHolding Passes h w event i answer
+passed_by Passes h i w event x answer waits does is none passed waiting counted =
+    let too : waits_too h w event ≡ false =
+    ap (λ (y : Effects). not (h.waiting == 0) && not (length y.denials == 0)) (sym does) ∙ sym is ∙ none in
+    record {
+      answer = answer;
+      passed = passed;
+      waiting = waiting;
+      withheld = counted ∙ ap (λ (b : Bool). if b then one_more h.withheld else h.withheld) (sym too);
+      goes = and_true answer ∙ ap (λ (b : Bool). answer && not b) (sym too);
+    }
 
 -- the lines of one event
 pub one_run : (w : State) (event : Event) → log_of (effects_at w event ∷ []) ≡ lines_of (effects_at w event).denials
