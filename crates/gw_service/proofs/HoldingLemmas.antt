@@ -4,7 +4,8 @@ use Rattle.std.proofs.KnownBytes.{Appends-nil, Appends-trans}
 use Rattle.std.proofs.lemmas.Bool.{eqb-true}
 use Rattle.std.proofs.lemmas.List.{append-nil}
 use Rattle.std.proofs.lemmas.List.Concat.{flat_map-cons}
-use Rattle.std.specs.Prelude.{◌==◌, if◌then◌else◌}
+use Rattle.std.specs.Prelude.{◌==◌, if◌then◌else◌, OnOk, Result}
+use Rattle.gw_notices.proofs.StatsLemmas.{three_writes}
 use Rattle.std.specs.List.{flat_map}
 use Rattle.std.specs.Io.KnownBytes.{Appends, append_known}
 use Rattle.gw_audit.specs.declared.denial.Denial.{Denial}
@@ -22,6 +23,12 @@ use Rattle.gw_service.specs.Chain.{IsLink, Link, Manner, Stage, ended, served, t
 use Rattle.gw_service.specs.Holding.{AreLastCalls, Hold, IsStep, IsWritten, OverLog, OverWaiting, PassesHolding, SendsLogged, Step, StepsLogFirst, StepsLoseNothing}
 use Rattle.gw_service.specs.Holding.{counting, failed, held, link_last, link_turns, over, step_events, straight, waits_too, written}
 use Rattle.gw_service.specs.declared.holding.Holding.{Holding}
+
+-- the last of five writes ends well only if it appends its text
+pub five_writes : {T E : Type 0} (r : Result T E) (a b c d e f : Option (List ℕ)) (v w x y z : List ℕ) → Appends a b v → Appends b c w
+    → Appends c d x → Appends d e y → OnOk r (Appends e f z) → OnOk r (Appends a f (v ++ (w ++ (x ++ (y ++ z)))))
+five_writes r a b c d e f v w x y z first second third fourth fifth =
+    three_writes r a b c f v w (x ++ (y ++ z)) first second (three_writes r c d e f x y z third fourth fifth)
 
 -- ---- what passes while lines wait
 
