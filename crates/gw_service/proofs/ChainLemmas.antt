@@ -225,9 +225,10 @@ went_kept Passes a turns w held holds calls g s t went kept = record {
 
 -- by its answer
 pub ends_as : {K : Type 0} (Passes : K → State → Event → K → Bool → Type 0) (count : ℕ) (a b : Moment K) (answer : Result Pause ServeFault)
-    (field pause : Pause) → answer ≡ Ok field → field ≡ pause → EndsStretch Passes count a answer b → EndsStretch Passes count a (Ok pause) b
-ends_as {K} Passes count a b answer field pause is is_pause ends =
-    subst (λ (r : Result Pause ServeFault). EndsStretch Passes count a r b) (is ∙ ap Ok is_pause) ends
+    (unwritten : List ℕ) (field pause : Pause) → answer ≡ Ok field → field ≡ pause → EndsStretch Passes count a answer unwritten b
+    → EndsStretch Passes count a (Ok pause) unwritten b
+ends_as {K} Passes count a b answer unwritten field pause is is_pause ends =
+    subst (λ (r : Result Pause ServeFault). EndsStretch Passes count a r unwritten b) (is ∙ ap Ok is_pause) ends
 
 -- ---- a stretch is one turn at least
 
@@ -420,7 +421,7 @@ ran_until manner count left o p q first now last fault edge Never Then held midd
       after.0,
       before.1,
       after.2,
-      record { then = now before.0; chain = before.3; left = left; most = most c before.0; ends = after.3.0 },
+      record { then = now before.0; chain = before.3; left = left; most = most c before.0; unwritten = edge.unwritten; ends = after.3.0 },
       λ never. subst (λ (t : List ℕ). Appends held holds t) (append-nil (chain_text before.1))
           (subst (λ (t : List ℕ). Appends held holds (chain_text before.1 ++ t)) text
           (appends_two held middle holds (chain_text before.1) after.1 (before.4 never) (after.4 (lasts never)))),

@@ -1,5 +1,7 @@
 mod ChainLemmas
 mod EndLemmas
+mod HoldingLemmas
+mod HoldingRunLemmas
 mod KeptLemmas
 mod LawLemmas
 mod MeteringLemmas

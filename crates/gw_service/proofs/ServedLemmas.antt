@@ -266,9 +266,10 @@ by_fault c turns last before after serving.Memory done stops = inl (record { gat
 by_fault c turns last before after serving.CountEnd done stops = record { gateway = last; served = done; stops = stops }
 
 stopped : (c : Configuration) (count : ℕ) (before after : Ends) (moment last : Scene) (turns : List Turn) (f : ServeFault) (event : Event)
-    → length turns < count → LeadTo (first_scene c before) turns moment → EndsBy f moment event last → last.log ≡ after.log
+    (unwritten : List ℕ)
+    → length turns < count → LeadTo (first_scene c before) turns moment → EndsBy f unwritten moment event last → last.log ≡ after.log
     → last.calls ≡ after.calls → Serves c count before after (Err (fault_of_serving f))
-stopped c count before after moment last turns f event fewer went ends log calls =
+stopped c count before after moment last turns f event unwritten fewer went ends log calls =
     let same = scene_as last last.gateway after.log after.calls refl log calls in
     by_fault c count last.gateway before after f (count_fault (counts_of turns) f) (record {
       turns = turns;
@@ -276,7 +277,8 @@ stopped c count before after moment last turns f event fewer went ends log calls
       moment = moment;
       went = went;
       event = event;
-      last = subst (λ (x : Scene). EndsBy f moment event x) same ends;
+      unwritten = unwritten;
+      last = subst (λ (x : Scene). EndsBy f unwritten moment event x) same ends;
       counts = refl;
     })
 
@@ -334,7 +336,7 @@ run_serves held how count c before after s t (Err f) failing links runs none now
     let from = lead_along (first_scene c before) s.now.scene runs.then.now.scene [] led.turns at led.led in
     let end = runs.ends.ends in
     let counted = ap (λ (x : Served). x.turns) led.counts in
-    stopped c count before after end.then.scene t.now.scene (led.turns ++ end.turns) f end.event
+    stopped c count before after end.then.scene t.now.scene (led.turns ++ end.turns) f end.event runs.unwritten
     (omega (arith, runs.most, end.fewer, counted, turns_counted s.now.served led.turns, length-append led.turns end.turns))
     (lead_along (first_scene c before) runs.then.now.scene end.then.scene led.turns end.turns from end.went.went) end.last.last log calls
 
@@ -376,7 +378,7 @@ kept_serves given no_state no_line no_store no_requests c how before after text 
 
 runs_serve : {S Q L : Type 0} (given : Given S Q L) → given.saved ≡ None → given.line ≡ None → given.store ≡ None → given.requests ≡ None
     → (watcher : Option (Watching L L)) (c : Configuration) (how : Service) (before after : Ends) (text : List ℕ)
-    (outcome : Result (Unit {0}) ServiceFault) → c.announce ≡ false → RunsBy given watcher c how before after text outcome
+    (outcome : Result (Unit {0}) ServiceFault) → c.announce ≡ false → RunsBy given watcher false c how before after text outcome
     → Serves c how.turns before after outcome
 runs_serve given no_state no_line no_store no_requests None c how before after text outcome quiet runs =
     kept_serves given no_state no_line no_store no_requests c how before after text outcome quiet runs
@@ -385,7 +387,8 @@ runs_serve given no_state no_line no_store no_requests (Some watcher) c how befo
     kept_serves given no_state no_line no_store no_requests c how before after other.0 outcome quiet other.1
 
 pub as_served : {S Q L : Type 0} (given : Given S Q L) → IsAsServed given
-as_served given no_state no_line no_store no_requests c how before after text outcome quiet (inl runs) =
-    runs_serve given no_state no_line no_store no_requests given.watcher c how before after text outcome quiet runs
-as_served given no_state no_line no_store no_requests c how before after text outcome quiet (inr unbegun) =
+as_served given no_state no_line no_store no_requests c how before after text outcome ends quiet (inl runs) =
+    runs_serve given no_state no_line no_store no_requests given.watcher c how before after text outcome quiet
+    (subst (λ (h : Bool). RunsBy given given.watcher h c how before after text outcome) ends runs)
+as_served given no_state no_line no_store no_requests c how before after text outcome ends quiet (inr unbegun) =
     subst (λ (x : Result (Unit {0}) ServiceFault). Serves c how.turns before after x) (sym unbegun.2) (inr unbegun.0)

@@ -314,9 +314,10 @@ ran held log_held how count s t (Err fault) links runs =
         chain = chain.2;
         left = runs.left;
         most = runs.most;
+        unwritten = runs.unwritten;
         ends = record {
           ends = under_second (HasWatched log_held log_held) (IsPassed held) (lets log_held log_held) runs.left runs.then.now t.now (Err fault)
-              runs.ends.ends;
+              runs.unwritten runs.ends.ends;
           config = runs.ends.config;
           requests = ap (hushed chain.1) runs.ends.requests;
           counts = runs.ends.counts;

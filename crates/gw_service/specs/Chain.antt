@@ -343,9 +343,9 @@ pub record RunsWhole {K : Type 0} (manner : Manner K) (count : ℕ) (first : Sta
   pub chain : AreLinks manner first links last
   pub turns : last.now.served.turns ≡ first.now.served.turns + count
 
--- the last event ended in a fault
-pub record EndsSo {K : Type 0} (manner : Manner K) (count : ℕ) (fault : ServeFault) (then last : Stage K) : Type 0 where
-  pub ends : EndsFaulty manner.Passes count then.now fault last.now
+-- the last event ended in a fault; if the log failed, this is what it lacks of the event's lines
+pub record EndsSo {K : Type 0} (manner : Manner K) (count : ℕ) (fault : ServeFault) (unwritten : List ℕ) (then last : Stage K) : Type 0 where
+  pub ends : EndsFaulty manner.Passes count then.now fault unwritten last.now
   pub config : last.config ≡ then.config
   pub requests : last.requests ≡ then.requests
   pub counts : last.counts ≡ then.counts
@@ -360,7 +360,8 @@ pub record RunsUntil {K : Type 0} (manner : Manner K) (fault : ServeFault) (coun
   pub chain : AreLinks manner first links then
   pub left : ℕ
   pub most : then.now.served.turns + left ≡ first.now.served.turns + count
-  pub ends : EndsSo manner left fault then last
+  pub unwritten : List ℕ
+  pub ends : EndsSo manner left fault unwritten then last
 
 -- at a tick it was asked to stop, and nothing was served after that
 pub record RunsToStop {K : Type 0} (manner : Manner K) (first : Stage K) (links : List Link) (last : Stage K) : Type 0 where
@@ -393,14 +394,15 @@ Runs manner count first (Err fault) links last = RunsUntil manner fault count fi
 -- ---- what is due at a tick
 
 -- What a stretch leaves: whether the wire has a tick that is due already; that the log lasted, and nothing was written to it since but
--- notes; and that it couldn't be made to last.
+-- notes; that it couldn't be made to last; and what it lacks of the last event's lines, if it failed at them.
 pub record Edge : Type 1 where
   pub behind : Bool
   pub Lasted : Type 0
   pub Unsynced : Type 0
+  pub unwritten : List ℕ
 
-abbrev pub edge : Bool → (Lasted Unsynced : Type 0) → Edge
-edge behind Lasted Unsynced = record { behind = behind; Lasted = Lasted; Unsynced = Unsynced }
+abbrev pub edge : Bool → (Lasted Unsynced : Type 0) → (unwritten : List ℕ) → Edge
+edge behind Lasted Unsynced unwritten = record { behind = behind; Lasted = Lasted; Unsynced = Unsynced; unwritten = unwritten }
 
 -- a log lasted, and what it held then it holds
 abbrev pub WasLasting : {L : Type 0} → (IsLasting : L → Type 0) → (held : L → Option (List ℕ)) → L → Type 0
@@ -445,4 +447,4 @@ Advances manner count s (Ok None) text t edge = AdvancesBy manner false s text t
 Advances manner count s (Ok (Some end.Turns)) text t edge = ⊥
 Advances manner count s (Ok (Some end.Stopped)) text t edge = AdvancesBy manner true s text t edge
 Advances manner count s (Ok (Some end.Unsynced)) text t edge = AdvancesUnsynced manner count s text t edge
-Advances manner count s (Err fault) text t edge = EndsSo manner count fault s t × (text ≡ [])
+Advances manner count s (Err fault) text t edge = EndsSo manner count fault edge.unwritten s t × (text ≡ [])

@@ -14,3 +14,4 @@ pub mod WatchedRuns
 pub mod Scheduled
 pub mod Metering
 pub mod Metrics
+pub mod Holding

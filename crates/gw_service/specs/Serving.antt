@@ -37,15 +37,16 @@ abbrev pub first_scene : Configuration → Ends → Scene
 first_scene c ends = scene (state_after c no_counts []) ends.log ends.calls
 
 -- how it is served: for how many turns; how many seconds lie between two reports, where some are reported, and whether each
--- counts the asks of each rule; and whether it is verbose
+-- counts the asks of each rule; whether it is verbose; and whether it goes on if its log fails
 pub record Service : Type 0 where
   pub turns : ℕ
   pub stats : Option ℕ
   pub rules : Bool
   pub verbose : Bool
+  pub holds : Bool
 
-abbrev pub service : ℕ → Option ℕ → (rules verbose : Bool) → Service
-service turns stats rules verbose = record { turns = turns; stats = stats; rules = rules; verbose = verbose }
+abbrev pub service : ℕ → Option ℕ → (rules verbose holds : Bool) → Service
+service turns stats rules verbose holds = record { turns = turns; stats = stats; rules = rules; verbose = verbose; holds = holds }
 
 -- All turns were served, and the gateway is as they left it.
 pub record ServesWhole (c : Configuration) (turns : ℕ) (before after : Ends) : Type 0 where

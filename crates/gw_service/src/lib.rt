@@ -5,6 +5,8 @@
 mod counts;
 mod differing;
 mod fault;
+mod holding;
+mod holding_run;
 mod keeping;
 mod kept;
 pub mod laws;
@@ -16,11 +18,14 @@ mod stamped_run;
 mod start;
 mod stats;
 mod successor;
+mod waiting;
 mod watch;
 mod watched;
 
 pub use fault::ServiceFault;
 pub use gw_configuration::RunOptions;
+pub use holding::Holding;
+pub use holding_run::HoldingRun;
 pub use keeping::StateKeeper;
 pub use reload::{Adopted, reloaded};
 pub use running::Running;
@@ -28,3 +33,4 @@ pub use serving::serve_ports;
 pub use stamped_run::serve_run;
 pub use stats::Schedule;
 pub use successor::Successor;
+pub use waiting::Waiting;

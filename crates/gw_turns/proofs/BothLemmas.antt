@@ -7,9 +7,10 @@ use Rattle.gw_core.specs.State.{State}
 use Rattle.gw_turns.specs.Both.{GoOnUnderFirst, GoOnUnderSecond, IsUnderFirst, IsUnderSecond, first_moment, second_moment}
 use Rattle.gw_core.specs.Guard.{LetsAllGo, PassesBoth}
 use Rattle.gw_turns.specs.Serve.{Turn, empty_turn, failed_turn, lost_event, taken_event, turn_events}
-use Rattle.gw_turns.specs.Stretch.{AreGuarded, EndsStretch, GoOn, GuardsTurn, IsFaulty, IsWithheld, Moment}
+use Rattle.gw_turns.specs.Stretch.{AreGuarded, EndsStretch, GoOn, GuardsTurn, IsFaulty, IsPassedAt, IsWithheld, Moment}
 use Rattle.gw_core.specs.declared.guard.Both.{Both}
 use Rattle.gw_turns.specs.declared.serving.ServeFault.{ServeFault}
+use Rattle.gw_turns.specs.declared.serving.ServeFault.TheVariants.{Log, Memory, CountEnd}
 use Rattle.gw_turns.specs.declared.stretch.Pause.{Pause}
 use Rattle.gw_turns.specs.declared.stretch.Pause.TheVariants.{Turns, Tick, Withheld}
 
@@ -87,6 +88,21 @@ second_goes First Second before after turns p = record {
 
 -- ---- the ends
 
+-- what each did about the last event, if that ended in a fault
+first_at : {G H : Type 0} (First : G → State → Event → G → Bool → Type 0) (Second : H → State → Event → H → Bool → Type 0)
+    (fault : ServeFault) (g h : Both G H) (w : State) (event : Event)
+    → IsPassedAt (PassesBoth First Second) fault g w event h → IsPassedAt First fault g.first w event h.first
+first_at First Second Log g h w event p = (p.1.0, p.1.2)
+first_at First Second Memory g h w event p = ap (λ (b : Both _ _). b.first) p
+first_at First Second CountEnd g h w event p = ap (λ (b : Both _ _). b.first) p
+
+second_at : {G H : Type 0} (First : G → State → Event → G → Bool → Type 0) (Second : H → State → Event → H → Bool → Type 0)
+    (fault : ServeFault) (g h : Both G H) (w : State) (event : Event)
+    → IsPassedAt (PassesBoth First Second) fault g w event h → IsPassedAt Second fault g.second w event h.second
+second_at First Second Log g h w event p = (p.1.1, p.1.3)
+second_at First Second Memory g h w event p = ap (λ (b : Both _ _). b.second) p
+second_at First Second CountEnd g h w event p = ap (λ (b : Both _ _). b.second) p
+
 -- what the second lets go, the first withholds
 first_withheld : {G H : Type 0} (First : G → State → Event → G → Bool → Type 0) (Second : H → State → Event → H → Bool → Type 0)
     → LetsAllGo Second → (g h : Both G H) (w : State) (event : Event) → PassesBoth First Second g w event h false
@@ -99,20 +115,20 @@ first_withheld First Second lets g h w event p = by p.1 refl
 
 pub under_first : {G H : Type 0} (First : G → State → Event → G → Bool → Type 0) (Second : H → State → Event → H → Bool → Type 0)
     → IsUnderFirst First Second
-under_first First Second lets count before after (Ok Turns) p = record {
+under_first First Second lets count before after (Ok Turns) unwritten p = record {
   turns = p.turns;
   all = p.all;
   went = first_goes First Second before after p.turns p.went;
   ticks = p.ticks;
 }
-under_first First Second lets count before after (Ok Tick) p = record {
+under_first First Second lets count before after (Ok Tick) unwritten p = record {
   turns = p.turns;
   fewer = p.fewer;
   tries = p.tries;
   went = first_goes First Second before after _ p.went;
   ticks = p.ticks;
 }
-under_first First Second lets count before after (Ok Withheld) p = record {
+under_first First Second lets count before after (Ok Withheld) unwritten p = record {
   turns = p.turns;
   fewer = p.fewer;
   then = first_moment p.then;
@@ -125,7 +141,7 @@ under_first First Second lets count before after (Ok Withheld) p = record {
     tally = p.last.tally;
   };
 }
-under_first First Second lets count before after (Err fault) p = record {
+under_first First Second lets count before after (Err fault) unwritten p = record {
   turns = p.turns;
   fewer = p.fewer;
   then = first_moment p.then;
@@ -133,7 +149,7 @@ under_first First Second lets count before after (Err fault) p = record {
   event = p.event;
   last = record {
     last = p.last.last;
-    guard = ap (λ (b : Both _ _). b.first) p.last.guard;
+    guard = first_at First Second fault p.then.guard after.guard p.then.scene.gateway p.event p.last.guard;
     counts = p.last.counts;
     tally = p.last.tally;
   };
@@ -156,20 +172,20 @@ second_withheld First Second lets g h w event p = by p.0 refl
 
 pub under_second : {G H : Type 0} (First : G → State → Event → G → Bool → Type 0) (Second : H → State → Event → H → Bool → Type 0)
     → IsUnderSecond First Second
-under_second First Second lets count before after (Ok Turns) p = record {
+under_second First Second lets count before after (Ok Turns) unwritten p = record {
   turns = p.turns;
   all = p.all;
   went = second_goes First Second before after p.turns p.went;
   ticks = p.ticks;
 }
-under_second First Second lets count before after (Ok Tick) p = record {
+under_second First Second lets count before after (Ok Tick) unwritten p = record {
   turns = p.turns;
   fewer = p.fewer;
   tries = p.tries;
   went = second_goes First Second before after _ p.went;
   ticks = p.ticks;
 }
-under_second First Second lets count before after (Ok Withheld) p = record {
+under_second First Second lets count before after (Ok Withheld) unwritten p = record {
   turns = p.turns;
   fewer = p.fewer;
   then = second_moment p.then;
@@ -182,7 +198,7 @@ under_second First Second lets count before after (Ok Withheld) p = record {
     tally = p.last.tally;
   };
 }
-under_second First Second lets count before after (Err fault) p = record {
+under_second First Second lets count before after (Err fault) unwritten p = record {
   turns = p.turns;
   fewer = p.fewer;
   then = second_moment p.then;
@@ -190,7 +206,7 @@ under_second First Second lets count before after (Err fault) p = record {
   event = p.event;
   last = record {
     last = p.last.last;
-    guard = ap (λ (b : Both _ _). b.second) p.last.guard;
+    guard = second_at First Second fault p.then.guard after.guard p.then.scene.gateway p.event p.last.guard;
     counts = p.last.counts;
     tally = p.last.tally;
   };

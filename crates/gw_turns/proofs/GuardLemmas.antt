@@ -11,7 +11,7 @@ use Rattle.gw_relay.specs.Sends.{Sending}
 use Rattle.gw_turns.specs.Serve.{EndsBy, LeadTo, Scene, Turn, count_fault, count_turn, counts_after, empty_turn, events_of, failed_turn, failures, lines_of, lost_event, scene, successes, taken_event, ticks_with, turn_events}
 use Rattle.gw_turns.specs.ServeTurn.{AreTried, GuardedEnd, TurnEnd}
 use Rattle.gw_core.specs.declared.asked.Asked.{Asked}
-use Rattle.gw_turns.specs.Stretch.{AreGuarded, GuardsTurn, IsLoggedLast, Moment, count_taken, moment}
+use Rattle.gw_turns.specs.Stretch.{AreGuarded, GuardsTurn, IsLoggedLast, IsPassedAt, Moment, count_taken, moment}
 use Rattle.gw_core.specs.Guard.{IsSeen, IsTaken}
 use Rattle.gw_turns.specs.Tally.{tally_from}
 use Rattle.gw_wire.specs.Wire.{Call}
@@ -51,8 +51,8 @@ tallied_one w was is turn counted = counted ∙ ap (tally_from w was) (sym (sing
 -- no event was taken
 pub guarded_without : {G : Type 0} (Passes : G → State → Event → G → Bool → Type 0) (g : G) (a m : Scene) (s t : Served) (was : Tally)
     (turn : Turn) → turn_events turn ≡ [] → LeadTo a (turn ∷ []) m → t ≡ count_turn s turn
-    → GuardedEnd Passes (moment a g s was) (Ok true) (moment m g t was)
-guarded_without Passes g a m s t was turn none went counted = (
+    → (unwritten : List ℕ) → GuardedEnd Passes (moment a g s was) (Ok true) unwritten (moment m g t was)
+guarded_without Passes g a m s t was turn none went counted unwritten = (
   turn,
   record {
     went = went;
@@ -67,8 +67,8 @@ pub guarded_with : {G : Type 0} (Passes : G → State → Event → G → Bool �
     (s u : Served) (was is : Tally) (n k : ℕ) (event : Event) (taken : Taken) → IsTaken a.gateway event m.gateway taken → IsLoggedLast a event m
     → is ≡ tally_from a.gateway was (event ∷ []) → Passes g a.gateway event h true
     → AreTried taken.effects.sends m.calls records (record (count_taken s) { ticks = ticks_with s.ticks event }) u n k
-    → GuardedEnd Passes (moment a g s was) (Ok true) (moment (scene m.gateway m.log records) h u is)
-guarded_with Passes g h a m records s u was is n k event taken was_taken logged counted passes tried =
+    → (unwritten : List ℕ) → GuardedEnd Passes (moment a g s was) (Ok true) unwritten (moment (scene m.gateway m.log records) h u is)
+guarded_with Passes g h a m records s u was is n k event taken was_taken logged counted passes tried unwritten =
     let turn = taken_event event tried.tries in (
       turn,
       record {
@@ -83,23 +83,30 @@ guarded_with Passes g h a m records s u was is n k event taken was_taken logged 
     )
 
 -- its event ended in a fault
-pub guarded_fault : {G : Type 0} (Passes : G → State → Event → G → Bool → Type 0) (g : G) (a m : Scene) (s t : Served) (was : Tally)
-    (fault : ServeFault) (event : Event) → EndsBy fault a event m → t ≡ count_fault s fault
-    → GuardedEnd Passes (moment a g s was) (Err fault) (moment m g t was)
-guarded_fault Passes g a m s t was fault event last counted = (
+pub guarded_fault : {G : Type 0} (Passes : G → State → Event → G → Bool → Type 0) (g h : G) (a m : Scene) (s t : Served) (was : Tally)
+    (fault : ServeFault) (unwritten : List ℕ) (event : Event) → EndsBy fault unwritten a event m
+    → IsPassedAt Passes fault g a.gateway event h → t ≡ count_fault s fault
+    → GuardedEnd Passes (moment a g s was) (Err fault) unwritten (moment m h t was)
+guarded_fault Passes g h a m s t was fault unwritten event last passed counted = (
   event,
-  record { last = last; guard = refl; counts = counted; tally = refl },
+  record { last = last; guard = passed; counts = counted; tally = refl },
 )
 
 -- ---- a turn without a guard
 
 -- a guard that lets all go withholds nothing
-pub unguarded : {G : Type 0} (g h : G) (a m : Scene) (s t : Served) (was is : Tally) (passed : Bool)
-    → GuardedEnd (λ _ _ _ _ passes. passes ≡ true) (moment a g s was) (Ok passed) (moment m h t is) → TurnEnd a s was m t is (Ok tt)
-unguarded g h a m s t was is true p =
+pub unguarded : {G : Type 0} (g h : G) (a m : Scene) (s t : Served) (was is : Tally) (unwritten : List ℕ) (passed : Bool)
+    → GuardedEnd (λ _ _ _ _ passes. passes ≡ true) (moment a g s was) (Ok passed) unwritten (moment m h t is) → TurnEnd a s was m t is (Ok tt)
+unguarded g h a m s t was is unwritten true p =
     let turn = p.0 in
     (turn, p.1.went, one_counted s t turn p.1.counts, p.1.tally ∙ ap (tally_from a.gateway was) (single turn_events turn))
-unguarded g h a m s t was is false p = absurd (true≢false (sym p.1.passes))
+unguarded g h a m s t was is unwritten false p = absurd (true≢false (sym p.1.passes))
+
+-- nor is a fault another under it
+pub unguarded_fault : {G : Type 0} (Passes : G → State → Event → G → Bool → Type 0) (g h : G) (a m : Scene) (s t : Served) (was is : Tally)
+    (unwritten : List ℕ) (fault : ServeFault)
+    → GuardedEnd Passes (moment a g s was) (Err fault) unwritten (moment m h t is) → TurnEnd a s was m t is (Err fault)
+unguarded_fault Passes g h a m s t was is unwritten fault p = (p.0, unwritten, p.1.last, p.1.counts, p.1.tally)
 
 -- ---- what is handed to a guard
 

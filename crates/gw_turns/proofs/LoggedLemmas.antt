@@ -48,29 +48,29 @@ nothing_more : (before after : Option (List ℕ)) → after ≡ before → Appen
 nothing_more before after same = subst (λ (o : Option (List ℕ)). Appends before o []) (sym same) (Appends-nil before)
 
 -- a last event that ended in a fault
-fault_logged : (fault : ServeFault) (before moment after : Scene) (turns : List Turn) (event : Event) → LeadTo before turns moment
-    → EndsBy fault moment event after → IsLoggedFirst before after
-fault_logged Log before moment after turns event went last =
+fault_logged : (fault : ServeFault) (unwritten : List ℕ) (before moment after : Scene) (turns : List Turn) (event : Event)
+    → LeadTo before turns moment → EndsBy fault unwritten moment event after → IsLoggedFirst before after
+fault_logged Log unwritten before moment after turns event went last =
     last_logged before moment after turns event last.front went last.taken.calls last.log
-fault_logged Memory before moment after turns event went last =
+fault_logged Memory unwritten before moment after turns event went last =
     last_logged before moment after turns event [] went last.taken.calls (nothing_more moment.log after.log last.log)
-fault_logged CountEnd before moment after turns event went last =
+fault_logged CountEnd unwritten before moment after turns event went last =
     last_logged before moment after turns event [] went last.calls (nothing_more moment.log after.log last.log)
 
 pub stretches_log_first : {G : Type 0} (Passes : G → State → Event → G → Bool → Type 0) → StretchesLogFirst Passes
-stretches_log_first Passes count before after (Ok Turns) ends = led_logged before.scene after.scene ends.turns ends.went.went
-stretches_log_first Passes count before after (Ok Tick) ends =
+stretches_log_first Passes count before after (Ok Turns) unwritten ends = led_logged before.scene after.scene ends.turns ends.went.went
+stretches_log_first Passes count before after (Ok Tick) unwritten ends =
     led_logged before.scene after.scene (ends.turns ++ taken_event event.Tick ends.tries ∷ []) ends.went.went
-stretches_log_first Passes count before after (Ok Withheld) ends =
+stretches_log_first Passes count before after (Ok Withheld) unwritten ends =
     let then = ends.then.scene in
     last_logged before.scene then after.scene ends.turns ends.event (lines_of (effects_at then.gateway ends.event).denials) ends.went.went
     ends.last.logged.taken.calls ends.last.logged.log
-stretches_log_first Passes count before after (Err fault) ends =
-    fault_logged fault before.scene ends.then.scene after.scene ends.turns ends.event ends.went.went ends.last.last
+stretches_log_first Passes count before after (Err fault) unwritten ends =
+    fault_logged fault unwritten before.scene ends.then.scene after.scene ends.turns ends.event ends.went.went ends.last.last
 
 pub serving_logs_first : ServingLogsFirst
 serving_logs_first count before after served serves = led_logged before after serves.turns serves.went
 
 pub stops_log_first : StopsLogFirst
 stops_log_first count before after stop stops =
-    fault_logged stop.fault before stops.moment after stops.turns stops.event stops.went stops.last
+    fault_logged stop.fault stops.unwritten before stops.moment after stops.turns stops.event stops.went stops.last

@@ -3,6 +3,7 @@ use Rattle.std.proofs.Common.{◌≡◌, ℕ, ◌+◌, ◌-◌, ◌*◌, ◌^◌
 use Rattle.std.proofs.Common.{false, not, cond, refl, sym, ap, ap₂, subst, ◌∙◌, append_assoc, add_assoc, add-zero, arith, inl, inr}
 use Rattle.std.specs.Prelude.{Result, Ok, Err}
 use Rattle.std.specs.Result.{is_ok}
+use Rattle.std.specs.declared.alloc.AllocError.{AllocError}
 use Rattle.std.specs.List.{flat_map}
 use Rattle.std.specs.Option.{option_map}
 use Rattle.std.specs.Io.KnownBytes.{Appends}
@@ -28,10 +29,9 @@ use Rattle.gw_turns.specs.declared.tally.Culprit.{Culprit}
 use Rattle.gw_turns.specs.declared.tally.Tally.{Tally}
 use Rattle.gw_turns.specs.declared.serving.Served.{Served}
 use Rattle.gw_turns.specs.declared.serving.ServeFault.{ServeFault}
-use Rattle.gw_turns.specs.declared.serving.ServeFault.TheVariants.{Log, Memory, CountEnd}
 use Rattle.gw_core.specs.Effects.{effects_at, passes_end}
 use Rattle.gw_core.specs.History.{next, run_from, state_from, log as denials_of_run}
-use Rattle.gw_turns.specs.Serve.{AreRefused, AreTurns, EndsBy, IsTakenLast, IsTurn, Scene, ServesAll, Stops, Try, Turn, LeadTo, count_fault}
+use Rattle.gw_turns.specs.Serve.{AreRefused, AreTurns, EndsAtLog, EndsAtMemory, IsTakenLast, IsTurn, Scene, ServesAll, Stops, Try, Turn, LeadTo, count_fault}
 use Rattle.gw_turns.specs.Serve.{count_turn, counts_after, turn_events, events_of, failures, lines_of, log_of, zero_counts, successes}
 use Rattle.gw_turns.specs.Serve.{empty_turn, failed_turn, lost_event, ports_after, taken_event, try_call, turn_calls}
 use Rattle.gw_turns.specs.ServeTurn.{AreTried, HasRoom, LogEnd, TurnEnd, counted_send, event_answer}
@@ -66,7 +66,7 @@ unfolding run_from state_from
 run_along w [] m = refl
 run_along w (e ∷ l) m = ap (λ (r : List Effects). effects_at w e ∷ r) (run_along (next w e) l m)
 
-log_along : (r s : List Effects) → log_of (r ++ s) ≡ log_of r ++ log_of s
+pub log_along : (r s : List Effects) → log_of (r ++ s) ≡ log_of r ++ log_of s
 log_along r s = ap lines_of (flat_map-append (λ x. x.denials) r s) ∙ flat_map-append line_text (denials_of_run r) (denials_of_run s)
 
 -- ---- turns, one list after the other
@@ -296,30 +296,34 @@ pub arrives : (recorded records : Option (List Call)) (event known : Option Lent
 arrives recorded records event known is calls =
     subst (λ (x : Option LentEvent). Records recorded records (arrival_of (option_map event_view x) ∷ [])) is calls
 
--- the last event of a stop, and the counts then
-pub ends_by : (fault : ServeFault) (a b : Scene) (event : Event) (x : Effects) (s : Served) → x ≡ effects_at a.gateway event
-    → LogEnd x.denials a.log b.log (Err fault) → IsTakenLast a event b
-    → EndsBy fault a event b × (record s { turns = s.turns + 1; taken = s.taken + 1 } ≡ count_fault s fault)
-ends_by Log a b event x s does ended last = (
-  record {
-    taken = last;
-    denies = λ none. ended.0 (ap (λ (y : Effects). y.denials) does ∙ none);
-    front = ended.1;
-    unwritten = ended.2;
-    lines = ap (λ (y : Effects). lines_of y.denials) (sym does) ∙ ended.3;
-    log = ended.4;
-  },
-  refl,
-)
-ends_by Memory a b event x s does ended last = (
-  record {
-    taken = last;
-    denies = λ none. ended.0 (ap (λ (y : Effects). y.denials) does ∙ none);
-    log = ended.1;
-  },
-  refl,
-)
-ends_by CountEnd a b event x s does ended last = absurd ended
+-- the log has the lines of denials, or failed at them
+pub logged_as : (denials : List Denial) (before after : Option (List ℕ)) (text front rest : List ℕ) (whole : Bool) → ¬ (denials ≡ [])
+    → text ≡ lines_of denials → text ≡ front ++ rest → (whole ≡ true → rest ≡ []) → Appends before after front
+    → LogEnd denials before after (Ok whole) rest
+logged_as denials before after text front rest true some is parts all appended =
+    subst (λ (l : List ℕ). Appends before after l)
+    (sym (append-nil front) ∙ ap (λ (l : List ℕ). front ++ l) (sym (all refl)) ∙ sym parts ∙ is) appended
+logged_as denials before after text front rest false some is parts all appended = (some, front, sym is ∙ parts, appended)
+
+-- the log failed at the lines of the last event
+pub ends_at_log : (a b : Scene) (event : Event) (x : Effects) (unwritten : List ℕ) → x ≡ effects_at a.gateway event
+    → LogEnd x.denials a.log b.log (Ok false) unwritten → IsTakenLast a event b → EndsAtLog unwritten a event b
+ends_at_log a b event x unwritten does ended last = record {
+  taken = last;
+  denies = λ none. ended.0 (ap (λ (y : Effects). y.denials) does ∙ none);
+  front = ended.1;
+  lines = ap (λ (y : Effects). lines_of y.denials) (sym does) ∙ ended.2;
+  log = ended.3;
+}
+
+-- there was no memory for them
+pub ends_at_memory : (a b : Scene) (event : Event) (x : Effects) (refused : AllocError) (unwritten : List ℕ) → x ≡ effects_at a.gateway event
+    → LogEnd x.denials a.log b.log (Err refused) unwritten → IsTakenLast a event b → EndsAtMemory a event b
+ends_at_memory a b event x refused unwritten does ended last = record {
+  taken = last;
+  denies = λ none. ended.0 (ap (λ (y : Effects). y.denials) does ∙ none);
+  log = ended.1;
+}
 
 -- ---- the tally
 
@@ -398,8 +402,9 @@ stops_then n count a m b s t k l fault p left ended = record {
   moment = m;
   went = p.went;
   event = ended.0;
-  last = ended.1;
-  counts = ended.2 ∙ ap (λ (x : Served). count_fault x fault) p.counts;
+  unwritten = ended.1;
+  last = ended.2;
+  counts = ended.3 ∙ ap (λ (x : Served). count_fault x fault) p.counts;
 }
 
 -- each turn is counted, and counts one thing at most besides sends

@@ -15,7 +15,7 @@ use Rattle.gw_turns.specs.declared.serving.ServeFault.TheVariants.{Log, Memory, 
 use Rattle.gw_core.specs.Effects.{effects_at}
 use Rattle.gw_core.specs.History.{next, run_from, state_from}
 use Rattle.gw_core.specs.Marked.{kept}
-use Rattle.gw_turns.specs.Serve.{AreTurns, EndsBy, IsTakenLast, IsTurn, LeadTo, Scene, Try, Turn, calls_of, count_fault, count_turn, counts_after, counts_of, empty_turn, events_of, failed_turn, failures, lost_event, successes, taken_event, try_call, turn_calls, turn_events, zero_counts}
+use Rattle.gw_turns.specs.Serve.{AreTurns, EndsAtCount, EndsBy, IsTakenLast, IsTurn, LeadTo, Scene, Try, Turn, calls_of, count_fault, count_turn, counts_after, counts_of, empty_turn, events_of, failed_turn, failures, lost_event, successes, taken_event, try_call, turn_calls, turn_events, zero_counts}
 use Rattle.gw_turns.specs.Served.{IsServed, StopsAreServed, TurnsAreServed, answered, at_count_end, but_last, event_in, handed_in, is_departure, is_failed_receive, is_receive, tried, tried_by}
 use Rattle.gw_core.specs.State.{State}
 use Rattle.gw_wire.specs.Wire.{Call, arrival, departure, empty_receive, failed_receive, failed_send}
@@ -385,7 +385,7 @@ ends_taken before moment after turns event served fault went last counts but non
 
 -- or it would have passed the end of a count
 ends_at_count : (before moment after : Scene) (turns : List Turn) (event : Event) (served : Served)
-    → LeadTo before turns moment → EndsBy CountEnd moment event after → served ≡ count_fault (counts_of turns) CountEnd
+    → LeadTo before turns moment → EndsAtCount moment event after → served ≡ count_fault (counts_of turns) CountEnd
     → IsServed before served (Some CountEnd) after
 ends_at_count before moment after turns event served went last counts =
     let taken = kept_last turns event true ∙ append-nil (events_of turns) in
@@ -407,14 +407,14 @@ ends_at_count before moment after turns event served went last counts =
           ∙ ap (λ (l : List Event). sends_in (run_from before.gateway l)) (sym taken);
     }
 
-ended : (fault : ServeFault) (before moment after : Scene) (turns : List Turn) (event : Event) (served : Served)
-    → LeadTo before turns moment → EndsBy fault moment event after → served ≡ count_fault (counts_of turns) fault
+ended : (fault : ServeFault) (unwritten : List ℕ) (before moment after : Scene) (turns : List Turn) (event : Event) (served : Served)
+    → LeadTo before turns moment → EndsBy fault unwritten moment event after → served ≡ count_fault (counts_of turns) fault
     → IsServed before served (Some fault) after
-ended Log before moment after turns event served went last counts =
+ended Log unwritten before moment after turns event served went last counts =
     ends_taken before moment after turns event served Log went last.taken counts (λ l. refl) refl
-ended Memory before moment after turns event served went last counts =
+ended Memory unwritten before moment after turns event served went last counts =
     ends_taken before moment after turns event served Memory went last.taken counts (λ l. refl) refl
-ended CountEnd before moment after turns event served went last counts =
+ended CountEnd unwritten before moment after turns event served went last counts =
     ends_at_count before moment after turns event served went last counts
 
 -- one turn more
@@ -425,6 +425,6 @@ fault_turns s CountEnd = refl
 
 pub stops_are_served : StopsAreServed
 stops_are_served count before stop after p = record {
-  done = ended stop.fault before p.moment after p.turns p.event stop.served p.went p.last p.counts;
+  done = ended stop.fault p.unwritten before p.moment after p.turns p.event stop.served p.went p.last p.counts;
   turns = omega (arith, p.fewer, ap (λ (s : Served). s.turns) p.counts, fault_turns (counts_of p.turns) stop.fault, lengths_are zero_counts p.turns);
 }

@@ -64,9 +64,10 @@ turn_ticks w (lost_event event) = (omega arith, omega arith)
 turn_ticks w (taken_event (Datagram port from octets) tries) = (omega arith, omega arith)
 turn_ticks w (taken_event Tick tries) = (omega arith, omega arith)
 
-pub ticks_step : {G : Type 0} (Passes : G → State → Event → G → Bool → Type 0) (m b : Moment G) → GuardedEnd Passes m (Ok true) b
+pub ticks_step : {G : Type 0} (Passes : G → State → Event → G → Bool → Type 0) (m b : Moment G) (unwritten : List ℕ)
+    → GuardedEnd Passes m (Ok true) unwritten b
     → (m.scene.gateway.ticks ≤ b.scene.gateway.ticks) × (b.scene.gateway.ticks ≤ m.scene.gateway.ticks + 1)
-ticks_step Passes m b last =
+ticks_step Passes m b unwritten last =
     let turn = last.0 in
     let w = m.scene.gateway in
     let moved : b.scene.gateway ≡ state_from w (turn_events turn) = last.1.went.gateway ∙ ap (state_from w) (single turn_events turn) in
@@ -79,10 +80,10 @@ pub stretch_none : {G : Type 0} (Passes : G → State → Event → G → Bool �
 stretch_none Passes a = record { turns = []; all = refl; went = go_nowhere Passes a; ticks = refl }
 
 -- one turn more was done, and no tick was taken
-pub stretch_more : {G : Type 0} (Passes : G → State → Event → G → Bool → Type 0) (n : ℕ) (a m b : Moment G)
-    → EndsAtTurns Passes n a m → GuardedEnd Passes m (Ok true) b → b.scene.gateway.ticks ≡ m.scene.gateway.ticks
+pub stretch_more : {G : Type 0} (Passes : G → State → Event → G → Bool → Type 0) (n : ℕ) (a m b : Moment G) (unwritten : List ℕ)
+    → EndsAtTurns Passes n a m → GuardedEnd Passes m (Ok true) unwritten b → b.scene.gateway.ticks ≡ m.scene.gateway.ticks
     → EndsAtTurns Passes (n + 1) a b
-stretch_more Passes n a m b p last stays = record {
+stretch_more Passes n a m b unwritten p last stays = record {
   turns = p.turns ++ last.0 ∷ [];
   all = omega (arith, p.all, length-append p.turns (last.0 ∷ []));
   went = go_along Passes a m b p.turns last.0 p.went last.1;
@@ -100,10 +101,10 @@ takes_tick w (taken_event (Datagram port from octets) tries) rises = absurd (ome
 takes_tick w (taken_event Tick tries) rises = (tries, refl)
 
 -- a tick was taken in it
-pub stretch_tick : {G : Type 0} (Passes : G → State → Event → G → Bool → Type 0) (n count : ℕ) (a m b : Moment G)
-    → EndsAtTurns Passes n a m → n < count → GuardedEnd Passes m (Ok true) b
+pub stretch_tick : {G : Type 0} (Passes : G → State → Event → G → Bool → Type 0) (n count : ℕ) (a m b : Moment G) (unwritten : List ℕ)
+    → EndsAtTurns Passes n a m → n < count → GuardedEnd Passes m (Ok true) unwritten b
     → b.scene.gateway.ticks ≡ m.scene.gateway.ticks + 1 → EndsAtTick Passes count a b
-stretch_tick Passes n count a m b p left last rises =
+stretch_tick Passes n count a m b unwritten p left last rises =
     let turn = last.0 in
     let w = m.scene.gateway in
     let moved : b.scene.gateway ≡ state_from w (turn_events turn) = last.1.went.gateway ∙ ap (state_from w) (single turn_events turn) in
@@ -117,9 +118,9 @@ stretch_tick Passes n count a m b p left last rises =
     }
 
 -- its event was withheld
-pub stretch_withheld : {G : Type 0} (Passes : G → State → Event → G → Bool → Type 0) (n count : ℕ) (a m b : Moment G)
-    → EndsAtTurns Passes n a m → n < count → GuardedEnd Passes m (Ok false) b → EndsWithheld Passes count a b
-stretch_withheld Passes n count a m b p left last = record {
+pub stretch_withheld : {G : Type 0} (Passes : G → State → Event → G → Bool → Type 0) (n count : ℕ) (a m b : Moment G) (unwritten : List ℕ)
+    → EndsAtTurns Passes n a m → n < count → GuardedEnd Passes m (Ok false) unwritten b → EndsWithheld Passes count a b
+stretch_withheld Passes n count a m b unwritten p left last = record {
   turns = p.turns;
   fewer = omega (arith, left, p.all);
   then = m;
@@ -130,8 +131,9 @@ stretch_withheld Passes n count a m b p left last = record {
 
 -- its event ended in a fault
 pub stretch_faulty : {G : Type 0} (Passes : G → State → Event → G → Bool → Type 0) (n count : ℕ) (a m b : Moment G) (fault : ServeFault)
-    → EndsAtTurns Passes n a m → n < count → GuardedEnd Passes m (Err fault) b → EndsFaulty Passes count a fault b
-stretch_faulty Passes n count a m b fault p left last = record {
+    (unwritten : List ℕ)
+    → EndsAtTurns Passes n a m → n < count → GuardedEnd Passes m (Err fault) unwritten b → EndsFaulty Passes count a fault unwritten b
+stretch_faulty Passes n count a m b fault unwritten p left last = record {
   turns = p.turns;
   fewer = omega (arith, left, p.all);
   then = m;

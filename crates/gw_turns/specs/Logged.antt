@@ -26,8 +26,8 @@ pub record IsLoggedFirst (before after : Scene) : Type 0 where
 
 -- So it is wherever a stretch ends, also where the log or memory failed it, and where a guard didn't let datagrams go.
 abbrev pub StretchesLogFirst : {G : Type 0} → (G → State → Event → G → Bool → Type 0) → Type 0
-StretchesLogFirst {G} Passes = (count : ℕ) (before after : Moment G) (answer : Result Pause ServeFault) →
-    EndsStretch Passes count before answer after → IsLoggedFirst before.scene after.scene
+StretchesLogFirst {G} Passes = (count : ℕ) (before after : Moment G) (answer : Result Pause ServeFault) (unwritten : List ℕ) →
+    EndsStretch Passes count before answer unwritten after → IsLoggedFirst before.scene after.scene
 
 -- And so it is wherever serving ends.
 abbrev pub ServingLogsFirst : Type 0

@@ -182,12 +182,11 @@ pub record IsTakenLast (before : Scene) (event : Event) (after : Scene) : Type 0
   pub gateway : after.gateway ≡ next before.gateway event
   pub calls : Records before.calls after.calls (arrival event ∷ [])
 
--- The log failed at the lines of the last event, of which it has a front.
-pub record EndsAtLog (before : Scene) (event : Event) (after : Scene) : Type 0 where
+-- The log failed at the lines of the last event: it has a front of them, and this is what it lacks.
+pub record EndsAtLog (unwritten : List ℕ) (before : Scene) (event : Event) (after : Scene) : Type 0 where
   pub taken : IsTakenLast before event after
   pub denies : ¬ ((effects_at before.gateway event).denials ≡ [])
   pub front : List ℕ
-  pub unwritten : List ℕ
   pub lines : lines_of (effects_at before.gateway event).denials ≡ front ++ unwritten
   pub log : Appends before.log after.log front
 
@@ -204,11 +203,11 @@ pub record EndsAtCount (before : Scene) (event : Event) (after : Scene) : Type 0
   pub log : after.log ≡ before.log
   pub calls : Records before.calls after.calls (arrival event ∷ [])
 
--- what the last event left, by the fault
-abbrev pub EndsBy : ServeFault → Scene → Event → Scene → Type 0
-EndsBy Log = EndsAtLog
-EndsBy Memory = EndsAtMemory
-EndsBy CountEnd = EndsAtCount
+-- what the last event left, by the fault; if the log failed, this is what it lacks
+abbrev pub EndsBy : ServeFault → (unwritten : List ℕ) → Scene → Event → Scene → Type 0
+EndsBy Log unwritten = EndsAtLog unwritten
+EndsBy Memory unwritten = EndsAtMemory
+EndsBy CountEnd unwritten = EndsAtCount
 
 -- the counts where the last turn ended in a fault: one receive more, and one event more taken, but
 -- for the end of a count
@@ -224,5 +223,6 @@ pub record Stops (count : ℕ) (before : Scene) (stop : ServeStop) (after : Scen
   pub moment : Scene
   pub went : LeadTo before turns moment
   pub event : Event
-  pub last : EndsBy stop.fault moment event after
+  pub unwritten : List ℕ
+  pub last : EndsBy stop.fault unwritten moment event after
   pub counts : stop.served ≡ count_fault (counts_of turns) stop.fault

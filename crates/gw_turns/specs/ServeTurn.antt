@@ -1,5 +1,6 @@
 -- What comes of the parts of one turn. It only helps proofs.
 use Rattle.std.specs.Prelude.{◌≡◌, ℕ, ◌+◌, ◌^◌, ◌<◌, ◌≤◌, Bool, true, false, not, List, [], ◌∷◌, ◌++◌, map, Option, Result, Ok, Err}
+use Rattle.std.specs.declared.alloc.AllocError.{AllocError}
 use Rattle.std.specs.Option.{option_map}
 use Rattle.std.specs.Io.KnownBytes.{Appends}
 use Rattle.gw_audit.specs.declared.denial.Denial.{Denial}
@@ -9,7 +10,6 @@ use Rattle.gw_relay.specs.Sends.{Sending}
 use Rattle.gw_wire.specs.declared.wire.WireFault.{WireFault}
 use Rattle.gw_turns.specs.declared.serving.Served.{Served}
 use Rattle.gw_turns.specs.declared.serving.ServeFault.{ServeFault}
-use Rattle.gw_turns.specs.declared.serving.ServeFault.TheVariants.{Log, Memory, CountEnd}
 use Rattle.gw_core.specs.State.{State}
 use Rattle.gw_core.specs.declared.fault.StepFault.{StepFault}
 use Rattle.gw_core.specs.declared.fault.StepFault.TheVariants as step
@@ -46,23 +46,22 @@ TurnEnd before s was after t is (Ok done) =
     (turn : Turn) × LeadTo before (turn ∷ []) after × (t ≡ count_turn s turn)
     × (is ≡ tally_from before.gateway was (turn_events turn))
 TurnEnd before s was after t is (Err fault) =
-    (event : Event) × EndsBy fault before event after × (t ≡ count_fault s fault) × (is ≡ was)
+    (event : Event) × (unwritten : List ℕ) × EndsBy fault unwritten before event after × (t ≡ count_fault s fault) × (is ≡ was)
 
 -- a turn with a guard: what was taken, if something was, was passed and tried; or it was withheld; or its event ended in a
 -- fault
-abbrev pub GuardedEnd : {G : Type 0} → (G → State → Event → G → Bool → Type 0) → Moment G → Result Bool ServeFault → Moment G → Type 0
-GuardedEnd Passes before (Ok true) after = (turn : Turn) × GoOn Passes before (turn ∷ []) after
-GuardedEnd Passes before (Ok false) after = (event : Event) × IsWithheld Passes before event after
-GuardedEnd Passes before (Err fault) after = (event : Event) × IsFaulty fault before event after
+abbrev pub GuardedEnd : {G : Type 0} → (G → State → Event → G → Bool → Type 0) → Moment G → Result Bool ServeFault → (unwritten : List ℕ)
+    → Moment G → Type 0
+GuardedEnd Passes before (Ok true) unwritten after = (turn : Turn) × GoOn Passes before (turn ∷ []) after
+GuardedEnd Passes before (Ok false) unwritten after = (event : Event) × IsWithheld Passes before event after
+GuardedEnd Passes before (Err fault) unwritten after = (event : Event) × IsFaulty Passes fault unwritten before event after
 
--- what the log holds of the lines of these denials
-abbrev pub LogEnd : List Denial → Option (List ℕ) → Option (List ℕ) → Result Unit ServeFault → Type 0
-LogEnd denials before after (Ok done) = Appends before after (lines_of denials)
-LogEnd denials before after (Err Log) =
-    ¬ (denials ≡ []) × (front : List ℕ) × (unwritten : List ℕ) × (lines_of denials ≡ front ++ unwritten)
-    × Appends before after front
-LogEnd denials before after (Err Memory) = ¬ (denials ≡ []) × (after ≡ before)
-LogEnd denials before after (Err CountEnd) = ⊥
+-- what the log holds of the lines of these denials: all; or it failed, and lacks this; or there was no memory for them
+abbrev pub LogEnd : List Denial → Option (List ℕ) → Option (List ℕ) → Result Bool AllocError → (unwritten : List ℕ) → Type 0
+LogEnd denials before after (Ok true) unwritten = Appends before after (lines_of denials)
+LogEnd denials before after (Ok false) unwritten =
+    ¬ (denials ≡ []) × (front : List ℕ) × (lines_of denials ≡ front ++ unwritten) × Appends before after front
+LogEnd denials before after (Err refused) unwritten = ¬ (denials ≡ []) × (after ≡ before)
 
 -- the counts after a send that was tried on the port of this number, by whether it succeeded
 abbrev pub counted_send : Served → (port : ℕ) → (success : Bool) → Served

@@ -12,6 +12,7 @@ use Rattle.gw_turns.specs.Serve.{empty_turn, events_of}
 use Rattle.gw_turns.specs.Serve.{failed_turn, lines_of, lost_event, taken_event, turn_events}
 use Rattle.gw_turns.specs.Tally.{IsBelow, tally_from}
 use Rattle.gw_turns.specs.declared.serving.ServeFault.{ServeFault}
+use Rattle.gw_turns.specs.declared.serving.ServeFault.TheVariants.{Log, Memory, CountEnd}
 use Rattle.gw_turns.specs.declared.serving.Served.{Served}
 use Rattle.gw_turns.specs.declared.stretch.Pause.{Pause}
 use Rattle.gw_turns.specs.declared.stretch.Pause.TheVariants.{Turns, Tick, Withheld}
@@ -101,30 +102,45 @@ pub record EndsWithheld {G : Type 0} (Passes : G → State → Event → G → B
   pub event : Event
   pub last : IsWithheld Passes then event after
 
--- the last event ended in a fault, and the guard wasn't asked about it
-pub record IsFaulty {G : Type 0} (fault : ServeFault) (before : Moment G) (event : Event) (after : Moment G) : Type 0 where
-  pub last : EndsBy fault before.scene event after.scene
-  pub guard : after.guard ≡ before.guard
+-- What the guard did about an event that ended in a fault: it passed one at whose lines the log failed, and whatever it answered
+-- nothing was sent; about another it wasn't asked.
+abbrev pub IsPassedAt : {G : Type 0} → (Passes : G → State → Event → G → Bool → Type 0) → ServeFault → G → State → Event → G → Type 0
+IsPassedAt Passes Log g w event then = (answer : Bool) × Passes g w event then answer
+IsPassedAt Passes Memory g w event then = then ≡ g
+IsPassedAt Passes CountEnd g w event then = then ≡ g
+
+-- the state up to which the guard was asked, if the last event ended in a fault: that after the event if the log failed, and else
+-- that before it
+abbrev pub asked_until : ServeFault → (before after : State) → State
+asked_until Log before after = after
+asked_until Memory before after = before
+asked_until CountEnd before after = before
+
+-- the last event ended in a fault; if the log failed, this is what it lacks of the event's lines
+pub record IsFaulty {G : Type 0} (Passes : G → State → Event → G → Bool → Type 0) (fault : ServeFault) (unwritten : List ℕ)
+    (before : Moment G) (event : Event) (after : Moment G) : Type 0 where
+  pub last : EndsBy fault unwritten before.scene event after.scene
+  pub guard : IsPassedAt Passes fault before.guard before.scene.gateway event after.guard
   pub counts : after.served ≡ count_fault before.served fault
   pub tally : after.tally ≡ before.tally
 
 pub record EndsFaulty {G : Type 0} (Passes : G → State → Event → G → Bool → Type 0) (count : ℕ) (before : Moment G)
-    (fault : ServeFault)
+    (fault : ServeFault) (unwritten : List ℕ)
     (after : Moment G) : Type 0 where
   pub turns : List Turn
   pub fewer : length turns < count
   pub then : Moment G
   pub went : GoOn Passes before turns then
   pub event : Event
-  pub last : IsFaulty fault then event after
+  pub last : IsFaulty Passes fault unwritten then event after
 
--- what a stretch of at most so many turns leads to, by its answer
+-- what a stretch of at most so many turns leads to, by its answer; if the log failed, this is what it lacks of the last event's lines
 abbrev pub EndsStretch : {G : Type 0} → (Passes : G → State → Event → G → Bool → Type 0) → ℕ → Moment G
-    → Result Pause ServeFault → Moment G → Type 0
-EndsStretch Passes count before (Ok Turns) after = EndsAtTurns Passes count before after
-EndsStretch Passes count before (Ok Tick) after = EndsAtTick Passes count before after
-EndsStretch Passes count before (Ok Withheld) after = EndsWithheld Passes count before after
-EndsStretch Passes count before (Err fault) after = EndsFaulty Passes count before fault after
+    → Result Pause ServeFault → (unwritten : List ℕ) → Moment G → Type 0
+EndsStretch Passes count before (Ok Turns) unwritten after = EndsAtTurns Passes count before after
+EndsStretch Passes count before (Ok Tick) unwritten after = EndsAtTick Passes count before after
+EndsStretch Passes count before (Ok Withheld) unwritten after = EndsWithheld Passes count before after
+EndsStretch Passes count before (Err fault) unwritten after = EndsFaulty Passes count before fault unwritten after
 
 -- ---- what can be counted
 

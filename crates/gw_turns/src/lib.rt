@@ -12,11 +12,12 @@ mod seen;
 mod serving;
 mod stretch;
 mod tally;
+mod unwritten;
 
 pub use alike::Part;
 pub use announcing::Announcing;
 pub use keeper::Keeper;
-pub use pace::Pace;
+pub use pace::{Pace, one_more};
 pub use ports::{Health, PortSends, PortTally};
 pub use report::{
     Report, has_gone_on, report_of, write_announcing, write_culprits, write_healths, write_ports,
@@ -26,3 +27,4 @@ pub use seen::Refusals;
 pub use serving::{ServeFault, ServeState, ServeStop, Served, serve};
 pub use stretch::Pause;
 pub use tally::{Culprit, Culprits, Tally};
+pub use unwritten::write_out;

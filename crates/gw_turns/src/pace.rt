@@ -21,7 +21,7 @@ pub struct Pace {
 }
 
 /// A count and one more, unless it would pass its end.
-pub(crate) fn one_more(count: u64) -> u64
+pub fn one_more(count: u64) -> u64
     ensures { result ≡ one_more count }
 {
     if count < u64::MAX { count + 1 } else { count }

@@ -1,7 +1,7 @@
 //! The gateway on a wire: what comes is taken, what is denied is logged, and what is to go is
 //! sent.
 
-ghost use Rattle.std.specs.Prelude.{◌≡◌, ℕ, ◌+◌, ◌-◌, ◌<◌, ◌≤◌, ◌^◌, ◌∷◌, ◌++◌, [], length, IfOk, IfErr, IsErrOf, OnOk};
+ghost use Rattle.std.specs.Prelude.{◌≡◌, ℕ, ◌+◌, ◌-◌, ◌<◌, ◌≤◌, ◌^◌, ◌∷◌, ◌++◌, [], length, IfOk, IfErr, IsErrOf, OnOk, true};
 ghost use Rattle.gw_script.specs.Event.{event_view};
 ghost use Rattle.gw_turns.specs.Tally.{IsBelow, no_tally};
 ghost use Rattle.gw_turns.specs.ServeTurn.{AreTried, GuardedEnd, HasRoom, LogEnd, TurnEnd, counted_send, event_answer};
@@ -16,10 +16,12 @@ use crate::ports::{PortSends, count_sent};
 use crate::seen::{Refusals, take_seen};
 use crate::tally::{Tally, number_if};
 use gw_addr::MAX_PORTS;
+use crate::tally::Tally;
+use crate::unwritten::write_out;
 use gw_audit::{Denials, line};
 use gw_core::{Gateway, Guard, StepFault, Unguarded};
 use gw_relay::{Batch, Sends};
-use gw_script::{Event, OctetSink, write_whole};
+use gw_script::{Event, OctetSink};
 use gw_wire::{Got, RECEIVE_ROOM, Wire, WireFault};
 use std::alloc::{AllocError, Global};
 use thiserror::Error;
@@ -163,7 +165,8 @@ pub fn serve<W: Wire, L: OctetSink>(
 #[derive(Drop)]
 pub struct ServeState {
     datagram: [u8; RECEIVE_ROOM],
-    lines: Vec<u8>,
+    /// What the log lacks of the lines of the last event, if it failed at them.
+    pub unwritten: Vec<u8>,
     /// What was done so far.
     pub served: Served,
     /// How many datagrams weren't passed on, in whole turns.
@@ -182,7 +185,7 @@ impl ServeState {
     {
         ServeState {
             datagram: [0; RECEIVE_ROOM],
-            lines: Vec::new(alloc),
+            unwritten: Vec::new(alloc),
             served: Served::none(),
             tally: Tally::none(),
             refusals: Refusals::none(),
@@ -220,7 +223,8 @@ impl ServeState {
     }
 
     /// One turn with a guard, which passes what was taken and logged before it is sent. Says whether its
-    /// datagrams could go.
+    /// datagrams could go. If the log fails at an event, the guard passes it all the same, since it was taken, and nothing of it is
+    /// sent.
     #[inline(always)]
     pub(crate) fn take_guarded_turn<W: Wire, L: OctetSink, G: Guard>(
         &mut self,
@@ -236,7 +240,7 @@ impl ServeState {
             (scene gateway.old (L.held log.old) (W.calls wire.old)) guard.old self.old.served self.old.tally in
             let after = moment
             (scene gateway.new (L.held log.new) (W.calls wire.new)) guard.new self.new.served self.new.tally in
-            GuardedEnd G.Passes before result after }
+            GuardedEnd G.Passes before result self.new.unwritten.items after }
         ensures turns { self.new.served.turns ≡ self.old.served.turns + 1 }
         ensures each { let is = self.new.served in
             is.taken + is.memory_drops + is.recv_failures ≤ is.turns }
@@ -278,7 +282,13 @@ impl ServeState {
             Err(StepFault::CountEnd) => return Err(ServeFault::CountEnd),
         };
         self.served.taken += 1;
-        log_denials(&mut self.lines, log, &taken.effects.denials)?;
+        let Ok(is_logged) = log_denials(&mut self.unwritten, log, &taken.effects.denials) else {
+            return Err(ServeFault::Memory);
+        };
+        if !is_logged {
+            guard.pass(alloc, gateway, &taken, asked.as_ref());
+            return Err(ServeFault::Log);
+        }
         self.tally
             .count(tick, &event, taken.drop, &taken.effects.denials);
         if !guard.pass(alloc, gateway, &taken, asked.as_ref()) {
@@ -313,28 +323,25 @@ fn receive<'a, W: Wire>(
     }
 }
 
-/// Makes the lines of all denials, and then writes them to the log. Without a denial the log isn't
-/// called.
+/// Makes the lines of all denials, and then writes them to the log. Says whether it has them; else what it lacks is left. Without a
+/// denial the log isn't called. An `Err` if there is no memory for the lines.
 fn log_denials<L: OctetSink>(
-    lines: &mut Vec<u8>,
+    unwritten: &mut Vec<u8>,
     log: &mut L,
     denials: &Denials,
-) -> Result<(), ServeFault>
-    ensures end { LogEnd denials.now (L.held log.old) (L.held log.new) result }
-    ensures sure { L.NeverFails log.old → ¬ (IsErrOf result ServeFault.Log) }
+) -> Result<bool, AllocError>
+    ensures end { LogEnd denials.now (L.held log.old) (L.held log.new) result unwritten.new.items }
+    ensures sure { L.NeverFails log.old → IfOk result (λ is_logged. is_logged ≡ true) }
     ensures lasting { L.NeverFails log.old → L.NeverFails log.new }
 {
     if denials.is_empty() {
-        return Ok(());
+        return Ok(true);
     }
-    lines.clear();
-    if append_lines(lines, denials).is_err() {
-        return Err(ServeFault::Memory);
-    }
-    match write_whole(log, lines) {
-        Ok(()) => Ok(()),
-        Err(_) => Err(ServeFault::Log),
-    }
+    unwritten.clear();
+    let Ok(_made) = append_lines(unwritten, denials) else {
+        return Err(AllocError);
+    };
+    Ok(write_out(unwritten, log))
 }
 
 /// Appends the line of each denial.

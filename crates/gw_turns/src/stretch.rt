@@ -30,7 +30,8 @@ impl ServeState {
     ///
     /// # Errors
     ///
-    /// Those of [`serve`](crate::serve). The guard wasn't asked about the last event.
+    /// Those of [`serve`](crate::serve). If the log failed at the last event, `unwritten` has what it lacks of the event's lines, and
+    /// the guard passed the event; else the guard wasn't asked about it.
     pub fn serve_to_tick<W: Wire, L: OctetSink, G: Guard>(
         &mut self,
         alloc: Global,
@@ -46,7 +47,7 @@ impl ServeState {
             (scene gateway.old (L.held log.old) (W.calls wire.old)) guard.old self.old.served self.old.tally in
             let after = moment
             (scene gateway.new (L.held log.new) (W.calls wire.new)) guard.new self.new.served self.new.tally in
-            EndsStretch G.Passes turns before result after }
+            EndsStretch G.Passes turns before result self.new.unwritten.items after }
         // As many turns as weren't done can still be counted.
         ensures rest { (rest : ℕ) → self.new.served.turns + rest ≤ self.old.served.turns + turns →
             CanCount self.new.served self.new.tally (W.failure_count wire.new) rest }

@@ -20,7 +20,9 @@ use Rattle.gw_turns.specs.Keeping.{HasPassed, IsHeld, IsUnkept, IsUpToDate, Keep
 use Rattle.gw_turns.specs.Pace.{may_try}
 use Rattle.gw_wire.specs.Store.{Holds}
 use Rattle.gw_turns.specs.Serve.{Turn, empty_turn, events_of, failed_turn, lost_event, taken_event, turn_events}
-use Rattle.gw_turns.specs.Stretch.{AreGuarded, GoOn, GuardsTurn, Moment}
+use Rattle.gw_turns.specs.Stretch.{AreGuarded, GoOn, GuardsTurn, IsFaulty, Moment, asked_until}
+use Rattle.gw_turns.specs.declared.serving.ServeFault.{ServeFault}
+use Rattle.gw_turns.specs.declared.serving.ServeFault.TheVariants as serving
 use Rattle.gw_turns.specs.declared.stretch.Pause.TheVariants.{Turns, Tick, Withheld}
 use Rattle.gw_script.specs.Event as event
 use Rattle.gw_turns.specs.declared.alike.Part.TheVariants.{AllButTicks, Lasting}
@@ -268,13 +270,25 @@ went_current held before after turns p current =
     (turns_current held before.guard after.guard before.scene.gateway turns p.guarded current)
 
 pub pauses_keep : {S : Type 0} (held : S → Option (List ℕ)) → PausesKeep held
-pauses_keep held count before after Turns p current = went_current held before after p.turns p.went current
-pauses_keep held count before after Tick p current = went_current held before after (p.turns ++ taken_event event.Tick p.tries ∷ []) p.went current
-pauses_keep held count before after Withheld p current =
+pauses_keep held count before after Turns unwritten p current = went_current held before after p.turns p.went current
+pauses_keep held count before after Tick unwritten p current = went_current held before after (p.turns ++ taken_event event.Tick p.tries ∷ []) p.went current
+pauses_keep held count before after Withheld unwritten p current =
     let then = p.then in
     subst (λ (v : State). IsCurrent held after.guard v) (sym p.last.logged.taken.gateway)
     (event_current held then.guard after.guard then.scene.gateway p.event false p.last.passes (went_current held before then p.turns p.went current))
 
+-- the last event of a fault
+fault_current : {S : Type 0} (held : S → Option (List ℕ)) (fault : ServeFault) (unwritten : List ℕ) (then after : Moment (Keeping S))
+    (event : Event) → IsFaulty (HasPassed held) fault unwritten then event after → IsCurrent held then.guard then.scene.gateway
+    → IsCurrent held after.guard (asked_until fault then.scene.gateway after.scene.gateway)
+fault_current held serving.Log unwritten then after event p current =
+    subst (λ (v : State). IsCurrent held after.guard v) (sym p.last.taken.gateway)
+    (event_current held then.guard after.guard then.scene.gateway event p.guard.0 p.guard.1 current)
+fault_current held serving.Memory unwritten then after event p current =
+    subst (λ (j : Keeping _). IsCurrent held j then.scene.gateway) (sym p.guard) current
+fault_current held serving.CountEnd unwritten then after event p current =
+    subst (λ (j : Keeping _). IsCurrent held j then.scene.gateway) (sym p.guard) current
+
 pub faults_keep : {S : Type 0} (held : S → Option (List ℕ)) → FaultsKeep held
-faults_keep held count before after fault p current =
-    subst (λ (j : Keeping _). IsCurrent held j p.then.scene.gateway) (sym p.last.guard) (went_current held before p.then p.turns p.went current)
+faults_keep held count before after fault unwritten p current =
+    fault_current held fault unwritten p.then after p.event p.last (went_current held before p.then p.turns p.went current)

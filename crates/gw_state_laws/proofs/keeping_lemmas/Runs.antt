@@ -12,9 +12,10 @@ use Rattle.gw_core.specs.Resumed.{saved_of}
 use Rattle.gw_core.specs.State.{State}
 use Rattle.gw_turns.specs.Keeping.{IsHeld, IsRecent, IsTried, IsUpToDate, IsYoung, KeepsChanged, Keeping, KeptBy, TicksBy, Tries, is_due, is_kept, is_registering, nothing_kept}
 use Rattle.gw_turns.specs.Serve.{Turn, empty_turn, events_of, failed_turn, lost_event, taken_event, turn_events}
-use Rattle.gw_turns.specs.Stretch.{AreGuarded, GoOn, GuardsTurn, Moment}
+use Rattle.gw_turns.specs.Stretch.{AreGuarded, GoOn, GuardsTurn, IsFaulty, Moment, asked_until}
 use Rattle.gw_turns.specs.declared.alike.Part.TheVariants.{AllButTicks}
 use Rattle.gw_turns.specs.declared.serving.ServeFault.{ServeFault}
+use Rattle.gw_turns.specs.declared.serving.ServeFault.TheVariants as serving
 use Rattle.gw_wire.specs.declared.store.StoreFault.{StoreFault}
 use Rattle.gw_turns.proofs.KeepingLemmas.{recent_is_young, ticks_keep_recent}
 use Rattle.gw_turns.proofs.ServeLemmas.{state_along}
@@ -232,6 +233,20 @@ watched_runs_keep_current held log_held how s t links p now =
 
 -- ---- at the end
 
+-- the last event of a fault
+fault_keeps : {S K : Type 0} (held : S → Option (List ℕ)) (part : K → Kept S) (manner : Manner K) → IsPart held part manner
+    → (c : Configuration) (fault : ServeFault) (unwritten : List ℕ) (a b : Moment K) (event : Event)
+    → IsFaulty manner.Passes fault unwritten a event b → KeepsCurrent held (part a.guard) c a.scene.gateway
+    → KeepsCurrent held (part b.guard) c (asked_until fault a.scene.gateway b.scene.gateway)
+fault_keeps held part manner is c serving.Log unwritten a b event p now =
+    let passed = is.passes a.guard b.guard a.scene.gateway event p.guard.0 p.guard.1 in
+    subst (λ (v : State). KeepsCurrent held (part b.guard) c v) (sym p.last.taken.gateway)
+    (passed_keeps held (part a.guard) (part b.guard) c a.scene.gateway event passed.0 passed.1 now)
+fault_keeps held part manner is c serving.Memory unwritten a b event p now =
+    subst (λ j. KeepsCurrent held (part j) c a.scene.gateway) (sym p.guard) now
+fault_keeps held part manner is c serving.CountEnd unwritten a b event p now =
+    subst (λ j. KeepsCurrent held (part j) c a.scene.gateway) (sym p.guard) now
+
 end_keeps : {S K : Type 0} (held : S → Option (List ℕ)) (part : K → Kept S) (manner : Manner K) → IsPart held part manner → (count : ℕ)
     (s t : Stage K) (answer : Result End ServeFault) (links : List Link) → (runs : Runs manner count s answer links t)
     → KeepsAt held part s → KeepsAtEnd held part manner count s answer links t runs
@@ -247,8 +262,8 @@ end_keeps held part manner is count s t (Err fault) links runs now =
     let ends = runs.ends.ends in
     let led = links_keep held part manner is s then links runs.chain now in
     let went = went_keeps held part manner is then.config then.now ends.then ends.turns ends.went led in
-    stays_so held part then.config t.config ends.then.guard t.now.guard ends.then.scene.gateway ends.then.scene.gateway runs.ends.config
-    ends.last.guard refl went
+    subst (λ (c : Configuration). KeepsCurrent held (part t.now.guard) c (asked_until fault ends.then.scene.gateway t.now.scene.gateway))
+    (sym runs.ends.config) (fault_keeps held part manner is then.config fault runs.unwritten ends.then t.now ends.event ends.last went)
 
 pub first_is_current : {S : Type 0} (held : S → Option (List ℕ)) → FirstIsCurrent held
 first_is_current held store c w Nowhere p = absurd p

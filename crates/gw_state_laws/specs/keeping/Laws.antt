@@ -9,7 +9,7 @@ use Rattle.gw_core.specs.Resumed.{saved_of}
 use Rattle.gw_core.specs.State.{State}
 use Rattle.gw_turns.specs.Keeping.{HasPassed, IsHeld, IsRecent, IsTried, IsUnkept, IsUpToDate, KeepsAtTick, Keeping, is_registering, lasting_of}
 use Rattle.gw_turns.specs.Serve.{Turn}
-use Rattle.gw_turns.specs.Stretch.{EndsFaulty, EndsStretch, Moment}
+use Rattle.gw_turns.specs.Stretch.{EndsFaulty, EndsStretch, Moment, asked_until}
 use Rattle.gw_core.specs.declared.guard.Both.{Both}
 use Rattle.gw_turns.specs.declared.serving.ServeFault.{ServeFault}
 use Rattle.gw_state_text.specs.Text.{state_text}
@@ -71,15 +71,16 @@ TicksKeepCurrent {S} held = (k l : Keeping S) (w : State) → KeepsAtTick held k
 
 -- At each pause of a stretch the keeper is current, if it was at its beginning.
 abbrev pub PausesKeep : {S : Type 0} → (S → Option (List ℕ)) → Type 0
-PausesKeep {S} held = (count : ℕ) (before after : Moment (Keeping S)) (pause : Pause) →
-    EndsStretch (HasPassed held) count before (Ok pause) after → IsCurrent held before.guard before.scene.gateway →
+PausesKeep {S} held = (count : ℕ) (before after : Moment (Keeping S)) (pause : Pause) (unwritten : List ℕ) →
+    EndsStretch (HasPassed held) count before (Ok pause) unwritten after → IsCurrent held before.guard before.scene.gateway →
     IsCurrent held after.guard after.scene.gateway
 
--- If it ends in a fault, the keeper is current in the state before the last event, of which nothing was sent.
+-- If it ends in a fault of the log, the keeper is current in the state then; in another, in the state before the last event. Of that
+-- event nothing was sent.
 abbrev pub FaultsKeep : {S : Type 0} → (S → Option (List ℕ)) → Type 0
-FaultsKeep {S} held = (count : ℕ) (before after : Moment (Keeping S)) (fault : ServeFault) →
-    (end : EndsFaulty (HasPassed held) count before fault after) → IsCurrent held before.guard before.scene.gateway →
-    IsCurrent held after.guard end.then.scene.gateway
+FaultsKeep {S} held = (count : ℕ) (before after : Moment (Keeping S)) (fault : ServeFault) (unwritten : List ℕ) →
+    (end : EndsFaulty (HasPassed held) count before fault unwritten after) → IsCurrent held before.guard before.scene.gateway →
+    IsCurrent held after.guard (asked_until fault end.then.scene.gateway after.scene.gateway)
 
 -- A keeper that is current and whose last try didn't fail has a store that is up to date.
 abbrev pub CurrentIsUpToDate : {S : Type 0} → (S → Option (List ℕ)) → Type 0
@@ -99,12 +100,14 @@ pub record KeepsCurrent {S : Type 0} (held : S → Option (List ℕ)) (kept : Ke
 abbrev pub KeepsAt : {S K : Type 0} → (S → Option (List ℕ)) → (K → Kept S) → Stage K → Type 0
 KeepsAt held part s = KeepsCurrent held (part s.now.guard) s.config s.now.scene.gateway
 
--- So it is at the end of a run. If its last event ended in a fault, the state is that before this event, of which nothing was sent.
+-- So it is at the end of a run. If its last event ended in a fault but that of the log, the state is that before this event. Of such an
+-- event nothing was sent.
 abbrev pub KeepsAtEnd : {S K : Type 0} → (S → Option (List ℕ)) → (K → Kept S) → (manner : Manner K) → (count : ℕ) → (first : Stage K)
     → (answer : Result End ServeFault) → (links : List Link) → (last : Stage K) → Runs manner count first answer links last → Type 0
 KeepsAtEnd held part manner count first (Ok end) links last runs = KeepsAt held part last
 KeepsAtEnd held part manner count first (Err fault) links last runs =
-    KeepsCurrent held (part last.now.guard) last.config runs.ends.ends.then.scene.gateway
+    KeepsCurrent held (part last.now.guard) last.config
+    (asked_until fault runs.ends.ends.then.scene.gateway last.now.scene.gateway)
 
 -- the guard of a run that isn't watched keeps the state itself, and the second part of one that is
 abbrev pub itself : {S : Type 0} → Kept S → Kept S

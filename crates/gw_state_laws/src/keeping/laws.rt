@@ -22,7 +22,7 @@ pub fn at_each_try<S: Store>()
 {}
 
 /// What a store holds at every pause: if it is up to date at the beginning of a stretch, or its last try failed, then it is so
-/// at the end. If the stretch ends in a fault, it is so before the last event, of which nothing was sent.
+/// at the end. If the stretch ends in a fault but that of the log, it is so before the last event. Of such an event nothing was sent.
 pub fn at_each_pause<S: Store>()
     ensures pauses { PausesKeep S.held }
     ensures faults { FaultsKeep S.held }
@@ -44,8 +44,8 @@ pub fn over_a_run<S: Store, L: OctetSink>()
 {}
 
 /// What a store holds at the end of a run that keeps its state there, watched or not: it is up to date, or the last try failed. If the
-/// run ends in a fault, it is so before the last event, of which nothing was sent. Then the last state is kept, whatever ended the
-/// run: the store is up to date in it, or that try failed.
+/// run ends in a fault but that of the log, it is so before the last event. Of such an event nothing was sent. Then the last state is
+/// kept, whatever ended the run: the store is up to date in it, or that try failed.
 pub fn at_each_end<S: Store + Drop, Q: Requests + Drop, L: OctetSink + Drop>()
     ensures ended { (given : Given S Q L) → RunsEndCurrent given }
     ensures watched { (given : Given S Q L) → WatchedRunsEndCurrent given }

@@ -25,7 +25,7 @@ returns-in-Ok-Turns-clause-advances g c = λ config is_config.
     (moment (scene c.args.self.now.gateway (g.L.OctetSink.held c.args.log.now) (g.W.Wire.calls c.args.wire.now)) c.args.self.now.keeper
     c.args.self.now.state.served c.args.self.now.state.tally)
     (moment (scene c.serve_to_tick.new.gateway (g.L.OctetSink.held c.serve_to_tick.new.log) (g.W.Wire.calls c.serve_to_tick.new.wire))
-    c.serve_to_tick.new.guard c.serve_to_tick.new.self.served c.serve_to_tick.new.self.tally) c.serve_to_tick.result c.in-Ok-Turns.field-0
+    c.serve_to_tick.new.guard c.serve_to_tick.new.self.served c.serve_to_tick.new.self.tally) c.serve_to_tick.result c.serve_to_tick.new.self.unwritten.items c.in-Ok-Turns.field-0
     pause.Turns c.in-Ok-Turns.is c.in-Ok-Turns.field-0-is c.serve_to_tick.ensures.end in (
       config,
       [],
@@ -47,7 +47,7 @@ returns-in-Ok-Turns-clause-more g c = λ some.
     (moment (scene c.args.self.now.gateway (g.L.OctetSink.held c.args.log.now) (g.W.Wire.calls c.args.wire.now)) c.args.self.now.keeper
     c.args.self.now.state.served c.args.self.now.state.tally)
     (moment (scene c.serve_to_tick.new.gateway (g.L.OctetSink.held c.serve_to_tick.new.log) (g.W.Wire.calls c.serve_to_tick.new.wire))
-    c.serve_to_tick.new.guard c.serve_to_tick.new.self.served c.serve_to_tick.new.self.tally) c.serve_to_tick.result c.in-Ok-Turns.field-0
+    c.serve_to_tick.new.guard c.serve_to_tick.new.self.served c.serve_to_tick.new.self.tally) c.serve_to_tick.result c.serve_to_tick.new.self.unwritten.items c.in-Ok-Turns.field-0
     pause.Turns c.in-Ok-Turns.is c.in-Ok-Turns.field-0-is c.serve_to_tick.ensures.end) some
 
 pub returns-then-is_behind-clause-advances : goal.returns-then-is_behind-clause-advances
@@ -56,7 +56,7 @@ returns-then-is_behind-clause-advances g c = λ config is_config.
     (moment (scene c.args.self.now.gateway (g.L.OctetSink.held c.args.log.now) (g.W.Wire.calls c.args.wire.now)) c.args.self.now.keeper
     c.args.self.now.state.served c.args.self.now.state.tally)
     (moment (scene c.serve_to_tick.new.gateway (g.L.OctetSink.held c.serve_to_tick.new.log) (g.W.Wire.calls c.serve_to_tick.new.wire))
-    c.serve_to_tick.new.guard c.serve_to_tick.new.self.served c.serve_to_tick.new.self.tally) c.serve_to_tick.result c.in-Ok-Tick.field-0
+    c.serve_to_tick.new.guard c.serve_to_tick.new.self.served c.serve_to_tick.new.self.tally) c.serve_to_tick.result c.serve_to_tick.new.self.unwritten.items c.in-Ok-Tick.field-0
     pause.Tick c.in-Ok-Tick.is c.in-Ok-Tick.field-0-is c.serve_to_tick.ensures.end in (
       config,
       [],
@@ -83,7 +83,7 @@ returns-then-is_behind-clause-more g c = λ some.
     (moment (scene c.args.self.now.gateway (g.L.OctetSink.held c.args.log.now) (g.W.Wire.calls c.args.wire.now)) c.args.self.now.keeper
     c.args.self.now.state.served c.args.self.now.state.tally)
     (moment (scene c.serve_to_tick.new.gateway (g.L.OctetSink.held c.serve_to_tick.new.log) (g.W.Wire.calls c.serve_to_tick.new.wire))
-    c.serve_to_tick.new.guard c.serve_to_tick.new.self.served c.serve_to_tick.new.self.tally) c.serve_to_tick.result c.in-Ok-Tick.field-0
+    c.serve_to_tick.new.guard c.serve_to_tick.new.self.served c.serve_to_tick.new.self.tally) c.serve_to_tick.result c.serve_to_tick.new.self.unwritten.items c.in-Ok-Tick.field-0
     pause.Tick c.in-Ok-Tick.is c.in-Ok-Tick.field-0-is c.serve_to_tick.ensures.end)
 
 pub returns-in_default-clause-more : goal.returns-in_default-clause-more
@@ -99,7 +99,7 @@ returns-in_default-clause-more g c = λ some.
     (moment (scene c.args.self.now.gateway (g.L.OctetSink.held c.args.log.now) (g.W.Wire.calls c.args.wire.now)) c.args.self.now.keeper
     c.args.self.now.state.served c.args.self.now.state.tally)
     (moment (scene c.serve_to_tick.new.gateway (g.L.OctetSink.held c.serve_to_tick.new.log) (g.W.Wire.calls c.serve_to_tick.new.wire))
-    c.serve_to_tick.new.guard c.serve_to_tick.new.self.served c.serve_to_tick.new.self.tally) c.serve_to_tick.result c.in-Ok-Tick.field-0
+    c.serve_to_tick.new.guard c.serve_to_tick.new.self.served c.serve_to_tick.new.self.tally) c.serve_to_tick.result c.serve_to_tick.new.self.unwritten.items c.in-Ok-Tick.field-0
     pause.Tick c.in-Ok-Tick.is c.in-Ok-Tick.field-0-is c.serve_to_tick.ensures.end)
 
 pub returns-in-Ok-clause-advances : goal.returns-in-Ok-clause-advances
@@ -108,7 +108,7 @@ returns-in-Ok-clause-advances g c = λ config is_config.
     (moment (scene c.args.self.now.gateway (g.L.OctetSink.held c.args.log.now) (g.W.Wire.calls c.args.wire.now)) c.args.self.now.keeper
     c.args.self.now.state.served c.args.self.now.state.tally)
     (moment (scene c.serve_to_tick.new.gateway (g.L.OctetSink.held c.serve_to_tick.new.log) (g.W.Wire.calls c.serve_to_tick.new.wire))
-    c.serve_to_tick.new.guard c.serve_to_tick.new.self.served c.serve_to_tick.new.self.tally) c.serve_to_tick.result c.in-Ok-Tick.field-0
+    c.serve_to_tick.new.guard c.serve_to_tick.new.self.served c.serve_to_tick.new.self.tally) c.serve_to_tick.result c.serve_to_tick.new.self.unwritten.items c.in-Ok-Tick.field-0
     pause.Tick c.in-Ok-Tick.is c.in-Ok-Tick.field-0-is c.serve_to_tick.ensures.end in
     let held = g.E.OctetSink.held in
     let old = c.args.self.now in
@@ -142,7 +142,7 @@ returns-in-Ok-clause-advances g c = λ config is_config.
     let first = stage config at (g.Q.Requests.recorded old.requests) old.counts old.announcing old.said metrics in
     let text = ((look ++ notice) ++ report) ++ lines in
     let left = edge (g.W.Wire.behind c.announce.new.wire) (WasLasting g.L.Lasting.IsLasting g.L.OctetSink.held c.at_tick-stops.new.log)
-    (FailsToLast g.L.Lasting.Syncs c.at_tick-stops.new.log) in (
+    (FailsToLast g.L.Lasting.Syncs c.at_tick-stops.new.log) after.state.unwritten.items in (
       done.0,
       ((look ++ notice) ++ report) ++ lines,
       done.2,
@@ -216,7 +216,7 @@ returns-in-Ok-clause-more g c = λ some.
     (moment (scene c.args.self.now.gateway (g.L.OctetSink.held c.args.log.now) (g.W.Wire.calls c.args.wire.now)) c.args.self.now.keeper
     c.args.self.now.state.served c.args.self.now.state.tally)
     (moment (scene c.serve_to_tick.new.gateway (g.L.OctetSink.held c.serve_to_tick.new.log) (g.W.Wire.calls c.serve_to_tick.new.wire))
-    c.serve_to_tick.new.guard c.serve_to_tick.new.self.served c.serve_to_tick.new.self.tally) c.serve_to_tick.result c.in-Ok-Tick.field-0
+    c.serve_to_tick.new.guard c.serve_to_tick.new.self.served c.serve_to_tick.new.self.tally) c.serve_to_tick.result c.serve_to_tick.new.self.unwritten.items c.in-Ok-Tick.field-0
     pause.Tick c.in-Ok-Tick.is c.in-Ok-Tick.field-0-is c.serve_to_tick.ensures.end))
 
 pub returns-in-Ok-Withheld-clause-advances : goal.returns-in-Ok-Withheld-clause-advances
@@ -225,7 +225,7 @@ returns-in-Ok-Withheld-clause-advances g c = λ config is_config.
     (moment (scene c.args.self.now.gateway (g.L.OctetSink.held c.args.log.now) (g.W.Wire.calls c.args.wire.now)) c.args.self.now.keeper
     c.args.self.now.state.served c.args.self.now.state.tally)
     (moment (scene c.serve_to_tick.new.gateway (g.L.OctetSink.held c.serve_to_tick.new.log) (g.W.Wire.calls c.serve_to_tick.new.wire))
-    c.serve_to_tick.new.guard c.serve_to_tick.new.self.served c.serve_to_tick.new.self.tally) c.serve_to_tick.result c.in-Ok-Withheld.field-0
+    c.serve_to_tick.new.guard c.serve_to_tick.new.self.served c.serve_to_tick.new.self.tally) c.serve_to_tick.result c.serve_to_tick.new.self.unwritten.items c.in-Ok-Withheld.field-0
     pause.Withheld c.in-Ok-Withheld.is c.in-Ok-Withheld.field-0-is c.serve_to_tick.ensures.end in
     let notice = notice_of c.args.self.now.said c.notice-self-in-Ok-Withheld.result in (
       config,
@@ -264,5 +264,5 @@ returns-in-Ok-Withheld-clause-more g c = λ some.
     (moment (scene c.args.self.now.gateway (g.L.OctetSink.held c.args.log.now) (g.W.Wire.calls c.args.wire.now)) c.args.self.now.keeper
     c.args.self.now.state.served c.args.self.now.state.tally)
     (moment (scene c.serve_to_tick.new.gateway (g.L.OctetSink.held c.serve_to_tick.new.log) (g.W.Wire.calls c.serve_to_tick.new.wire))
-    c.serve_to_tick.new.guard c.serve_to_tick.new.self.served c.serve_to_tick.new.self.tally) c.serve_to_tick.result c.in-Ok-Withheld.field-0
+    c.serve_to_tick.new.guard c.serve_to_tick.new.self.served c.serve_to_tick.new.self.tally) c.serve_to_tick.result c.serve_to_tick.new.self.unwritten.items c.in-Ok-Withheld.field-0
     pause.Withheld c.in-Ok-Withheld.is c.in-Ok-Withheld.field-0-is c.serve_to_tick.ensures.end)

@@ -51,7 +51,7 @@ loop-preserved g c =
     (moment (scene new.gateway (g.L.OctetSink.held c.advance.new.log) (g.W.Wire.calls c.advance.new.wire)) new.keeper
     new.state.served new.state.tally) (g.Q.Requests.recorded new.requests) new.counts new.announcing new.said (metered new.metrics) in
     let left_by = edge (g.W.Wire.behind c.advance.new.wire) (WasLasting g.L.Lasting.IsLasting g.L.OctetSink.held c.advance.new.log)
-    (FailsToLast g.L.Lasting.Syncs c.advance.new.log) in
+    (FailsToLast g.L.Lasting.Syncs c.advance.new.log) new.state.unwritten.items in
     let left = c.loop.left - (new.state.served.turns - now.state.served.turns) in
     let counted : new.state.served.turns + left ≡ now.state.served.turns + c.loop.left = omega (arith, more, most) in (
       omega (arith, more, most, kept.0),
@@ -93,7 +93,7 @@ returns-in_err-ended-clause-runs g c =
     (λ (config : Configuration). stage config (moment (scene now.gateway (g.L.OctetSink.held c.loop.log) (g.W.Wire.calls c.loop.wire))
     now.keeper now.state.served now.state.tally) (g.Q.Requests.recorded now.requests) now.counts now.announcing now.said (metered now.metrics))
     last fault (edge (g.W.Wire.behind c.advance.new.wire) (WasLasting g.L.Lasting.IsLasting g.L.OctetSink.held c.advance.new.log)
-    (FailsToLast g.L.Lasting.Syncs c.advance.new.log))
+    (FailsToLast g.L.Lasting.Syncs c.advance.new.log) new.state.unwritten.items)
     (never c.args.errors.now) (never c.loop.errors) (held c.args.errors.now) (held c.loop.errors) (held c.advance.new.errors)
     kept.4 c.in_err-ended.ensures.advances kept.3 (λ a b. kept.1))
 
@@ -119,7 +119,7 @@ returns-in-Some-clause-runs g c =
     (moment (scene new.gateway (g.L.OctetSink.held c.advance.new.log) (g.W.Wire.calls c.advance.new.wire)) new.keeper
     new.state.served new.state.tally) (g.Q.Requests.recorded new.requests) new.counts new.announcing new.said (metered new.metrics) in
     let left_by = edge (g.W.Wire.behind c.advance.new.wire) (WasLasting g.L.Lasting.IsLasting g.L.OctetSink.held c.advance.new.log)
-    (FailsToLast g.L.Lasting.Syncs c.advance.new.log) in
+    (FailsToLast g.L.Lasting.Syncs c.advance.new.log) new.state.unwritten.items in
     ran_ended how c.args.turns c.loop.left old.origin now.origin new.origin first at next left_by
     (never c.args.errors.now) (never c.loop.errors) (held c.args.errors.now) (held c.loop.errors) (held c.advance.new.errors) c.in-Some.end
     kept.4 (subst (λ (ending : Option End). Advanced how c.loop.left now.origin at (Ok ending) new.origin next left_by (never c.loop.errors)
