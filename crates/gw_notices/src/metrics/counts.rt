@@ -39,7 +39,7 @@ pub struct StateTries {
 }
 
 /// What is written of a port.
-#[derive(Clone, Copy)]
+#[derive(Clone, Copy, Default)]
 pub struct PortCounts {
     /// How many foreign devices are registered at it.
     pub foreign_devices: u64,
