@@ -3,7 +3,7 @@ pub mod Appending
 pub mod Excepting
 pub mod Full
 pub mod Hidden
-pub mod InOrder
+pub mod InTurn
 pub mod Letting
 pub mod Passage
 pub mod Reading

@@ -10,5 +10,6 @@ mod text;
 mod trust;
 mod trust_note;
 
-pub use finding::{ALL_STEPS, Finding, MAX_STEPS, findings_of};
+pub(crate) use finding::steps_given;
+pub use finding::{ALL_STEPS, Finding, Findings, MAX_STEPS, findings_of};
 pub use lint::put_lint;

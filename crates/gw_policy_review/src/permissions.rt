@@ -12,9 +12,7 @@ mod questions;
 mod reach;
 mod words;
 
-pub(crate) use passing::is_never;
-pub use passing::{
-    PASSAGE_STEPS, decides_all, may_allow, may_pass, place_of_all, search_allowed, search_decided,
-};
+pub use passing::{decides_all, may_allow, may_pass, place_of_all, search_decided};
+pub(crate) use passing::{Passage, is_never, search_allowed};
 pub use permissions::put_permissions;
 pub(crate) use words::Placed;

@@ -1,6 +1,6 @@
 -- What the cells of the table say of each ask.
-use Rattle.std.proofs.Common.{◌≡◌, ℕ, ◌+◌, ◌-◌, ◌≤◌, Bool, true, false, cond, nat_lt, List, [], ◌++◌, Option, ap, arith, inl, inr, refl, subst, sym, ◌∙◌}
-use Rattle.std.proofs.lemmas.Bool.{both_ways, ltb-false}
+use Rattle.std.proofs.Common.{◌≡◌, ℕ, ◌+◌, ◌-◌, ◌≤◌, Bool, true, false, List, [], ◌++◌, Option, ap, arith, inl, inr, refl, subst, sym, ◌∙◌}
+use Rattle.std.proofs.lemmas.Bool.{both_ways}
 use Rattle.gw_rules.specs.RuleList.{allows}
 use Rattle.gw_rules.specs.declared.rule.Rule.{Rule}
 use Rattle.gw_ask_sets.specs.declared.shapes.search.Outcome.{Outcome}
@@ -45,16 +45,6 @@ cells_are_true shapes rules left rest cell is =
     let counted = is.counted in
     subst (λ (o : Option Extent). Says shapes rules left o) (sym is.shown)
     (found shapes rules left (left - is.first) is.first is.second is.allowed is.denied (omega (arith, counted)) is.is_allowed is.is_denied)
-
--- a search is given no more than is left
-pub given_left : (left count : ℕ) → count ≤ steps_given left → count ≤ left
-given_left left count few = by (nat_lt left 16384) refl few
-  where
-    by : (c : Bool) → nat_lt left 16384 ≡ c → count ≤ cond c left 16384 → count ≤ left
-    by true e few = few
-    by false e few =
-        let over = ltb-false left 16384 e in
-        omega (arith, over, few)
 
 -- ---- how the table grows
 

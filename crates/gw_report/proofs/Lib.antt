@@ -1,5 +1,4 @@
 pub mod Cells
 pub mod Owning
-pub mod Turns
 pub mod page_lemmas
 pub mod points_lemmas

@@ -24,7 +24,7 @@ use Rattle.gw_ask_sets.specs.shapes.Shape.{Shape}
 use Rattle.gw_ask_sets.specs.shapes.Shapes.{shapes}
 use Rattle.gw_policy_drafts.specs.migration.Items.{field_text}
 use Rattle.gw_policy_review.specs.Places.{is_derived, place_words}
-use Rattle.gw_policy_review.specs.permissions.Texts.{AreInOrder}
+use Rattle.gw_policy_review.specs.permissions.Texts.{AreInTurn}
 use Rattle.gw_report.specs.Access.{IsCell, asked_shapes}
 use Rattle.gw_report.specs.declared.passing.Extent.{Extent}
 use Rattle.gw_report.specs.declared.passing.Extent.TheVariants as extent
@@ -90,19 +90,14 @@ extent_cell (Some extent.Some) = element_text element.Some (codes "some")
 extent_cell (Some extent.All) = element_text element.All (codes "all")
 extent_cell (Some extent.Unknown) = element_text element.Some (codes "some?")
 
--- the texts of items in their order, one after the other, each made with steps of those that are left: so many before, and after
-abbrev pub AreInTurn : {A : Type 0} → (A → (left rest : ℕ) → List ℕ → Type 0) → List A → (left rest : ℕ) → List ℕ → Type 0
-AreInTurn Is [] left rest text = (rest ≡ left) × (text ≡ [])
-AreInTurn Is (item ∷ items) left rest text =
-    (between : ℕ) × (first others : List ℕ) × Is item left between first × AreInTurn Is items between rest others × (text ≡ first ++ others)
-
 -- the cell of a row and an operation
 abbrev pub IsCellText : List Rule → List Whence → List Shape → Whence → Operation → (left rest : ℕ) → List ℕ → Type 0
 IsCellText rules own those whence operation left rest text =
     (cell : Option Extent) × IsCell (asked_shapes own those whence operation) rules left rest cell × (text ≡ extent_cell cell)
 
 abbrev pub AreCells : List Rule → List Whence → List Shape → Whence → (left rest : ℕ) → List ℕ → Type 0
-AreCells rules own those whence left rest text = AreInTurn (IsCellText rules own those whence) all_operations left rest text
+AreCells rules own those whence left rest text =
+    AreInTurn (λ place operation. IsCellText rules own those whence operation) 1 all_operations left rest text
 
 unfoldable pub row_text : Whence → (cells : List ℕ) → List ℕ
 row_text whence cells =
@@ -130,7 +125,7 @@ legend_text = element_text element.Aside (codes "Each row is a network from whic
 pub record IsTable (rules : List Rule) (own : List Whence) (those : List Shape) (text : List ℕ) : Type 0 where
   pub between : ℕ
   pub rows : List ℕ
-  pub are_rows : AreInTurn (IsRow rules own those) own 262144 between rows
+  pub are_rows : AreInTurn (λ place whence. IsRow rules own those whence) 1 own 262144 between rows
   pub rest : ℕ
   pub last : List ℕ
   pub is_last : IsRow rules own those Beyond between rest last

@@ -2,9 +2,9 @@
 ghost use Rattle.std.specs.Prelude.{◌≡◌, ◌+◌, ◌-◌, ◌<◌, ◌^◌, ◌++◌, codes, decimal, IfOk, OnOk};
 ghost use Rattle.std.specs.List.{flat_map, list_any};
 ghost use Rattle.gw_rules.specs.declared.operation.TheConstants.Operation.{ALL as all_operations};
-ghost use Rattle.gw_policy_review.specs.permissions.Texts.{Appends};
+ghost use Rattle.gw_policy_review.specs.permissions.Texts.{Appends, AreInTurn};
 ghost use Rattle.gw_report.specs.Access.{IsCell, asked_shapes, comes_from, is_asked, is_at, is_only};
-ghost use Rattle.gw_report.specs.Report.{AreCells, AreInTurn, IsAccess, IsRow, IsTable, access_head, access_text, extent_cell, legend_text};
+ghost use Rattle.gw_report.specs.Report.{AreCells, IsAccess, IsRow, IsTable, access_head, access_text, extent_cell, legend_text};
 ghost use Rattle.gw_report.specs.Report.{operation_head, own_from, own_of, row_text, table_text, whence_text};
 ghost use Rattle.gw_ask_sets.specs.shapes.Shapes.{shapes};
 ghost use Rattle.gw_report.specs.page.Elements.{element_text};
@@ -156,8 +156,9 @@ impl Table<'_> {
     }
 
     fn put_rows(&self, alloc: Global, page: &mut Page, left: u32) -> Result<u32, AllocError>
-        ensures { IfOk result (λ rest. Appends
-            (AreInTurn (IsRow self.now.rules.now self.now.own.now self.now.shapes.now) self.now.own.now left rest) page.old page.new) }
+        ensures { IfOk result (λ rest. Appends (AreInTurn
+            (λ place whence. IsRow self.now.rules.now self.now.own.now self.now.shapes.now whence) 1 self.now.own.now left rest)
+            page.old page.new) }
     {
         let mut rest = left;
         for whence in self.own {

@@ -86,15 +86,16 @@ one_counted shapes rules number (one ∷ findings) found left between rest count
   one_counted shapes rules (number + 1) findings found so_far.1 between rest count last so_far.4 (at ∙ omega arith) more are,
 )
 
--- what is found of the first so many rules, and how many steps are left
-pub record AreFound (shapes : List Shape) (rules : List Rule) (findings : List Finding) (place left : ℕ) : Type 0 where
+-- what is found of the first so many rules, and how many of the steps are left
+pub record AreFound (shapes : List Shape) (rules : List Rule) (findings : List Finding) (place steps left : ℕ) : Type 0 where
   pub count : length findings ≡ place
   pub each : Each shapes rules findings
-  pub counted : AreCounted shapes rules 1 findings 262144 left
+  pub counted : AreCounted shapes rules 1 findings steps left
 
-pub none_found : (shapes : List Shape) (rules : List Rule) (findings : List Finding) → findings ≡ [] → AreFound shapes rules findings 0 262144
-none_found shapes rules findings none =
-    subst (λ (fs : List Finding). AreFound shapes rules fs 0 262144) (sym none) (record {
+pub none_found : (shapes : List Shape) (rules : List Rule) (findings : List Finding) (steps : ℕ) → findings ≡ []
+    → AreFound shapes rules findings 0 steps steps
+none_found shapes rules findings steps none =
+    subst (λ (fs : List Finding). AreFound shapes rules fs 0 steps steps) (sym none) (record {
       count = refl;
       each = λ number rule found has there. absurd (no_finding [] (number - 1) found refl there);
       counted = refl;
@@ -106,10 +107,10 @@ rule_at [] place within = absurd (omega (arith, within))
 rule_at (r ∷ rs) place within = (get_or (r ∷ rs) place r, slice_get-get_or (r ∷ rs) place r within)
 
 -- one finding more, of the rule of a number
-pub next_found : (shapes : List Shape) (rules all : List Rule) (findings more : List Finding) (place left rest here : ℕ) (found : Finding)
+pub next_found : (shapes : List Shape) (rules all : List Rule) (findings more : List Finding) (place steps left rest here : ℕ) (found : Finding)
     → all ≡ rules → place < length all → more ≡ findings ++ found ∷ [] → IsFinding shapes all (place + 1) (steps_given left) here found
-    → left ≡ rest + here → AreFound shapes rules findings place left → AreFound shapes rules more (place + 1) rest
-next_found shapes rules all findings more place left rest here found same within grown told are before =
+    → left ≡ rest + here → AreFound shapes rules findings place steps left → AreFound shapes rules more (place + 1) steps rest
+next_found shapes rules all findings more place steps left rest here found same within grown told are before =
     let back : place + 1 - 1 ≡ place = omega arith in
     let one = rule_at all place within in
     let there : HasNumber all (place + 1) one.0 = record { counted = omega arith; there = ap (slice_get all) back ∙ one.1 } in
@@ -117,8 +118,8 @@ next_found shapes rules all findings more place left rest here found same within
     let is = subst (λ (rs : List Rule). IsFinding shapes rs (place + 1) (steps_given left) here found) same told in
     let count = before.count in
     let long = length-append findings (found ∷ []) in
-    subst (λ (fs : List Finding). AreFound shapes rules fs (place + 1) rest) (sym grown) (record {
+    subst (λ (fs : List Finding). AreFound shapes rules fs (place + 1) steps rest) (sym grown) (record {
       count = omega (arith, count, long);
       each = each_next shapes rules findings place one.0 found count has (is.each one.0 has) before.each;
-      counted = one_counted shapes rules 1 findings found 262144 left rest here (place + 1) before.counted (omega (arith, count)) is.counted are;
+      counted = one_counted shapes rules 1 findings found steps left rest here (place + 1) before.counted (omega (arith, count)) is.counted are;
     })

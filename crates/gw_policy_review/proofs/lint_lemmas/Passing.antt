@@ -38,6 +38,6 @@ in_kept (shape ∷ shapes) ask (inl here) is = kept (is_for Cast shape) shape (s
 in_kept (shape ∷ shapes) ask (inr later) is = behind (is_for Cast shape) shape (shapes_for Cast shapes) ask (in_kept shapes ask later is)
 
 pub no_broadcast_is_allowed : NoBroadcastIsAllowed
-no_broadcast_is_allowed shapes rules outcome.Never ask found none lies is = found.1.right ask (in_kept shapes ask lies is)
-no_broadcast_is_allowed shapes rules (outcome.Decides other) ask found none lies is = absurd cc
-no_broadcast_is_allowed shapes rules outcome.Unknown ask found none lies is = absurd cc
+no_broadcast_is_allowed shapes rules left rest outcome.Never ask found none lies is = found.1.right ask (in_kept shapes ask lies is)
+no_broadcast_is_allowed shapes rules left rest (outcome.Decides other) ask found none lies is = absurd cc
+no_broadcast_is_allowed shapes rules left rest outcome.Unknown ask found none lies is = absurd cc

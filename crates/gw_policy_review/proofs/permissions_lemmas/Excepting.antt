@@ -113,13 +113,13 @@ before rules ask lower number rule deciding denies has allow matching =
     ]
 
 pub only_exceptions_deny : OnlyExceptionsDeny
-only_exceptions_deny shapes rules findings number rule ask are has allow lies matching denied =
+only_exceptions_deny shapes rules left rest findings number rule ask are has allow lies matching denied =
     let by = some_first rules ask number rule has matching in
     let lower = by.0 in
     let deciding = (first_iff rules ask lower).0 by.1 in
     let denies = denying rules ask lower deciding denied in
     let below = before rules ask lower number rule deciding denies has allow matching in
-    let tells = finds_at shapes rules findings lower deciding.rule are deciding.numbered in
+    let tells = finds_at shapes rules left rest findings lower deciding.rule are deciding.numbered in
     let may = deciding_found shapes rules ask lower (finding_at findings lower) deciding lies by.1 tells in (
       lower,
       deciding.rule,

@@ -25,7 +25,7 @@ alone shape ask (inl lies) = lies
 alone shape ask (inr none) = absurd none
 
 pub hidden_is_not_read : HiddenIsNotRead
-hidden_is_not_read c network kind instance property ask hides read =
+hidden_is_not_read c network kind instance left rest property ask hides read =
     let lies = alone _ ask read.1.right.0 in
     let reads : Reads network ask.source_key kind instance ask = record {
       operation = one_number (operation_number operations.Read) ask.operation (lies Operation);

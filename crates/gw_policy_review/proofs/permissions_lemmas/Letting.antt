@@ -22,17 +22,17 @@ use Rattle.gw_policy_review.specs.declared.permissions.grants.Deed.{Deed}
 use Rattle.gw_policy_review.specs.declared.permissions.grants.Deed.TheVariants as deeds
 
 -- what is found of the rule of a number is there, and true of it
-found_there : (shapes : List Shape) (rules : List Rule) (findings : List Finding) (number : ℕ) (rule : Rule) → AreTrue shapes rules findings
-    → HasNumber rules number rule → slice_get findings (number - 1) ≡ Some (get_or findings (number - 1) finding.MatchesNothing)
-found_there shapes rules findings number rule are has =
+found_there : (shapes : List Shape) (rules : List Rule) (left rest : ℕ) (findings : List Finding) (number : ℕ) (rule : Rule)
+    → AreTrue shapes rules left rest findings → HasNumber rules number rule → slice_get findings (number - 1) ≡ Some (get_or findings (number - 1) finding.MatchesNothing)
+found_there shapes rules left rest findings number rule are has =
     let count = are.count in
     let within : number - 1 < length rules = slice_get_within rules (number - 1) rule has.there in
     slice_get-get_or findings (number - 1) finding.MatchesNothing (omega (arith, count, within))
 
-pub finds_at : (shapes : List Shape) (rules : List Rule) (findings : List Finding) (number : ℕ) (rule : Rule) → AreTrue shapes rules findings
-    → HasNumber rules number rule → Finds shapes rules number rule (finding_at findings number)
-finds_at shapes rules findings number rule are has =
-    let there = found_there shapes rules findings number rule are has in
+pub finds_at : (shapes : List Shape) (rules : List Rule) (left rest : ℕ) (findings : List Finding) (number : ℕ) (rule : Rule)
+    → AreTrue shapes rules left rest findings → HasNumber rules number rule → Finds shapes rules number rule (finding_at findings number)
+finds_at shapes rules left rest findings number rule are has =
+    let there = found_there shapes rules left rest findings number rule are has in
     let found = get_or findings (number - 1) finding.MatchesNothing in
     let same : found ≡ finding_at findings number = sym (ap (λ o. unwrap_or o finding.MatchesNothing) there) in
     subst (λ (f : Finding). Finds shapes rules number rule f) same (are.each number rule found has there)
@@ -62,18 +62,18 @@ letting rule (finding.Decides ask) allow may = allow
 letting rule finding.Unknown allow may = allow
 
 pub only_letting_allow : OnlyLettingAllow
-only_letting_allow shapes rules findings ask are lies t =
+only_letting_allow shapes rules left rest findings ask are lies t =
     let by = (allows_iff rules ask).0 t in
     let deciding = by.1 in
     let is : first rules ask ≡ Some by.0 = (first_iff rules ask by.0).1 deciding in
-    let tells = finds_at shapes rules findings by.0 deciding.rule are deciding.numbered in
+    let tells = finds_at shapes rules left rest findings by.0 deciding.rule are deciding.numbered in
     let may = deciding_found shapes rules ask by.0 (finding_at findings by.0) deciding lies is tells in
     (by.0, deciding.rule, deciding.numbered, is, letting deciding.rule (finding_at findings by.0) by.2 may)
 
 pub some_are_allowed : SomeAreAllowed
-some_are_allowed shapes rules findings number rule ask are has is allow =
+some_are_allowed shapes rules left rest findings number rule ask are has is allow =
     let tells : Finds shapes rules number rule (finding.Decides ask) =
-    subst (λ (f : Finding). Finds shapes rules number rule f) is (finds_at shapes rules findings number rule are has) in
+    subst (λ (f : Finding). Finds shapes rules number rule f) is (finds_at shapes rules left rest findings number rule are has) in
     let firstly = tells.2 in
     let deciding = (first_iff rules ask number).0 firstly.1 in
     let both : Some deciding.rule ≡ Some rule = sym deciding.numbered.there ∙ has.there in
@@ -119,10 +119,10 @@ not_let c lines deed shape findings number rule has none =
         absurd (words_there c lines deed shape number rule (finding_at findings number) (rw e at here))
 
 pub none_is_let : NoneIsLet
-none_is_let c lines deed shape findings ask are none lies = by (allows c.rules ask) refl
+none_is_let c lines deed shape left rest findings ask are none lies = by (allows c.rules ask) refl
   where
     by : (b : Bool) → allows c.rules ask ≡ b → b ≡ false
     by false e = refl
     by true e =
-        let found = only_letting_allow (shape ∷ []) c.rules findings ask are (inl lies) e in
+        let found = only_letting_allow (shape ∷ []) c.rules left rest findings ask are (inl lies) e in
         absurd (both_ways (lets found.1 (finding_at findings found.0)) (not_let c lines deed shape findings found.0 found.1 found.2 none) found.4)

@@ -1,8 +1,8 @@
 -- What a search, rule by rule, for an ask that a policy decides so comes to.
-use Rattle.std.proofs.Common.{◌≡◌, ◌∙◌, ℕ, ◌+◌, ◌-◌, ◌≤◌, Bool, true, false, not, if◌then◌else◌, List, [], ◌∷◌, ◌++◌, Some, add-one, ap, arith, inl, inr, length}
-use Rattle.std.proofs.Common.{refl, slice_get, subst, sym}
+use Rattle.std.proofs.Common.{◌≡◌, ◌∙◌, ◌⊎◌, ℕ, ◌+◌, ◌-◌, ◌≤◌, Bool, true, false, cond, nat_lt, not, if◌then◌else◌, List, [], ◌∷◌, ◌++◌, Some, add-one, ap, arith}
+use Rattle.std.proofs.Common.{inl, inr, length, refl, slice_get, subst, sym}
 use Rattle.std.specs.Option.{option_map_or}
-use Rattle.std.proofs.lemmas.Bool.{cases_order}
+use Rattle.std.proofs.lemmas.Bool.{cases_order, ltb-false}
 use Rattle.std.proofs.lemmas.List.{length-append, length-map}
 use Rattle.std.proofs.lemmas.Option.{slice_get_within}
 use Rattle.gw_rules.specs.Ask.{Ask}
@@ -12,6 +12,7 @@ use Rattle.gw_rules.specs.declared.rule.Rule.{Rule}
 use Rattle.gw_rules.proofs.First.{first_iff}
 use Rattle.gw_rules.proofs.Matching.{matches_iff}
 use Rattle.gw_ask_sets.specs.regions.Deciding.{decided}
+use Rattle.gw_ask_sets.specs.regions.Ranges.{lesser}
 use Rattle.gw_ask_sets.specs.regions.Tidying.{all_tidied, tidied}
 use Rattle.gw_ask_sets.specs.shapes.Search.{IsFound, IsSought}
 use Rattle.gw_ask_sets.specs.shapes.Shape.{LiesInOne, Shape}
@@ -19,7 +20,9 @@ use Rattle.gw_ask_sets.proofs.regions_lemmas.AllowsLaw.{decided_allows}
 use Rattle.gw_ask_sets.proofs.regions_lemmas.TidyLaw.{tidied_allows}
 use Rattle.gw_ask_sets.proofs.shapes_lemmas.Narrowing.{no_rule}
 use Rattle.gw_ask_sets.proofs.shapes_lemmas.Seeking.{is_found}
-use Rattle.gw_policy_review.specs.permissions.Passing.{AreVain, IsDecision, IsSaidBy, IsSoughtIf, default_rule, is_never, is_said, searched_rules}
+use Rattle.gw_policy_review.specs.lint.Finding.{steps_given}
+use Rattle.gw_policy_review.specs.permissions.Laws.{OnlyUsedUpIsUnknown}
+use Rattle.gw_policy_review.specs.permissions.Passing.{AreVain, IsDecision, IsPassage, IsSaidBy, IsSoughtIf, default_rule, is_never, is_said, searched_rules}
 use Rattle.gw_policy_review.proofs.permissions_lemmas.Excepting.{some_first}
 use Rattle.gw_ask_sets.specs.declared.shapes.search.Outcome.{Outcome}
 use Rattle.gw_ask_sets.specs.declared.shapes.search.Outcome.TheVariants as outcome
@@ -257,3 +260,32 @@ one_decided says shapes rules searched given number used here outcome.Unknown sa
       most = omega (arith, few, most);
       all = λ unknown. omega (arith, full, most);
     }
+
+-- ---- one of several searches
+
+-- it is given no more than is left
+pub given_left : (most left count : ℕ) → count ≤ lesser most left → count ≤ left
+given_left most left count few = by (nat_lt left most) refl few
+  where
+    by : (c : Bool) → nat_lt left most ≡ c → count ≤ cond c left most → count ≤ left
+    by true e few = few
+    by false e few =
+        let over = ltb-false left most e in
+        omega (arith, over, few)
+
+pub one_passage : (shapes : List Shape) (rules : List Rule) (left count : ℕ) (found : Outcome) → IsDecision true shapes rules (steps_given left) count found
+    → IsPassage shapes rules left (left - count) found
+one_passage shapes rules left count found is =
+    let few = given_left 1024 left count is.most in
+    (count, is, omega (arith, few))
+
+pub only_used_up_is_unknown : OnlyUsedUpIsUnknown
+only_used_up_is_unknown shapes rules left rest is = by (nat_lt left 1024) (is.1.all refl)
+  where
+    by : (c : Bool) → is.0 ≡ cond c left 1024 → (left ≡ rest + 1024) ⊎ (rest ≡ 0)
+    by true all =
+        let counted = is.2 in
+        inr (omega (arith, all, counted))
+    by false all =
+        let counted = is.2 in
+        inl (omega (arith, all, counted))

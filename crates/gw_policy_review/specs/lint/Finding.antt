@@ -48,7 +48,7 @@ Finds shapes rules number rule finding.Unknown =
 
 -- ---- how many steps they take
 
--- how many the search for an ask of a rule is given: 1,024, or those that are left for all
+-- how many one of several searches is given: 1,024, or those that are left for all
 abbrev pub steps_given : (left : ℕ) → ℕ
 steps_given left = lesser 1024 left
 
@@ -69,13 +69,13 @@ AreCounted shapes rules number (found ∷ findings) left rest =
 
 -- ---- all of them
 
--- There is one finding for each rule, in their order, and each says what is true. The searches for them share 262,144 steps.
-pub record AreTrue (shapes : List Shape) (rules : List Rule) (findings : List Finding) : Type 0 where
+-- There is one finding for each rule, in their order, and each says what is true. The searches for them share steps: so many are left
+-- before them, and after.
+pub record AreTrue (shapes : List Shape) (rules : List Rule) (left rest : ℕ) (findings : List Finding) : Type 0 where
   pub count : length findings ≡ length rules
   pub each : (number : ℕ) (rule : Rule) (found : Finding) → HasNumber rules number rule →
       slice_get findings (number - 1) ≡ Some found → Finds shapes rules number rule found
-  pub left : ℕ
-  pub counted : AreCounted shapes rules 1 findings 262144 left
+  pub counted : AreCounted shapes rules 1 findings left rest
 
 -- ---- of a search alone
 

@@ -14,10 +14,11 @@ abbrev pub lint_text : Configuration → (lines : List ℕ) → Bool → List Fi
 lint_text c lines explains findings notes = in_order (line_text explains c lines findings) 1 findings ++ notes
 
 -- A text is a lint of a configuration: it is the text of one finding for each rule, each true over the shapes of the
--- gateway's asks, and the notes over these shapes.
+-- gateway's asks, and the notes over these shapes. The searches for all findings share 262,144 steps.
 pub record IsLint (c : Configuration) (lines : List ℕ) (explains : Bool) (text : List ℕ) : Type 0 where
   pub findings : List Finding
-  pub are_true : AreTrue (shapes c) c.rules findings
+  pub rest : ℕ
+  pub are_true : AreTrue (shapes c) c.rules 262144 rest findings
   pub notes : List ℕ
   pub are_notes : AreNotes (shapes c) c lines notes
   pub shown : text ≡ lint_text c lines explains findings notes

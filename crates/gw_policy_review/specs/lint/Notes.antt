@@ -20,7 +20,7 @@ use Rattle.gw_ask_sets.specs.shapes.Meeting.{overlaps}
 use Rattle.gw_script.specs.Order.{in_order}
 use Rattle.gw_policy_review.specs.lint.Passage.{ArePassages, answers, opener, opens, passes, requests, shapes_for, unnamed_shapes}
 use Rattle.gw_policy_review.specs.permissions.Passing.{IsPassage, is_never}
-use Rattle.gw_policy_review.specs.permissions.Texts.{AreInOrder}
+use Rattle.gw_policy_review.specs.permissions.Texts.{AreInTurn}
 use Rattle.gw_ask_sets.specs.declared.shapes.search.Outcome.{Outcome}
 use Rattle.gw_ask_sets.specs.declared.shapes.search.Outcome.TheVariants as outcome
 use Rattle.gw_ask_sets.specs.shapes.Shape.{Shape}
@@ -77,14 +77,16 @@ overlap_notes c lines number rule = flat_map (overlap_note c lines number rule) 
 
 -- ---- requests without an object
 
--- what is found of such requests to another network than the device's, if messages are routed at all
+-- what is found of such requests to another network than the device's, if messages are routed at all; so many steps are left before,
+-- and after
 abbrev pub unnamed_if : Bool → Configuration → List Shape → List Shape
 unnamed_if routes c shapes = if routes then unnamed_shapes c.device.network shapes else []
 
-pub record AreUnnamed (c : Configuration) (shapes : List Shape) (unnamed : List Outcome) : Type 0 where
+pub record AreUnnamed (c : Configuration) (shapes : List Shape) (left rest : ℕ) (unnamed : List Outcome) : Type 0 where
   pub routed : Outcome
-  pub is_routed : IsPassage (shapes_for Route shapes) c.rules routed
-  pub are_found : ArePassages c.rules (unnamed_if (passes routed) c shapes) unnamed
+  pub between : ℕ
+  pub is_routed : IsPassage (shapes_for Route shapes) c.rules left between routed
+  pub are_found : ArePassages c.rules (unnamed_if (passes routed) c shapes) between rest unnamed
 
 -- some were found to pass by the rule of this number
 abbrev pub lets_unnamed : List Outcome → Configuration → ℕ → Bool
@@ -109,25 +111,25 @@ way_note c lines one other found =
     option_map_or (λ by. note_text c lines by (answer_words one other)) (opener c.rules found) []
 
 -- where no answer passes back, requests are searched
-abbrev pub IsWay : Configuration → (lines : List ℕ) → ℕ → Port → Port → (back : Outcome) → List ℕ → Type 0
-IsWay c lines number port other outcome.Never text =
-    (found : Outcome) × IsPassage (requests c.format number port other.network ∷ []) c.rules found
+abbrev pub IsWay : Configuration → (lines : List ℕ) → ℕ → Port → Port → (back : Outcome) → (left rest : ℕ) → List ℕ → Type 0
+IsWay c lines number port other outcome.Never left rest text =
+    (found : Outcome) × IsPassage (requests c.format number port other.network ∷ []) c.rules left rest found
     × (text ≡ way_note c lines port.network other.network found)
-IsWay c lines number port other back text = text ≡ []
+IsWay c lines number port other back left rest text = (rest ≡ left) × (text ≡ [])
 
 -- for the ports of two networks, where requests are found to pass from the one to the other, and none of the answers to pass back
-abbrev pub IsAnswerNote : (is_same : Bool) → Configuration → (lines : List ℕ) → ℕ → Port → ℕ → Port → List ℕ → Type 0
-IsAnswerNote true c lines number port other_number other text = text ≡ []
-IsAnswerNote false c lines number port other_number other text =
-    (back : Outcome) × IsPassage (answers c.format other_number other port.network ∷ []) c.rules back
-    × IsWay c lines number port other back text
+abbrev pub IsAnswerNote : (is_same : Bool) → Configuration → (lines : List ℕ) → ℕ → Port → ℕ → Port → (left rest : ℕ) → List ℕ → Type 0
+IsAnswerNote true c lines number port other_number other left rest text = (rest ≡ left) × (text ≡ [])
+IsAnswerNote false c lines number port other_number other left rest text =
+    (back : Outcome) × (between : ℕ) × IsPassage (answers c.format other_number other port.network ∷ []) c.rules left between back
+    × IsWay c lines number port other back between rest text
 
-abbrev pub IsNoteOnAnswers : Configuration → (lines : List ℕ) → ℕ → Port → ℕ → Port → List ℕ → Type 0
-IsNoteOnAnswers c lines number port other_number other text =
-    IsAnswerNote (port.network == other.network) c lines number port other_number other text
+abbrev pub IsNoteOnAnswers : Configuration → (lines : List ℕ) → ℕ → Port → ℕ → Port → (left rest : ℕ) → List ℕ → Type 0
+IsNoteOnAnswers c lines number port other_number other left rest text =
+    IsAnswerNote (port.network == other.network) c lines number port other_number other left rest text
 
-abbrev pub AreAnswerNotes : Configuration → (lines : List ℕ) → ℕ → Port → List ℕ → Type 0
-AreAnswerNotes c lines number port text = AreInOrder (IsNoteOnAnswers c lines number port) 1 c.ports text
+abbrev pub AreAnswerNotes : Configuration → (lines : List ℕ) → ℕ → Port → (left rest : ℕ) → List ℕ → Type 0
+AreAnswerNotes c lines number port left rest text = AreInTurn (IsNoteOnAnswers c lines number port) 1 c.ports left rest text
 
 -- ---- what anyone may say (`Trust.antt`)
 
@@ -172,9 +174,9 @@ abbrev pub stations_note : ℕ → Port → List ℕ
 stations_note number port = if lacks_broadcast port then stations_words number port else []
 
 -- those of a port
-abbrev pub ArePortNotes : Configuration → (lines : List ℕ) → ℕ → Port → List ℕ → Type 0
-ArePortNotes c lines number port text =
-    (answers : List ℕ) × AreAnswerNotes c lines number port answers × (text ≡ stations_note number port ++ answers)
+abbrev pub ArePortNotes : Configuration → (lines : List ℕ) → ℕ → Port → (left rest : ℕ) → List ℕ → Type 0
+ArePortNotes c lines number port left rest text =
+    (answers : List ℕ) × AreAnswerNotes c lines number port left rest answers × (text ≡ stations_note number port ++ answers)
 
 -- ---- broadcasts to all networks
 
@@ -213,9 +215,10 @@ cast_note distributed found =
     if (length distributed == 0) || not (is_never found) then []
     else codes "note: look at cast: no rule allows it, so no broadcast reaches a peer or a foreign device" ++ 10 ∷ []
 
-abbrev pub IsCastNote : List Shape → Configuration → List ℕ → Type 0
-IsCastNote shapes c text =
-    (found : Outcome) × IsPassage (shapes_for Cast shapes) c.rules found × (text ≡ cast_note (shapes_for Cast shapes) found)
+abbrev pub IsCastNote : List Shape → Configuration → (left rest : ℕ) → List ℕ → Type 0
+IsCastNote shapes c left rest text =
+    (found : Outcome) × IsPassage (shapes_for Cast shapes) c.rules left rest found
+    × (text ≡ cast_note (shapes_for Cast shapes) found)
 
 -- ---- all of them
 
@@ -229,12 +232,16 @@ abbrev pub rule_notes : List Outcome → Configuration → (lines : List ℕ) �
 rule_notes unnamed c lines number rule =
     field_notes unnamed c lines number rule ++ (trust_notes c lines number rule ++ discovery_note c lines number rule)
 
--- rule by rule, then port by port, and then that on broadcasts, over the shapes of the configuration
+-- rule by rule, then port by port, and then that on broadcasts, over the shapes of the configuration: the searches for all of them share
+-- 262,144 steps
 pub record AreNotes (shapes : List Shape) (c : Configuration) (lines text : List ℕ) : Type 0 where
   pub unnamed : List Outcome
-  pub are_unnamed : AreUnnamed c shapes unnamed
+  pub after_unnamed : ℕ
+  pub are_unnamed : AreUnnamed c shapes 262144 after_unnamed unnamed
   pub ports : List ℕ
-  pub are_ports : AreInOrder (ArePortNotes c lines) 1 c.ports ports
+  pub after_ports : ℕ
+  pub are_ports : AreInTurn (ArePortNotes c lines) 1 c.ports after_unnamed after_ports ports
   pub casts : List ℕ
-  pub are_casts : IsCastNote shapes c casts
+  pub rest : ℕ
+  pub are_casts : IsCastNote shapes c after_ports rest casts
   pub shown : text ≡ in_order (rule_notes unnamed c lines) 1 c.rules ++ (ports ++ casts)

@@ -1,5 +1,5 @@
 -- Asks of which notes say that they pass, or that none does, and what is found of them.
-use Rattle.std.specs.Prelude.{⊤, ℕ, ◌+◌, ◌-◌, Bool, true, false, not, ◌&&◌, ◌||◌, ◌==◌, if◌then◌else◌, List, [], ◌∷◌, Option, None}
+use Rattle.std.specs.Prelude.{◌≡◌, ℕ, ◌+◌, ◌-◌, Bool, true, false, not, ◌&&◌, ◌||◌, ◌==◌, if◌then◌else◌, List, [], ◌∷◌, Option, None}
 use Rattle.std.specs.List.{filter, flat_map}
 use Rattle.std.specs.Option.{option_map_or}
 use Rattle.gw_configuration.specs.declared.port.Port.{Port}
@@ -35,12 +35,13 @@ opener rules _ = None
 abbrev pub opens : List Rule → ℕ → Outcome → Bool
 opens rules number found = option_map_or (λ by. by == number) (opener rules found) false
 
--- what is found of each of these shapes, in order
-abbrev pub ArePassages : List Rule → List Shape → List Outcome → Type 0
-ArePassages rules [] [] = ⊤
-ArePassages rules [] (one ∷ found) = ⊥
-ArePassages rules (shape ∷ shapes) [] = ⊥
-ArePassages rules (shape ∷ shapes) (one ∷ found) = IsPassage (shape ∷ []) rules one × ArePassages rules shapes found
+-- what is found of each of these shapes, in order; so many steps are left before, and after
+abbrev pub ArePassages : List Rule → List Shape → (left rest : ℕ) → List Outcome → Type 0
+ArePassages rules [] left rest [] = rest ≡ left
+ArePassages rules [] left rest (one ∷ found) = ⊥
+ArePassages rules (shape ∷ shapes) left rest [] = ⊥
+ArePassages rules (shape ∷ shapes) left rest (one ∷ found) =
+    (between : ℕ) × IsPassage (shape ∷ []) rules left between one × ArePassages rules shapes between rest found
 
 -- ---- shapes of an operation
 

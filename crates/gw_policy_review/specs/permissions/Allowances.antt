@@ -101,12 +101,13 @@ allowance_line c lines findings number rule =
 abbrev pub allowances_text : Configuration → (lines : List ℕ) → List Finding → List ℕ
 allowances_text c lines findings = in_order (allowance_line c lines findings) 1 c.rules
 
--- A text has a line for each rule that lets somebody ask for something, by what is found of the rules over all asks of the gateway.
-pub record AreAllowances (c : Configuration) (lines : List ℕ) (text : List ℕ) : Type 0 where
+-- A text has a line for each rule that lets somebody ask for something, by what is found of the rules over all asks of the gateway; so many
+-- steps are left before, and after.
+pub record AreAllowances (c : Configuration) (lines : List ℕ) (left rest : ℕ) (text : List ℕ) : Type 0 where
   pub findings : List Finding
-  pub are_true : AreTrue (shapes c) c.rules findings
+  pub are_true : AreTrue (shapes c) c.rules left rest findings
   pub shown : text ≡ allowances_text c lines findings
 
 -- such lines follow what a buffer held
-abbrev pub AppendsAllowances : Configuration → (lines : List ℕ) → List ℕ → List ℕ → Type 0
-AppendsAllowances c lines old new = (text : List ℕ) × AreAllowances c lines text × (new ≡ old ++ text)
+abbrev pub AppendsAllowances : Configuration → (lines : List ℕ) → (left rest : ℕ) → List ℕ → List ℕ → Type 0
+AppendsAllowances c lines left rest old new = (text : List ℕ) × AreAllowances c lines left rest text × (new ≡ old ++ text)

@@ -1,5 +1,5 @@
 -- What the lines on rules say of asks.
-use Rattle.std.specs.Prelude.{◌≡◌, ℕ, ◌<◌, ◌≤◌, true, false, List, [], ◌∷◌, Some}
+use Rattle.std.specs.Prelude.{◌≡◌, ◌⊎◌, ℕ, ◌+◌, ◌<◌, ◌≤◌, true, false, List, [], ◌∷◌, Some}
 use Rattle.gw_configuration.specs.Configuration.{Configuration}
 use Rattle.gw_rules.specs.Ask.{Ask}
 use Rattle.gw_rules.specs.Hides.{hides_from_network}
@@ -11,7 +11,7 @@ use Rattle.gw_ask_sets.specs.declared.shapes.search.Outcome.TheVariants as outco
 use Rattle.gw_ask_sets.specs.declared.shapes.side.Side.{Side}
 use Rattle.gw_policy_review.specs.lint.Finding.{AreTrue}
 use Rattle.gw_policy_review.specs.permissions.Allowances.{is_exception}
-use Rattle.gw_policy_review.specs.permissions.Passing.{decides_all, finding_at, lets, may_allow, may_pass, reached}
+use Rattle.gw_policy_review.specs.permissions.Passing.{IsPassage, decides_all, finding_at, lets, may_allow, may_pass, reached}
 use Rattle.gw_policy_review.specs.permissions.Permissions.{IsRead, grants_text}
 use Rattle.gw_policy_review.specs.declared.lint.finding.Finding.{Finding}
 use Rattle.gw_policy_review.specs.declared.lint.finding.Finding.TheVariants as finding
@@ -48,31 +48,31 @@ EachAskIsAllowed =
 -- An ask of the shapes that is allowed is allowed by a rule that lets somebody, by what is found of the rules over these asks.
 abbrev pub OnlyLettingAllow : Type 0
 OnlyLettingAllow =
-    (shapes : List Shape) (rules : List Rule) (findings : List Finding) (ask : Ask) → AreTrue shapes rules findings → LiesInOne shapes ask →
-    allows rules ask ≡ true →
+    (shapes : List Shape) (rules : List Rule) (left rest : ℕ) (findings : List Finding) (ask : Ask) →
+    AreTrue shapes rules left rest findings → LiesInOne shapes ask → allows rules ask ≡ true →
     (number : ℕ) × (rule : Rule) × HasNumber rules number rule × (first rules ask ≡ Some number)
     × (lets rule (finding_at findings number) ≡ true)
 
 -- If a line says that no rule lets anyone, no ask of the shape is allowed.
 abbrev pub NoneIsLet : Type 0
 NoneIsLet =
-    (c : Configuration) (lines : List ℕ) (deed : Deed) (shape : Shape) (findings : List Finding) (ask : Ask) →
-    AreTrue (shape ∷ []) c.rules findings → grants_text c lines deed shape findings ≡ [] → LiesIn shape ask →
+    (c : Configuration) (lines : List ℕ) (deed : Deed) (shape : Shape) (left rest : ℕ) (findings : List Finding) (ask : Ask) →
+    AreTrue (shape ∷ []) c.rules left rest findings → grants_text c lines deed shape findings ≡ [] → LiesIn shape ask →
     allows c.rules ask ≡ false
 
 -- If a line says that a rule lets some, it is the first to match an ask of the shapes, and allows it.
 abbrev pub SomeAreAllowed : Type 0
 SomeAreAllowed =
-    (shapes : List Shape) (rules : List Rule) (findings : List Finding) (number : ℕ) (rule : Rule) (ask : Ask) →
-    AreTrue shapes rules findings → HasNumber rules number rule → finding_at findings number ≡ finding.Decides ask →
+    (shapes : List Shape) (rules : List Rule) (left rest : ℕ) (findings : List Finding) (number : ℕ) (rule : Rule) (ask : Ask) →
+    AreTrue shapes rules left rest findings → HasNumber rules number rule → finding_at findings number ≡ finding.Decides ask →
     rule.allow ≡ true → LiesInOne shapes ask × (first rules ask ≡ Some number) × (allows rules ask ≡ true)
 
 -- An ask of the shapes that the rule of a line matches is allowed, unless a rule that the line names as an exception denies it.
 abbrev pub OnlyExceptionsDeny : Type 0
 OnlyExceptionsDeny =
-    (shapes : List Shape) (rules : List Rule) (findings : List Finding) (number : ℕ) (rule : Rule) (ask : Ask) →
-    AreTrue shapes rules findings → HasNumber rules number rule → rule.allow ≡ true → LiesInOne shapes ask → Matches rule ask →
-    allows rules ask ≡ false →
+    (shapes : List Shape) (rules : List Rule) (left rest : ℕ) (findings : List Finding) (number : ℕ) (rule : Rule) (ask : Ask) →
+    AreTrue shapes rules left rest findings → HasNumber rules number rule → rule.allow ≡ true → LiesInOne shapes ask →
+    Matches rule ask → allows rules ask ≡ false →
     (lower : ℕ) × (other : Rule) × (lower < number) × HasNumber rules lower other × (first rules ask ≡ Some lower)
     × (is_exception rule other (finding_at findings lower) ≡ true)
 
@@ -82,5 +82,14 @@ OnlyExceptionsDeny =
 -- steps.
 abbrev pub HiddenIsNotRead : Type 0
 HiddenIsNotRead =
-    (c : Configuration) (network kind instance : ℕ) (property : Side) (ask : Ask) → hides_from_network c.rules network kind instance ≡ true →
-    IsRead c network (record { kind = kind; instance = instance; property = property }) (outcome.Decides ask) → ⊥
+    (c : Configuration) (network kind instance left rest : ℕ) (property : Side) (ask : Ask) →
+    hides_from_network c.rules network kind instance ≡ true →
+    IsRead c network (record { kind = kind; instance = instance; property = property }) left rest (outcome.Decides ask) → ⊥
+
+-- ---- steps
+
+-- Of a search for a line or a note nothing is known only if it made 1,024 steps, or no step is left for the others.
+abbrev pub OnlyUsedUpIsUnknown : Type 0
+OnlyUsedUpIsUnknown =
+    (shapes : List Shape) (rules : List Rule) (left rest : ℕ) → IsPassage shapes rules left rest outcome.Unknown →
+    (left ≡ rest + 1024) ⊎ (rest ≡ 0)

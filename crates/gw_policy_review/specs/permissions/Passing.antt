@@ -15,7 +15,7 @@ use Rattle.gw_ask_sets.specs.shapes.Search.{IsSought}
 use Rattle.gw_ask_sets.specs.shapes.Shape.{LiesInOne, Shape}
 use Rattle.gw_ask_sets.specs.declared.shapes.search.Outcome.{Outcome}
 use Rattle.gw_ask_sets.specs.declared.shapes.search.Outcome.TheVariants as outcome
-use Rattle.gw_policy_review.specs.declared.permissions.passing.TheConstants.{PASSAGE_STEPS}
+use Rattle.gw_policy_review.specs.lint.Finding.{steps_given}
 use Rattle.gw_policy_review.specs.declared.lint.finding.Finding.{Finding}
 use Rattle.gw_policy_review.specs.declared.lint.finding.Finding.TheVariants as finding
 
@@ -103,9 +103,10 @@ pub record IsDecision (says : Bool) (shapes : List Shape) (rules : List Rule) (g
   -- nothing is known only if all were used
   pub all : found ≡ outcome.Unknown → count ≡ given
 
--- one for an ask that the policy allows, for a line or a note
-abbrev pub IsPassage : List Shape → List Rule → Outcome → Type 0
-IsPassage shapes rules found = (count : ℕ) × IsDecision true shapes rules PASSAGE_STEPS count found
+-- one of those for an ask that the policy allows, which are made for lines or notes and share steps: so many are left before it, and after
+abbrev pub IsPassage : List Shape → List Rule → (left rest : ℕ) → Outcome → Type 0
+IsPassage shapes rules left rest found =
+    (count : ℕ) × IsDecision true shapes rules (steps_given left) count found × (left ≡ rest + count)
 
 -- each ask is decided otherwise
 abbrev pub is_never : Outcome → Bool

@@ -28,7 +28,7 @@ use Rattle.gw_ask_sets.specs.declared.shapes.side.Side.{Side}
 use Rattle.gw_policy_review.specs.permissions.Allowances.{AreAllowances}
 use Rattle.gw_policy_review.specs.permissions.Passing.{IsPassage, decides_all, finding_at, is_never, lets}
 use Rattle.gw_policy_review.specs.permissions.Questions.{claiming, entering, reading}
-use Rattle.gw_policy_review.specs.permissions.Texts.{AreInOrder}
+use Rattle.gw_policy_review.specs.permissions.Texts.{AreInTurn}
 use Rattle.gw_policy_review.specs.permissions.Words.{rule_words}
 use Rattle.gw_policy_review.specs.Places.{is_derived}
 use Rattle.gw_policy_review.specs.lint.Finding.{AreTrue}
@@ -88,15 +88,16 @@ abbrev pub grants_or_none : Deed → (grants : List ℕ) → List ℕ
 grants_or_none deed grants = if length grants == 0 then head_words deed ++ none_words deed else grants
 
 -- A text has a line for each rule that lets somebody do a deed, by what is found of the rules over the asks of this shape, or says that
--- there is none.
-pub record AreGrants (c : Configuration) (lines : List ℕ) (deed : Deed) (shape : Shape) (text : List ℕ) : Type 0 where
+-- there is none; so many steps are left before, and after.
+pub record AreGrants (c : Configuration) (lines : List ℕ) (deed : Deed) (shape : Shape) (left rest : ℕ) (text : List ℕ) : Type 0 where
   pub findings : List Finding
-  pub are_true : AreTrue (shape ∷ []) c.rules findings
+  pub are_true : AreTrue (shape ∷ []) c.rules left rest findings
   pub shown : text ≡ grants_or_none deed (grants_text c lines deed shape findings)
 
 -- such lines follow what a buffer held
-abbrev pub AppendsGrants : Configuration → (lines : List ℕ) → Deed → Shape → List ℕ → List ℕ → Type 0
-AppendsGrants c lines deed shape old new = (text : List ℕ) × AreGrants c lines deed shape text × (new ≡ old ++ text)
+abbrev pub AppendsGrants : Configuration → (lines : List ℕ) → Deed → Shape → (left rest : ℕ) → List ℕ → List ℕ → Type 0
+AppendsGrants c lines deed shape left rest old new =
+    (text : List ℕ) × AreGrants c lines deed shape left rest text × (new ≡ old ++ text)
 
 -- ---- ports
 
@@ -127,29 +128,32 @@ stations_words port =
     else named_words port.stations port.bbmd
 
 -- Strangers enter where the port names its stations, and not where it has none.
-abbrev pub AreEntriesOf : (has_none : Bool) → Configuration → (lines : List ℕ) → ℕ → Port → List ℕ → Type 0
-AreEntriesOf true c lines number port text = text ≡ []
-AreEntriesOf false c lines number port text = AreGrants c lines (Enter number) (entering number port.network) text
+abbrev pub AreEntriesOf : (has_none : Bool) → Configuration → (lines : List ℕ) → ℕ → Port → (left rest : ℕ) → List ℕ → Type 0
+AreEntriesOf true c lines number port left rest text = (rest ≡ left) × (text ≡ [])
+AreEntriesOf false c lines number port left rest text =
+    AreGrants c lines (Enter number) (entering number port.network) left rest text
 
-abbrev pub AreEntries : Configuration → (lines : List ℕ) → ℕ → Port → List ℕ → Type 0
-AreEntries c lines number port text = AreEntriesOf (length port.stations == 0) c lines number port text
+abbrev pub AreEntries : Configuration → (lines : List ℕ) → ℕ → Port → (left rest : ℕ) → List ℕ → Type 0
+AreEntries c lines number port left rest text = AreEntriesOf (length port.stations == 0) c lines number port left rest text
 
 -- the stations of a port, and who enters there
-pub record IsPort (c : Configuration) (lines : List ℕ) (number : ℕ) (port : Port) (text : List ℕ) : Type 0 where
+pub record IsPort (c : Configuration) (lines : List ℕ) (number : ℕ) (port : Port) (left rest : ℕ) (text : List ℕ) : Type 0 where
   pub entries : List ℕ
-  pub are_entries : AreEntries c lines number port entries
+  pub are_entries : AreEntries c lines number port left rest entries
   pub shown : text ≡ codes "port " ++ (decimal number ++ (stations_words port ++ entries))
 
 -- such lines follow what a buffer held
-abbrev pub AppendsEntries : Configuration → (lines : List ℕ) → ℕ → Port → List ℕ → List ℕ → Type 0
-AppendsEntries c lines number port old new = (text : List ℕ) × AreEntries c lines number port text × (new ≡ old ++ text)
+abbrev pub AppendsEntries : Configuration → (lines : List ℕ) → ℕ → Port → (left rest : ℕ) → List ℕ → List ℕ → Type 0
+AppendsEntries c lines number port left rest old new =
+    (text : List ℕ) × AreEntries c lines number port left rest text × (new ≡ old ++ text)
 
-abbrev pub AppendsPort : Configuration → (lines : List ℕ) → ℕ → Port → List ℕ → List ℕ → Type 0
-AppendsPort c lines number port old new = (text : List ℕ) × IsPort c lines number port text × (new ≡ old ++ text)
+abbrev pub AppendsPort : Configuration → (lines : List ℕ) → ℕ → Port → (left rest : ℕ) → List ℕ → List ℕ → Type 0
+AppendsPort c lines number port left rest old new =
+    (text : List ℕ) × IsPort c lines number port left rest text × (new ≡ old ++ text)
 
 -- those of ports, counted on from a number
-abbrev pub ArePorts : Configuration → (lines : List ℕ) → ℕ → List Port → List ℕ → Type 0
-ArePorts c lines number ports text = AreInOrder (IsPort c lines) number ports text
+abbrev pub ArePorts : Configuration → (lines : List ℕ) → ℕ → List Port → (left rest : ℕ) → List ℕ → Type 0
+ArePorts c lines number ports left rest text = AreInTurn (IsPort c lines) number ports left rest text
 
 -- ---- networks
 
@@ -221,9 +225,11 @@ is_hidden rules object network = hides_from_network rules network (type_number o
 abbrev pub hidden_words : ℕ → Object → ℕ → List ℕ
 hidden_words number object network = object_words number object ++ codes " is hidden from network " ++ decimal network
 
--- what a search for an ask of the network to read these properties of an object of the device finds that is allowed
-abbrev pub IsRead : Configuration → ℕ → Point → Outcome → Type 0
-IsRead c network point found = IsPassage (reading (length c.ports) c.device.network network point ∷ []) c.rules found
+-- what a search for an ask of the network to read these properties of an object of the device finds that is allowed; so many steps are
+-- left before, and after
+abbrev pub IsRead : Configuration → ℕ → Point → (left rest : ℕ) → Outcome → Type 0
+IsRead c network point left rest found =
+    IsPassage (reading (length c.ports) c.device.network network point ∷ []) c.rules left rest found
 
 abbrev pub point_of : Object → Side → Point
 point_of object property = record { kind = type_number object.value; instance = object.instance; property = property }
@@ -246,9 +252,9 @@ abbrev pub list_line : ℕ → Object → ℕ → Outcome → List ℕ
 list_line number object network found =
     if is_never found then [] else network_reads number object network found ++ codes "Object_List, which names it\n"
 
-abbrev pub IsListed : Configuration → ℕ → Object → ℕ → List ℕ → Type 0
-IsListed c number object network text =
-    (found : Outcome) × IsRead c network (object_list c.device) found × (text ≡ list_line number object network found)
+abbrev pub IsListed : Configuration → ℕ → Object → ℕ → (left rest : ℕ) → List ℕ → Type 0
+IsListed c number object network left rest text =
+    (found : Outcome) × IsRead c network (object_list c.device) left rest found × (text ≡ list_line number object network found)
 
 -- a property reveals what Present_Value is or may become
 abbrev pub property_words : List ℕ → List ℕ
@@ -258,43 +264,46 @@ abbrev pub property_line : ℕ → Object → ℕ → List ℕ → Outcome → L
 property_line number object network name found =
     if is_never found then [] else network_reads number object network found ++ property_words name
 
-abbrev pub IsProperty : Configuration → ℕ → Object → ℕ → ℕ → List ℕ → List ℕ → Type 0
-IsProperty c number object network property name text =
-    (found : Outcome) × IsRead c network (point_of object (only property)) found × (text ≡ property_line number object network name found)
+abbrev pub IsProperty : Configuration → ℕ → Object → ℕ → ℕ → List ℕ → (left rest : ℕ) → List ℕ → Type 0
+IsProperty c number object network property name left rest text =
+    (found : Outcome) × IsRead c network (point_of object (only property)) left rest found
+    × (text ≡ property_line number object network name found)
 
-abbrev pub AreProperties : Configuration → ℕ → Object → ℕ → List ℕ → Type 0
-AreProperties c number object network text =
-    (array default : List ℕ) × IsProperty c number object network 87 (codes "Priority_Array") array
-    × IsProperty c number object network 104 (codes "Relinquish_Default") default × (text ≡ array ++ default)
+abbrev pub AreProperties : Configuration → ℕ → Object → ℕ → (left rest : ℕ) → List ℕ → Type 0
+AreProperties c number object network left rest text =
+    (between : ℕ) × (array default : List ℕ) × IsProperty c number object network 87 (codes "Priority_Array") left between array
+    × IsProperty c number object network 104 (codes "Relinquish_Default") between rest default × (text ≡ array ++ default)
 
 -- if Present_Value (85) can't be read
-abbrev pub AreRevealingOf : Configuration → ℕ → Object → ℕ → Outcome → List ℕ → Type 0
-AreRevealingOf c number object network outcome.Never text = AreProperties c number object network text
-AreRevealingOf c number object network found text = text ≡ []
+abbrev pub AreRevealingOf : Configuration → ℕ → Object → ℕ → Outcome → (left rest : ℕ) → List ℕ → Type 0
+AreRevealingOf c number object network outcome.Never left rest text = AreProperties c number object network left rest text
+AreRevealingOf c number object network found left rest text = (rest ≡ left) × (text ≡ [])
 
-abbrev pub AreRevealing : Configuration → ℕ → Object → ℕ → List ℕ → Type 0
-AreRevealing c number object network text =
-    (found : Outcome) × IsRead c network (point_of object (only 85)) found × AreRevealingOf c number object network found text
+abbrev pub AreRevealing : Configuration → ℕ → Object → ℕ → (left rest : ℕ) → List ℕ → Type 0
+AreRevealing c number object network left rest text =
+    (found : Outcome) × (between : ℕ) × IsRead c network (point_of object (only 85)) left between found
+    × AreRevealingOf c number object network found between rest text
 
 -- no property of the object can be read: it is hidden
-abbrev pub IsHiding : Configuration → ℕ → Object → ℕ → List ℕ → Type 0
-IsHiding c number object network text =
-    (list : List ℕ) × IsListed c number object network list
+abbrev pub IsHiding : Configuration → ℕ → Object → ℕ → (left rest : ℕ) → List ℕ → Type 0
+IsHiding c number object network left rest text =
+    (list : List ℕ) × IsListed c number object network left rest list
     × (text ≡ (hidden_words number object network ++ codes ": from whoever claims to be of it\n") ++ list)
 
-abbrev pub AreReadingsOf : Configuration → ℕ → Object → ℕ → Outcome → List ℕ → Type 0
-AreReadingsOf c number object network outcome.Never text = IsHiding c number object network text
-AreReadingsOf c number object network found text = AreRevealing c number object network text
+abbrev pub AreReadingsOf : Configuration → ℕ → Object → ℕ → Outcome → (left rest : ℕ) → List ℕ → Type 0
+AreReadingsOf c number object network outcome.Never left rest text = IsHiding c number object network left rest text
+AreReadingsOf c number object network found left rest text = AreRevealing c number object network left rest text
 
 -- what a network, and so whoever claims to be of it, reads of an object that is hidden, or whose Present_Value is
-abbrev pub AreReadings : Configuration → ℕ → Object → ℕ → List ℕ → Type 0
-AreReadings c number object network text =
-    (found : Outcome) × IsRead c network (point_of object (some fields.Property)) found
-    × AreReadingsOf c number object network found text
+abbrev pub AreReadings : Configuration → ℕ → Object → ℕ → (left rest : ℕ) → List ℕ → Type 0
+AreReadings c number object network left rest text =
+    (found : Outcome) × (between : ℕ) × IsRead c network (point_of object (some fields.Property)) left between found
+    × AreReadingsOf c number object network found between rest text
 
 -- of each port's network
-abbrev pub AreObjectLines : Configuration → ℕ → Object → List ℕ → Type 0
-AreObjectLines c number object text = AreInOrder (λ place port. AreReadings c number object port.network) 1 c.ports text
+abbrev pub AreObjectLines : Configuration → ℕ → Object → (left rest : ℕ) → List ℕ → Type 0
+AreObjectLines c number object left rest text =
+    AreInTurn (λ place port. AreReadings c number object port.network) 1 c.ports left rest text
 
 -- ---- notes
 
@@ -320,25 +329,29 @@ plain_lines rules ports number object = flat_map (hidden_line rules number objec
 -- ---- the whole
 
 -- the lines after those of what rules let others do
-pub record AreLater (c : Configuration) (lines text : List ℕ) : Type 0 where
+pub record AreLater (c : Configuration) (lines : List ℕ) (left rest : ℕ) (text : List ℕ) : Type 0 where
   pub objects : List ℕ
-  pub are_objects : AreInOrder (AreObjectLines c) 1 c.objects objects
+  pub are_objects : AreInTurn (AreObjectLines c) 1 c.objects left rest objects
   pub shown : text ≡ in_order (reach_lines c lines) 1 c.rules ++ (objects ++ in_order (note_line c lines) 1 c.notes)
 
 -- such lines follow what a buffer held
-abbrev pub AppendsPorts : Configuration → (lines : List ℕ) → List Port → List ℕ → List ℕ → Type 0
-AppendsPorts c lines ports old new = (text : List ℕ) × ArePorts c lines 1 ports text × (new ≡ old ++ text)
+abbrev pub AppendsPorts : Configuration → (lines : List ℕ) → List Port → (left rest : ℕ) → List ℕ → List ℕ → Type 0
+AppendsPorts c lines ports left rest old new = (text : List ℕ) × ArePorts c lines 1 ports left rest text × (new ≡ old ++ text)
 
--- the lines of a configuration of format 3
+-- the lines of a configuration of format 3: the searches for all of them share 262,144 steps
 pub record AreFull (c : Configuration) (lines text : List ℕ) : Type 0 where
+  pub after_ports : ℕ
   pub ports : List ℕ
-  pub are_ports : ArePorts c lines 1 c.ports ports
+  pub are_ports : ArePorts c lines 1 c.ports 262144 after_ports ports
+  pub after_claims : ℕ
   pub claims : List ℕ
-  pub are_claims : AreGrants c lines Claim (claiming (length c.ports)) claims
+  pub are_claims : AreGrants c lines Claim (claiming (length c.ports)) after_ports after_claims claims
+  pub after_allowances : ℕ
   pub allowances : List ℕ
-  pub are_allowances : AreAllowances c lines allowances
+  pub are_allowances : AreAllowances c lines after_claims after_allowances allowances
+  pub rest : ℕ
   pub later : List ℕ
-  pub are_later : AreLater c lines later
+  pub are_later : AreLater c lines after_allowances rest later
   pub shown : text ≡ ports ++ (network_lines c ++ (claims ++ (allowances ++ later)))
 
 abbrev pub AppendsFull : Configuration → (lines : List ℕ) → List ℕ → List ℕ → Type 0

@@ -5,8 +5,10 @@ use Rattle.std.specs.Prelude.{◌≡◌, ℕ, ◌+◌, List, [], ◌∷◌, ◌+
 abbrev pub Appends : (List ℕ → Type 0) → List ℕ → List ℕ → Type 0
 Appends Is old new = (text : List ℕ) × Is text × (new ≡ old ++ text)
 
--- the texts of items in their order, which are numbered on from this number, one after the other
-abbrev pub AreInOrder : {A : Type 0} → (ℕ → A → List ℕ → Type 0) → ℕ → List A → List ℕ → Type 0
-AreInOrder Is number [] text = text ≡ []
-AreInOrder Is number (item ∷ items) text =
-    (first rest : List ℕ) × Is number item first × AreInOrder Is (number + 1) items rest × (text ≡ first ++ rest)
+-- the texts of items in their order, which are numbered on from this number, one after the other, each made with steps of those that are
+-- left: so many before, and after
+abbrev pub AreInTurn : {A : Type 0} → (ℕ → A → (left rest : ℕ) → List ℕ → Type 0) → ℕ → List A → (left rest : ℕ) → List ℕ → Type 0
+AreInTurn Is number [] left rest text = (rest ≡ left) × (text ≡ [])
+AreInTurn Is number (item ∷ items) left rest text =
+    (between : ℕ) × (first others : List ℕ) × Is number item left between first
+    × AreInTurn Is (number + 1) items between rest others × (text ≡ first ++ others)

@@ -8,10 +8,11 @@ use gw_ask_sets::shapes::{Outcome, Shape, matches_nothing, search_for, takes_all
 use gw_rules::{Ask, Rule, RuleList};
 use std::alloc::{AllocError, Global};
 
-/// How many steps a search for an ask that one rule decides has at most.
+/// How many steps one of several searches has at most.
 pub const MAX_STEPS: u32 = 1024;
 
-/// How many the searches for all rules have.
+/// How many these share: the searches for the findings of a lint, those for its notes, and those for the lines of who
+/// may do what.
 pub const ALL_STEPS: u32 = 262_144;
 
 /// What is found of a rule, over the asks of some shapes.
@@ -117,21 +118,31 @@ fn finding_of(
     Ok(found)
 }
 
-/// How many steps the search for an ask of a rule is given, where so many are left for all.
-fn steps_given(left: u32) -> u32
+/// How many steps one of several searches is given, where so many are left for all.
+pub(crate) fn steps_given(left: u32) -> u32
     ensures { result ≡ steps_given left }
 {
     MAX_STEPS.min(left)
 }
 
-/// What is found of each rule, in order, over these shapes: each search is given [`MAX_STEPS`], or what is left of
-/// [`ALL_STEPS`]. An `Err` only where a growth of memory was refused.
+/// What is found of the rules of a policy, and how many steps are left for other searches.
+#[derive(Drop)]
+pub struct Findings {
+    /// What is found of each rule, in order.
+    pub found: Vec<Finding>,
+    /// The steps.
+    pub left: u32,
+}
+
+/// What is found of each rule, in order, over these shapes: each search is given [`MAX_STEPS`], or what is left of these
+/// steps. An `Err` only where a growth of memory was refused.
 pub fn findings_of(
     alloc: Global,
     shapes: &[Shape],
     rules: &RuleList,
-) -> Result<Vec<Finding>, AllocError>
-    ensures { IfOk result (λ findings. AreTrue shapes.now rules.now findings.items) }
+    steps: u32,
+) -> Result<Findings, AllocError>
+    ensures { IfOk result (λ findings. AreTrue shapes.now rules.now steps findings.left findings.found.items) }
 {
     let all = rules.rules();
     let tidy = all_tidied(alloc, all)?;
@@ -141,11 +152,14 @@ pub fn findings_of(
         tidy: &tidy,
     };
     let mut findings = Vec::new(alloc);
-    let mut left = ALL_STEPS;
+    let mut left = steps;
     for place in 0..all.len() {
         let found = finding_of(alloc, &looked, place as u16 + 1, steps_given(left))?;
         left -= found.steps;
         findings.push(found.finding)?;
     }
-    Ok(findings)
+    Ok(Findings {
+        found: findings,
+        left,
+    })
 }

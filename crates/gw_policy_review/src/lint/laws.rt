@@ -10,9 +10,10 @@ pub fn broadcasts()
     ensures { NoBroadcastIsAllowed }
 {}
 
-/// A search for an ask that a rule decides makes 1,024 steps at most, and those for all rules 262,144.
+/// One of several searches makes 1,024 steps at most, and those that share steps 262,144: the searches for the findings of a
+/// lint, those for its notes, and those for the lines of who may do what.
 pub fn limits()
-    ensures rule { MAX_STEPS ≡ 1024 }
+    ensures one { MAX_STEPS ≡ 1024 }
     ensures all { ALL_STEPS ≡ 262144 }
 {}
 

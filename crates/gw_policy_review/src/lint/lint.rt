@@ -2,7 +2,7 @@
 ghost use Rattle.std.specs.Prelude.{◌≡◌, IfOk, OnErr, OnOk};
 ghost use Rattle.gw_policy_review.specs.lint.Lint.{AppendsLint, IsLint};
 
-use crate::lint::finding::findings_of;
+use crate::lint::finding::{ALL_STEPS, findings_of};
 use crate::lint::note::put_notes;
 use crate::lint::text::Lint;
 use gw_addr::{keep_whole, put_slice};
@@ -54,12 +54,12 @@ fn lint(
     ensures { IfOk result (λ text. IsLint config.now lines.now explains text.items) }
 {
     let shapes = shapes_of(alloc, config)?;
-    let findings = findings_of(alloc, &shapes, config.rules())?;
+    let findings = findings_of(alloc, &shapes, config.rules(), ALL_STEPS)?;
     let lint = Lint {
         explains,
         config,
         lines,
-        findings: &findings,
+        findings: &findings.found,
     };
     let mut text = Vec::new(alloc);
     lint.put_lines(&mut text)?;

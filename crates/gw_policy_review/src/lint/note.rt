@@ -7,12 +7,14 @@ ghost use Rattle.gw_policy_review.specs.lint.Notes.{AreAnswerNotes, AreNotes, Ar
 ghost use Rattle.gw_policy_review.specs.lint.Notes.{answer_words, cast_note, field_notes, has_overlap, head_text, is_known, is_unknown};
 ghost use Rattle.gw_policy_review.specs.lint.Notes.{lacks_broadcast, lets_unnamed, network_note, network_words, note_text, object_note};
 ghost use Rattle.gw_policy_review.specs.lint.Notes.{overlap_note, overlap_words, rule_notes, stations_note, stations_words, unnamed_if, way_note};
-ghost use Rattle.gw_policy_review.specs.permissions.Texts.{Appends, AreInOrder};
+ghost use Rattle.gw_policy_review.specs.permissions.Texts.{Appends, AreInTurn};
 ghost use Rattle.gw_script.specs.Order.{in_order};
 
 use crate::lint::discovery_note::put_discovery_note;
+use crate::lint::finding::ALL_STEPS;
 use crate::lint::passage::{
-    answers, opener, opens, passage, passages, passes, requests, shapes_for, unnamed_shapes,
+    Passages, answers, opener, opens, passes, requests, search_shape, search_shapes, shapes_for,
+    unnamed_shapes,
 };
 use crate::lint::text::Lint;
 use crate::lint::trust_note::put_trust_notes;
@@ -24,7 +26,8 @@ use gw_configuration::{Config, Port, Route};
 use gw_rules::{FieldName, Operation, Range, Rule};
 use std::alloc::{AllocError, Global};
 
-/// Appends all notes: rule by rule, then port by port, and then that on broadcasts.
+/// Appends all notes: rule by rule, then port by port, and then that on broadcasts. The searches for all of them share
+/// [`ALL_STEPS`].
 pub(crate) fn put_notes(
     alloc: Global,
     out: &mut Vec<u8>,
@@ -33,20 +36,28 @@ pub(crate) fn put_notes(
 ) -> Result<(), AllocError>
     ensures { OnOk result (Appends (AreNotes shapes.now lint.now.config.now lint.now.lines.now) out.old.items out.new.items) }
 {
-    let unnamed = unnamed(alloc, shapes, lint.config)?;
-    put_rules_notes(out, &unnamed, lint)?;
-    put_ports_notes(alloc, out, lint)?;
-    put_cast_note(alloc, out, shapes, lint.config)
+    let unnamed = unnamed(alloc, shapes, lint.config, ALL_STEPS)?;
+    put_rules_notes(out, &unnamed.found, lint)?;
+    let left = put_ports_notes(alloc, out, lint, unnamed.left)?;
+    let _rest = put_cast_note(alloc, out, shapes, lint.config, left)?;
+    Ok(())
 }
 
-/// What is found of requests that name no object, to another network than the device's, if messages are routed at all.
-fn unnamed(alloc: Global, shapes: &[Shape], config: &Config) -> Result<Vec<Outcome>, AllocError>
-    ensures { IfOk result (λ found. AreUnnamed config.now shapes.now found.items) }
+/// What is found of requests that name no object, to another network than the device's, if messages are routed at all,
+/// where so many steps are left.
+fn unnamed(
+    alloc: Global,
+    shapes: &[Shape],
+    config: &Config,
+    left: u32,
+) -> Result<Passages, AllocError>
+    ensures { IfOk result (λ unnamed. AreUnnamed config.now shapes.now left unnamed.left unnamed.found.items) }
 {
     let rules = config.rules();
-    let routed = search_allowed(alloc, rules, &shapes_for(alloc, Operation::Route, shapes)?)?;
-    let asked = unnamed_if(alloc, passes(&routed), config, shapes)?;
-    let found = passages(alloc, rules, &asked)?;
+    let those = shapes_for(alloc, Operation::Route, shapes)?;
+    let routed = search_allowed(alloc, rules, &those, left)?;
+    let asked = unnamed_if(alloc, passes(&routed.outcome), config, shapes)?;
+    let found = search_shapes(alloc, rules, &asked, routed.left)?;
     Ok(found)
 }
 
@@ -80,15 +91,23 @@ fn put_rules_notes(
     Ok(())
 }
 
-fn put_ports_notes(alloc: Global, out: &mut Vec<u8>, lint: &Lint<'_>) -> Result<(), AllocError>
-    ensures { OnOk result (Appends (AreInOrder (ArePortNotes lint.now.config.now lint.now.lines.now) 1 lint.now.config.now.ports)
+/// Appends the notes on the ports, where so many steps are left, and says how many are left then.
+fn put_ports_notes(
+    alloc: Global,
+    out: &mut Vec<u8>,
+    lint: &Lint<'_>,
+    left: u32,
+) -> Result<u32, AllocError>
+    ensures { IfOk result (λ rest.
+        Appends (AreInTurn (ArePortNotes lint.now.config.now lint.now.lines.now) 1 lint.now.config.now.ports left rest)
         out.old.items out.new.items) }
 {
     let ports = lint.config.ports();
+    let mut rest = left;
     for place in 0..ports.len() {
-        put_port_notes(alloc, out, lint, place as u16 + 1, &ports[place])?;
+        rest = put_port_notes(alloc, out, lint, place as u16 + 1, &ports[place], rest)?;
     }
-    Ok(())
+    Ok(rest)
 }
 
 /// Appends the notes on one port, the one of this number.
@@ -98,12 +117,13 @@ fn put_port_notes(
     lint: &Lint<'_>,
     number: u16,
     port: &Port,
-) -> Result<(), AllocError>
-    ensures { OnOk result
-        (Appends (ArePortNotes lint.now.config.now lint.now.lines.now number port.now) out.old.items out.new.items) }
+    left: u32,
+) -> Result<u32, AllocError>
+    ensures { IfOk result (λ rest. Appends (ArePortNotes lint.now.config.now lint.now.lines.now number port.now left rest)
+        out.old.items out.new.items) }
 {
     put_stations_note(out, number, port)?;
-    put_answer_notes(alloc, out, lint, &NumberedPort { number, port })
+    put_answer_notes(alloc, out, lint, &NumberedPort { number, port }, left)
 }
 
 /// Whether a subnet of the port's stations has its own address, and none has its broadcast address.
@@ -352,19 +372,22 @@ fn put_answer_notes(
     out: &mut Vec<u8>,
     lint: &Lint<'_>,
     from: &NumberedPort<'_>,
-) -> Result<(), AllocError>
-    ensures { OnOk result (Appends (AreAnswerNotes lint.now.config.now lint.now.lines.now from.now.number from.now.port.now)
+    left: u32,
+) -> Result<u32, AllocError>
+    ensures { IfOk result (λ rest.
+        Appends (AreAnswerNotes lint.now.config.now lint.now.lines.now from.now.number from.now.port.now left rest)
         out.old.items out.new.items) }
 {
     let ports = lint.config.ports();
+    let mut rest = left;
     for place in 0..ports.len() {
         let to = NumberedPort {
             number: place as u16 + 1,
             port: &ports[place],
         };
-        put_answer_note(alloc, out, lint, from, &to)?;
+        rest = put_answer_note(alloc, out, lint, from, &to, rest)?;
     }
-    Ok(())
+    Ok(rest)
 }
 
 /// Appends that note for two ports.
@@ -374,20 +397,21 @@ fn put_answer_note(
     lint: &Lint<'_>,
     from: &NumberedPort<'_>,
     to: &NumberedPort<'_>,
-) -> Result<(), AllocError>
-    ensures { OnOk result (Appends (IsNoteOnAnswers lint.now.config.now lint.now.lines.now from.now.number from.now.port.now
-        to.now.number to.now.port.now) out.old.items out.new.items) }
+    left: u32,
+) -> Result<u32, AllocError>
+    ensures { IfOk result (λ rest. Appends (IsNoteOnAnswers lint.now.config.now lint.now.lines.now from.now.number from.now.port.now
+        to.now.number to.now.port.now left rest) out.old.items out.new.items) }
 {
     let here = from.port.network.get();
     if here == to.port.network.get() {
-        return Ok(());
+        return Ok(left);
     }
     let asked = answers(lint.config.format(), to.number, to.port, here);
-    let back = passage(alloc, lint.config.rules(), asked)?;
-    if is_never(&back) {
-        put_request_note(alloc, out, lint, from, to.port)
+    let back = search_shape(alloc, lint.config.rules(), asked, left)?;
+    if is_never(&back.outcome) {
+        put_request_note(alloc, out, lint, from, to.port, back.left)
     } else {
-        Ok(())
+        Ok(back.left)
     }
 }
 
@@ -398,14 +422,17 @@ fn put_request_note(
     lint: &Lint<'_>,
     from: &NumberedPort<'_>,
     to: &Port,
-) -> Result<(), AllocError>
-    ensures { OnOk result (Appends (IsWay lint.now.config.now lint.now.lines.now from.now.number from.now.port.now to.now Never)
+    left: u32,
+) -> Result<u32, AllocError>
+    ensures { IfOk result (λ rest.
+        Appends (IsWay lint.now.config.now lint.now.lines.now from.now.number from.now.port.now to.now Never left rest)
         out.old.items out.new.items) }
 {
     let (here, there) = (from.port.network.get(), to.network.get());
     let asked = requests(lint.config.format(), from.number, from.port, there);
-    let found = passage(alloc, lint.config.rules(), asked)?;
-    put_way_note(out, lint, here, there, &found)
+    let found = search_shape(alloc, lint.config.rules(), asked, left)?;
+    put_way_note(out, lint, here, there, &found.outcome)?;
+    Ok(found.left)
 }
 
 fn put_way_note(
@@ -446,12 +473,14 @@ fn put_cast_note(
     out: &mut Vec<u8>,
     shapes: &[Shape],
     config: &Config,
-) -> Result<(), AllocError>
-    ensures { OnOk result (Appends (IsCastNote shapes.now config.now) out.old.items out.new.items) }
+    left: u32,
+) -> Result<u32, AllocError>
+    ensures { IfOk result (λ rest. Appends (IsCastNote shapes.now config.now left rest) out.old.items out.new.items) }
 {
     let distributed = shapes_for(alloc, Operation::Cast, shapes)?;
-    let found = search_allowed(alloc, config.rules(), &distributed)?;
-    put_cast_words(out, &distributed, &found)
+    let found = search_allowed(alloc, config.rules(), &distributed, left)?;
+    put_cast_words(out, &distributed, &found.outcome)?;
+    Ok(found.left)
 }
 
 fn put_cast_words(

@@ -4,7 +4,7 @@ ghost use Rattle.gw_policy_review.specs.lint.Passage.{ArePassages, answers, is_f
 ghost use Rattle.gw_policy_review.specs.lint.Passage.{shapes_for, towards, unnamed_of, unnamed_shapes};
 ghost use Rattle.gw_policy_review.specs.permissions.Passing.{IsPassage};
 
-use crate::permissions::search_allowed;
+use crate::permissions::{Passage, search_allowed};
 use gw_addr::NetNum;
 use gw_ask_sets::shapes::{
     Origin, Outcome, Shape, Side, aimed, bound, has_number, is_manager, numbers, only,
@@ -40,26 +40,44 @@ pub(crate) fn opens(rules: &RuleList, number: u16, found: &Outcome) -> bool
     }
 }
 
-/// Searches for an ask of a shape that passes.
-pub(crate) fn passage(alloc: Global, rules: &RuleList, shape: Shape) -> Result<Outcome, AllocError>
-    ensures { IfOk result (IsPassage (shape ∷ []) rules.now) }
+/// Searches for an ask of a shape that passes, where so many steps are left.
+pub(crate) fn search_shape(
+    alloc: Global,
+    rules: &RuleList,
+    shape: Shape,
+    left: u32,
+) -> Result<Passage, AllocError>
+    ensures { IfOk result (λ passage. IsPassage (shape ∷ []) rules.now left passage.left passage.outcome) }
 {
-    search_allowed(alloc, rules, &[shape])
+    search_allowed(alloc, rules, &[shape], left)
 }
 
-/// What is found of each of these shapes, in order.
-pub(crate) fn passages(
+/// What is found of asks of several shapes that pass, and how many steps are left for other searches.
+#[derive(Drop)]
+pub(crate) struct Passages {
+    /// What is found of each shape, in order.
+    pub(crate) found: Vec<Outcome>,
+    /// The steps.
+    pub(crate) left: u32,
+}
+
+/// Searches for an ask of each of these shapes that passes, in order, where so many steps are left.
+pub(crate) fn search_shapes(
     alloc: Global,
     rules: &RuleList,
     shapes: &[Shape],
-) -> Result<Vec<Outcome>, AllocError>
-    ensures { IfOk result (λ found. ArePassages rules.now shapes.now found.items) }
+    left: u32,
+) -> Result<Passages, AllocError>
+    ensures { IfOk result (λ passages. ArePassages rules.now shapes.now left passages.left passages.found.items) }
 {
     let mut found = Vec::new(alloc);
+    let mut rest = left;
     for shape in shapes {
-        found.push(passage(alloc, rules, *shape)?)?;
+        let one = search_shape(alloc, rules, *shape, rest)?;
+        rest = one.left;
+        found.push(one.outcome)?;
     }
-    Ok(found)
+    Ok(Passages { found, left: rest })
 }
 
 /// Whether a shape has asks for this operation.

@@ -1,5 +1,5 @@
 //! What each rule that allows lets whom ask for.
-ghost use Rattle.std.specs.Prelude.{◌≡◌, ◌++◌, ◌-◌, ◌≤◌, length, take, OnOk};
+ghost use Rattle.std.specs.Prelude.{◌≡◌, ◌++◌, ◌-◌, ◌≤◌, length, take, IfOk, OnOk};
 ghost use Rattle.std.specs.List.{flat_map};
 ghost use Rattle.gw_script.specs.Order.{in_order};
 ghost use Rattle.gw_policy_review.specs.permissions.Allowances.{AppendsAllowances, allowance_line, allowances_text, asks_words};
@@ -32,20 +32,24 @@ const WHAT: [FieldName; 7] = [
 ];
 
 /// Appends a line for each rule that lets somebody ask for something: whom, for what, and which rules deny some of it.
+/// So many steps are left for the searches; says how many are left for others.
 pub(crate) fn put_allowances(
     alloc: Global,
     out: &mut Vec<u8>,
     placed: &Placed<'_>,
-) -> Result<(), AllocError>
-    ensures { OnOk result (AppendsAllowances placed.now.config.now placed.now.lines.now out.old.items out.new.items) }
+    left: u32,
+) -> Result<u32, AllocError>
+    ensures { IfOk result (λ rest.
+        AppendsAllowances placed.now.config.now placed.now.lines.now left rest out.old.items out.new.items) }
 {
     let shapes = shapes_of(alloc, placed.config)?;
-    let findings = findings_of(alloc, &shapes, placed.config.rules())?;
+    let findings = findings_of(alloc, &shapes, placed.config.rules(), left)?;
     let found = Found {
         placed,
-        findings: &findings,
+        findings: &findings.found,
     };
-    found.put_lines(alloc, out)
+    found.put_lines(alloc, out)?;
+    Ok(findings.left)
 }
 
 /// A configuration, with what is found of its rules.

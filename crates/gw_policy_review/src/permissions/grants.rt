@@ -105,18 +105,21 @@ fn extent_words(every: bool, found: &Finding, deed: Deed) -> &'static [u8]
     }
 }
 
-/// Appends a line for each rule that lets somebody do the deed, or that there is none.
+/// Appends a line for each rule that lets somebody do the deed, or that there is none. So many steps are left for the
+/// searches; says how many are left for others.
 pub(crate) fn put_grants(
     alloc: Global,
     out: &mut Vec<u8>,
     inquiry: &Inquiry<'_>,
-) -> Result<(), AllocError>
-    ensures { OnOk result (AppendsGrants inquiry.now.placed.config.now inquiry.now.placed.lines.now
-        inquiry.now.deed inquiry.now.shape out.old.items out.new.items) }
+    left: u32,
+) -> Result<u32, AllocError>
+    ensures { IfOk result (λ rest. AppendsGrants inquiry.now.placed.config.now inquiry.now.placed.lines.now
+        inquiry.now.deed inquiry.now.shape left rest out.old.items out.new.items) }
 {
-    let findings = findings_of(alloc, &[inquiry.shape], inquiry.placed.config.rules())?;
-    let grants = grants(alloc, inquiry, &findings)?;
-    put_grants_or_none(out, inquiry.deed, &grants)
+    let findings = findings_of(alloc, &[inquiry.shape], inquiry.placed.config.rules(), left)?;
+    let grants = grants(alloc, inquiry, &findings.found)?;
+    put_grants_or_none(out, inquiry.deed, &grants)?;
+    Ok(findings.left)
 }
 
 fn put_grants_or_none(out: &mut Vec<u8>, deed: Deed, grants: &[u8]) -> Result<(), AllocError>

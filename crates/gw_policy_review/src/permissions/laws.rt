@@ -1,9 +1,7 @@
 //! What the lines on rules say of asks. The functions do nothing: their contracts are the laws.
-ghost use Rattle.std.specs.Prelude.{◌≡◌};
 ghost use Rattle.gw_policy_review.specs.permissions.Laws.{EachAskIsAllowed, HiddenIsNotRead, NoAskIsAllowed, NoneIsLet};
-ghost use Rattle.gw_policy_review.specs.permissions.Laws.{OnlyExceptionsDeny, OnlyLettingAllow, OnlyListedAllow, SomeAreAllowed};
-
-use crate::permissions::passing::PASSAGE_STEPS;
+ghost use Rattle.gw_policy_review.specs.permissions.Laws.{OnlyExceptionsDeny, OnlyLettingAllow, OnlyListedAllow, OnlyUsedUpIsUnknown};
+ghost use Rattle.gw_policy_review.specs.permissions.Laws.{SomeAreAllowed};
 
 /// An ask that is looked at by ranges alone is allowed only by a rule that may allow some: if there is none, no such ask is allowed.
 pub fn others()
@@ -37,7 +35,7 @@ pub fn hidden()
     ensures { HiddenIsNotRead }
 {}
 
-/// The search for an ask of which a line or a note speaks makes 1,024 steps at most, however many rules there are.
-pub fn limits()
-    ensures { PASSAGE_STEPS ≡ 1024 }
+/// Of an ask of which a line or a note speaks nothing is known only if the search for it made 1,024 steps, or all that were left.
+pub fn unknown()
+    ensures { OnlyUsedUpIsUnknown }
 {}

@@ -7,9 +7,9 @@ ghost use Rattle.gw_policy_review.specs.permissions.Permissions.{AreObjectLines,
 ghost use Rattle.gw_policy_review.specs.permissions.Permissions.{IsRead, hidden_line, hidden_words, identifier_words, is_hidden, list_line};
 ghost use Rattle.gw_policy_review.specs.permissions.Permissions.{name_words, network_reads, object_list, object_words, plain_lines, point_of};
 ghost use Rattle.gw_policy_review.specs.permissions.Permissions.{property_line, property_words, reads_words};
-ghost use Rattle.gw_policy_review.specs.permissions.Texts.{Appends, AreInOrder};
+ghost use Rattle.gw_policy_review.specs.permissions.Texts.{Appends, AreInTurn};
 
-use crate::permissions::passing::{is_never, search_allowed};
+use crate::permissions::passing::{Passage, is_never, search_allowed};
 use crate::permissions::questions::{Point, reading};
 use gw_addr::put_text_number;
 use gw_ask_sets::shapes::{Outcome, Side, only};
@@ -45,19 +45,23 @@ struct Reader<'a> {
     network: u16,
 }
 
-/// Appends the lines of the objects in their order.
+/// Appends the lines of the objects in their order. So many steps are left for the searches; says how many are left for
+/// others.
 pub(crate) fn put_objects(
     alloc: Global,
     out: &mut Vec<u8>,
     config: &Config,
-) -> Result<(), AllocError>
-    ensures { OnOk result (Appends (AreInOrder (AreObjectLines config.now) 1 config.now.objects) out.old.items out.new.items) }
+    left: u32,
+) -> Result<u32, AllocError>
+    ensures { IfOk result (λ rest.
+        Appends (AreInTurn (AreObjectLines config.now) 1 config.now.objects left rest) out.old.items out.new.items) }
 {
     let objects = config.objects();
+    let mut rest = left;
     for place in 0..objects.len() {
-        put_object(alloc, out, config, place + 1, &objects[place])?;
+        rest = put_object(alloc, out, config, place + 1, &objects[place], rest)?;
     }
-    Ok(())
+    Ok(rest)
 }
 
 /// Appends the lines of the object of this number, in order of the ports.
@@ -67,10 +71,12 @@ fn put_object(
     config: &Config,
     number: usize,
     object: &Object,
-) -> Result<(), AllocError>
-    ensures { OnOk result (Appends (AreObjectLines config.now number object.now) out.old.items out.new.items) }
+    left: u32,
+) -> Result<u32, AllocError>
+    ensures { IfOk result (λ rest. Appends (AreObjectLines config.now number object.now left rest) out.old.items out.new.items) }
 {
     let ports = config.ports();
+    let mut rest = left;
     for place in 0..ports.len() {
         let reader = Reader {
             config,
@@ -78,50 +84,56 @@ fn put_object(
             object,
             network: ports[place].network.get(),
         };
-        reader.put(alloc, out)?;
+        rest = reader.put(alloc, out, rest)?;
     }
-    Ok(())
+    Ok(rest)
 }
 
 impl Reader<'_> {
-    /// Searches for an ask of the network to read these properties that is allowed.
-    fn find(&self, alloc: Global, point: Point) -> Result<Outcome, AllocError>
-        ensures { IfOk result (IsRead self.now.config.now self.now.network point) }
+    /// Searches for an ask of the network to read these properties that is allowed, where so many steps are left.
+    fn find(&self, alloc: Global, point: Point, left: u32) -> Result<Passage, AllocError>
+        ensures { IfOk result (λ passage. IsRead self.now.config.now self.now.network point left passage.left passage.outcome) }
     {
         let device = u64::from(self.config.device().network.get());
         let ports = self.config.ports().len() as u64;
         let shape = reading(ports, device, u64::from(self.network), point);
-        search_allowed(alloc, self.config.rules(), &[shape])
+        search_allowed(alloc, self.config.rules(), &[shape], left)
     }
 
-    /// Appends what is said of the object.
-    fn put(&self, alloc: Global, out: &mut Vec<u8>) -> Result<(), AllocError>
-        ensures { OnOk result (Appends (AreReadings self.now.config.now self.now.number self.now.object.now self.now.network)
+    /// Appends what is said of the object, where so many steps are left, and says how many are left then.
+    fn put(&self, alloc: Global, out: &mut Vec<u8>, left: u32) -> Result<u32, AllocError>
+        ensures { IfOk result (λ rest.
+            Appends (AreReadings self.now.config.now self.now.number self.now.object.now self.now.network left rest)
             out.old.items out.new.items) }
     {
-        match self.find(alloc, point_of(self.object, any_property()))? {
-            Outcome::Never => self.put_hiding(alloc, out),
-            _ => self.put_revealing(alloc, out),
+        let found = self.find(alloc, point_of(self.object, any_property()), left)?;
+        if is_never(&found.outcome) {
+            self.put_hiding(alloc, out, found.left)
+        } else {
+            self.put_revealing(alloc, out, found.left)
         }
     }
 
     /// Appends that it is hidden from the network, and what names it there.
-    fn put_hiding(&self, alloc: Global, out: &mut Vec<u8>) -> Result<(), AllocError>
-        ensures { OnOk result (Appends (IsHiding self.now.config.now self.now.number self.now.object.now self.now.network)
+    fn put_hiding(&self, alloc: Global, out: &mut Vec<u8>, left: u32) -> Result<u32, AllocError>
+        ensures { IfOk result (λ rest.
+            Appends (IsHiding self.now.config.now self.now.number self.now.object.now self.now.network left rest)
             out.old.items out.new.items) }
     {
         put_hidden(out, self.number, self.object, self.network)?;
         out.extend_from_slice(b": from whoever claims to be of it\n")?;
-        self.put_list(alloc, out)
+        self.put_list(alloc, out, left)
     }
 
     /// Appends that the device's Object_List names it to the network, if that is read.
-    fn put_list(&self, alloc: Global, out: &mut Vec<u8>) -> Result<(), AllocError>
-        ensures { OnOk result (Appends (IsListed self.now.config.now self.now.number self.now.object.now self.now.network)
+    fn put_list(&self, alloc: Global, out: &mut Vec<u8>, left: u32) -> Result<u32, AllocError>
+        ensures { IfOk result (λ rest.
+            Appends (IsListed self.now.config.now self.now.number self.now.object.now self.now.network left rest)
             out.old.items out.new.items) }
     {
-        let found = self.find(alloc, object_list(self.config.device()))?;
-        self.put_list_line(out, &found)
+        let found = self.find(alloc, object_list(self.config.device()), left)?;
+        self.put_list_line(out, &found.outcome)?;
+        Ok(found.left)
     }
 
     fn put_list_line(&self, out: &mut Vec<u8>, found: &Outcome) -> Result<(), AllocError>
@@ -136,22 +148,32 @@ impl Reader<'_> {
     }
 
     /// Appends the properties that reveal its Present_Value, if that is hidden from the network.
-    fn put_revealing(&self, alloc: Global, out: &mut Vec<u8>) -> Result<(), AllocError>
-        ensures { OnOk result (Appends (AreRevealing self.now.config.now self.now.number self.now.object.now self.now.network)
+    fn put_revealing(&self, alloc: Global, out: &mut Vec<u8>, left: u32) -> Result<u32, AllocError>
+        ensures { IfOk result (λ rest.
+            Appends (AreRevealing self.now.config.now self.now.number self.now.object.now self.now.network left rest)
             out.old.items out.new.items) }
     {
-        match self.find(alloc, point_of(self.object, only(PRESENT_VALUE)))? {
-            Outcome::Never => self.put_properties(alloc, out),
-            _ => Ok(()),
+        let found = self.find(alloc, point_of(self.object, only(PRESENT_VALUE)), left)?;
+        if is_never(&found.outcome) {
+            self.put_properties(alloc, out, found.left)
+        } else {
+            Ok(found.left)
         }
     }
 
-    fn put_properties(&self, alloc: Global, out: &mut Vec<u8>) -> Result<(), AllocError>
-        ensures { OnOk result (Appends (AreProperties self.now.config.now self.now.number self.now.object.now self.now.network)
+    fn put_properties(&self, alloc: Global, out: &mut Vec<u8>, left: u32) -> Result<u32, AllocError>
+        ensures { IfOk result (λ rest.
+            Appends (AreProperties self.now.config.now self.now.number self.now.object.now self.now.network left rest)
             out.old.items out.new.items) }
     {
-        self.put_property(alloc, out, PRIORITY_ARRAY, "Priority_Array")?;
-        self.put_property(alloc, out, RELINQUISH_DEFAULT, "Relinquish_Default")
+        let between = self.put_property(alloc, out, PRIORITY_ARRAY, "Priority_Array", left)?;
+        self.put_property(
+            alloc,
+            out,
+            RELINQUISH_DEFAULT,
+            "Relinquish_Default",
+            between,
+        )
     }
 
     /// Appends that this property is read, if it is.
@@ -161,12 +183,14 @@ impl Reader<'_> {
         out: &mut Vec<u8>,
         property: u64,
         name: &str,
-    ) -> Result<(), AllocError>
-        ensures { OnOk result (Appends (IsProperty self.now.config.now self.now.number self.now.object.now self.now.network
-            property name.now) out.old.items out.new.items) }
+        left: u32,
+    ) -> Result<u32, AllocError>
+        ensures { IfOk result (λ rest. Appends (IsProperty self.now.config.now self.now.number self.now.object.now self.now.network
+            property name.now left rest) out.old.items out.new.items) }
     {
-        let found = self.find(alloc, point_of(self.object, only(property)))?;
-        self.put_property_line(out, name, &found)
+        let found = self.find(alloc, point_of(self.object, only(property)), left)?;
+        self.put_property_line(out, name, &found.outcome)?;
+        Ok(found.left)
     }
 
     fn put_property_line(

@@ -6,6 +6,7 @@ ghost use Rattle.gw_rules.specs.RuleList.{allows_at};
 ghost use Rattle.gw_policy_review.specs.permissions.Passing.{IsDecision, IsPassage, IsSaidBy, decides_all, default_rule, is_never, is_said};
 ghost use Rattle.gw_policy_review.specs.permissions.Passing.{matches_all, may_allow, may_pass, reached, searched_rules};
 
+use crate::lint::steps_given;
 use gw_addr::Sequence;
 use gw_ask_sets::regions::all_tidied;
 use gw_ask_sets::shapes::{Outcome, Shape, Sought, meets, search_for, takes_side};
@@ -205,17 +206,29 @@ pub fn search_decided(
     })
 }
 
-/// How many steps the search for an ask has of which a line or a note speaks.
-pub const PASSAGE_STEPS: u32 = 1024;
+/// What a search for an ask that a policy allows comes to, and how many steps are left for other searches.
+#[derive(Clone, Copy)]
+pub(crate) struct Passage {
+    /// What it comes to.
+    pub(crate) outcome: Outcome,
+    /// The steps.
+    pub(crate) left: u32,
+}
 
-/// Searches for an ask of these shapes that a policy allows, in at most [`PASSAGE_STEPS`].
-pub fn search_allowed(
+/// Searches for an ask of these shapes that a policy allows, of which a line or a note speaks, where so many steps are
+/// left for all such searches: it is given [`MAX_STEPS`](crate::lint::MAX_STEPS), or these. An `Err` only if a growth of
+/// memory was refused.
+pub(crate) fn search_allowed(
     alloc: Global,
     policy: &RuleList,
     shapes: &[Shape],
-) -> Result<Outcome, AllocError>
-    ensures { IfOk result (IsPassage shapes.now policy.now) }
+    left: u32,
+) -> Result<Passage, AllocError>
+    ensures { IfOk result (λ passage. IsPassage shapes.now policy.now left passage.left passage.outcome) }
 {
-    let found = search_decided(alloc, policy, shapes, true, PASSAGE_STEPS)?;
-    Ok(found.outcome)
+    let found = search_decided(alloc, policy, shapes, true, steps_given(left))?;
+    Ok(Passage {
+        outcome: found.outcome,
+        left: left - found.steps,
+    })
 }

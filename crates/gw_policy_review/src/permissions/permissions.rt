@@ -4,6 +4,7 @@ ghost use Rattle.gw_policy_review.specs.permissions.Permissions.{AppendsFull, Ap
 ghost use Rattle.gw_policy_review.specs.permissions.Texts.{Appends};
 ghost use Rattle.gw_policy_review.specs.permissions.Questions.{claiming};
 
+use crate::lint::ALL_STEPS;
 use crate::permissions::allowances::put_allowances;
 use crate::permissions::grants::{Deed, Inquiry, put_grants};
 use crate::permissions::networks::put_networks;
@@ -38,7 +39,7 @@ use std::alloc::{AllocError, Global};
 /// rule 5 "plant": the controllers behind the old router
 /// ```
 ///
-/// An `Err` only if a growth of memory was refused: the buffer then holds what it held.
+/// The searches for all lines share 262,144 steps. An `Err` only if a growth of memory was refused: the buffer then holds what it held.
 pub fn put_permissions(
     alloc: Global,
     config: &Config,
@@ -69,30 +70,43 @@ fn permissions(alloc: Global, config: &Config, lines: &[u32]) -> Result<Vec<u8>,
 fn put_full(alloc: Global, out: &mut Vec<u8>, placed: &Placed<'_>) -> Result<(), AllocError>
     ensures { OnOk result (AppendsFull placed.now.config.now placed.now.lines.now out.old.items out.new.items) }
 {
-    put_ports(alloc, out, placed)?;
+    let after_ports = put_ports(alloc, out, placed, ALL_STEPS)?;
     put_networks(out, placed.config)?;
-    put_claims(alloc, out, placed)?;
-    put_allowances(alloc, out, placed)?;
-    put_later(alloc, out, placed)
+    let after_claims = put_claims(alloc, out, placed, after_ports)?;
+    let after_allowances = put_allowances(alloc, out, placed, after_claims)?;
+    let _rest = put_later(alloc, out, placed, after_allowances)?;
+    Ok(())
 }
 
-fn put_claims(alloc: Global, out: &mut Vec<u8>, placed: &Placed<'_>) -> Result<(), AllocError>
-    ensures { OnOk result (AppendsGrants placed.now.config.now placed.now.lines.now Deed.Claim
-        (claiming (length placed.now.config.now.ports)) out.old.items out.new.items) }
+fn put_claims(
+    alloc: Global,
+    out: &mut Vec<u8>,
+    placed: &Placed<'_>,
+    left: u32,
+) -> Result<u32, AllocError>
+    ensures { IfOk result (λ rest. AppendsGrants placed.now.config.now placed.now.lines.now Deed.Claim
+        (claiming (length placed.now.config.now.ports)) left rest out.old.items out.new.items) }
 {
     let inquiry = Inquiry {
         deed: Deed::Claim,
         shape: claiming(placed.config.ports().len() as u64),
         placed: *placed,
     };
-    put_grants(alloc, out, &inquiry)
+    put_grants(alloc, out, &inquiry, left)
 }
 
 /// Appends what follows the lines of who may enter and speak for a network.
-fn put_later(alloc: Global, out: &mut Vec<u8>, placed: &Placed<'_>) -> Result<(), AllocError>
-    ensures { OnOk result (Appends (AreLater placed.now.config.now placed.now.lines.now) out.old.items out.new.items) }
+fn put_later(
+    alloc: Global,
+    out: &mut Vec<u8>,
+    placed: &Placed<'_>,
+    left: u32,
+) -> Result<u32, AllocError>
+    ensures { IfOk result (λ rest.
+        Appends (AreLater placed.now.config.now placed.now.lines.now left rest) out.old.items out.new.items) }
 {
     put_reaches(out, placed)?;
-    put_objects(alloc, out, placed.config)?;
-    put_notes(out, placed)
+    let rest = put_objects(alloc, out, placed.config, left)?;
+    put_notes(out, placed)?;
+    Ok(rest)
 }

@@ -1,5 +1,5 @@
 //! The stations of ports, and who else may enter there.
-ghost use Rattle.std.specs.Prelude.{◌≡◌, ◌++◌, OnOk};
+ghost use Rattle.std.specs.Prelude.{◌≡◌, ◌++◌, IfOk, OnOk};
 ghost use Rattle.std.specs.List.{flat_map};
 ghost use Rattle.gw_policy_review.specs.permissions.Questions.{entering};
 ghost use Rattle.gw_policy_review.specs.permissions.Permissions.{AppendsEntries, AppendsGrants, AppendsPort, AppendsPorts, everyone_words, foreign_words};
@@ -12,20 +12,23 @@ use gw_addr::{BipAddr, put_slice, put_text_number};
 use gw_configuration::{Port, Subnet};
 use std::alloc::{AllocError, Global};
 
-/// Appends the lines of the ports in their order.
+/// Appends the lines of the ports in their order. So many steps are left for the searches; says how many are left for
+/// others.
 pub(crate) fn put_ports(
     alloc: Global,
     out: &mut Vec<u8>,
     placed: &Placed<'_>,
-) -> Result<(), AllocError>
-    ensures { OnOk result (AppendsPorts placed.now.config.now placed.now.lines.now placed.now.config.now.ports
+    left: u32,
+) -> Result<u32, AllocError>
+    ensures { IfOk result (λ rest. AppendsPorts placed.now.config.now placed.now.lines.now placed.now.config.now.ports left rest
         out.old.items out.new.items) }
 {
     let ports = placed.config.ports();
+    let mut rest = left;
     for place in 0..ports.len() {
-        put_port(alloc, out, placed, place + 1, &ports[place])?;
+        rest = put_port(alloc, out, placed, place + 1, &ports[place], rest)?;
     }
-    Ok(())
+    Ok(rest)
 }
 
 /// Appends the lines of the port of this number.
@@ -35,13 +38,14 @@ fn put_port(
     placed: &Placed<'_>,
     number: usize,
     port: &Port,
-) -> Result<(), AllocError>
-    ensures { OnOk result
-        (AppendsPort placed.now.config.now placed.now.lines.now number port.now out.old.items out.new.items) }
+    left: u32,
+) -> Result<u32, AllocError>
+    ensures { IfOk result (λ rest.
+        AppendsPort placed.now.config.now placed.now.lines.now number port.now left rest out.old.items out.new.items) }
 {
     put_text_number(out, "port ", number)?;
     put_stations(out, port)?;
-    put_entries(alloc, out, placed, number, port)
+    put_entries(alloc, out, placed, number, port, left)
 }
 
 /// Appends who the stations are.
@@ -126,14 +130,15 @@ fn put_entries(
     placed: &Placed<'_>,
     number: usize,
     port: &Port,
-) -> Result<(), AllocError>
-    ensures { OnOk result
-        (AppendsEntries placed.now.config.now placed.now.lines.now number port.now out.old.items out.new.items) }
+    left: u32,
+) -> Result<u32, AllocError>
+    ensures { IfOk result (λ rest.
+        AppendsEntries placed.now.config.now placed.now.lines.now number port.now left rest out.old.items out.new.items) }
 {
     if port.stations.as_slice().is_empty() {
-        return Ok(());
+        return Ok(left);
     }
-    put_strangers(alloc, out, placed, number, port.network.get())
+    put_strangers(alloc, out, placed, number, port.network.get(), left)
 }
 
 fn put_strangers(
@@ -142,14 +147,15 @@ fn put_strangers(
     placed: &Placed<'_>,
     number: usize,
     network: u16,
-) -> Result<(), AllocError>
-    ensures { OnOk result (AppendsGrants placed.now.config.now placed.now.lines.now (Deed.Enter number)
-        (entering number network) out.old.items out.new.items) }
+    left: u32,
+) -> Result<u32, AllocError>
+    ensures { IfOk result (λ rest. AppendsGrants placed.now.config.now placed.now.lines.now (Deed.Enter number)
+        (entering number network) left rest out.old.items out.new.items) }
 {
     let inquiry = Inquiry {
         deed: Deed::Enter(number),
         shape: entering(number as u64, u64::from(network)),
         placed: *placed,
     };
-    put_grants(alloc, out, &inquiry)
+    put_grants(alloc, out, &inquiry, left)
 }

@@ -1,5 +1,6 @@
 use Rattle.std.proofs.Common.{◌∙◌, ◌++◌, ap, List, ℕ}
-use Rattle.gw_report.specs.Report.{AreInTurn, IsRow, table_text}
+use Rattle.gw_policy_review.specs.permissions.Texts.{AreInTurn}
+use Rattle.gw_report.specs.Report.{IsRow, table_text}
 use Rattle.gw_report.specs.declared.access.Whence.TheVariants.{Beyond}
 use Rattle.gw_report.proofs.Cells.{alone}
 use Rattle.gw_report.proofs.access.whole_table.Goals as goal
@@ -13,8 +14,8 @@ returns c =
     let last = c.put_row.new.page in record {
       between = between;
       rows = rows;
-      are_rows = alone (AreInTurn (IsRow t.rules.now t.own.now t.shapes.now) t.own.now 262144 between) c.new-rows.result rows c.new-rows.ensures
-          c.in_ok-between.ensures;
+      are_rows = alone (AreInTurn (λ place whence. IsRow t.rules.now t.own.now t.shapes.now whence) 1 t.own.now 262144 between)
+          c.new-rows.result rows c.new-rows.ensures c.in_ok-between.ensures;
       rest = rest;
       last = last;
       is_last = alone (IsRow t.rules.now t.own.now t.shapes.now Beyond between rest) c.new-last.result last c.new-last.ensures c.in_ok-_rest.ensures;

@@ -1,7 +1,8 @@
 use Rattle.gw_policy_review.specs.lint.Notes.{IsNoteOnAnswers}
-use Rattle.gw_policy_review.proofs.permissions_lemmas.InOrder.{Appended}
+use Rattle.gw_policy_review.proofs.permissions_lemmas.InTurn.{Turned}
 use Rattle.gw_policy_review.proofs.lint.note.put_answer_notes.Given as goal
 
 abbrev pub invariant-loop-place : goal.invariant-loop-place
 invariant-loop-place l =
-    Appended (IsNoteOnAnswers l.lint.config.now l.lint.lines.now l.from.number l.from.port.now) l.lint.config.now.ports l.place l.fn.out.items l.out.items
+    Turned (IsNoteOnAnswers l.lint.config.now l.lint.lines.now l.from.number l.from.port.now) l.lint.config.now.ports l.place l.fn.left l.rest
+    l.fn.out.items l.out.items

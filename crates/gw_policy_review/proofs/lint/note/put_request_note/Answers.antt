@@ -1,4 +1,4 @@
-use Rattle.std.proofs.Common.{List, OnOk, [], ◌∷◌, ◌++◌, ◌≡◌, ◌∙◌, ℕ, ap, subst}
+use Rattle.std.proofs.Common.{List, [], ◌∷◌, ◌++◌, ◌≡◌, ◌∙◌, ℕ, ap, subst}
 use Rattle.gw_rules.specs.declared.format.Format.{Format}
 use Rattle.gw_rules.specs.declared.rule.Rule.{Rule}
 use Rattle.gw_ask_sets.specs.shapes.Shape.{Shape}
@@ -15,7 +15,9 @@ returns c =
     let number = c.args.from.now.number in
     let port = c.args.from.now.port.now in
     let other = c.args.to.now in
-    let found = c.in_ok-found.found in
+    let left = c.args.left in
+    let found = c.in_ok-found.found.outcome in
+    let rest = c.in_ok-found.found.left in
     let out = c.args.out.now.items in
     let new = c.put_way_note.new.out.items in
     let asked = requests config.format number port other.network in
@@ -23,9 +25,9 @@ returns c =
     c.requests-asked.ensures
     ∙ (ap (λ (f : Format). requests f number port c.get-there.result) c.format.ensures.format
     ∙ ap (λ (n : ℕ). requests config.format number port n) c.get-there.ensures.value) in
-    requested c.put_way_note.result config lines number port other found out new
-    (subst (λ (rs : List Rule). IsPassage (asked ∷ []) rs found) c.rules.ensures.rules
-    (subst (λ (s : Shape). IsPassage (s ∷ []) c.rules.result.now found) same c.in_ok-found.ensures))
-    (subst (λ (n : ℕ). OnOk c.put_way_note.result (new ≡ out ++ way_note config lines port.network n found)) c.get-there.ensures.value
-    (subst (λ (n : ℕ). OnOk c.put_way_note.result (new ≡ out ++ way_note config lines n c.get-there.result found)) c.get-here.ensures.value
-    c.put_way_note.ensures))
+    requested config lines number port other found left rest out new
+    (subst (λ (rs : List Rule). IsPassage (asked ∷ []) rs left rest found) c.rules.ensures.rules
+    (subst (λ (s : Shape). IsPassage (s ∷ []) c.rules.result.now left rest found) same c.in_ok-found.ensures))
+    (subst (λ (n : ℕ). new ≡ out ++ way_note config lines port.network n found) c.get-there.ensures.value
+    (subst (λ (n : ℕ). new ≡ out ++ way_note config lines n c.get-there.result found) c.get-here.ensures.value
+    c.in_ok-put_way_note.ensures))

@@ -11,8 +11,11 @@ pub returns : goal.returns
 returns c =
     let config = c.args.config.now in
     let shapes = c.args.shapes.now in
-    let routed = c.in_ok-routed.routed in
-    let found = c.in_ok-found.found.items in
+    let left = c.args.left in
+    let routed = c.in_ok-routed.routed.outcome in
+    let between = c.in_ok-routed.routed.left in
+    let found = c.in_ok-found.found.found.items in
+    let rest = c.in_ok-found.found.left in
     let all = shapes_for Route shapes in
     let one : c.deref.result.now ≡ all = search rules in
     let here : c.deref-2.result.now ≡ c.in_ok-asked.asked.items = search rules in
@@ -21,8 +24,9 @@ returns c =
     here ∙ (c.in_ok-asked.ensures ∙ ap (λ (b : Bool). unnamed_if b config shapes) c.passes.ensures) in
     record {
       routed = routed;
-      is_routed = subst (λ (rs : List Rule). IsPassage all rs routed) c.rules-rules.ensures.rules
-          (subst (λ (those : List Shape). IsPassage those c.rules-rules.result.now routed) one c.in_ok-routed.ensures);
-      are_found = subst (λ (rs : List Rule). ArePassages rs asked found) c.rules-rules.ensures.rules
-          (subst (λ (those : List Shape). ArePassages c.rules-rules.result.now those found) other c.in_ok-found.ensures);
+      between = between;
+      is_routed = subst (λ (rs : List Rule). IsPassage all rs left between routed) c.rules-rules.ensures.rules
+          (subst (λ (those : List Shape). IsPassage those c.rules-rules.result.now left between routed) one c.in_ok-routed.ensures);
+      are_found = subst (λ (rs : List Rule). ArePassages rs asked between rest found) c.rules-rules.ensures.rules
+          (subst (λ (those : List Shape). ArePassages c.rules-rules.result.now those between rest found) other c.in_ok-found.ensures);
     }

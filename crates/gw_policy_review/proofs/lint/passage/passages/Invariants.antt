@@ -1,6 +1,0 @@
-use Rattle.std.proofs.Common.{take}
-use Rattle.gw_policy_review.specs.lint.Passage.{ArePassages}
-use Rattle.gw_policy_review.proofs.lint.passage.passages.Given as goal
-
-abbrev pub invariant-loop-shape : goal.invariant-loop-shape
-invariant-loop-shape l = ArePassages l.rules (take l.shape-index l.shapes) l.found.items
