@@ -17,12 +17,12 @@ returns-in-Ok-None-clause-end g c =
     let records = g.W.Wire.calls c.receive.new.wire in
     let idled = arrives recorded records c.in-Ok-None.field-0 None c.in-Ok-None.field-0-is c.in-Ok-None.ensures.calls in
     guarded_without g.G.Guard.Passes c.args.guard.now _ _ c.args.self.now.served _ c.args.self.now.tally empty_turn refl
-    (lead_without _ _ empty_turn refl tt refl refl idled) refl _
+    (lead_without _ _ empty_turn refl tt refl refl idled) refl c.args.self.now.unwritten.items
 
 pub returns-in-Err-clause-end : goal.returns-in-Err-clause-end
 returns-in-Err-clause-end g c =
     guarded_without g.G.Guard.Passes c.args.guard.now _ _ c.args.self.now.served _ c.args.self.now.tally failed_turn refl
-    (lead_without _ _ failed_turn refl tt refl refl c.in-Err.ensures.calls) refl _
+    (lead_without _ _ failed_turn refl tt refl refl c.in-Err.ensures.calls) refl c.args.self.now.unwritten.items
 
 pub returns-in-Err-Memory-clause-end : goal.returns-in-Err-Memory-clause-end
 returns-in-Err-Memory-clause-end g c =
@@ -32,7 +32,7 @@ returns-in-Err-Memory-clause-end g c =
     let came_in = arrives recorded records c.in-Ok-Some.field-0 (Some c.in-Ok-Some.event) c.in-Ok-Some.field-0-is c.in-Ok-Some.ensures.calls in
     let wants = c.in-Err-Memory.ensures.memory (ap Err c.in-Err-Memory.field-0-is) in
     guarded_without g.G.Guard.Passes c.args.guard.now _ _ c.args.self.now.served _ c.args.self.now.tally (lost_event event) refl
-    (lead_without _ _ (lost_event event) refl wants c.in-Err-Memory.ensures.err refl came_in) refl _
+    (lead_without _ _ (lost_event event) refl wants c.in-Err-Memory.ensures.err refl came_in) refl c.args.self.now.unwritten.items
 
 pub returns-in_default-clause-end : goal.returns-in_default-clause-end
 returns-in_default-clause-end g c =
@@ -44,8 +44,8 @@ returns-in_default-clause-end g c =
     let before = scene c.args.gateway.now (g.L.OctetSink.held c.args.log.now) recorded in
     let after = scene c.take_seen.new.gateway (g.L.OctetSink.held c.log_denials.new.log) records in
     let s = c.args.self.now.served in
-    guarded_fault g.G.Guard.Passes c.args.guard.now c.args.guard.now before after s (count_taken s) c.args.self.now.tally Memory _ event
-    (ends_at_memory before after event c.in-Ok.taken.effects _ _ taken.effects c.in_default.ensures.end
+    guarded_fault g.G.Guard.Passes c.args.guard.now c.args.guard.now before after s (count_taken s) c.args.self.now.tally Memory c.log_denials.new.unwritten.items event
+    (ends_at_memory before after event c.in-Ok.taken.effects _ c.log_denials.new.unwritten.items taken.effects c.in_default.ensures.end
     (record { counts = taken.counts; gateway = taken.gateway; calls = came_in })) refl refl
 
 pub returns-then-not-is_logged-clause-end : goal.returns-then-not-is_logged-clause-end
@@ -62,9 +62,9 @@ returns-then-not-is_logged-clause-end g c =
     let seen = seen_by c.watches.result (g.G.Guard.watching guard) c.args.gateway.now event _ _ c.watches.ensures c.as_ref.ensures.value
     (c.in-Ok.ensures.seen refl) in
     let ended = subst (λ (b : Bool). LogEnd c.in-Ok.taken.effects.denials before.log after.log (Ok b) c.log_denials.new.unwritten.items)
-    c.if-not-is_logged.true c.in-Ok-is_logged.ensures.end in
-    guarded_fault g.G.Guard.Passes guard c.pass.new.self before after s (count_taken s) c.args.self.now.tally Log _ event
-    (ends_at_log before after event c.in-Ok.taken.effects _ taken.effects ended
+    c.if-not-is_logged.true c.in-Ok-log_denials.ensures.end in
+    guarded_fault g.G.Guard.Passes guard c.pass.new.self before after s (count_taken s) c.args.self.now.tally Log c.log_denials.new.unwritten.items event
+    (ends_at_log before after event c.in-Ok.taken.effects c.log_denials.new.unwritten.items taken.effects ended
     (record { counts = taken.counts; gateway = taken.gateway; calls = came_in }))
     (c.pass.result, c.pass.ensures c.args.gateway.now event taken seen) refl
 
@@ -79,15 +79,16 @@ returns-then-not-pass-clause-end g c =
     let taken = c.in-Ok.ensures.taken in
     let logged : IsLoggedLast before event middle = record {
       taken = record { counts = taken.counts; gateway = taken.gateway; calls = came_in };
-      log = subst (λ (x : Effects). Appends before.log middle.log (lines_of x.denials)) taken.effects c.in_ok-log_denials.ensures.end;
+      log = subst (λ (x : Effects). Appends before.log middle.log (lines_of x.denials)) taken.effects (subst (λ (b : Bool). LogEnd c.in-Ok.taken.effects.denials before.log middle.log (Ok b) c.log_denials.new.unwritten.items)
+          c.if-not-is_logged.false c.in-Ok-log_denials.ensures.end);
     } in
     let counted = tallied c.args.gateway.now c.args.self.now.tally c.count.new.self event c.counts-tick.result.ticks c.in-Ok.taken.effects
     c.in-Ok.taken.drop c.counts-tick.ensures.ticks taken.effects taken.drop c.count.ensures in
     let guard = c.args.guard.now in
-    let seen = seen_by c.watches.result (g.G.Guard.watching c.args.guard.now) c.args.gateway.now event _ _ c.watches.ensures c.as_ref.ensures.value
+    let seen = seen_by c.watches.result (g.G.Guard.watching c.args.guard.now) c.args.gateway.now event _ _ c.watches.ensures c.as_ref-2.ensures.value
     (c.in-Ok.ensures.seen refl) in
-    let withheld = subst (λ (b : Bool). g.G.Guard.Passes guard c.args.gateway.now event c.pass.new.self b) c.if-not-pass.true
-    (c.pass.ensures c.args.gateway.now event taken seen) in
+    let withheld = subst (λ (b : Bool). g.G.Guard.Passes guard c.args.gateway.now event c.pass-2.new.self b) c.if-not-pass.true
+    (c.pass-2.ensures c.args.gateway.now event taken seen) in
     (event, record { logged = logged; passes = withheld; counts = refl; tally = counted })
 
 pub returns-clause-end : goal.returns-clause-end
@@ -101,17 +102,19 @@ returns-clause-end g c =
     let taken = c.in-Ok.ensures.taken in
     let logged : IsLoggedLast before event middle = record {
       taken = record { counts = taken.counts; gateway = taken.gateway; calls = came_in };
-      log = subst (λ (x : Effects). Appends before.log middle.log (lines_of x.denials)) taken.effects c.in_ok-log_denials.ensures.end;
+      log = subst (λ (x : Effects). Appends before.log middle.log (lines_of x.denials)) taken.effects (subst (λ (b : Bool). LogEnd c.in-Ok.taken.effects.denials before.log middle.log (Ok b) c.log_denials.new.unwritten.items)
+          c.if-not-is_logged.false c.in-Ok-log_denials.ensures.end);
     } in
     let counted = tallied c.args.gateway.now c.args.self.now.tally c.count.new.self event c.counts-tick.result.ticks c.in-Ok.taken.effects
     c.in-Ok.taken.drop c.counts-tick.ensures.ticks taken.effects taken.drop c.count.ensures in
     let guard = c.args.guard.now in
-    let seen = seen_by c.watches.result (g.G.Guard.watching c.args.guard.now) c.args.gateway.now event _ _ c.watches.ensures c.as_ref.ensures.value
+    let seen = seen_by c.watches.result (g.G.Guard.watching c.args.guard.now) c.args.gateway.now event _ _ c.watches.ensures c.as_ref-2.ensures.value
     (c.in-Ok.ensures.seen refl) in
-    let passes = subst (λ (b : Bool). g.G.Guard.Passes guard c.args.gateway.now event c.pass.new.self b) c.if-not-pass.false
-    (c.pass.ensures c.args.gateway.now event taken seen) in
-    guarded_with g.G.Guard.Passes guard c.pass.new.self before middle (g.W.Wire.calls c.try_sends.new.wire) c.args.self.now.served
-    c.try_sends.new.served c.args.self.now.tally c.count.new.self _ _ event c.in-Ok.taken taken logged counted passes c.try_sends.ensures.tried _
+    let passes = subst (λ (b : Bool). g.G.Guard.Passes guard c.args.gateway.now event c.pass-2.new.self b) c.if-not-pass.false
+    (c.pass-2.ensures c.args.gateway.now event taken seen) in
+    guarded_with g.G.Guard.Passes guard c.pass-2.new.self before middle (g.W.Wire.calls c.try_sends.new.wire) c.args.self.now.served
+    c.try_sends.new.served c.args.self.now.tally c.count.new.self _ _ event c.in-Ok.taken taken logged counted passes c.try_sends.ensures.tried
+    c.log_denials.new.unwritten.items
 
 pub returns-clause-few : goal.returns-clause-few
 returns-clause-few g c = omega (arith, tried_counted _ _ _ _ _ _ _ c.try_sends.ensures.tried, c.try_sends.ensures.few)
