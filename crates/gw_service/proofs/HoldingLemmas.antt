@@ -20,7 +20,7 @@ use Rattle.gw_turns.specs.Serve.{AreTurns, Scene, Turn, calls_of, empty_turn, ev
 use Rattle.gw_turns.specs.Stretch.{AreGuarded, GoOn, GuardsTurn, Moment}
 use Rattle.gw_wire.specs.Wire.{Call, Records}
 use Rattle.gw_service.specs.Chain.{IsLink, Link, Manner, Stage, ended, served, ticked, withheld}
-use Rattle.gw_service.specs.Holding.{AreLastCalls, Hold, IsStep, IsWritten, OverLog, OverWaiting, PassesHolding, SendsLogged, Step, StepsLogFirst, StepsLoseNothing}
+use Rattle.gw_service.specs.Holding.{AreLastCalls, AreLinesOf, AreLogged, AreSteps, ChainsLogFirst, ChainsLoseNothing, Hold, IsStep, IsWritten, OverLog, OverWaiting, PassesHolding, SendsLogged, Step, StepsLogFirst, StepsLoseNothing}
 use Rattle.gw_service.specs.Holding.{counting, failed, held, link_last, link_turns, over, step_events, straight, waits_too, written}
 use Rattle.gw_service.specs.declared.holding.Holding.{Holding}
 
@@ -361,3 +361,33 @@ steps_lose_nothing manner s t (written front text) is =
     (sym same)
     (subst (λ (l : List ℕ). Appends (append_known s.stage.now.scene.log s.waiting) (append_known is.log t.waiting) l) (sym (no_events w))
     (joined_written s.stage.now.scene.log is.log s.waiting front t.waiting is.parts is.appended))
+
+-- ---- steps, one after the other
+
+pub chains_log_first : {K : Type 0} (Passes : K → State → Event → K → Bool → Type 0) (manner : Manner (Holding K))
+    → ((g h : Holding K) (w : State) (event : Event) (passes : Bool) → manner.Passes g w event h passes → PassesHolding Passes g w event h passes)
+    → ChainsLogFirst manner
+unfolding AreSteps AreLogged
+chains_log_first Passes manner holds s t [] counted chain = chain
+chains_log_first Passes manner holds s t (step ∷ steps) counted chain =
+    let first = steps_log_first Passes manner holds s chain.0 step counted chain.1 in
+    (chain.0, chain.1, first.0, chains_log_first Passes manner holds chain.0 t steps first.1 chain.2)
+
+pub chains_lose_nothing : {K : Type 0} (manner : Manner (Holding K)) → ChainsLoseNothing manner
+unfolding AreSteps AreLinesOf
+chains_lose_nothing {K} manner s t [] chain = (
+  [],
+  (chain, refl),
+  subst (λ (x : Hold K). Appends (append_known s.stage.now.scene.log s.waiting) (append_known x.stage.now.scene.log x.waiting) []) (sym chain)
+      (Appends-nil (append_known s.stage.now.scene.log s.waiting)),
+)
+chains_lose_nothing manner s t (step ∷ steps) chain =
+    let next = chain.0 in
+    let first = steps_lose_nothing manner s next step chain.1 in
+    let more = chains_lose_nothing manner next t steps chain.2 in
+    let lines = log_of (run_from s.stage.now.scene.gateway (step_events step)) in (
+      lines ++ more.0,
+      (next, chain.1, more.0, more.1, refl),
+      Appends-trans (append_known s.stage.now.scene.log s.waiting) (append_known next.stage.now.scene.log next.waiting)
+          (append_known t.stage.now.scene.log t.waiting) lines more.0 first more.2,
+    )

@@ -250,6 +250,29 @@ StepsLoseNothing {K} manner = (s t : Hold K) (step : Step) → IsStep manner s s
     Appends (append_known s.stage.now.scene.log s.waiting) (append_known t.stage.now.scene.log t.waiting)
     (log_of (run_from s.stage.now.scene.gateway (step_events step)))
 
+-- So it is over steps, one after the other, if what waits was counted at first.
+unfoldable pub AreLogged : {K : Type 0} → Manner (Holding K) → Hold K → List Step → Hold K → Type 0
+AreLogged manner s [] t = t ≡ s
+AreLogged {K} manner s (step ∷ steps) t =
+    (next : Hold K) × IsStep manner s step next × SendsLogged s step next × AreLogged manner next steps t
+
+abbrev pub ChainsLogFirst : {K : Type 0} → Manner (Holding K) → Type 0
+ChainsLogFirst {K} manner = (s t : Hold K) (steps : List Step) → s.stage.now.guard.waiting ≡ length s.waiting → AreSteps manner s steps t →
+    AreLogged manner s steps t
+
+-- the lines of the denials of steps, one after the other, each in the state in which those before it left the gateway
+unfoldable pub AreLinesOf : {K : Type 0} → Manner (Holding K) → Hold K → List Step → Hold K → (lines : List ℕ) → Type 0
+AreLinesOf manner s [] t lines = (t ≡ s) × (lines ≡ [])
+AreLinesOf {K} manner s (step ∷ steps) t lines =
+    (next : Hold K) × IsStep manner s step next × (rest : List ℕ) × AreLinesOf manner next steps t rest
+    × (lines ≡ log_of (run_from s.stage.now.scene.gateway (step_events step)) ++ rest)
+
+-- The log, with what waits for it, gets exactly these.
+abbrev pub ChainsLoseNothing : {K : Type 0} → Manner (Holding K) → Type 0
+ChainsLoseNothing {K} manner = (s t : Hold K) (steps : List Step) → AreSteps manner s steps t → (lines : List ℕ)
+    × AreLinesOf manner s steps t lines
+    × Appends (append_known s.stage.now.scene.log s.waiting) (append_known t.stage.now.scene.log t.waiting) lines
+
 -- ---- a run
 
 -- what steps reported

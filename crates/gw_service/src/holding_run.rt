@@ -8,7 +8,7 @@ ghost use Rattle.gw_state.specs.Saved.{origin_of};
 ghost use Rattle.gw_system.specs.Requests.{IsAsking};
 ghost use Rattle.gw_turns.specs.Pace.{one_more};
 ghost use Rattle.gw_turns.specs.Stretch.{CanCount};
-ghost use Rattle.gw_service.specs.Holding.{Finishes, GoesTo, RunsHolding, ServesHolding, answer_holding, goes_on, has_log_failed, hold, holding_manner, more_holding, holding_of, stage_of, waits_line, written_line};
+ghost use Rattle.gw_service.specs.Holding.{Finishes, GoesTo, RunsHolding, ServesHolding, answer_holding, goes_on, has_log_failed, hold, holding_manner, more_holding, stage_of, waits_line, written_line};
 ghost use Rattle.gw_service.specs.Kept.{RunsFromHolding, is_stopped, rest};
 ghost use Rattle.gw_service.specs.Serving.{ends};
 ghost use Rattle.gw_service.specs.Stats.{end_stats};
@@ -44,44 +44,6 @@ impl<K: Drop, Q: Drop, M: Store + Drop> Drop for HoldingRun<K, Q, M> {
             running: _,
             waiting: _,
         } = self;
-    }
-}
-
-impl<K, Q, M: Store + Drop> Running<K, Q, M> {
-    /// The same gateway, which goes on if its log fails. Nothing waits.
-    pub(crate) fn holding(self, alloc: Global) -> HoldingRun<K, Q, M>
-        ensures running { result.running ≡ holding_of self }
-        ensures waiting { result.waiting ≡ [] }
-    {
-        let Running {
-            gateway,
-            origin,
-            keeper,
-            requests,
-            counts,
-            announcing,
-            state,
-            said,
-            metrics,
-        } = self;
-        HoldingRun {
-            running: Running {
-                gateway,
-                origin,
-                keeper: Holding {
-                    keeper,
-                    waiting: 0,
-                    withheld: 0,
-                },
-                requests,
-                counts,
-                announcing,
-                state,
-                said,
-                metrics,
-            },
-            waiting: Waiting::new(alloc),
-        }
     }
 }
 
@@ -194,6 +156,7 @@ impl<K: StateKeeper, Q: Requests, M: Store + Drop> HoldingRun<K, Q, M> {
             × Finishes (hold (stage_of Q.recorded c self.old.running (L.held log.old) calls) self.old.waiting) text
             (hold (stage_of Q.recorded c self.new.running (L.held log.new) calls) self.new.waiting)
             × (E.NeverFails errors.old → Appends (E.held errors.old) (E.held errors.new) text) }
+        ensures sure { L.NeverFails log.old → self.new.waiting ≡ [] }
         ensures origin { self.new.running.origin ≡ self.old.running.origin }
         ensures requests { self.new.running.requests ≡ self.old.running.requests }
         ensures state { self.new.running.state ≡ self.old.running.state }

@@ -1,12 +1,14 @@
 //! Laws of a run. The functions do nothing: their contracts are the laws.
 
-ghost use Rattle.std.specs.Prelude.{List, Option, ℕ};
+ghost use Rattle.std.specs.Prelude.{◌≡◌, List, Option, ℕ};
 ghost use Rattle.gw_core.specs.State.{State};
 ghost use Rattle.gw_core.specs.declared.event.Counts.{Counts};
 ghost use Rattle.gw_turns.specs.declared.announcing.Announcing.{Announcing};
 ghost use Rattle.gw_turns.specs.declared.serving.Served.{Served};
 ghost use Rattle.gw_turns.specs.declared.tally.Tally.{Tally};
 ghost use Rattle.gw_service.specs.Chain.{manner};
+ghost use Rattle.gw_service.specs.Holding.{ChainsLogFirst, ChainsLoseNothing, StepsLogFirst, StepsLoseNothing, holding_manner};
+ghost use Rattle.gw_service.specs.Stats.{Reporting};
 ghost use Rattle.gw_notices.specs.declared.reload.ReloadCounts.{ReloadCounts};
 ghost use Rattle.gw_service.specs.Kept.{Given};
 ghost use Rattle.gw_service.specs.Metering.{meters_by};
@@ -14,6 +16,7 @@ ghost use Rattle.gw_service.specs.WatchedRuns.{AuditIsWhole, CountsAreWhole, Tri
 ghost use Rattle.gw_service.specs.Laws.{IsAsServed, IsAsUnwatched, NobodyAsks, NumbersGoOn, RulesAreInForce, RulesStay};
 
 use crate::keeping::StateKeeper;
+use crate::waiting::MOST_WAITING;
 use gw_script::OctetSink;
 use gw_system::Requests;
 use gw_wire::Store;
@@ -47,6 +50,20 @@ pub fn nobody_asks<K: StateKeeper>()
 /// A run that neither keeps a state nor looks for requests, of a configuration that announces nothing, is one of [`serve`](gw_turns::serve) but for what it reports: the log, the calls of the wire and the outcome are those of serving from the gateway's first state.
 pub fn as_served<S: Store + Drop, Q: Requests + Drop, L: OctetSink + Drop>()
     ensures { (given : Given S Q L) → IsAsServed given }
+{}
+
+/// A run that goes on if its log fails: nothing of an event is sent before its lines are in the log; and the log, with what waits for it,
+/// gets exactly the lines of all that is denied, in order. At most 8 MiB wait.
+pub fn holding<K: StateKeeper>()
+    ensures most { MOST_WAITING ≡ 8388608 }
+    ensures step_first { (how : Reporting) → StepsLogFirst
+        (holding_manner K.Passes K.Ticks K.Adopts K.troubles K.unkept K.more how K.Lasts) }
+    ensures step_whole { (how : Reporting) → StepsLoseNothing
+        (holding_manner K.Passes K.Ticks K.Adopts K.troubles K.unkept K.more how K.Lasts) }
+    ensures first { (how : Reporting) → ChainsLogFirst
+        (holding_manner K.Passes K.Ticks K.Adopts K.troubles K.unkept K.more how K.Lasts) }
+    ensures whole { (how : Reporting) → ChainsLoseNothing
+        (holding_manner K.Passes K.Ticks K.Adopts K.troubles K.unkept K.more how K.Lasts) }
 {}
 
 /// What a watcher's logs and counts are after a run, if nothing was lost and all events were seen: the logs have exactly their lines,

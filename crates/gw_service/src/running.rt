@@ -12,6 +12,7 @@ ghost use Rattle.gw_system.specs.Requests.{Asking, GoesOn, IsAsking, answered, a
 ghost use Rattle.gw_service.specs.Chain.{Advances, AtTick, FailsToLast, IsLooked, IsNotedWith, Link, Looks, Runs, WasLasting, chain_text, edge, end_of, manner, stage, standing};
 ghost use Rattle.gw_notices.specs.Notices.{no_troubles, notice_of, stop_line};
 ghost use Rattle.gw_notices.specs.Reload.{refusal_line};
+ghost use Rattle.gw_service.specs.Holding.{holding_of};
 ghost use Rattle.gw_service.specs.Kept.{EndsRun, RunsFrom, is_stopped, rest, status_or};
 ghost use Rattle.gw_service.specs.Metering.{MetersLast, lost_by, metered, meters_by, seconds_of};
 ghost use Rattle.gw_service.specs.Serving.{ends};
@@ -19,10 +20,13 @@ ghost use Rattle.gw_wire.specs.Wire.{Call};
 ghost use Rattle.gw_service.specs.Scheduled.{reporting_by};
 ghost use Rattle.gw_service.specs.Stats.{all_stats, due_stats, end_stats};
 
+use crate::holding::Holding;
+use crate::holding_run::HoldingRun;
 use crate::keeping::StateKeeper;
 use crate::metrics::{failing_of, lost_of, put_due, put_last};
 use crate::reload::{Adopted, reloaded};
 use crate::stats::{RunCounts, Schedule};
+use crate::waiting::Waiting;
 use gw_core::{Both, Gateway};
 use gw_log_words::Notes;
 use gw_notices::metrics::Metrics;
@@ -489,6 +493,42 @@ impl<K: StateKeeper, Q: Requests, M: Store + Drop> Running<K, Q, M> {
         let answer = self.serve(alloc, wire, log, errors, schedule, turns);
         self.end(alloc, answer, schedule, errors);
         answer
+    }
+
+    /// The same gateway, which goes on if its log fails. Nothing waits.
+    pub(crate) fn holding(self, alloc: Global) -> HoldingRun<K, Q, M>
+        ensures running { result.running ≡ holding_of self }
+        ensures waiting { result.waiting ≡ [] }
+    {
+        let Running {
+            gateway,
+            origin,
+            keeper,
+            requests,
+            counts,
+            announcing,
+            state,
+            said,
+            metrics,
+        } = self;
+        HoldingRun {
+            running: Running {
+                gateway,
+                origin,
+                keeper: Holding {
+                    keeper,
+                    waiting: 0,
+                    withheld: 0,
+                },
+                requests,
+                counts,
+                announcing,
+                state,
+                said,
+                metrics,
+            },
+            waiting: Waiting::new(alloc),
+        }
     }
 
     /// The same gateway, which is also watched: what is recorded of an event is written before its state is kept, so no write is in

@@ -73,6 +73,7 @@ impl Waiting {
     pub(crate) fn write_to<L: OctetSink>(&mut self, log: &mut L) -> bool
         ensures parts { (front : List ℕ) × (self.old ≡ front ++ self.new) × Appends (L.held log.old) (L.held log.new) front }
         ensures all { result ≡ true → self.new ≡ [] }
+        ensures sure { L.NeverFails log.old → result ≡ true }
     {
         write_out(&mut self.octets, log)
     }
