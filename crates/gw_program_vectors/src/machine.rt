@@ -315,6 +315,7 @@ impl<'a> Host for MemHost<'a> {
             }
             _ => Ok(MemSockets {
                 ports: ports.len() as u8,
+                reads: self.reads as u64,
                 receives: 0,
                 sends: 0,
                 failures: 0,
