@@ -242,6 +242,20 @@ fn note_opened(opened: &RefCell<Vec<u8>>, name: &str) -> Result<(), AllocError> 
     Ok(())
 }
 
+impl MemHost<'_> {
+    /// Which calls of the log of this name fail. Those beside the log take each write.
+    fn failing_of(&self, name: &str) -> Failing {
+        Failing {
+            write: if BESIDE.contains(&name) {
+                None
+            } else {
+                self.failing_log.write
+            },
+            ..self.failing_log
+        }
+    }
+}
+
 impl<'a> Host for MemHost<'a> {
     type Log = MemLog<MemWriter>;
 
@@ -287,7 +301,7 @@ impl<'a> Host for MemHost<'a> {
             Some(room) => {
                 let text = MemWriter::with_room(self.alloc, room, true)?;
                 note_opened(self.opened, name)?;
-                Ok(MemLog::new(text, self.failing_log))
+                Ok(MemLog::new(text, self.failing_of(name)))
             }
             None => Err(LogFailure::Failed),
         }
