@@ -27,6 +27,9 @@ fn drop_front(text: &mut Vec<u8>, count: usize)
     requires { count ≤ length text.old.items }
     ensures { text.new.items ≡ drop count text.old.items }
 {
+    if count == 0 {
+        return;
+    }
     text.drain(..count);
 }
 

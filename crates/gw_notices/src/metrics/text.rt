@@ -101,7 +101,7 @@ fn put_head(family: Family, out: &mut Vec<u8>) -> Result<(), AllocError>
     put_kind(family, out)
 }
 
-#[tactic(auto, unfolding(crate::specs::Text::full_line))]
+#[tactic(auto, unfolding(crate::specs::metrics::Text::full_line))]
 fn put_help(family: Family, out: &mut Vec<u8>) -> Result<(), AllocError>
     ensures { OnOk result (out.new.items ≡ out.old.items ++ full_line (Help family)) }
 {
@@ -112,7 +112,7 @@ fn put_help(family: Family, out: &mut Vec<u8>) -> Result<(), AllocError>
     put_slice(out, b"\n")
 }
 
-#[tactic(auto, unfolding(crate::specs::Text::full_line))]
+#[tactic(auto, unfolding(crate::specs::metrics::Text::full_line))]
 fn put_kind(family: Family, out: &mut Vec<u8>) -> Result<(), AllocError>
     ensures { OnOk result (out.new.items ≡ out.old.items ++ full_line (KindOf family)) }
 {
@@ -133,7 +133,7 @@ fn put_number(number: u128, out: &mut Vec<u8>) -> Result<(), AllocError>
 }
 
 /// Appends a sample that has no label.
-#[tactic(auto, unfolding(crate::specs::Text::full_line))]
+#[tactic(auto, unfolding(crate::specs::metrics::Text::full_line))]
 fn put_plain(family: Family, number: u128, out: &mut Vec<u8>) -> Result<(), AllocError>
     ensures { OnOk result (out.new.items ≡ out.old.items ++ full_line (Count family (plain number))) }
 {
@@ -153,7 +153,7 @@ fn put_label(label: Label, value: &[u8], out: &mut Vec<u8>) -> Result<(), AllocE
 }
 
 /// Appends a sample that has a label of this value.
-#[tactic(auto, unfolding(crate::specs::Text::full_line))]
+#[tactic(auto, unfolding(crate::specs::metrics::Text::full_line))]
 fn put_labelled(
     family: Family,
     label: Label,
