@@ -19,13 +19,14 @@ _bacgw() {
         case $before in
             --config | --log | --state | --reload | --trial | --trial-log | --audit | --metrics) compopt -o default; return ;;
             --turns) return ;;
+            --on-log-failure) mapfile -t COMPREPLY < <(compgen -W 'end hold' -- "$word"); return ;;
             --stats) if [ "${COMP_WORDS[1]}" = run ]; then return; fi ;;
         esac
         if [ "$equals" ]; then return; fi
         case ${COMP_WORDS[1]} in
             check) options='--config --help' ;;
             replay) options='--config --explain --stats --help' ;;
-            run) options='--config --log --turns --stats --stats-rules --verbose --state --reload --trial --trial-log --trial-all --audit --stamp --metrics --help' ;;
+            run) options='--config --log --on-log-failure --turns --stats --stats-rules --verbose --state --reload --trial --trial-log --trial-all --audit --stamp --metrics --help' ;;
             help) options='check replay run' ;;
             *) return ;;
         esac

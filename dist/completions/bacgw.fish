@@ -12,6 +12,7 @@ complete -c bacgw -n '__fish_seen_subcommand_from check replay run' -l config -r
 complete -c bacgw -n '__fish_seen_subcommand_from replay' -l explain -d 'Also prints each ask and its rule'
 complete -c bacgw -n '__fish_seen_subcommand_from replay' -l stats -d 'Also reports at the end how many asks each rule decided'
 complete -c bacgw -n '__fish_seen_subcommand_from run' -l log -r -F -d 'What the log is appended to'
+complete -c bacgw -n '__fish_seen_subcommand_from run' -l on-log-failure -x -a 'end hold' -d 'What is done if the log fails; hold with --log'
 complete -c bacgw -n '__fish_seen_subcommand_from run' -l turns -x -d 'How many turns are served'
 complete -c bacgw -n '__fish_seen_subcommand_from run' -l stats -x -d 'Reports what was done each so many seconds'
 complete -c bacgw -n '__fish_seen_subcommand_from run' -l stats-rules -d 'Counts the asks of each rule in each report; with --stats'

@@ -35,6 +35,7 @@ pub record CallsAreTaken : Type 0 where
   pub run : Calls (codes "run" ∷ on_site []) (Serves record {
     config = site;
     log = None;
+    holds = false;
     turns = most_count;
     verbose = false;
     stats = None;
@@ -49,7 +50,7 @@ pub record CallsAreTaken : Type 0 where
     metrics = None;
   })
   pub run_whole : Calls
-      (codes "run" ∷ on_site (codes "--log" ∷ codes "denials.log" ∷ codes "--turns" ∷ codes "100" ∷ codes "--verbose"
+      (codes "run" ∷ on_site (codes "--log" ∷ codes "denials.log" ∷ codes "--on-log-failure" ∷ codes "hold" ∷ codes "--turns" ∷ codes "100" ∷ codes "--verbose"
       ∷ codes "--stats" ∷ codes "60" ∷ codes "--stats-rules" ∷ codes "--state" ∷ codes "state.txt"
       ∷ codes "--reload" ∷ codes "again" ∷ codes "--trial" ∷ codes "new.toml" ∷ codes "--trial-log" ∷ codes "new.log"
       ∷ codes "--trial-all" ∷ codes "--audit" ∷ codes "writes.log" ∷ codes "--stamp" ∷ codes "--metrics" ∷ codes "bacgw.prom"
@@ -57,6 +58,7 @@ pub record CallsAreTaken : Type 0 where
       (Serves record {
         config = site;
         log = Some (codes "denials.log");
+        holds = true;
         turns = 100;
         verbose = true;
         stats = Some 60;
@@ -76,6 +78,8 @@ pub record CallsAreRefused : Type 0 where
       (codes "--trial and --trial-log go together\n")
   pub all : Mistakes (codes "run" ∷ on_site (codes "--trial-all" ∷ [])) (codes "--trial-all needs --trial\n")
   pub stamp : Mistakes (codes "run" ∷ on_site (codes "--stamp" ∷ [])) (codes "--stamp needs --log\n")
+  pub hold : Mistakes (codes "run" ∷ on_site (codes "--on-log-failure" ∷ codes "hold" ∷ [])) (codes "--on-log-failure hold needs --log\n")
+  pub word : Mistakes (codes "run" ∷ on_site (codes "--on-log-failure" ∷ codes "wait" ∷ [])) (codes "--on-log-failure is end or hold\n")
   pub rules : Mistakes (codes "run" ∷ on_site (codes "--stats-rules" ∷ [])) (codes "--stats-rules needs --stats\n")
   pub metrics : Mistakes (codes "run" ∷ on_site (codes "--metrics" ∷ codes "site.toml" ∷ []))
       (codes "--config and --metrics use one file: site.toml\n")

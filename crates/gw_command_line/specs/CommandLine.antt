@@ -18,6 +18,7 @@ abbrev pub service : RunOptions → Service
 service options = record {
   config = string_bytes options.config;
   log = option_map string_bytes options.log;
+  holds = options.holds;
   turns = options.turns;
   verbose = options.verbose;
   stats = options.stats;

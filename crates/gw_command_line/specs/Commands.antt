@@ -15,10 +15,12 @@ replay_of_explanation = with_rule (with_rule (new_app (codes "replay")) (option 
 abbrev pub replay : App
 replay = with_rule replay_of_explanation (flag (codes "stats"))
 
--- `run --config FILE [--log FILE] [--turns N] [--verbose] [--stats SECONDS] [--stats-rules] [--state FILE] [--reload FILE]
+-- `run --config FILE [--log FILE] [--on-log-failure WORD] [--turns N] [--verbose] [--stats SECONDS] [--stats-rules] [--state FILE] [--reload FILE]
 -- [--trial FILE] [--trial-log FILE] [--trial-all] [--audit FILE] [--stamp] [--metrics FILE]`
 abbrev pub run_of_turns : App
-run_of_turns = with_rule (with_rule (of_file (codes "run")) (option (codes "log"))) (number (codes "turns") most_count)
+run_of_turns =
+    with_rule (with_rule (with_rule (of_file (codes "run")) (option (codes "log"))) (option (codes "on-log-failure")))
+    (number (codes "turns") most_count)
 
 abbrev pub run_of_reports : App
 run_of_reports =

@@ -5,12 +5,13 @@ use Rattle.clap.specs.Words.{Row, Text, first_of, subcommand_of}
 use Rattle.gw_command_line.specs.Commands.{commands}
 use Rattle.gw_command_line.specs.declared.options.files.FileOption.TheVariants as option
 use Rattle.gw_command_line.specs.options.Files.{FileUse, clash_of, reads, replaces, requests, unless, writes}
-use Rattle.gw_command_line.specs.options.Values.{Values, count_in, is_true, period_in}
+use Rattle.gw_command_line.specs.options.Values.{Values, count_in, holds_in, is_true, period_in}
 
 -- what `run` is asked for
 pub record Service : Type 0 where
   pub config : Text
   pub log : Option Text
+  pub holds : Bool
   pub turns : ℕ
   pub verbose : Bool
   pub stats : Option ℕ
@@ -36,13 +37,14 @@ are_paired (Some one) (Some two) = true
 are_paired None None = true
 are_paired _ _ = false
 
--- Which option lacks one that it needs, as a line: a trial its log, or a log its trial; all asks of a trial the trial; stamps a
--- log in a file; the lines of rules the reports.
+-- Which option lacks one that it needs, as a line: a trial its log, or a log its trial; all asks of a trial the trial; stamps, and
+-- lines that wait, a log in a file; the lines of rules the reports.
 abbrev pub lacking_of : Service → Option Text
 lacking_of s =
     if not (are_paired s.trial s.trial_log) then Some (codes "--trial and --trial-log go together\n")
     else if s.trial_all && is_none s.trial then Some (codes "--trial-all needs --trial\n")
     else if s.stamp && is_none s.log then Some (codes "--stamp needs --log\n")
+    else if s.holds && is_none s.log then Some (codes "--on-log-failure hold needs --log\n")
     else if s.stats_rules && is_none s.stats then Some (codes "--stats-rules needs --stats\n")
     else None
 
@@ -68,10 +70,11 @@ abbrev pub judged : Service → Result Request Text
 judged s = unless (mistake_of s) (Serves s)
 
 -- `run` by the values of its options
-abbrev pub service_at : Text → Values → ℕ → Option ℕ → Service
-service_at file value turns stats = record {
+abbrev pub service_at : Text → Values → ℕ → Option ℕ → (holds : Bool) → Service
+service_at file value turns stats holds = record {
   config = file;
   log = value (codes "log");
+  holds = holds;
   turns = turns;
   verbose = is_true (value (codes "verbose"));
   stats = stats;
@@ -86,13 +89,19 @@ service_at file value turns stats = record {
   metrics = value (codes "metrics");
 }
 
--- its numbers have to be such
-abbrev pub service_of : Text → Values → Option ℕ → Option (Option ℕ) → Result Request Text
-service_of file value (Some turns) (Some stats) = judged (service_at file value turns stats)
-service_of file value _ _ = Err []
+-- what is said of another word than `end` and `hold`
+abbrev pub words_line : Text
+words_line = codes "--on-log-failure is end or hold\n"
+
+-- its numbers and its word have to be such
+abbrev pub service_of : Text → Values → Option ℕ → Option (Option ℕ) → Option Bool → Result Request Text
+service_of file value (Some turns) (Some stats) (Some holds) = judged (service_at file value turns stats holds)
+service_of file value (Some turns) (Some stats) None = Err words_line
+service_of file value _ _ _ = Err []
 
 abbrev pub run_asked : Text → Values → Result Request Text
-run_asked file value = service_of file value (count_in (value (codes "turns"))) (period_in (value (codes "stats")))
+run_asked file value =
+    service_of file value (count_in (value (codes "turns"))) (period_in (value (codes "stats"))) (holds_in (value (codes "on-log-failure")))
 
 -- a command's name is this one
 abbrev pub is_named : Text → Text → Bool

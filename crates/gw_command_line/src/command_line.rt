@@ -10,7 +10,7 @@ use crate::commands::make_commands;
 use crate::moved::moved_command;
 use crate::options::{
     FileOption, FileUse, WordsFault, add_read, add_replaced, add_request, add_written, clash_of,
-    count_of, file_of, is_given, period_of,
+    count_of, file_of, holds_of, is_given, period_of,
 };
 use clap::error::ErrorKind;
 use clap::{ArgMatches, Error};
@@ -77,6 +77,9 @@ fn are_paired(one: &Option<String>, two: &Option<String>) -> bool
     }
 }
 
+/// What is said of another word than `end` and `hold` for what is done if the log fails.
+const WORDS_LINE: &str = "--on-log-failure is end or hold\n";
+
 /// Which option lacks one that it needs, as a line, if one does.
 fn lacking_of(options: &RunOptions) -> Option<&'static str>
     ensures { option_map (λ line. line.now) result ≡ lacking_of (service options.now) }
@@ -89,6 +92,9 @@ fn lacking_of(options: &RunOptions) -> Option<&'static str>
     }
     if options.stamp && options.log.is_none() {
         return Some("--stamp needs --log\n");
+    }
+    if options.holds && options.log.is_none() {
+        return Some("--on-log-failure hold needs --log\n");
     }
     if options.stats_rules && options.stats.is_none() {
         return Some("--stats-rules needs --stats\n");
@@ -180,15 +186,17 @@ fn options_of(
     config: String,
     turns: u64,
     stats: Option<u64>,
+    holds: bool,
 ) -> Result<RunOptions, AllocError>
     requires few { turns < 2 ^ 63 }
     requires seconds { IfSome stats (λ n. 0 < n) }
     ensures { IfOk result (λ options. service options
-        ≡ service_at (string_bytes config) (first_value (found_of matches.now)) turns stats) }
+        ≡ service_at (string_bytes config) (first_value (found_of matches.now)) turns stats holds) }
 {
     Ok(RunOptions {
         config,
         log: file_of(alloc, matches, "log")?,
+        holds,
         turns,
         verbose: is_given(matches, "verbose"),
         stats,
@@ -214,7 +222,10 @@ fn run_choice(alloc: Global, matches: &ArgMatches<'_>, config: String) -> Result
     let Some(stats) = period_of(matches, "stats") else {
         return Err(WordsFault::CommandLine);
     };
-    let options = options_of(alloc, matches, config, turns, stats)?;
+    let Some(holds) = holds_of(matches, "on-log-failure") else {
+        return Ok(Choice::Usage(String::from_str(alloc, WORDS_LINE)?));
+    };
+    let options = options_of(alloc, matches, config, turns, stats, holds)?;
     judged_choice(alloc, options)
 }
 

@@ -8,7 +8,7 @@ ghost use Rattle.gw_command_line.specs.Commands.{replay, replay_of_explanation, 
 ghost use Rattle.gw_command_line.specs.Commands.{run_of_trial, run_of_turns};
 
 use crate::options::{
-    FILE, MAX_COUNT, MAX_SECONDS, NUMBER, VERSION, make_flag, make_number, make_of_file,
+    FILE, MAX_COUNT, MAX_SECONDS, NUMBER, VERSION, WORD, make_flag, make_number, make_of_file,
     make_option,
 };
 use clap::Command;
@@ -120,12 +120,15 @@ fn make_run_of_turns<'a>(alloc: Global) -> Result<Command<'a>, AllocError>
 {
     let help = "What the log is appended to; without it standard output";
     let log = make_option(alloc, "log", FILE, help);
+    let help = "What is done if the log fails: end, the default, or hold; with --log";
+    let failure = make_option(alloc, "on-log-failure", WORD, help);
     let help = "How many turns are served, from 1 to 9223372036854775807, the default";
     let turns = make_number(alloc, "turns", NUMBER, MAX_COUNT, help);
     let about = "Serves the ports of a configuration over UDP";
     make_of_file(alloc, "run", about)?
         .after_help(RUN_EXAMPLE)
         .arg(log)?
+        .arg(failure)?
         .arg(turns)
 }
 

@@ -10,6 +10,8 @@ pub struct RunOptions {
     pub config: String,
     /// The file that the log is appended to. Without one it goes to standard output.
     pub log: Option<String>,
+    /// Whether it goes on if the log fails: what is denied is withheld then, and its lines wait. Then `log` is there.
+    pub holds: bool,
     /// How many turns are served.
     pub turns: u64,
     /// Whether it is reported at the start what is served.

@@ -7,7 +7,7 @@
 ghost use Rattle.std.specs.Prelude.{◌≡◌, ⊤, None, Some, false};
 ghost use Rattle.gw_system.specs.Requests.{silent};
 
-use crate::mem_log::MemLog;
+use crate::mem_log::{Failing, MemLog};
 use gw_addr::BipAddr;
 use gw_cases::MemWriter;
 use gw_configuration::Port;
@@ -40,11 +40,12 @@ const DENIED_READ: [u8; 22] = [
     0x01, 0x40, 0x00, 0x02, 0x19, 0x55,
 ];
 
-/// A wire in memory: a denied read first, and then a tick at each receive. The send of one number, from 0, may fail. It shows
-/// its calls, if that is asked for.
+/// A wire in memory: so many denied reads, the first of which comes first, a tick after each, and then a tick at each receive. The send
+/// of one number, from 0, may fail. It shows its calls, if that is asked for.
 #[derive(Drop)]
 pub struct MemSockets {
     ports: u8,
+    reads: u64,
     receives: u64,
     sends: u64,
     failures: u128,
@@ -90,7 +91,7 @@ impl Wire for MemSockets {
     fn recv(&mut self, buf: &mut [u8; RECEIVE_ROOM]) -> Result<Got, WireFault> {
         self.receives = self.receives.wrapping_add(1);
         show_receive(&mut self.calls);
-        if self.receives != 1 || self.ports == 0 {
+        if self.receives % 2 == 0 || self.receives / 2 >= self.reads || self.ports == 0 {
             return Ok(Got::Tick);
         }
         for (octet, sent) in buf.iter_mut().zip(DENIED_READ) {
@@ -208,7 +209,7 @@ fn request_of(alloc: Global, text: &[u8]) -> Result<Request, AllocError> {
 /// The wire and the log that a machine closed.
 type Closed = (MemSockets, Option<MemLog<MemWriter>>);
 
-/// A machine in memory: its log takes so many octets, or can't be opened, one sync of it may fail, and it may end in a line that
+/// A machine in memory: its log takes so many octets, or can't be opened, some calls of it may fail, and it may end in a line that
 /// was cut; the broadcast socket of one port may fail; and it may route IP. It keeps which logs were opened, and what was closed.
 #[derive(Drop)]
 struct MemHost<'a> {
@@ -218,12 +219,13 @@ struct MemHost<'a> {
     opened: &'a RefCell<Vec<u8>>,
     answers: &'a RefCell<Vec<u8>>,
     log: Option<usize>,
-    failing_sync: Option<u64>,
+    failing_log: Failing,
     beside: Option<usize>,
     trial: Option<Vec<u8>>,
     is_cut: bool,
     failing: Option<usize>,
     failing_send: Option<usize>,
+    reads: usize,
     shows_calls: bool,
     routes: bool,
     state: Option<Vec<u8>>,
@@ -238,6 +240,20 @@ fn note_opened(opened: &RefCell<Vec<u8>>, name: &str) -> Result<(), AllocError> 
         put(&mut names, &[name, "\n"])?;
     }
     Ok(())
+}
+
+impl MemHost<'_> {
+    /// Which calls of the log of this name fail. Those beside the log take each write.
+    fn failing_of(&self, name: &str) -> Failing {
+        Failing {
+            write: if BESIDE.contains(&name) {
+                None
+            } else {
+                self.failing_log.write
+            },
+            ..self.failing_log
+        }
+    }
 }
 
 impl<'a> Host for MemHost<'a> {
@@ -287,7 +303,7 @@ impl<'a> Host for MemHost<'a> {
             Some(room) => {
                 let text = MemWriter::with_room(self.alloc, room, true)?;
                 note_opened(self.opened, name)?;
-                Ok(MemLog::new(text, self.failing_sync))
+                Ok(MemLog::new(text, self.failing_of(name)))
             }
             None => Err(LogFailure::Failed),
         }
@@ -315,6 +331,7 @@ impl<'a> Host for MemHost<'a> {
             }
             _ => Ok(MemSockets {
                 ports: ports.len() as u8,
+                reads: self.reads as u64,
                 receives: 0,
                 sends: 0,
                 failures: 0,
@@ -606,12 +623,17 @@ fn run_with(
         opened: &opened,
         answers: &answers,
         log: section.number("log "),
-        failing_sync: section.number("failing sync ").map(|number| number as u64),
+        failing_log: Failing {
+            sync: section.number("failing sync ").map(|number| number as u64),
+            write: section.number("failing write ").map(|number| number as u64),
+            writes: section.number("writes ").map(|number| number as u64).unwrap_or(1),
+        },
         beside: section.number("beside "),
         trial: trial_of(alloc, section, config)?,
         is_cut: section.has("cut log"),
         failing: section.number("failing port "),
         failing_send: section.number("failing send "),
+        reads: section.number("reads ").unwrap_or(1),
         shows_calls: section.has("calls"),
         routes: section.has("routes ip"),
         state: state_of(alloc, section)?,

@@ -5,24 +5,49 @@ ghost use Rattle.std.specs.Prelude.{◌≡◌, Ok, Option, None, false};
 use gw_log_words::{Lasting, Notes};
 use gw_script::{OctetSink, WriteFailed};
 
-/// A log in what is written to, which holds what that holds. It is synced only if something was written since the last sync, and the
-/// sync of one number, from 0, may fail.
+/// Which calls of a log fail.
+#[derive(Clone, Copy)]
+pub struct Failing {
+    /// The sync of this number, from 0.
+    pub sync: Option<u64>,
+    /// The writes from this number, from 0.
+    pub write: Option<u64>,
+    /// How many of them, one after the other.
+    pub writes: u64,
+}
+
+/// A log in what is written to, which holds what that holds. It is synced only if something was written since the last sync, and some
+/// calls may fail.
 #[derive(Drop)]
 pub struct MemLog<S> {
     text: S,
     is_unsynced: bool,
     syncs: u64,
-    failing: Option<u64>,
+    writes: u64,
+    failing: Failing,
 }
 
 impl<S> MemLog<S> {
-    /// One whose sync of this number fails.
-    pub fn new(text: S, failing: Option<u64>) -> Self {
+    /// One of which these calls fail.
+    pub fn new(text: S, failing: Failing) -> Self {
         MemLog {
             text,
             is_unsynced: false,
             syncs: 0,
+            writes: 0,
             failing,
+        }
+    }
+
+    /// Whether the next write fails. It is counted.
+    fn fails(&mut self) -> bool
+        ensures { self.new.text ≡ self.old.text }
+    {
+        let number = self.writes;
+        self.writes = self.writes.wrapping_add(1);
+        match self.failing.write {
+            Some(first) => number >= first && number - first < self.failing.writes,
+            None => false,
         }
     }
 
@@ -42,8 +67,12 @@ impl<S: OctetSink> OctetSink for MemLog<S> {
 
     ghost NeverFails = { λ _. ⊥ };
 
+    #[tactic(auto, using(gw_script::proofs::UnreadLemmas::keeps_same))]
     fn write_octets(&mut self, text: &[u8]) -> Result<usize, WriteFailed> {
         self.is_unsynced = true;
+        if self.fails() {
+            return Err(WriteFailed);
+        }
         self.text.write_octets(text)
     }
 }
@@ -60,7 +89,7 @@ impl<S: OctetSink> Lasting for MemLog<S> {
         }
         let number = self.syncs;
         self.syncs = self.syncs.wrapping_add(1);
-        if self.failing == Some(number) {
+        if self.failing.sync == Some(number) {
             return Err(WriteFailed);
         }
         self.is_unsynced = false;

@@ -47,6 +47,7 @@ fn put_options(options: &RunOptions, out: &mut Vec<u8>) -> Result<(), AllocError
     if let Some(log) = &options.log {
         put(out, &[" log=", log.as_str()])?;
     }
+    put_flag(out, " hold", options.holds)?;
     put(out, &[" turns=", Buffer::new().format(options.turns)])?;
     if let Some(seconds) = options.stats {
         put(out, &[" stats=", Buffer::new().format(seconds)])?;

@@ -336,15 +336,15 @@ or_parts true b is = absurd cc
 
 pub plain_is_served : {Log Sockets S Q : Type 0} (m : Machine Log Sockets) (states : StateMachine S Q) (options : RunOptions)
     (held holds : Option (List ℕ)) (c : Configuration) (line said : List ℕ) (outcome : Result (Unit {0}) ServiceFault) → is_plain options ≡ true
-    → c.announce ≡ false → LeavesWithState m states (names_of options) held holds c (service options.turns options.stats options.stats_rules options.verbose options.stamp) options.verbose line said outcome
+    → c.announce ≡ false → LeavesWithState m states (names_of options) held holds c (service options.turns options.stats options.stats_rules options.verbose options.holds) options.verbose line said outcome
     → LeavesServed m (option_map string_bytes options.log) held holds c options.turns options.verbose line said outcome
 plain_is_served m states options held holds c line said outcome plain quiet leaves =
     let names = names_of options in
-    let parts = plain_parts (is_some options.state) (is_some options.reload) (is_watched names.watch) options.stamp plain in
+    let parts = plain_parts (is_some options.state) (is_some options.reload) (is_watched names.watch) options.holds plain in
     let trial = or_parts (is_some names.watch.trial) (is_some names.watch.audit || names.watch.counts) parts.2 in
     let audit = or_parts (is_some names.watch.audit) names.watch.counts trial.1 in
     let counts = or_parts (is_some options.stats) (is_some options.metrics) audit.1 in
-    serves_plain m states names held holds c (service options.turns options.stats options.stats_rules options.verbose options.stamp) options.verbose line said outcome
+    serves_plain m states names held holds c (service options.turns options.stats options.stats_rules options.verbose options.holds) options.verbose line said outcome
     (record {
       state = ap (option_map string_bytes) (none_of options.state parts.0);
       metrics = ap (option_map string_bytes) (none_of options.metrics counts.1);

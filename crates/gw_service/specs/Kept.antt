@@ -474,7 +474,7 @@ pub data LeavesWithState {Log Sockets S Q : Type 0} (machine : Machine Log Socke
 -- neither a state nor a request file is named, nothing watches, and it doesn't go on if its log fails
 abbrev pub is_plain : RunOptions → Bool
 is_plain options =
-    (not (is_some options.state) && (not (is_some options.reload) && not (is_watched (watch_names options)))) && not options.stamp
+    (not (is_some options.state) && (not (is_some options.reload) && not (is_watched (watch_names options)))) && not options.holds
 
 -- what a machine may give to any run, and whether opening the log of a name may wait for its reader
 pub record WholeMachine (Log Sockets S Q : Type 0) : Type 1 where
@@ -493,7 +493,7 @@ abbrev pub LeavesChosen : {Log Sockets S Q : Type 0} → WholeMachine Log Socket
 LeavesChosen whole options held holds c said outcome =
     let name = option_map string_bytes options.log in
     let line = startup_line options.verbose c name in
-    LeavesWithState whole.machine whole.states (names_of options) held holds c (service options.turns options.stats options.stats_rules options.verbose options.stamp) options.verbose line said outcome
+    LeavesWithState whole.machine whole.states (names_of options) held holds c (service options.turns options.stats options.stats_rules options.verbose options.holds) options.verbose line said outcome
     × (is_plain options ≡ true → c.announce ≡ false → LeavesServed whole.machine name held holds c options.turns options.verbose line said outcome)
 
 -- whether opening the log may wait for its reader: if it is in a file, what the machine says of that

@@ -1,5 +1,5 @@
 -- The values that options are given.
-use Rattle.std.specs.Prelude.{◌≡◌, ℕ, Bool, false, Option, Some, None, codes, nat_eq, if◌then◌else◌}
+use Rattle.std.specs.Prelude.{◌≡◌, ℕ, Bool, false, true, Option, Some, None, codes, nat_eq, if◌then◌else◌}
 use Rattle.std.specs.Cmp.Lexicographic.{pointwise}
 use Rattle.std.specs.Option.{option_map}
 use Rattle.std.specs.Str.Parse.{digits_value, without_leading_plus}
@@ -15,6 +15,18 @@ Values = Text → Option Text
 abbrev pub is_true : Option Text → Bool
 is_true None = false
 is_true (Some text) = pointwise nat_eq text (codes "true")
+
+-- whether a word is `hold`, if it is that or `end`
+abbrev pub hold_word : Text → Option Bool
+hold_word word =
+    if pointwise nat_eq word (codes "hold") then Some true
+    else if pointwise nat_eq word (codes "end") then Some false
+    else None
+
+-- an option of such a word, which is `end` if it isn't given
+abbrev pub holds_in : Option Text → Option Bool
+holds_in None = Some false
+holds_in (Some word) = hold_word word
 
 -- the number from 1 to the most that a text says: a decimal
 abbrev pub IsNumber : ℕ → Text → Option ℕ → Type 0

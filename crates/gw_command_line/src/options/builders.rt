@@ -18,6 +18,9 @@ pub const FILE: &str = "FILE";
 
 pub const NUMBER: &str = "N";
 
+/// What help calls one of a few words.
+pub const WORD: &str = "WORD";
+
 /// An option of this name that has a value, which help calls so.
 pub fn make_option<'a>(alloc: Global, name: &'a str, value_name: &'a str, help: &'a str) -> Arg<'a>
     ensures rule { rule_of result ≡ option name.now }

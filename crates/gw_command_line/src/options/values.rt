@@ -2,7 +2,7 @@
 
 ghost use Rattle.std.specs.Prelude.{◌≡◌, ◌<◌, ◌≤◌, ◌^◌, option_map, string_bytes, IfOk, IfSome};
 ghost use Rattle.clap.specs.Words.{first_value, found_of};
-ghost use Rattle.gw_command_line.specs.options.Values.{IsNumber, count_in, is_true, number_in, period_in};
+ghost use Rattle.gw_command_line.specs.options.Values.{IsNumber, count_in, hold_word, holds_in, is_true, number_in, period_in};
 
 use clap::ArgMatches;
 use std::alloc::{AllocError, Global};
@@ -35,6 +35,29 @@ pub fn is_given(matches: &ArgMatches<'_>, option: &str) -> bool
     match matches.get_str(option) {
         Some(text) => text == "true",
         None => false,
+    }
+}
+
+/// Whether a word is `hold`, if it is that or `end`.
+fn hold_word(word: &str) -> Option<bool>
+    ensures { result ≡ hold_word word.now }
+{
+    if word == "hold" {
+        return Some(true);
+    }
+    if word == "end" {
+        return Some(false);
+    }
+    None
+}
+
+/// Whether the option of this name says `hold`; without it, or if it says `end`, it doesn't. `None` if it says another word.
+pub fn holds_of(matches: &ArgMatches<'_>, option: &str) -> Option<bool>
+    ensures { result ≡ holds_in (first_value (found_of matches.now) option.now) }
+{
+    match matches.get_str(option) {
+        Some(word) => hold_word(word),
+        None => Some(false),
     }
 }
 
