@@ -178,17 +178,17 @@ link_sends manner s t (ticked turns look text) is =
     }
 link_sends manner s t (withheld turns event text) is =
     let w = s.now.scene.gateway in
-    let then = is.then.scene in
+    let mid = is.then.scene in
     let lines = log_of (run_from w (events_of turns)) in
     record {
       each = is.went.went.each;
-      calls = then.calls;
+      calls = mid.calls;
       recorded = is.went.went.calls;
       last = is.last.logged.taken.calls;
-      more = lines_of (effects_at then.gateway event).denials;
-      logged = Appends-trans s.now.scene.log then.log t.now.scene.log lines (lines_of (effects_at then.gateway event).denials)
+      more = lines_of (effects_at mid.gateway event).denials;
+      logged = Appends-trans s.now.scene.log mid.log t.now.scene.log lines (lines_of (effects_at mid.gateway event).denials)
           is.went.went.log is.last.logged.log;
-      all = log_more w then.gateway (events_of turns) event is.went.went.gateway;
+      all = log_more w mid.gateway (events_of turns) event is.went.went.gateway;
     }
 link_sends manner s t (ended turns text) is = absurd is
 
@@ -226,13 +226,13 @@ joined_written (Some x) (Some y) was front rest parts p =
     ap (λ (l : List ℕ). l ++ rest) p ∙ append_assoc x front rest ∙ ap (λ (l : List ℕ). x ++ l) (sym parts) ∙ sym (append-nil (x ++ was))
 
 -- what a keeper counts changes nothing of the scene
-scene_of : {K : Type 0} (t then : Stage (Holding K)) (waiting withheld : ℕ) → t ≡ counting then waiting withheld
-    → t.now.scene ≡ then.now.scene
-scene_of t then waiting withheld is = ap (λ (x : Stage (Holding _)). x.now.scene) is
+scene_of : {K : Type 0} (t after : Stage (Holding K)) (waiting events : ℕ) → t ≡ counting after waiting events
+    → t.now.scene ≡ after.now.scene
+scene_of t after waiting events is = ap (λ (x : Stage (Holding _)). x.now.scene) is
 
-counts_of : {K : Type 0} (t then : Stage (Holding K)) (waiting withheld : ℕ) → t ≡ counting then waiting withheld
+counts_of : {K : Type 0} (t after : Stage (Holding K)) (waiting events : ℕ) → t ≡ counting after waiting events
     → t.now.guard.waiting ≡ waiting
-counts_of t then waiting withheld is = ap (λ (x : Stage (Holding _)). x.now.guard.waiting) is
+counts_of t after waiting events is = ap (λ (x : Stage (Holding _)). x.now.guard.waiting) is
 
 no_events : (w : State) → log_of (run_from w []) ≡ []
 unfolding run_from
@@ -246,8 +246,8 @@ pub steps_log_first : {K : Type 0} (Passes : K → State → Event → K → Boo
     → ((g h : Holding K) (w : State) (event : Event) (passes : Bool) → manner.Passes g w event h passes → PassesHolding Passes g w event h passes)
     → StepsLogFirst manner
 steps_log_first {K} Passes manner holds s t (straight link) counted is =
-    let sends = link_sends manner s.stage is.then link is.comes in
-    let same = sym (scene_of t.stage is.then 0 is.then.now.guard.withheld is.stage) in (
+    let sends = link_sends manner s.stage is.after link is.comes in
+    let same = sym (scene_of t.stage is.after 0 is.after.now.guard.withheld is.stage) in (
       record {
         each = sends.each;
         calls = sends.calls;
@@ -257,33 +257,33 @@ steps_log_first {K} Passes manner holds s t (straight link) counted is =
         logged = subst (λ (x : Scene). Appends s.stage.now.scene.log x.log
             (log_of (run_from s.stage.now.scene.gateway (events_of (link_turns link))) ++ sends.more)) same sends.logged;
       },
-      counts_of t.stage is.then 0 is.then.now.guard.withheld is.stage ∙ ap (λ (l : List ℕ). length l) (sym is.still),
+      counts_of t.stage is.after 0 is.after.now.guard.withheld is.stage ∙ ap (λ (l : List ℕ). length l) (sym is.still),
     )
 steps_log_first {K} Passes manner holds s t (failed turns event) counted is =
     let w = s.stage.now.scene.gateway in
-    let same = sym (scene_of t.stage is.then (length t.waiting) _ is.stage) in
+    let same = sym (scene_of t.stage is.after (length t.waiting) _ is.stage) in
     let ends = is.ends.ends in
-    let then = ends.then.scene in
+    let mid = ends.then.scene in
     let lines = log_of (run_from w (events_of ends.turns)) in
     let done : SendsLogged s (failed ends.turns ends.event) t = record {
       each = ends.went.went.each;
-      calls = then.calls;
+      calls = mid.calls;
       recorded = ends.went.went.calls;
-      last = subst (λ (x : Scene). AreLastCalls x.gateway (ends.event ∷ []) then.calls x.calls) same ends.last.last.taken.calls;
+      last = subst (λ (x : Scene). AreLastCalls x.gateway (ends.event ∷ []) mid.calls x.calls) same ends.last.last.taken.calls;
       more = ends.last.last.front;
       logged = subst (λ (x : Scene). Appends s.stage.now.scene.log x.log (lines ++ ends.last.last.front)) same
-          (Appends-trans s.stage.now.scene.log then.log is.then.now.scene.log lines ends.last.last.front ends.went.went.log ends.last.last.log);
+          (Appends-trans s.stage.now.scene.log mid.log is.after.now.scene.log lines ends.last.last.front ends.went.went.log ends.last.last.log);
     } in (
       subst (λ (l : List Turn). SendsLogged s (failed l event) t) (sym is.turns_are)
           (subst (λ (e : Event). SendsLogged s (failed ends.turns e) t) (sym is.event_is) done),
-      counts_of t.stage is.then (length t.waiting) _ is.stage,
+      counts_of t.stage is.after (length t.waiting) _ is.stage,
     )
 steps_log_first {K} Passes manner holds s t (held link) counted is =
     let from = over s.stage (Some s.waiting) in
     let w = s.stage.now.scene.gateway in
-    let sends = link_sends manner from (over is.then (Some t.waiting)) link is.comes in
-    let same = sym (scene_of t.stage is.then (length t.waiting) is.then.now.guard.withheld is.stage) in
-    let guarded = link_guarded manner from (over is.then (Some t.waiting)) link is.comes in
+    let sends = link_sends manner from (over is.after (Some t.waiting)) link is.comes in
+    let same = sym (scene_of t.stage is.after (length t.waiting) is.after.now.guard.withheld is.stage) in
+    let guarded = link_guarded manner from (over is.after (Some t.waiting)) link is.comes in
     let some : ¬ (s.stage.now.guard.waiting ≡ 0) = λ e. is.some (no_length s.waiting (sym counted ∙ e)) in
     let quiet = turns_quiet Passes manner.Passes holds s.stage.now.guard guarded.0 w (link_turns link) guarded.1 some in (
       record {
@@ -296,7 +296,7 @@ steps_log_first {K} Passes manner holds s t (held link) counted is =
             (subst (λ (o : Option (List ℕ)). Appends s.stage.now.scene.log o [])
             (sym (ap (λ (x : Scene). x.log) (sym same) ∙ is.log)) (Appends-nil s.stage.now.scene.log));
       },
-      counts_of t.stage is.then (length t.waiting) is.then.now.guard.withheld is.stage,
+      counts_of t.stage is.after (length t.waiting) is.after.now.guard.withheld is.stage,
     )
 steps_log_first {K} Passes manner holds s t (written front text) counted is =
     let w = s.stage.now.scene.gateway in
@@ -315,41 +315,41 @@ steps_log_first {K} Passes manner holds s t (written front text) counted is =
 
 pub steps_lose_nothing : {K : Type 0} (manner : Manner (Holding K)) → StepsLoseNothing manner
 steps_lose_nothing manner s t (straight link) is =
-    let sends = link_sends manner s.stage is.then link is.comes in
-    let same = scene_of t.stage is.then 0 is.then.now.guard.withheld is.stage in
+    let sends = link_sends manner s.stage is.after link is.comes in
+    let same = scene_of t.stage is.after 0 is.after.now.guard.withheld is.stage in
     let first : append_known s.stage.now.scene.log s.waiting ≡ s.stage.now.scene.log =
     ap (append_known s.stage.now.scene.log) is.none ∙ append_empty s.stage.now.scene.log in
-    let last : append_known t.stage.now.scene.log t.waiting ≡ is.then.now.scene.log =
+    let last : append_known t.stage.now.scene.log t.waiting ≡ is.after.now.scene.log =
     ap (append_known t.stage.now.scene.log) is.still ∙ append_empty t.stage.now.scene.log ∙ ap (λ (x : Scene). x.log) same in
     subst (λ (o : Option (List ℕ)). Appends o (append_known t.stage.now.scene.log t.waiting)
     (log_of (run_from s.stage.now.scene.gateway (step_events (straight link))))) (sym first)
     (subst (λ (o : Option (List ℕ)). Appends s.stage.now.scene.log o
     (log_of (run_from s.stage.now.scene.gateway (step_events (straight link))))) (sym last)
-    (subst (λ (l : List ℕ). Appends s.stage.now.scene.log is.then.now.scene.log l) sends.all sends.logged))
+    (subst (λ (l : List ℕ). Appends s.stage.now.scene.log is.after.now.scene.log l) sends.all sends.logged))
 steps_lose_nothing manner s t (failed turns event) is =
     let w = s.stage.now.scene.gateway in
     let ends = is.ends.ends in
-    let then = ends.then.scene in
+    let mid = ends.then.scene in
     let lines = log_of (run_from w (events_of ends.turns)) in
     let at = ends.last.last in
-    let same = scene_of t.stage is.then (length t.waiting) _ is.stage in
+    let same = scene_of t.stage is.after (length t.waiting) _ is.stage in
     let first : append_known s.stage.now.scene.log s.waiting ≡ s.stage.now.scene.log =
     ap (append_known s.stage.now.scene.log) is.none ∙ append_empty s.stage.now.scene.log in
-    let grown = joined_after s.stage.now.scene.log is.then.now.scene.log (lines ++ at.front) t.waiting
-    (Appends-trans s.stage.now.scene.log then.log is.then.now.scene.log lines at.front ends.went.went.log at.log) in
+    let grown = joined_after s.stage.now.scene.log is.after.now.scene.log (lines ++ at.front) t.waiting
+    (Appends-trans s.stage.now.scene.log mid.log is.after.now.scene.log lines at.front ends.went.went.log at.log) in
     let all : (lines ++ at.front) ++ t.waiting ≡ log_of (run_from w (events_of turns ++ event ∷ [])) =
     append_assoc lines at.front t.waiting ∙ ap (λ (l : List ℕ). lines ++ l) (sym at.lines)
-    ∙ log_more w then.gateway (events_of ends.turns) ends.event ends.went.went.gateway
+    ∙ log_more w mid.gateway (events_of ends.turns) ends.event ends.went.went.gateway
     ∙ ap (λ (l : List Turn). log_of (run_from w (events_of l ++ ends.event ∷ []))) (sym is.turns_are)
     ∙ ap (λ (e : Event). log_of (run_from w (events_of turns ++ e ∷ []))) (sym is.event_is) in
     subst (λ (o : Option (List ℕ)). Appends o (append_known t.stage.now.scene.log t.waiting)
     (log_of (run_from w (events_of turns ++ event ∷ [])))) (sym first)
     (subst (λ (x : Scene). Appends s.stage.now.scene.log (append_known x.log t.waiting)
     (log_of (run_from w (events_of turns ++ event ∷ [])))) (sym same)
-    (subst (λ (l : List ℕ). Appends s.stage.now.scene.log (append_known is.then.now.scene.log t.waiting) l) all grown))
+    (subst (λ (l : List ℕ). Appends s.stage.now.scene.log (append_known is.after.now.scene.log t.waiting) l) all grown))
 steps_lose_nothing manner s t (held link) is =
-    let sends = link_sends manner (over s.stage (Some s.waiting)) (over is.then (Some t.waiting)) link is.comes in
-    let same = scene_of t.stage is.then (length t.waiting) is.then.now.guard.withheld is.stage in
+    let sends = link_sends manner (over s.stage (Some s.waiting)) (over is.after (Some t.waiting)) link is.comes in
+    let same = scene_of t.stage is.after (length t.waiting) is.after.now.guard.withheld is.stage in
     let stays : t.stage.now.scene.log ≡ s.stage.now.scene.log = ap (λ (x : Scene). x.log) same ∙ is.log in
     let lines = log_of (run_from s.stage.now.scene.gateway (step_events (held link))) in
     subst (λ (o : Option (List ℕ)). Appends (append_known s.stage.now.scene.log s.waiting) (append_known o t.waiting) lines) (sym stays)

@@ -1,6 +1,6 @@
 -- Steps one after the other, of a run that goes on if its log fails.
 use Rattle.std.proofs.Common.{◌≡◌, ◌∙◌, refl, sym, ap, subst, inl, inr, ℕ, ◌+◌, Bool, true, false, List, [], ◌∷◌, ◌++◌, length, Option, Some, None}
-use Rattle.std.specs.Prelude.{Result, Ok, Err, if◌then◌else◌}
+use Rattle.std.specs.Prelude.{Result, Ok, Err}
 use Rattle.std.specs.Io.KnownBytes.{Appends}
 use Rattle.std.proofs.lemmas.List.{append-nil, flat_map_more}
 use Rattle.std.proofs.lemmas.List.Concat.{flat_map-cons}
@@ -15,7 +15,7 @@ use Rattle.gw_turns.specs.declared.serving.ServeFault.{ServeFault}
 use Rattle.gw_turns.specs.declared.serving.ServeFault.TheVariants as serving
 use Rattle.gw_service.specs.Chain.{Advances, Begins, Edge, EndsSo, IsLink, IsServed, IsTicked, Manner, Stage, stopping}
 use Rattle.gw_service.specs.Holding.{AreSteps, EndsHolding, Finishes, GoesTo, Hold, IsStep, OverLog, OverWaiting, RunsHolding, ServesHolding, Step}
-use Rattle.gw_service.specs.Holding.{answer_holding, counting, failed, goes_on, has_log_failed, held, hold, over, step_text, steps_text, straight, waits_line, written}
+use Rattle.gw_service.specs.Holding.{answer_by, counting, failed, goes_on, has_log_failed, held, hold, over, step_text, steps_text, straight, waits_line, written}
 use Rattle.gw_core.specs.State.{State}
 use Rattle.gw_core.specs.declared.event.Counts.{Counts}
 use Rattle.gw_notices.specs.Notices.{no_troubles, notice_of}
@@ -61,75 +61,75 @@ goes_once : {K : Type 0} (m : Manner (Holding K)) (s t : Hold K) (step : Step) (
     → GoesTo m s (Ok None) text t
 goes_once m s t step text is says = (step ∷ [], one_step m s step t is, says ∙ sym (text_one step))
 
-over_log : {K : Type 0} (Comes : Stage (Holding K) → Stage (Holding K) → Type 0) (s then : Stage (Holding K)) (was is : List ℕ) → was ≡ []
-    → is ≡ was → Comes s then → OverLog Comes (hold s was) (hold (counting then (length is) then.now.guard.withheld) is)
-over_log Comes s then was is none same comes = record {
+over_log : {K : Type 0} (Comes : Stage (Holding K) → Stage (Holding K) → Type 0) (s after : Stage (Holding K)) (was is : List ℕ) → was ≡ []
+    → is ≡ was → Comes s after → OverLog Comes (hold s was) (hold (counting after (length is) after.now.guard.withheld) is)
+over_log Comes s after was is none same comes = record {
   none = none;
   still = same ∙ none;
-  then = then;
+  after = after;
   comes = comes;
-  stage = ap (λ (l : List ℕ). counting then (length l) then.now.guard.withheld) (same ∙ none);
+  stage = ap (λ (l : List ℕ). counting after (length l) after.now.guard.withheld) (same ∙ none);
 }
 
-over_waiting : {K : Type 0} (Comes : Stage (Holding K) → Stage (Holding K) → Type 0) (s then : Stage (Holding K)) (was is : List ℕ)
-    → ¬ (was ≡ []) → then.now.scene.log ≡ s.now.scene.log → Comes (over s (Some was)) (over then (Some is))
-    → OverWaiting Comes (hold s was) (hold (counting then (length is) then.now.guard.withheld) is)
-over_waiting Comes s then was is some log comes = record { some = some; then = then; comes = comes; log = log; stage = refl }
+over_waiting : {K : Type 0} (Comes : Stage (Holding K) → Stage (Holding K) → Type 0) (s after : Stage (Holding K)) (was is : List ℕ)
+    → ¬ (was ≡ []) → after.now.scene.log ≡ s.now.scene.log → Comes (over s (Some was)) (over after (Some is))
+    → OverWaiting Comes (hold s was) (hold (counting after (length is) after.now.guard.withheld) is)
+over_waiting Comes s after was is some log comes = record { some = some; after = after; comes = comes; log = log; stage = refl }
 
 -- one over the log
-pub goes_over_log : {K : Type 0} (m : Manner (Holding K)) (count : ℕ) (s then : Stage (Holding K)) (was is : List ℕ)
-    (answer : Result (Option End) ServeFault) (text : List ℕ) (edge : Edge) → was ≡ [] → is ≡ was → Advances m count s answer text then edge
-    → GoesTo m (hold s was) answer text (hold (counting then (length is) then.now.guard.withheld) is)
-goes_over_log m count s then was is (Ok None) text edge none same comes =
-    goes_once m (hold s was) _ (straight comes.0) text (over_log (λ a b. IsLink m a comes.0 b) s then was is none same comes.1) comes.2
-goes_over_log m count s then was is (Ok (Some end.Turns)) text edge none same comes = absurd comes
-goes_over_log m count s then was is (Ok (Some end.Stopped)) text edge none same comes =
-    inl (over_log (λ a b. (turns : List Turn) × IsTicked m true a turns stopping text b) s then was is none same (comes.0, comes.1))
-goes_over_log m count s then was is (Ok (Some end.Unsynced)) text edge none same comes = (
-  inl (over_log (λ a b. (turns : List Turn) × IsServed m a turns b) s then was is none same
+pub goes_over_log : {K : Type 0} (m : Manner (Holding K)) (count : ℕ) (s after : Stage (Holding K)) (was is : List ℕ)
+    (answer : Result (Option End) ServeFault) (text : List ℕ) (edge : Edge) → was ≡ [] → is ≡ was → Advances m count s answer text after edge
+    → GoesTo m (hold s was) answer text (hold (counting after (length is) after.now.guard.withheld) is)
+goes_over_log m count s after was is (Ok None) text edge none same comes =
+    goes_once m (hold s was) _ (straight comes.0) text (over_log (λ a b. IsLink m a comes.0 b) s after was is none same comes.1) comes.2
+goes_over_log m count s after was is (Ok (Some end.Turns)) text edge none same comes = absurd comes
+goes_over_log m count s after was is (Ok (Some end.Stopped)) text edge none same comes =
+    inl (over_log (λ a b. (turns : List Turn) × IsTicked m true a turns stopping text b) s after was is none same (comes.0, comes.1))
+goes_over_log m count s after was is (Ok (Some end.Unsynced)) text edge none same comes = (
+  inl (over_log (λ a b. (turns : List Turn) × IsServed m a turns b) s after was is none same
       (comes.turns ++ taken_event event.Tick comes.tries ∷ [], comes.goes)),
   comes.silent,
 )
-goes_over_log m count s then was is (Err fault) text edge none same comes = (
-  inl (over_log (λ a b. (count : ℕ) × (unwritten : List ℕ) × EndsSo m count fault unwritten a b) s then was is none same
+goes_over_log m count s after was is (Err fault) text edge none same comes = (
+  inl (over_log (λ a b. (count : ℕ) × (unwritten : List ℕ) × EndsSo m count fault unwritten a b) s after was is none same
       (count, edge.unwritten, comes.0)),
   comes.1,
 )
 
 -- one over what waits
-pub goes_over_waiting : {K : Type 0} (m : Manner (Holding K)) (count : ℕ) (s then : Stage (Holding K)) (was is : List ℕ)
-    (answer : Result (Option End) ServeFault) (text : List ℕ) (edge : Edge) → ¬ (was ≡ []) → then.now.scene.log ≡ s.now.scene.log
-    → Advances m count (over s (Some was)) answer text (over then (Some is)) edge
-    → GoesTo m (hold s was) answer text (hold (counting then (length is) then.now.guard.withheld) is)
-goes_over_waiting m count s then was is (Ok None) text edge some log comes =
-    goes_once m (hold s was) _ (held comes.0) text (over_waiting (λ a b. IsLink m a comes.0 b) s then was is some log comes.1) comes.2
-goes_over_waiting m count s then was is (Ok (Some end.Turns)) text edge some log comes = absurd comes
-goes_over_waiting m count s then was is (Ok (Some end.Stopped)) text edge some log comes =
-    inr (over_waiting (λ a b. (turns : List Turn) × IsTicked m true a turns stopping text b) s then was is some log (comes.0, comes.1))
-goes_over_waiting m count s then was is (Ok (Some end.Unsynced)) text edge some log comes = (
-  inr (over_waiting (λ a b. (turns : List Turn) × IsServed m a turns b) s then was is some log
+pub goes_over_waiting : {K : Type 0} (m : Manner (Holding K)) (count : ℕ) (s after : Stage (Holding K)) (was is : List ℕ)
+    (answer : Result (Option End) ServeFault) (text : List ℕ) (edge : Edge) → ¬ (was ≡ []) → after.now.scene.log ≡ s.now.scene.log
+    → Advances m count (over s (Some was)) answer text (over after (Some is)) edge
+    → GoesTo m (hold s was) answer text (hold (counting after (length is) after.now.guard.withheld) is)
+goes_over_waiting m count s after was is (Ok None) text edge some log comes =
+    goes_once m (hold s was) _ (held comes.0) text (over_waiting (λ a b. IsLink m a comes.0 b) s after was is some log comes.1) comes.2
+goes_over_waiting m count s after was is (Ok (Some end.Turns)) text edge some log comes = absurd comes
+goes_over_waiting m count s after was is (Ok (Some end.Stopped)) text edge some log comes =
+    inr (over_waiting (λ a b. (turns : List Turn) × IsTicked m true a turns stopping text b) s after was is some log (comes.0, comes.1))
+goes_over_waiting m count s after was is (Ok (Some end.Unsynced)) text edge some log comes = (
+  inr (over_waiting (λ a b. (turns : List Turn) × IsServed m a turns b) s after was is some log
       (comes.turns ++ taken_event event.Tick comes.tries ∷ [], comes.goes)),
   comes.silent,
 )
-goes_over_waiting m count s then was is (Err fault) text edge some log comes = (
-  inr (over_waiting (λ a b. (count : ℕ) × (unwritten : List ℕ) × EndsSo m count fault unwritten a b) s then was is some log
+goes_over_waiting m count s after was is (Err fault) text edge some log comes = (
+  inr (over_waiting (λ a b. (count : ℕ) × (unwritten : List ℕ) × EndsSo m count fault unwritten a b) s after was is some log
       (count, edge.unwritten, comes.0)),
   comes.1,
 )
 
 -- one over the log that failed, and what it lacks waits
-pub goes_failed : {K : Type 0} (m : Manner (Holding K)) (count : ℕ) (s then : Stage (Holding K)) (was is : List ℕ)
+pub goes_failed : {K : Type 0} (m : Manner (Holding K)) (count : ℕ) (s after : Stage (Holding K)) (was is : List ℕ)
     (answer : Result (Option End) ServeFault) (text : List ℕ) (edge : Edge) → was ≡ [] → is ≡ was ++ edge.unwritten
-    → has_log_failed answer ≡ true → Advances m count s answer text then edge
-    → GoesTo m (hold s was) (Ok None) (text ++ waits_line) (hold (counting then (length is) (one_more then.now.guard.withheld)) is)
-goes_failed m count s then was is (Ok ended) text edge none grew fails comes = absurd cc
-goes_failed m count s then was is (Err serving.Memory) text edge none grew fails comes = absurd cc
-goes_failed m count s then was is (Err serving.CountEnd) text edge none grew fails comes = absurd cc
-goes_failed m count s then was is (Err serving.Log) text edge none grew fails comes =
+    → has_log_failed answer ≡ true → Advances m count s answer text after edge
+    → GoesTo m (hold s was) (Ok None) (text ++ waits_line) (hold (counting after (length is) (one_more after.now.guard.withheld)) is)
+goes_failed m count s after was is (Ok ended) text edge none grew fails comes = absurd cc
+goes_failed m count s after was is (Err serving.Memory) text edge none grew fails comes = absurd cc
+goes_failed m count s after was is (Err serving.CountEnd) text edge none grew fails comes = absurd cc
+goes_failed m count s after was is (Err serving.Log) text edge none grew fails comes =
     let same : edge.unwritten ≡ is = sym (grew ∙ ap (λ (l : List ℕ). l ++ edge.unwritten) none) in
-    let ends = subst (λ (l : List ℕ). EndsSo m count serving.Log l s then) same comes.0 in
+    let ends = subst (λ (l : List ℕ). EndsSo m count serving.Log l s after) same comes.0 in
     goes_once m (hold s was) _ (failed ends.ends.turns ends.ends.event) (text ++ waits_line)
-    (record { none = none; then = then; count = count; ends = ends; turns_are = refl; event_is = refl; stage = refl })
+    (record { none = none; after = after; count = count; ends = ends; turns_are = refl; event_is = refl; stage = refl })
     (ap (λ (l : List ℕ). l ++ waits_line) comes.1)
 
 -- one after which serving goes on
@@ -204,7 +204,7 @@ served_whole m count o p first last Never was is steps all = λ c from.
       led.2,
       record {
         steps = led.1;
-        then = last led.0;
+        after = last led.0;
         chain = led.3;
         end_text = [];
         ends = (refl, refl);
@@ -228,7 +228,7 @@ ended_so m count o p q first now last how Never Then was middle is steps ends la
       after.2,
       record {
         steps = before.1;
-        then = now before.0;
+        after = now before.0;
         chain = before.3;
         end_text = after.1;
         ends = after.3;
@@ -266,8 +266,7 @@ served_fault m count o p q first now last fault Never Then was middle is steps g
 
 -- ---- the end
 
-pub stopped_before : (written : Bool) (how : Result End ServeFault) → is_stopped (if written then how else Err serving.Log) ≡ true
-    → is_stopped how ≡ true
+pub stopped_before : (has_all : Bool) (how : Result End ServeFault) → is_stopped (answer_by has_all how) ≡ true → is_stopped how ≡ true
 stopped_before true how e = e
 stopped_before false how e = absurd cc
 
@@ -275,15 +274,15 @@ stopped_before false how e = absurd cc
 pub ran_holding : {K : Type 0} (m : Manner (Holding K)) (report : Holding K → ReloadCounts → Announcing → Option ℕ → State → Served → Tally → List ℕ)
     (start : Counts) (count : ℕ) (at begun : Troubles → Stage (Holding K)) (p : Origin) (was is troubles : Troubles) (waiting : List ℕ)
     (last : Configuration → Hold K)
-    (answer : Result End ServeFault) (after : Ends) (left : Rest (Holding K)) (Never Then Last : Type 0) (held middle third holds : Option (List ℕ))
+    (answer : Result End ServeFault) (after : Ends) (left : Rest (Holding K)) (Never Then Last : Type 0) (first_held middle third last_held : Option (List ℕ))
     → was ≡ no_troubles → is ≡ troubles → waiting ≡ [] → ((t : Troubles) → (at t).said ≡ t) → ((t : Troubles) → Begins (at t) (begun t))
     → ((d : Configuration) × (text : List ℕ) × (p ≡ origin_of d) × RunsHolding m count (hold (begun is) waiting) answer text (last d)
     × (Then → Appends middle third text))
     → ((d : Configuration) → (last d).stage.now.scene.log ≡ after.log) → ((d : Configuration) → (last d).stage.now.scene.calls ≡ after.calls)
-    → (Never → Appends held middle (notice_of was is)) → (Never → Then) → (Then → Last)
-    → ((d : Configuration) → (text : List ℕ) × EndsRun m report start answer (last d).stage left text × (Last → Appends third holds text))
-    → (text : List ℕ) × RunsFromHolding m report start count (at troubles) answer after left text × (Never → Appends held holds text)
-ran_holding m report start count at begun p was is troubles waiting last answer after left Never Then Last held middle third holds untold failing none records
+    → (Never → Appends first_held middle (notice_of was is)) → (Never → Then) → (Then → Last)
+    → ((d : Configuration) → (text : List ℕ) × EndsRun m report start answer (last d).stage left text × (Last → Appends third last_held text))
+    → (text : List ℕ) × RunsFromHolding m report start count (at troubles) answer after left text × (Never → Appends first_held last_held text)
+ran_holding m report start count at begun p was is troubles waiting last answer after left Never Then Last first_held middle third last_held untold failing none records
     begins led log calls noticed lasts goes_on ended =
     let notice = notice_of no_troubles troubles in
     let final = ended led.0 in
@@ -303,8 +302,8 @@ ran_holding m report start count at begun p was is troubles waiting last answer 
         ends = final.1;
         said = ap (λ (x : Troubles). (notice_of no_troubles x ++ led.1) ++ final.0) (sym (records troubles));
       },
-      λ never. appends_two held third holds (notice ++ led.1) final.0
-          (appends_two held middle third notice led.1
-          (subst (λ (x : List ℕ). Appends held middle x) same (noticed never)) (led.4 (lasts never)))
+      λ never. appends_two first_held third last_held (notice ++ led.1) final.0
+          (appends_two first_held middle third notice led.1
+          (subst (λ (x : List ℕ). Appends first_held middle x) same (noticed never)) (led.4 (lasts never)))
           (final.2 (goes_on (lasts never))),
     )

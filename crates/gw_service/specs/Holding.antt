@@ -60,13 +60,13 @@ unheld keeper = record { keeper = keeper; waiting = 0; withheld = 0 }
 -- ---- what is reported
 
 -- how many events were withheld so, and how many octets of lines wait
-abbrev pub held_line : (withheld waiting : ℕ) → List ℕ
-held_line withheld waiting =
-    codes "stats held=" ++ (decimal withheld ++ (codes " waiting=" ++ (decimal waiting ++ 10 ∷ [])))
+abbrev pub held_line : (count waiting : ℕ) → List ℕ
+held_line count waiting =
+    codes "stats held=" ++ (decimal count ++ (codes " waiting=" ++ (decimal waiting ++ 10 ∷ [])))
 
 -- so it is reported if one was
-abbrev pub held_text : (withheld waiting : ℕ) → List ℕ
-held_text withheld waiting = if withheld == 0 then [] else held_line withheld waiting
+abbrev pub held_text : (count waiting : ℕ) → List ℕ
+held_text count waiting = if count == 0 then [] else held_line count waiting
 
 abbrev pub more_holding : {K : Type 0} → (K → (rules : Bool) → State → List ℕ) → Holding K → (rules : Bool) → State → List ℕ
 more_holding more h rules w = more h.keeper rules w ++ held_text h.withheld h.waiting
@@ -123,8 +123,8 @@ abbrev pub over : {K : Type 0} → Stage K → Option (List ℕ) → Stage K
 over s log = record s { now = record s.now { scene = scene s.now.scene.gateway log s.now.scene.calls } }
 
 -- the stage whose keeper counts so many octets that wait, and so many events that were withheld
-abbrev pub counting : {K : Type 0} → Stage (Holding K) → (waiting withheld : ℕ) → Stage (Holding K)
-counting s waiting withheld = record s { now = record s.now { guard = record s.now.guard { waiting = waiting; withheld = withheld } } }
+abbrev pub counting : {K : Type 0} → Stage (Holding K) → (waiting events : ℕ) → Stage (Holding K)
+counting s waiting events = record s { now = record s.now { guard = record s.now.guard { waiting = waiting; withheld = events } } }
 
 -- A stretch over the log, with what was done after it; one at whose last event the log failed; a stretch over what waits, with what was
 -- done after it; or what waits was written to the log, in part or whole.
@@ -138,28 +138,28 @@ pub data Step : Type 0 where
 pub record OverLog {K : Type 0} (Comes : Stage (Holding K) → Stage (Holding K) → Type 0) (s t : Hold K) : Type 0 where
   pub none : s.waiting ≡ []
   pub still : t.waiting ≡ []
-  pub then : Stage (Holding K)
-  pub comes : Comes s.stage then
-  pub stage : t.stage ≡ counting then 0 then.now.guard.withheld
+  pub after : Stage (Holding K)
+  pub comes : Comes s.stage after
+  pub stage : t.stage ≡ counting after 0 after.now.guard.withheld
 
 -- Or over what waits, as over a log: the log itself stays as it is.
 pub record OverWaiting {K : Type 0} (Comes : Stage (Holding K) → Stage (Holding K) → Type 0) (s t : Hold K) : Type 0 where
   pub some : ¬ (s.waiting ≡ [])
-  pub then : Stage (Holding K)
-  pub comes : Comes (over s.stage (Some s.waiting)) (over then (Some t.waiting))
-  pub log : then.now.scene.log ≡ s.stage.now.scene.log
-  pub stage : t.stage ≡ counting then (length t.waiting) then.now.guard.withheld
+  pub after : Stage (Holding K)
+  pub comes : Comes (over s.stage (Some s.waiting)) (over after (Some t.waiting))
+  pub log : after.now.scene.log ≡ s.stage.now.scene.log
+  pub stage : t.stage ≡ counting after (length t.waiting) after.now.guard.withheld
 
 -- Over the log at whose last event it failed: what it lacks of the event's lines waits then. Nothing of that event was tried, and it is
 -- counted as withheld.
 pub record IsFailed {K : Type 0} (manner : Manner (Holding K)) (s : Hold K) (turns : List Turn) (event : Event) (t : Hold K) : Type 0 where
   pub none : s.waiting ≡ []
-  pub then : Stage (Holding K)
+  pub after : Stage (Holding K)
   pub count : ℕ
-  pub ends : EndsSo manner count serving.Log t.waiting s.stage then
+  pub ends : EndsSo manner count serving.Log t.waiting s.stage after
   pub turns_are : turns ≡ ends.ends.turns
   pub event_is : event ≡ ends.ends.event
-  pub stage : t.stage ≡ counting then (length t.waiting) (one_more then.now.guard.withheld)
+  pub stage : t.stage ≡ counting after (length t.waiting) (one_more after.now.guard.withheld)
 
 -- The log got a front of what waited, and the rest waits. If nothing does any more, that is said.
 pub record IsWritten {K : Type 0} (s : Hold K) (front text : List ℕ) (t : Hold K) : Type 0 where
@@ -293,7 +293,7 @@ EndsHolding manner (Err fault) s text t =
 
 -- the log failed
 abbrev pub has_log_failed : Result (Option End) ServeFault → Bool
-has_log_failed (Ok ended) = false
+has_log_failed (Ok how) = false
 has_log_failed (Err serving.Log) = true
 has_log_failed (Err serving.Memory) = false
 has_log_failed (Err serving.CountEnd) = false
@@ -318,27 +318,31 @@ Finishes s text t = ((s.waiting ≡ []) × (t ≡ s) × (text ≡ [])) ⊎ ((fro
 
 -- Steps lead to where the last stretch ends serving, after so many turns if it had them all.
 pub record ServesHolding {K : Type 0} (manner : Manner (Holding K)) (count : ℕ) (first : Hold K) (how : Result End ServeFault) (text : List ℕ)
-    (ended : Hold K) : Type 0 where
+    (last : Hold K) : Type 0 where
   pub steps : List Step
-  pub then : Hold K
-  pub chain : AreSteps manner first steps then
+  pub after : Hold K
+  pub chain : AreSteps manner first steps after
   pub end_text : List ℕ
-  pub ends : EndsHolding manner how then end_text ended
-  pub all : how ≡ Ok end.Turns → then.stage.now.served.turns ≡ first.stage.now.served.turns + count
+  pub ends : EndsHolding manner how after end_text last
+  pub all : how ≡ Ok end.Turns → after.stage.now.served.turns ≡ first.stage.now.served.turns + count
   pub says : text ≡ steps_text steps ++ end_text
 
 -- If the log lacks something at the end, that is why the run ended.
+abbrev pub answer_by : (has_all : Bool) → Result End ServeFault → Result End ServeFault
+answer_by true how = how
+answer_by false how = Err serving.Log
+
 abbrev pub answer_holding : (waiting : List ℕ) → Result End ServeFault → Result End ServeFault
-answer_holding waiting how = if length waiting == 0 then how else Err serving.Log
+answer_holding waiting how = answer_by (length waiting == 0) how
 
 -- So a run is served that may hold, and at the end what waits is tried to be written once more.
 pub record RunsHolding {K : Type 0} (manner : Manner (Holding K)) (count : ℕ) (first : Hold K) (answer : Result End ServeFault) (text : List ℕ)
     (last : Hold K) : Type 0 where
   pub how : Result End ServeFault
   pub served_text : List ℕ
-  pub ended : Hold K
-  pub serves : ServesHolding manner count first how served_text ended
+  pub middle : Hold K
+  pub serves : ServesHolding manner count first how served_text middle
   pub last_text : List ℕ
-  pub finishes : Finishes ended last_text last
+  pub finishes : Finishes middle last_text last
   pub answers : answer ≡ answer_holding last.waiting how
   pub says : text ≡ served_text ++ last_text

@@ -17,7 +17,7 @@ returns-clause-runs g c = λ config is_config.
       record {
         how = c.serve_steps-how.result;
         served_text = served.1;
-        ended = _;
+        middle = _;
         serves = served.3;
         last_text = written.0;
         finishes = written.1;
