@@ -74,7 +74,7 @@ ports_of r states = counts_from r 0 states
 
 -- What is written of a run: what was measured, how many asks each of these rules decided, what is counted of each port, and how many
 -- texts were lost. What was received was taken, or memory was refused for it.
-pub record AreCounts (m : Measures) (in_force : List Rule) (decided : Option (List ℕ)) (ports : List PortCounts) (lost : ℕ) (c : Counts)
+pub record AreCounts (m : Measures) (in_force : List Rule) (decided : Option (List ℕ)) (by_port : List PortCounts) (lost : ℕ) (c : Counts)
     : Type 0 where
   pub ticks : c.ticks ≡ m.report.seconds
   pub received : c.received ≡ min (m.report.datagrams + m.report.memory_drops) (2 ^ 64 - 1)
@@ -89,7 +89,7 @@ pub record AreCounts (m : Measures) (in_force : List Rule) (decided : Option (Li
   pub rules : c.rules.now ≡ in_force
   pub decisions : c.decisions.now ≡ decided
   pub unwatched : c.unwatched ≡ m.losses.unwatched
-  pub ports : c.ports.now ≡ ports
+  pub ports : c.ports.now ≡ by_port
   pub peers : c.peers ≡ m.report.peers
   pub learned_routes : c.learned_routes ≡ m.report.learned_routes
   pub reloads : c.reloads ≡ reloads_of m.reloads
