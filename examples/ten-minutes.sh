@@ -15,7 +15,7 @@ work=$(mktemp -d)
 space=ten-minutes-$$
 clean_up() {
     ip netns del "$space" 2> /dev/null || true
-    rm -rf "$work"
+    rm -rf "$work" "${site:-$work}"
 }
 trap clean_up EXIT
 
@@ -48,7 +48,7 @@ import os, re, signal, subprocess, sys, time
 agreed = failed = 0
 total = 0.0
 root = sys.argv[2]
-inside = ["chroot", root, "/usr/bin/env", "-i", "PATH=/usr/bin:/bin", "-C", "/tmp/" + os.path.basename(os.getcwd())] if root else []
+inside = ["chroot", root, "/usr/bin/env", "-i", "-C", "/tmp/" + os.path.basename(os.getcwd()), "PATH=/usr/bin:/bin"] if root else []
 
 
 def words(command):
