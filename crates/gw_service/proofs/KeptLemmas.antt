@@ -1,5 +1,5 @@
 -- What a run leaves that keeps its state, from what serving leads to.
-use Rattle.std.proofs.Common.{◌≡◌, ◌∙◌, ℕ, List, [], ◌++◌, Option, Some, None, Result, Err, refl, sym, ap, subst, inl, inr, rules}
+use Rattle.std.proofs.Common.{◌≡◌, ◌∙◌, ℕ, Bool, true, false, List, [], ◌++◌, Option, Some, None, Result, Err, refl, sym, ap, subst, inl, inr, rules}
 use Rattle.std.specs.Io.KnownBytes.{Appends, append_known}
 use Rattle.gw_configuration.specs.Configuration.{Configuration}
 use Rattle.gw_core.specs.State.{State}
@@ -202,8 +202,8 @@ pub held_kept : {S Q L : Type 0} (given : Given S Q L) (c : Configuration) (how 
     → q ≡ recorded_by given.said given.requests → u ≡ counts_since w.ticks → a ≡ first_announcing
     → m ≡ metered (option_map nothing_written given.metrics) → keeps ≡ (is_some given.requests || is_some given.store)
     → reloads ≡ is_some given.requests → how.holds ≡ true → outcome ≡ outcome_by answer (failing_in left.keeper.keeper)
-    → ((text : List ℕ) × RunsFromHolding (holding_manner_of given.held (reporting how.stats how.rules start keeps reloads))
-    (end_stats (λ h. unkept_in h.keeper) (more_holding no_more) (reporting how.stats how.rules start keeps reloads)) start how.turns
+    → ((text : List ℕ) × RunsFromHolding (holding_manner_of given.held (reporting how.stats how.rules start keeps reloads how.verbose))
+    (end_stats (λ h. unkept_in h.keeper) (more_holding no_more) (reporting how.stats how.rules start keeps reloads how.verbose)) start how.turns
     (stage c (moment (scene w before.log before.calls) (unheld k) s t) q u a (troubles_in k) m) answer after left text × (Never → Appends held holds text))
     → (text : List ℕ) × LeavesKept given c how before after text outcome × (Never → Appends held holds text)
 held_kept {S} given c how start keeps reloads w k s t q u a m before after answer left outcome Never held holds unwatched is_start begins is_kept served tally
@@ -211,7 +211,7 @@ held_kept {S} given c how start keeps reloads w k s t q u a m before after answe
     let at = stage c (moment (scene w before.log before.calls) (unheld k) s t) q u a (troubles_in k) m in
     let report : Reporting → _ = λ (x : Reporting). end_stats (λ (h : Holding (Kept S)). unkept_in h.keeper) (more_holding no_more) x in
     let now = reporting_of given how w in
-    let same = is_reporting how.stats how.rules start (counts_of w) keeps (is_some given.requests || is_some given.store) reloads (is_some given.requests)
+    let same = is_reporting how.stats how.rules how.verbose start (counts_of w) keeps (is_some given.requests || is_some given.store) reloads (is_some given.requests)
     is_start is_keeps is_reloads in (
       ran.0,
       inl (subst (λ (o : Option (Watching _ _)). RunsBy given o how.holds c how before after ran.0 outcome) (sym unwatched)
@@ -242,8 +242,8 @@ pub held_watched : {S Q L : Type 0} (given : Given S Q L) (watcher : Watching L 
     → q ≡ recorded_by given.said given.requests → u ≡ counts_since w.ticks → a ≡ first_announcing
     → m ≡ metered (option_map nothing_written given.metrics) → keeps ≡ (is_some given.requests || is_some given.store)
     → reloads ≡ is_some given.requests → how.holds ≡ true → outcome ≡ outcome_by answer (failing_in left.keeper.keeper.second)
-    → ((text : List ℕ) × RunsFromHolding (watched_holding_manner_of given.held given.log_held (reporting how.stats how.rules start keeps reloads))
-    (end_stats (λ h. unkept_of h.keeper) (more_holding more_of) (reporting how.stats how.rules start keeps reloads)) start how.turns
+    → ((text : List ℕ) × RunsFromHolding (watched_holding_manner_of given.held given.log_held (reporting how.stats how.rules start keeps reloads how.verbose))
+    (end_stats (λ h. unkept_of h.keeper) (more_holding more_of) (reporting how.stats how.rules start keeps reloads how.verbose)) start how.turns
     (stage c (moment (scene w before.log before.calls) (unheld k) s t) q u a (troubles_of k) m) answer after left text × (Never → Appends held holds text))
     → (text : List ℕ) × LeavesKept given c how before after text outcome × (Never → Appends held holds text)
 held_watched {S} {Q} {L} given watcher c how start keeps reloads w k s t q u a m before after answer left outcome Never held holds watched is_start begins is_kept
@@ -251,7 +251,7 @@ held_watched {S} {Q} {L} given watcher c how start keeps reloads w k s t q u a m
     let at = stage c (moment (scene w before.log before.calls) (unheld k) s t) q u a (troubles_of k) m in
     let report : Reporting → _ = λ (x : Reporting). end_stats (λ (h : Holding (Both (Watching L L) (Kept S))). unkept_of h.keeper) (more_holding more_of) x in
     let now = reporting_of given how w in
-    let same = is_reporting how.stats how.rules start (counts_of w) keeps (is_some given.requests || is_some given.store) reloads (is_some given.requests)
+    let same = is_reporting how.stats how.rules how.verbose start (counts_of w) keeps (is_some given.requests || is_some given.store) reloads (is_some given.requests)
     is_start is_keeps is_reloads in (
       ran.0,
       inl (subst (λ (o : Option (Watching _ _)). RunsBy given o how.holds c how before after ran.0 outcome) (sym watched)

@@ -27,8 +27,8 @@ returns-clause-served g c =
     let line = startup_line options.verbose c.args.config (option_map string_bytes options.log) in (
       (note ++ wait) ++ done.0,
       (
-        c.is_waiting.result,
-        c.is_waiting.ensures,
+        c.is_waiting-waits.result,
+        c.is_waiting-waits.ensures,
         done.0,
         ap₂ (λ (t u : List ℕ). (t ++ u) ++ done.0) c.unaudited_note.ensures c.waiting_note.ensures,
         (
