@@ -128,12 +128,7 @@ pub(crate) fn count_received(
 }
 
 /// Counts a send at the port that it was tried on when so many ticks had been taken, by whether it succeeded.
-pub(crate) fn count_sent(
-    ports: &mut [PortSends; MAX_PORTS],
-    port: u8,
-    ticks: u64,
-    success: bool,
-)
+pub(crate) fn count_sent(ports: &mut [PortSends; MAX_PORTS], port: u8, ticks: u64, success: bool)
     ensures { ports.new ≡ sent_at ports.old port ticks success }
 {
     let place = place_of(port);
