@@ -52,7 +52,7 @@ abbrev pub stats_text : Reporting → State → Served → Tally → (tries : Li
 stats_text how w s tally tries =
     if has_gone_on how.start w s
     then report_line (report_of how.start w s tally) ++ (ports_text (report_of how.start w s tally)
-      ++ (troubles_text how.seconds w s tally ++ tries))
+    ++ (troubles_text how.seconds w s tally ++ tries))
     else []
 
 -- whether a multiple of so many seconds has passed

@@ -11,8 +11,7 @@ use arrayvec::ArrayVec;
 use gw_addr::MAX_PORTS;
 use gw_core::Gateway;
 use gw_decisions::tally::Tally;
-use gw_notices::metrics::Metrics;
-use gw_notices::metrics::{Counts, Drops, PortCounts, Reloads, StateTries};
+use gw_notices::metrics::{Counts, Drops, Metrics, PortCounts, Reloads, StateTries};
 use gw_notices::{Losses, ReloadCounts};
 use gw_relay::PortState;
 use gw_rules::RuleList;
@@ -146,13 +145,7 @@ fn put_into<S: Store + Drop>(
 {
     let ports = ports_of(&measures.report, gateway.relay().ports());
     let lost = metrics.lost();
-    let counts = counts_of(
-        measures,
-        gateway.rules(),
-        decisions,
-        ports.as_slice(),
-        lost,
-    );
+    let counts = counts_of(measures, gateway.rules(), decisions, ports.as_slice(), lost);
     metrics.at_tick(alloc, measures.report.seconds, &counts);
 }
 
@@ -168,13 +161,7 @@ fn put_now<S: Store + Drop>(
 {
     let ports = ports_of(&measures.report, gateway.relay().ports());
     let lost = metrics.lost();
-    let counts = counts_of(
-        measures,
-        gateway.rules(),
-        decisions,
-        ports.as_slice(),
-        lost,
-    );
+    let counts = counts_of(measures, gateway.rules(), decisions, ports.as_slice(), lost);
     metrics.put_now(alloc, measures.report.seconds, &counts);
 }
 

@@ -22,7 +22,7 @@ use Rattle.gw_turns.specs.Pace.{one_more}
 use Rattle.gw_turns.specs.Ports.{datagrams_at, no_datagrams, no_sends, place_of, received, received_at, sends_at, sent, sent_at, summed_to}
 use Rattle.gw_turns.specs.Reports.{health_text, restored_line}
 use Rattle.gw_turns.specs.Serve.{Try, Turn, count_turn, counts_after, empty_turn, events_of, failed_turn, failures, lost_event, ports_after, successes}
-use Rattle.gw_turns.specs.Serve.{taken_event, ticks_with, turn_events, zero_counts}
+use Rattle.gw_turns.specs.Serve.{taken_event, turn_events, zero_counts}
 use Rattle.gw_turns.specs.Tally.{culprit_of, denies, drops_of, is_malformed, is_no_peer, is_own_network, no_tally, number_if, tally_at, tally_from, tally_with}
 use Rattle.gw_turns.specs.declared.ports.Health.TheVariants.{Sound, Restored}
 use Rattle.gw_turns.specs.declared.ports.PortSends.{PortSends}

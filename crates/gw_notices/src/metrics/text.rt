@@ -282,11 +282,7 @@ fn put_rule(rule: &Rule, count: u64, out: &mut Vec<u8>) -> Result<(), AllocError
 }
 
 /// Appends a family that counts by port.
-fn put_by_port(
-    family: Family,
-    ports: &[PortCounts],
-    out: &mut Vec<u8>,
-) -> Result<(), AllocError>
+fn put_by_port(family: Family, ports: &[PortCounts], out: &mut Vec<u8>) -> Result<(), AllocError>
     ensures { OnOk result (out.new.items ≡ out.old.items ++ lines_text (family_lines family (port_samples family ports.now))) }
 {
     put_head(family, out)?;

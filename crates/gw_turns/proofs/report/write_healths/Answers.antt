@@ -1,4 +1,4 @@
-use Rattle.std.proofs.Common.{◌≡◌, ◌∙◌, ℕ, suc, ◌+◌, length, arith, ap, subst, sym}
+use Rattle.std.proofs.Common.{◌≡◌, ℕ, suc, ◌+◌, length, arith, ap, subst}
 use Rattle.std.specs.Io.KnownBytes.{Appends}
 use Rattle.std.proofs.KnownBytes.{Appends-nil, Appends-trans}
 use Rattle.gw_relay.specs.State.{Relay}

@@ -1,11 +1,8 @@
-use Rattle.std.proofs.Common.{◌≡◌, ◌∙◌, ℕ, suc, ◌+◌, arith, ap, subst, sym}
+use Rattle.std.proofs.Common.{◌≡◌, ℕ, suc, ◌+◌, arith, subst}
 use Rattle.std.specs.Io.KnownBytes.{Appends}
 use Rattle.std.proofs.KnownBytes.{Appends-nil, Appends-trans}
-use Rattle.std.proofs.lemmas.List.{get_or_read}
-use Rattle.gw_turns.specs.Ports.{datagrams_at, no_datagrams, no_sends, sends_at}
+use Rattle.gw_turns.specs.Ports.{datagrams_at, sends_at}
 use Rattle.gw_turns.specs.Reports.{port_line, port_lines}
-use Rattle.gw_turns.specs.declared.ports.PortSends.{PortSends}
-use Rattle.gw_turns.specs.declared.ports.PortTally.{PortTally}
 use Rattle.gw_turns.proofs.report.write_ports.Goals as goal
 
 pub loop-place-init : goal.loop-place-init

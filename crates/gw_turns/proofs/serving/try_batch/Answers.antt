@@ -1,12 +1,11 @@
-use Rattle.std.proofs.Common.{◌≡◌, ◌+◌, ◌<◌, ◌∷◌, ◌++◌, [], ℕ, List, Result, length, map, take, get_or, ap, ◌∙◌, arith, refl}
+use Rattle.std.proofs.Common.{◌≡◌, ◌+◌, ◌<◌, ◌∷◌, ◌++◌, [], ℕ, List, length, map, take, get_or, ap, ◌∙◌, arith, refl}
 use Rattle.std.proofs.Common.{subst}
 use Rattle.std.specs.Result.{is_ok}
 use Rattle.std.proofs.lemmas.Grind.{common_steps}
 use Rattle.std.proofs.lemmas.List.{length-map, length-take-le, map-append, take_more}
 use Rattle.gw_addr.specs.declared.bip.BipAddr.{BipAddr}
 use Rattle.gw_relay.specs.Sends.{Sending, sending, sendings}
-use Rattle.gw_wire.specs.declared.wire.WireFault.{WireFault}
-use Rattle.gw_wire.specs.Wire.{Records, failures_of, send_call}
+use Rattle.gw_wire.specs.Wire.{Records, send_call}
 use Rattle.gw_turns.specs.ServeTurn.{counted_send}
 use Rattle.gw_turns.proofs.ServeLemmas.{as_try, failed_once, none_tried, tried_counted, tried_more}
 use Rattle.gw_turns.proofs.serving.try_batch.Goals as goal
