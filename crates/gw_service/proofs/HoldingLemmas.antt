@@ -5,7 +5,7 @@ use Rattle.std.proofs.lemmas.Bool.{eqb-true}
 use Rattle.std.proofs.lemmas.List.{append-nil}
 use Rattle.std.proofs.lemmas.List.Concat.{flat_map-cons}
 use Rattle.std.specs.Prelude.{◌==◌, if◌then◌else◌, OnOk, Result}
-use Rattle.gw_notices.proofs.StatsLemmas.{three_writes}
+use Rattle.gw_notices.proofs.AppendLemmas.{appends_two, two_writes}
 use Rattle.std.specs.List.{flat_map}
 use Rattle.std.specs.Io.KnownBytes.{Appends, append_known}
 use Rattle.gw_audit.specs.declared.denial.Denial.{Denial}
@@ -28,7 +28,11 @@ use Rattle.gw_service.specs.declared.holding.Holding.{Holding}
 pub five_writes : {T E : Type 0} (r : Result T E) (a b c d e f : Option (List ℕ)) (v w x y z : List ℕ) → Appends a b v → Appends b c w
     → Appends c d x → Appends d e y → OnOk r (Appends e f z) → OnOk r (Appends a f (v ++ (w ++ (x ++ (y ++ z)))))
 five_writes r a b c d e f v w x y z first second third fourth fifth =
-    three_writes r a b c f v w (x ++ (y ++ z)) first second (three_writes r c d e f x y z third fourth fifth)
+    let four = w ++ (x ++ y) in
+    let same : (v ++ four) ++ z ≡ v ++ (w ++ (x ++ (y ++ z))) =
+    append_assoc v four z ∙ ap (λ (l : List ℕ). v ++ l) (append_assoc w (x ++ y) z ∙ ap (λ (l : List ℕ). w ++ l) (append_assoc x y z)) in
+    subst (λ (l : List ℕ). OnOk r (Appends a f l)) same
+    (two_writes r a e f (v ++ four) z (appends_two a b e v four first (appends_two b c e w (x ++ y) second (appends_two c d e x y third fourth))) fifth)
 
 -- ---- what passes while lines wait
 

@@ -1,5 +1,5 @@
 -- What a run leaves that keeps its state, from what serving leads to.
-use Rattle.std.proofs.Common.{◌≡◌, ◌∙◌, ℕ, List, [], ◌++◌, Option, Some, None, Result, Err, refl, sym, ap, subst, inl, inr, rules}
+use Rattle.std.proofs.Common.{◌≡◌, ◌∙◌, ℕ, List, [], ◌++◌, Option, Some, None, Result, Err, refl, sym, ap, subst, inl, inr, rules, true, false}
 use Rattle.std.specs.Io.KnownBytes.{Appends, append_known}
 use Rattle.gw_configuration.specs.Configuration.{Configuration}
 use Rattle.gw_core.specs.State.{State}
