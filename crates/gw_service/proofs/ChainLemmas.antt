@@ -14,11 +14,12 @@ use Rattle.gw_script.specs.Event as event
 use Rattle.gw_script.specs.declared.sink.WriteFailed.{WriteFailed}
 use Rattle.gw_turns.specs.Announcing.{with_due}
 use Rattle.gw_turns.specs.declared.announcing.Announcing.{Announcing}
-use Rattle.gw_turns.specs.Stretch.{EndsAtTick, EndsAtTurns, EndsStretch, EndsWithheld, GoOn, Moment, moment}
+use Rattle.gw_turns.specs.Stretch.{EndsAtTick, EndsAtTurns, EndsFaulty, EndsStretch, EndsWithheld, GoOn, Moment, moment}
 use Rattle.gw_turns.specs.declared.stretch.Pause.{Pause}
 use Rattle.gw_turns.specs.declared.serving.ServeFault.{ServeFault}
+use Rattle.gw_turns.specs.declared.serving.ServeFault.TheVariants as serving
 use Rattle.gw_core.specs.State.{State}
-use Rattle.gw_turns.specs.Serve.{Turn, count_turn, counts_after, empty_turn, failed_turn, lost_event, scene, taken_event}
+use Rattle.gw_turns.specs.Serve.{Turn, count_fault, count_turn, counts_after, empty_turn, failed_turn, lost_event, scene, taken_event}
 use Rattle.gw_wire.specs.Wire.{Call}
 use Rattle.gw_turns.specs.declared.serving.Served.{Served}
 use Rattle.gw_turns.specs.declared.tally.Tally.{Tally}
@@ -253,6 +254,18 @@ more_withheld Passes count a b ends =
     let went = went_turns Passes a ends.then ends.turns ends.went in
     let last : b.served.turns ≡ ends.then.served.turns + 1 = ap (λ (s : Served). s.turns) ends.last.counts in
     omega (arith, went, last)
+
+fault_turns : (s : Served) (fault : ServeFault) → (count_fault s fault).turns ≡ s.turns + 1
+fault_turns s serving.Log = refl
+fault_turns s serving.Memory = refl
+fault_turns s serving.CountEnd = refl
+
+pub more_faulty : {K : Type 0} (Passes : K → State → Event → K → Bool → Type 0) (count : ℕ) (a b : Moment K) (fault : ServeFault)
+    (unwritten : List ℕ) → EndsFaulty Passes count a fault unwritten b → a.served.turns < b.served.turns
+more_faulty Passes count a b fault unwritten ends =
+    let went = went_turns Passes a ends.then ends.turns ends.went in
+    let last : b.served.turns ≡ (count_fault ends.then.served fault).turns = ap (λ (s : Served). s.turns) ends.last.counts in
+    omega (arith, went, last, fault_turns ends.then.served fault)
 
 -- ---- a chain
 

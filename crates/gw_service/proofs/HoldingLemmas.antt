@@ -71,9 +71,9 @@ pub withheld_by : {K : Type 0} (Passes : K → State → Event → K → Bool �
     (answer waits : Bool) → x ≡ effects_at w event → waits ≡ (not (h.waiting == 0) && not (length x.denials == 0)) → waits ≡ true
     → Passes h.keeper w event i.keeper answer → i.waiting ≡ h.waiting → i.withheld ≡ one_more h.withheld
     → PassesHolding Passes h w event i false
-withheld_by Passes h i w event x answer waits does is yes passed waiting counted =
+withheld_by Passes h i w event x answer waits does is too_true passed waiting counted =
     let too : waits_too h w event ≡ true =
-    ap (λ (y : Effects). not (h.waiting == 0) && not (length y.denials == 0)) (sym does) ∙ sym is ∙ yes in
+    ap (λ (y : Effects). not (h.waiting == 0) && not (length y.denials == 0)) (sym does) ∙ sym is ∙ too_true in
     record {
       answer = answer;
       passed = passed;

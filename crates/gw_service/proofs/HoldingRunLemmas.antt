@@ -122,7 +122,7 @@ pub goes_failed : {K : Type 0} (m : Manner (Holding K)) (count : ℕ) (s after :
     (answer : Result (Option End) ServeFault) (text : List ℕ) (edge : Edge) → was ≡ [] → is ≡ was ++ edge.unwritten
     → has_log_failed answer ≡ true → Advances m count s answer text after edge
     → GoesTo m (hold s was) (Ok None) (text ++ waits_line) (hold (counting after (length is) (one_more after.now.guard.withheld)) is)
-goes_failed m count s after was is (Ok ended) text edge none grew fails comes = absurd cc
+goes_failed m count s after was is (Ok how) text edge none grew fails comes = absurd cc
 goes_failed m count s after was is (Err serving.Memory) text edge none grew fails comes = absurd cc
 goes_failed m count s after was is (Err serving.CountEnd) text edge none grew fails comes = absurd cc
 goes_failed m count s after was is (Err serving.Log) text edge none grew fails comes =
@@ -131,6 +131,13 @@ goes_failed m count s after was is (Err serving.Log) text edge none grew fails c
     goes_once m (hold s was) _ (failed ends.ends.turns ends.ends.event) (text ++ waits_line)
     (record { none = none; after = after; count = count; ends = ends; turns_are = refl; event_is = refl; stage = refl })
     (ap (λ (l : List ℕ). l ++ waits_line) comes.1)
+
+-- the log failed
+pub failed_is : (answer : Result (Option End) ServeFault) → has_log_failed answer ≡ true → answer ≡ Err serving.Log
+failed_is (Ok how) is = absurd cc
+failed_is (Err serving.Log) is = refl
+failed_is (Err serving.Memory) is = absurd cc
+failed_is (Err serving.CountEnd) is = absurd cc
 
 -- one after which serving goes on
 pub goes_on_by : {K : Type 0} (m : Manner (Holding K)) (s t : Hold K) (answer : Result (Option End) ServeFault) (text : List ℕ)

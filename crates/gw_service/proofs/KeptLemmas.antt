@@ -1,5 +1,5 @@
 -- What a run leaves that keeps its state, from what serving leads to.
-use Rattle.std.proofs.Common.{◌≡◌, ◌∙◌, ℕ, List, [], ◌++◌, Option, Some, None, Result, Err, refl, sym, ap, subst, inl, inr, rules, true, false}
+use Rattle.std.proofs.Common.{◌≡◌, ◌∙◌, ℕ, List, [], ◌++◌, Option, Some, None, Result, Err, refl, sym, ap, subst, inl, inr, rules}
 use Rattle.std.specs.Io.KnownBytes.{Appends, append_known}
 use Rattle.gw_configuration.specs.Configuration.{Configuration}
 use Rattle.gw_core.specs.State.{State}
@@ -20,9 +20,7 @@ use Rattle.gw_service.specs.Keeping.{failing_in, troubles_in, unkept_in}
 use Rattle.gw_service.specs.declared.running.End.{End}
 use Rattle.gw_service.specs.Watch.{more_of, troubles_of}
 use Rattle.gw_notices.specs.declared.troubles.Troubles.{Troubles}
-use Rattle.gw_service.specs.Holding.{more_holding, unheld}
-use Rattle.gw_service.specs.declared.holding.Holding.{Holding}
-use Rattle.gw_service.specs.Kept.{EndsRun, Given, KeepsFirst, LeavesKept, Rest, RunsBy, RunsFrom, RunsFromHolding, holding_manner_of, manner_of, no_more, outcome_by, reporting_of, unkept_of, watched_holding_manner_of, watched_manner_of}
+use Rattle.gw_service.specs.Kept.{EndsRun, Given, KeepsFirst, LeavesKept, Rest, RunsBy, RunsFrom, manner_of, no_more, outcome_by, reporting_of, unkept_of, watched_manner_of}
 use Rattle.gw_notices.specs.Notices.{no_troubles, notice_of}
 use Rattle.gw_notices.specs.metrics.Writing.{Metering, nothing_written}
 use Rattle.gw_service.specs.Metering.{lost_by, metered}
@@ -110,19 +108,18 @@ pub ran_kept : {S Q L : Type 0} (given : Given S Q L) (c : Configuration) (how :
     → BeginsAs c given.saved given.line w → KeepsFirst given.held given.store c w k → s ≡ zero_counts → t ≡ no_tally
     → q ≡ recorded_by given.said given.requests → u ≡ counts_since w.ticks → a ≡ first_announcing
     → m ≡ metered (option_map nothing_written given.metrics) → keeps ≡ (is_some given.requests || is_some given.store)
-    → reloads ≡ is_some given.requests → how.holds ≡ false → outcome ≡ outcome_by answer (failing_in left.keeper)
+    → reloads ≡ is_some given.requests → outcome ≡ outcome_by answer (failing_in left.keeper)
     → ((text : List ℕ) × RunsFrom (manner_of given.held (reporting how.stats how.rules start keeps reloads))
     (end_stats unkept_in no_more (reporting how.stats how.rules start keeps reloads)) start how.turns
     (stage c (moment (scene w before.log before.calls) k s t) q u a (troubles_in k) m) answer after left text × (Never → Appends held holds text))
     → (text : List ℕ) × LeavesKept given c how before after text outcome × (Never → Appends held holds text)
 ran_kept {S} given c how start keeps reloads w k s t q u a m before after answer left outcome Never held holds unwatched is_start begins is_kept served tally
-    requests is_counts is_announcing is_metered is_keeps is_reloads ends answers ran =
+    requests is_counts is_announcing is_metered is_keeps is_reloads answers ran =
     let at = stage c (moment (scene w before.log before.calls) k s t) q u a (troubles_in k) m in
     let same = is_reporting how.stats how.rules start (counts_of w) keeps (is_some given.requests || is_some given.store) reloads (is_some given.requests)
     is_start is_keeps is_reloads in (
       ran.0,
-      inl (subst (λ (o : Option (Watching _ _)). RunsBy given o how.holds c how before after ran.0 outcome) (sym unwatched)
-          (subst (λ (h : Bool). RunsBy given None h c how before after ran.0 outcome) (sym ends) (record {
+      inl (subst (λ (o : Option (Watching _ _)). RunsBy given o c how before after ran.0 outcome) (sym unwatched) (record {
         gateway = w;
         begins = begins;
         keeper = k;
@@ -137,7 +134,7 @@ ran_kept {S} given c how start keeps reloads w k s t q u a m before after answer
             (subst (λ (x : Reporting). RunsFrom (manner_of given.held x) (end_stats unkept_in no_more x) start how.turns at answer after left ran.0) same
             ran.1));
         answers = answers;
-      }))),
+      })),
       ran.2,
     )
 
@@ -150,19 +147,18 @@ pub ran_watched : {S Q L : Type 0} (given : Given S Q L) (watcher : Watching L L
     → BeginsAs c given.saved given.line w → KeepsFirst given.held given.store c w k.second → k.first ≡ watcher → s ≡ zero_counts → t ≡ no_tally
     → q ≡ recorded_by given.said given.requests → u ≡ counts_since w.ticks → a ≡ first_announcing
     → m ≡ metered (option_map nothing_written given.metrics) → keeps ≡ (is_some given.requests || is_some given.store)
-    → reloads ≡ is_some given.requests → how.holds ≡ false → outcome ≡ outcome_by answer (failing_in left.keeper.second)
+    → reloads ≡ is_some given.requests → outcome ≡ outcome_by answer (failing_in left.keeper.second)
     → ((text : List ℕ) × RunsFrom (watched_manner_of given.held given.log_held (reporting how.stats how.rules start keeps reloads))
     (end_stats unkept_of more_of (reporting how.stats how.rules start keeps reloads)) start how.turns
     (stage c (moment (scene w before.log before.calls) k s t) q u a (troubles_of k) m) answer after left text × (Never → Appends held holds text))
     → (text : List ℕ) × LeavesKept given c how before after text outcome × (Never → Appends held holds text)
 ran_watched {S} given watcher c how start keeps reloads w k s t q u a m before after answer left outcome Never held holds watched is_start begins is_kept watches
-    served tally requests is_counts is_announcing is_metered is_keeps is_reloads ends answers ran =
+    served tally requests is_counts is_announcing is_metered is_keeps is_reloads answers ran =
     let at = stage c (moment (scene w before.log before.calls) k s t) q u a (troubles_of k) m in
     let same = is_reporting how.stats how.rules start (counts_of w) keeps (is_some given.requests || is_some given.store) reloads (is_some given.requests)
     is_start is_keeps is_reloads in (
       ran.0,
-      inl (subst (λ (o : Option (Watching _ _)). RunsBy given o how.holds c how before after ran.0 outcome) (sym watched)
-          (subst (λ (h : Bool). RunsBy given (Some watcher) h c how before after ran.0 outcome) (sym ends) (record {
+      inl (subst (λ (o : Option (Watching _ _)). RunsBy given o c how before after ran.0 outcome) (sym watched) (record {
         gateway = w;
         begins = begins;
         keeper = k;
@@ -178,100 +174,7 @@ ran_watched {S} given watcher c how start keeps reloads w k s t q u a m before a
             (subst (λ (x : Reporting). RunsFrom (watched_manner_of given.held given.log_held x) (end_stats unkept_of more_of x) start how.turns at answer
             after left ran.0) same ran.1));
         answers = answers;
-      }))),
-      ran.2,
-    )
-
--- a run from a stage whose parts are these, as one that goes on if its log fails
-from_stage : {K : Type 0} (Runs : Stage K → Type 0) (c : Configuration) (now : Scene)
-    (k : K) (s z : Served) (t n : Tally) (q r : Asking) (u v : ReloadCounts) (a b : Announcing) (f : Troubles) (m e : Option Metering)
-    → s ≡ z → t ≡ n → q ≡ r → u ≡ v → a ≡ b → m ≡ e → Runs (stage c (moment now k s t) q u a f m) → Runs (stage c (moment now k z n) r v b f e)
-from_stage Runs c now k s z t n q r u v a b f m e served tally requests counts announcing metrics runs =
-    subst (λ (x : Served). Runs (stage c (moment now k x n) r v b f e)) served
-    (subst (λ (x : Tally). Runs (stage c (moment now k s x) r v b f e)) tally
-    (subst (λ (x : Asking). Runs (stage c (moment now k s t) x v b f e)) requests
-    (subst (λ (x : ReloadCounts). Runs (stage c (moment now k s t) q x b f e)) counts
-    (subst (λ (x : Announcing). Runs (stage c (moment now k s t) q u x f e)) announcing
-    (subst (λ (x : Option Metering). Runs (stage c (moment now k s t) q u a f x)) metrics runs)))))
-
-pub held_kept : {S Q L : Type 0} (given : Given S Q L) (c : Configuration) (how : Service) (start : Counts) (keeps reloads : Bool) (w : State) (k : Kept S)
-    (s : Served) (t : Tally) (q : Asking) (u : ReloadCounts) (a : Announcing) (m : Option Metering) (before after : Ends) (answer : Result End ServeFault)
-    (left : Rest (Holding (Kept S))) (outcome : Result (Unit {0}) ServiceFault) (Never : Type 0) (held holds : Option (List ℕ)) → given.watcher ≡ None → start ≡ counts_of w
-    → BeginsAs c given.saved given.line w → KeepsFirst given.held given.store c w k → s ≡ zero_counts → t ≡ no_tally
-    → q ≡ recorded_by given.said given.requests → u ≡ counts_since w.ticks → a ≡ first_announcing
-    → m ≡ metered (option_map nothing_written given.metrics) → keeps ≡ (is_some given.requests || is_some given.store)
-    → reloads ≡ is_some given.requests → how.holds ≡ true → outcome ≡ outcome_by answer (failing_in left.keeper.keeper)
-    → ((text : List ℕ) × RunsFromHolding (holding_manner_of given.held (reporting how.stats how.rules start keeps reloads))
-    (end_stats (λ h. unkept_in h.keeper) (more_holding no_more) (reporting how.stats how.rules start keeps reloads)) start how.turns
-    (stage c (moment (scene w before.log before.calls) (unheld k) s t) q u a (troubles_in k) m) answer after left text × (Never → Appends held holds text))
-    → (text : List ℕ) × LeavesKept given c how before after text outcome × (Never → Appends held holds text)
-held_kept {S} given c how start keeps reloads w k s t q u a m before after answer left outcome Never held holds unwatched is_start begins is_kept served tally
-    requests is_counts is_announcing is_metered is_keeps is_reloads goes_on answers ran =
-    let at = stage c (moment (scene w before.log before.calls) (unheld k) s t) q u a (troubles_in k) m in
-    let report : Reporting → _ = λ (x : Reporting). end_stats (λ (h : Holding (Kept S)). unkept_in h.keeper) (more_holding no_more) x in
-    let now = reporting_of given how w in
-    let same = is_reporting how.stats how.rules start (counts_of w) keeps (is_some given.requests || is_some given.store) reloads (is_some given.requests)
-    is_start is_keeps is_reloads in (
-      ran.0,
-      inl (subst (λ (o : Option (Watching _ _)). RunsBy given o how.holds c how before after ran.0 outcome) (sym unwatched)
-          (subst (λ (h : Bool). RunsBy given None h c how before after ran.0 outcome) (sym goes_on) (record {
-            gateway = w;
-            begins = begins;
-            keeper = k;
-            keeps = is_kept;
-            answer = answer;
-            left = left;
-            runs = from_stage (λ x. RunsFromHolding (holding_manner_of given.held now) (report now) (counts_of w) how.turns x answer after left ran.0)
-                c (scene w before.log before.calls) (unheld k) s zero_counts t no_tally q (recorded_by given.said given.requests) u (counts_since w.ticks) a
-                first_announcing (troubles_in k) m (metered (option_map nothing_written given.metrics)) served tally requests is_counts is_announcing is_metered
-                (subst (λ (x : Counts). RunsFromHolding (holding_manner_of given.held now) (report now) x how.turns at answer after left ran.0) is_start
-                (subst (λ (x : Reporting). RunsFromHolding (holding_manner_of given.held x) (report x) start how.turns at answer after left ran.0) same
-                ran.1));
-            answers = answers;
-          }))),
-      ran.2,
-    )
-
-pub held_watched : {S Q L : Type 0} (given : Given S Q L) (watcher : Watching L L) (c : Configuration) (how : Service) (start : Counts)
-    (keeps reloads : Bool) (w : State) (k : Both (Watching L L) (Kept S)) (s : Served) (t : Tally) (q : Asking) (u : ReloadCounts)
-    (a : Announcing) (m : Option Metering) (before after : Ends) (answer : Result End ServeFault)
-    (left : Rest (Holding (Both (Watching L L) (Kept S)))) (outcome : Result (Unit {0}) ServiceFault) (Never : Type 0)
-    (held holds : Option (List ℕ)) → given.watcher ≡ Some watcher → start ≡ counts_of w
-    → BeginsAs c given.saved given.line w → KeepsFirst given.held given.store c w k.second → k.first ≡ watcher → s ≡ zero_counts → t ≡ no_tally
-    → q ≡ recorded_by given.said given.requests → u ≡ counts_since w.ticks → a ≡ first_announcing
-    → m ≡ metered (option_map nothing_written given.metrics) → keeps ≡ (is_some given.requests || is_some given.store)
-    → reloads ≡ is_some given.requests → how.holds ≡ true → outcome ≡ outcome_by answer (failing_in left.keeper.keeper.second)
-    → ((text : List ℕ) × RunsFromHolding (watched_holding_manner_of given.held given.log_held (reporting how.stats how.rules start keeps reloads))
-    (end_stats (λ h. unkept_of h.keeper) (more_holding more_of) (reporting how.stats how.rules start keeps reloads)) start how.turns
-    (stage c (moment (scene w before.log before.calls) (unheld k) s t) q u a (troubles_of k) m) answer after left text × (Never → Appends held holds text))
-    → (text : List ℕ) × LeavesKept given c how before after text outcome × (Never → Appends held holds text)
-held_watched {S} {Q} {L} given watcher c how start keeps reloads w k s t q u a m before after answer left outcome Never held holds watched is_start begins is_kept
-    watches served tally requests is_counts is_announcing is_metered is_keeps is_reloads goes_on answers ran =
-    let at = stage c (moment (scene w before.log before.calls) (unheld k) s t) q u a (troubles_of k) m in
-    let report : Reporting → _ = λ (x : Reporting). end_stats (λ (h : Holding (Both (Watching L L) (Kept S))). unkept_of h.keeper) (more_holding more_of) x in
-    let now = reporting_of given how w in
-    let same = is_reporting how.stats how.rules start (counts_of w) keeps (is_some given.requests || is_some given.store) reloads (is_some given.requests)
-    is_start is_keeps is_reloads in (
-      ran.0,
-      inl (subst (λ (o : Option (Watching _ _)). RunsBy given o how.holds c how before after ran.0 outcome) (sym watched)
-          (subst (λ (h : Bool). RunsBy given (Some watcher) h c how before after ran.0 outcome) (sym goes_on) (record {
-            gateway = w;
-            begins = begins;
-            keeper = k;
-            keeps = is_kept;
-            watches = watches;
-            answer = answer;
-            left = left;
-            runs = from_stage (λ x. RunsFromHolding (watched_holding_manner_of given.held given.log_held now) (report now) (counts_of w) how.turns x answer
-                after left ran.0)
-                c (scene w before.log before.calls) (unheld k) s zero_counts t no_tally q (recorded_by given.said given.requests) u (counts_since w.ticks) a
-                first_announcing (troubles_of k) m (metered (option_map nothing_written given.metrics)) served tally requests is_counts is_announcing is_metered
-                (subst (λ (x : Counts). RunsFromHolding (watched_holding_manner_of given.held given.log_held now) (report now) x how.turns at answer after left
-                ran.0) is_start
-                (subst (λ (x : Reporting). RunsFromHolding (watched_holding_manner_of given.held given.log_held x) (report x) start how.turns at answer after
-                left ran.0) same ran.1));
-            answers = answers;
-          }))),
+      })),
       ran.2,
     )
 

@@ -158,13 +158,12 @@ kept_silent given no_saved no_line no_store no_metrics no_requests c how before 
 
 silent : {S Q L : Type 0} (given : Given S Q L) → given.saved ≡ None → given.line ≡ None → given.store ≡ None → given.metrics ≡ None
     → given.requests ≡ None → given.watcher ≡ None → (c : Configuration) (how : Service) (before after : Ends) (text : List ℕ)
-    (outcome : Result (Unit {0}) ServiceFault) → c.announce ≡ false → how.stats ≡ None → how.holds ≡ false → LeavesKept given c how before after text outcome
+    (outcome : Result (Unit {0}) ServiceFault) → c.announce ≡ false → how.stats ≡ None → LeavesKept given c how before after text outcome
     → text ≡ []
-silent given no_saved no_line no_store no_metrics no_requests no_watcher c how before after text outcome quiet unreported ends (inl runs) =
+silent given no_saved no_line no_store no_metrics no_requests no_watcher c how before after text outcome quiet unreported (inl runs) =
     kept_silent given no_saved no_line no_store no_metrics no_requests c how before after text outcome quiet unreported
-    (subst (λ (h : Bool). RunsBy given None h c how before after text outcome) ends
-    (subst (λ (w : Option (Watching _ _)). RunsBy given w how.holds c how before after text outcome) no_watcher runs))
-silent given no_saved no_line no_store no_metrics no_requests no_watcher c how before after text outcome quiet unreported ends (inr unbegun) = unbegun.1
+    (subst (λ (w : Option (Watching _ _)). RunsBy given w c how before after text outcome) no_watcher runs)
+silent given no_saved no_line no_store no_metrics no_requests no_watcher c how before after text outcome quiet unreported (inr unbegun) = unbegun.1
 
 -- ---- what is read and opened before
 
@@ -281,14 +280,14 @@ no_note false said none = none
 
 serves_plain : {Log Sockets S Q : Type 0} (m : Machine Log Sockets) (states : StateMachine S Q) (names : Names) (held holds : Option (List ℕ))
     (c : Configuration) (how : Service) (is_verbose : Bool) (line said : List ℕ) (outcome : Result (Unit {0}) ServiceFault) → AreNone names
-    → how.stats ≡ None → how.holds ≡ false → c.announce ≡ false → LeavesWithState m states names held holds c how is_verbose line said outcome
+    → how.stats ≡ None → c.announce ≡ false → LeavesWithState m states names held holds c how is_verbose line said outcome
     → LeavesServed m names.log held holds c how.turns is_verbose line said outcome
-serves_plain m states names held holds c how is_verbose line said outcome none unreported ends quiet (unprepared f sockets opens why is stays unsaid) =
+serves_plain m states names held holds c how is_verbose line said outcome none unreported quiet (unprepared f sockets opens why is stays unsaid) =
     shut (opening.Log log_failure.Memory) (sockets, opens, inl (refl, stays)) (is ∙ ap Err (unprepared_memory states m.LogOpens names c f none why))
     (no_note is_verbose said unsaid)
-serves_plain m states names held holds c how is_verbose line said outcome none unreported ends quiet (unopened failure opens is note) =
+serves_plain m states names held holds c how is_verbose line said outcome none unreported quiet (unopened failure opens is note) =
     shut failure opens is note
-serves_plain m states names held holds c how is_verbose line said outcome none unreported ends quiet
+serves_plain m states names held holds c how is_verbose line said outcome none unreported quiet
     (ran before log log_then sockets sockets_then output warning text prepared opens closes stays leaves warns is) =
     let at = given states.held states.said m.held before in
     let no_saved = state_none states.FileReads names.state before.saved none.state prepared.saved in
@@ -300,8 +299,8 @@ serves_plain m states names held holds c how is_verbose line said outcome none u
     let told = prepared.text in
     let no_text : before.text.items ≡ [] = told.says ∙ ap₂ (λ (x y : List ℕ). x ++ y) (text_none names.state is_verbose c before.saved none.state)
     (note_none states.FileReads names.watch.trial c told.note none.trial told.tried) in
-    let serves = as_served at no_saved no_line no_store no_requests c how _ _ text outcome ends quiet leaves in
-    let nothing = silent at no_saved no_line no_store no_metrics no_requests no_watcher c how _ _ text outcome quiet unreported ends leaves in
+    let serves = as_served at no_saved no_line no_store no_requests c how _ _ text outcome quiet leaves in
+    let nothing = silent at no_saved no_line no_store no_metrics no_requests no_watcher c how _ _ text outcome quiet unreported leaves in
     served_by log log_then sockets sockets_then output warning opens closes stays serves warns
     (is ∙ ap (λ (x : List ℕ). ((line ++ warning) ++ x) ++ text) no_text ∙ ap (λ (x : List ℕ). ((line ++ warning) ++ []) ++ x) nothing
     ∙ append-nil ((line ++ warning) ++ []) ∙ append-nil (line ++ warning))
@@ -311,12 +310,11 @@ none_of None is = refl
 none_of (Some x) is = absurd cc
 
 -- what isn't named by options of a plain run
-plain_parts : (a b c d : Bool) → ((not a && (not b && not c)) && not d) ≡ true → (a ≡ false) × (b ≡ false) × (c ≡ false) × (d ≡ false)
-plain_parts false false false false is = (refl, refl, refl, refl)
-plain_parts true b c d is = absurd cc
-plain_parts false true c d is = absurd cc
-plain_parts false false true d is = absurd cc
-plain_parts false false false true is = absurd cc
+plain_parts : (a b c : Bool) → (not a && (not b && not c)) ≡ true → (a ≡ false) × (b ≡ false) × (c ≡ false)
+plain_parts false false false is = (refl, refl, refl)
+plain_parts true b c is = absurd cc
+plain_parts false true c is = absurd cc
+plain_parts false false true is = absurd cc
 
 or_parts : (a b : Bool) → (a || b) ≡ false → (a ≡ false) × (b ≡ false)
 or_parts false b is = (refl, is)
@@ -324,15 +322,15 @@ or_parts true b is = absurd cc
 
 pub plain_is_served : {Log Sockets S Q : Type 0} (m : Machine Log Sockets) (states : StateMachine S Q) (options : RunOptions)
     (held holds : Option (List ℕ)) (c : Configuration) (line said : List ℕ) (outcome : Result (Unit {0}) ServiceFault) → is_plain options ≡ true
-    → c.announce ≡ false → LeavesWithState m states (names_of options) held holds c (service options.turns options.stats options.stats_rules options.stamp) options.verbose line said outcome
+    → c.announce ≡ false → LeavesWithState m states (names_of options) held holds c (service options.turns options.stats options.stats_rules) options.verbose line said outcome
     → LeavesServed m (option_map string_bytes options.log) held holds c options.turns options.verbose line said outcome
 plain_is_served m states options held holds c line said outcome plain quiet leaves =
     let names = names_of options in
-    let parts = plain_parts (is_some options.state) (is_some options.reload) (is_watched names.watch) options.stamp plain in
+    let parts = plain_parts (is_some options.state) (is_some options.reload) (is_watched names.watch) plain in
     let trial = or_parts (is_some names.watch.trial) (is_some names.watch.audit || names.watch.counts) parts.2 in
     let audit = or_parts (is_some names.watch.audit) names.watch.counts trial.1 in
     let counts = or_parts (is_some options.stats) (is_some options.metrics) audit.1 in
-    serves_plain m states names held holds c (service options.turns options.stats options.stats_rules options.stamp) options.verbose line said outcome
+    serves_plain m states names held holds c (service options.turns options.stats options.stats_rules) options.verbose line said outcome
     (record {
       state = ap (option_map string_bytes) (none_of options.state parts.0);
       metrics = ap (option_map string_bytes) (none_of options.metrics counts.1);
@@ -340,4 +338,4 @@ plain_is_served m states options held holds c line said outcome plain quiet leav
       trial = none_of names.watch.trial trial.0;
       audit = none_of names.watch.audit audit.0;
       watched = parts.2;
-    }) (none_of options.stats counts.0) parts.3 quiet leaves
+    }) (none_of options.stats counts.0) quiet leaves

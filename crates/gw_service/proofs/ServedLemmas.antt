@@ -378,7 +378,7 @@ kept_serves given no_state no_line no_store no_requests c how before after text 
 
 runs_serve : {S Q L : Type 0} (given : Given S Q L) → given.saved ≡ None → given.line ≡ None → given.store ≡ None → given.requests ≡ None
     → (watcher : Option (Watching L L)) (c : Configuration) (how : Service) (before after : Ends) (text : List ℕ)
-    (outcome : Result (Unit {0}) ServiceFault) → c.announce ≡ false → RunsBy given watcher false c how before after text outcome
+    (outcome : Result (Unit {0}) ServiceFault) → c.announce ≡ false → RunsBy given watcher c how before after text outcome
     → Serves c how.turns before after outcome
 runs_serve given no_state no_line no_store no_requests None c how before after text outcome quiet runs =
     kept_serves given no_state no_line no_store no_requests c how before after text outcome quiet runs
@@ -387,8 +387,7 @@ runs_serve given no_state no_line no_store no_requests (Some watcher) c how befo
     kept_serves given no_state no_line no_store no_requests c how before after other.0 outcome quiet other.1
 
 pub as_served : {S Q L : Type 0} (given : Given S Q L) → IsAsServed given
-as_served given no_state no_line no_store no_requests c how before after text outcome ends quiet (inl runs) =
-    runs_serve given no_state no_line no_store no_requests given.watcher c how before after text outcome quiet
-    (subst (λ (h : Bool). RunsBy given given.watcher h c how before after text outcome) ends runs)
-as_served given no_state no_line no_store no_requests c how before after text outcome ends quiet (inr unbegun) =
+as_served given no_state no_line no_store no_requests c how before after text outcome quiet (inl runs) =
+    runs_serve given no_state no_line no_store no_requests given.watcher c how before after text outcome quiet runs
+as_served given no_state no_line no_store no_requests c how before after text outcome quiet (inr unbegun) =
     subst (λ (x : Result (Unit {0}) ServiceFault). Serves c how.turns before after x) (sym unbegun.2) (inr unbegun.0)

@@ -40,7 +40,7 @@ pub service_closes : {Log Sockets S Q : Type 0} (m : Machine Log Sockets) (state
 service_closes m states Closes so options held holds c said outcome leaves =
     let name = option_map string_bytes options.log in
     let line = startup_line options.verbose c name in
-    let how = service options.turns options.stats options.stats_rules options.stamp in (
+    let how = service options.turns options.stats options.stats_rules in (
       leaves.0,
       leaves.1,
       leaves.2,

@@ -29,7 +29,7 @@ use Rattle.gw_system.specs.declared.reading.ReadFailure.TheVariants as reading
 use Rattle.gw_system.specs.declared.store.StoreKind.{StoreKind}
 use Rattle.gw_system.specs.declared.store.StoreKind.TheVariants as kind
 use Rattle.gw_service.specs.Chain.{Begins, Link, Manner, Runs, Stage, chain_text, manner, stage}
-use Rattle.gw_service.specs.Holding.{Hold, RunsHolding, hold, holding_manner, more_holding, unheld}
+use Rattle.gw_service.specs.Holding.{Hold, RunsHolding, hold}
 use Rattle.gw_service.specs.declared.holding.Holding.{Holding}
 use Rattle.gw_service.specs.declared.running.End.{End}
 use Rattle.gw_service.specs.declared.running.End.TheVariants as end
@@ -331,51 +331,11 @@ pub record RunsWatched {S Q L : Type 0} (given : Given S Q L) (watcher : Watchin
       (first_stage given c gateway keeper (troubles_of keeper) before) answer after left text
   pub answers : outcome ≡ outcome_by answer (failing_in left.keeper.second)
 
--- Each of them may go on if its log fails: what keeps the state, watched or not, is in what withholds what is denied while lines wait.
-abbrev pub holding_manner_of : {S : Type 0} → (S → Option (List ℕ)) → Reporting → Manner (Holding (Kept S))
-holding_manner_of held how =
-    holding_manner (IsPassed held) (IsKeptAtTick held) (IsKeptFor held) troubles_in unkept_in no_more how (IsKeptLast held)
-
-abbrev pub watched_holding_manner_of : {S L : Type 0} → (S → Option (List ℕ)) → (L → Option (List ℕ)) → Reporting
-    → Manner (Holding (Both (Watching L L) (Kept S)))
-watched_holding_manner_of held log_held how =
-    holding_manner (PassesBoth (HasWatched log_held log_held) (IsPassed held)) (IsKeptAtTickBeside held) (IsKeptForBeside held) troubles_of
-    unkept_of more_of how (IsKeptLastBeside held)
-
-pub record HoldsKept {S Q L : Type 0} (given : Given S Q L) (c : Configuration) (how : Service) (before after : Ends) (text : List ℕ)
-    (outcome : Result (Unit {0}) ServiceFault) : Type 0 where
-  pub gateway : State
-  pub begins : BeginsAs c given.saved given.line gateway
-  pub keeper : Kept S
-  pub keeps : KeepsFirst given.held given.store c gateway keeper
-  pub answer : Result End ServeFault
-  pub left : Rest (Holding (Kept S))
-  pub runs : RunsFromHolding (holding_manner_of given.held (reporting_of given how gateway))
-      (end_stats (λ h. unkept_in h.keeper) (more_holding no_more) (reporting_of given how gateway))
-      (counts_of gateway) how.turns (first_stage given c gateway (unheld keeper) (troubles_in keeper) before) answer after left text
-  pub answers : outcome ≡ outcome_by answer (failing_in left.keeper.keeper)
-
-pub record HoldsWatched {S Q L : Type 0} (given : Given S Q L) (watcher : Watching L L) (c : Configuration) (how : Service) (before after : Ends)
-    (text : List ℕ) (outcome : Result (Unit {0}) ServiceFault) : Type 0 where
-  pub gateway : State
-  pub begins : BeginsAs c given.saved given.line gateway
-  pub keeper : Both (Watching L L) (Kept S)
-  pub keeps : KeepsFirst given.held given.store c gateway keeper.second
-  pub watches : keeper.first ≡ watcher
-  pub answer : Result End ServeFault
-  pub left : Rest (Holding (Both (Watching L L) (Kept S)))
-  pub runs : RunsFromHolding (watched_holding_manner_of given.held given.log_held (reporting_of given how gateway))
-      (end_stats (λ h. unkept_of h.keeper) (more_holding more_of) (reporting_of given how gateway)) (counts_of gateway) how.turns
-      (first_stage given c gateway (unheld keeper) (troubles_of keeper) before) answer after left text
-  pub answers : outcome ≡ outcome_by answer (failing_in left.keeper.keeper.second)
-
--- by whether something watches, and whether it goes on if its log fails
-abbrev pub RunsBy : {S Q L : Type 0} → Given S Q L → Option (Watching L L) → (holds : Bool) → Configuration → Service → Ends → Ends → List ℕ
+-- by whether something watches
+abbrev pub RunsBy : {S Q L : Type 0} → Given S Q L → Option (Watching L L) → Configuration → Service → Ends → Ends → List ℕ
     → Result (Unit {0}) ServiceFault → Type 0
-RunsBy given None false c how before after text outcome = RunsKept given c how before after text outcome
-RunsBy given (Some watcher) false c how before after text outcome = RunsWatched given watcher c how before after text outcome
-RunsBy given None true c how before after text outcome = HoldsKept given c how before after text outcome
-RunsBy given (Some watcher) true c how before after text outcome = HoldsWatched given watcher c how before after text outcome
+RunsBy given None c how before after text outcome = RunsKept given c how before after text outcome
+RunsBy given (Some watcher) c how before after text outcome = RunsWatched given watcher c how before after text outcome
 
 -- Memory ran out before that: nothing was received or reported.
 abbrev pub IsUnbegun : (before after : Ends) → (text : List ℕ) → (outcome : Result (Unit {0}) ServiceFault) → Type 0
@@ -384,7 +344,7 @@ IsUnbegun before after text outcome = (after ≡ before) × (text ≡ []) × (ou
 -- what a run leaves that keeps its state or reads its configuration again
 abbrev pub LeavesKept : {S Q L : Type 0} → Given S Q L → Configuration → Service → Ends → Ends → List ℕ → Result (Unit {0}) ServiceFault → Type 0
 LeavesKept given c how before after text outcome =
-    RunsBy given given.watcher how.holds c how before after text outcome ⊎ IsUnbegun before after text outcome
+    RunsBy given given.watcher c how before after text outcome ⊎ IsUnbegun before after text outcome
 
 -- ---- the whole
 
@@ -470,10 +430,9 @@ pub data LeavesWithState {Log Sockets S Q : Type 0} (machine : Machine Log Socke
       IsWarning machine.RoutesIp is_verbose warning → said ≡ ((line ++ warning) ++ before.text.items) ++ text →
       LeavesWithState machine states names held holds c how is_verbose line said outcome
 
--- neither a state nor a request file is named, nothing watches, and it doesn't go on if its log fails
+-- neither a state nor a request file is named, and nothing watches
 abbrev pub is_plain : RunOptions → Bool
-is_plain options =
-    (not (is_some options.state) && (not (is_some options.reload) && not (is_watched (watch_names options)))) && not options.stamp
+is_plain options = not (is_some options.state) && (not (is_some options.reload) && not (is_watched (watch_names options)))
 
 -- what a machine may give to any run
 pub record WholeMachine (Log Sockets S Q : Type 0) : Type 1 where
@@ -490,7 +449,7 @@ abbrev pub LeavesChosen : {Log Sockets S Q : Type 0} → WholeMachine Log Socket
 LeavesChosen whole options held holds c said outcome =
     let name = option_map string_bytes options.log in
     let line = startup_line options.verbose c name in
-    LeavesWithState whole.machine whole.states (names_of options) held holds c (service options.turns options.stats options.stats_rules options.stamp) options.verbose line said outcome
+    LeavesWithState whole.machine whole.states (names_of options) held holds c (service options.turns options.stats options.stats_rules) options.verbose line said outcome
     × (is_plain options ≡ true → c.announce ≡ false → LeavesServed whole.machine name held holds c options.turns options.verbose line said outcome)
 
 -- what is written if opening the log may wait for its reader

@@ -36,16 +36,15 @@ ends log calls = record { log = log; calls = calls }
 abbrev pub first_scene : Configuration → Ends → Scene
 first_scene c ends = scene (state_after c no_counts []) ends.log ends.calls
 
--- how it is served: for how many turns; how many seconds lie between two reports, where some are reported, and whether each
--- counts the asks of each rule; and whether it goes on if its log fails
+-- how it is served: for how many turns; and how many seconds lie between two reports, where some are reported, and whether each
+-- counts the asks of each rule
 pub record Service : Type 0 where
   pub turns : ℕ
   pub stats : Option ℕ
   pub rules : Bool
-  pub holds : Bool
 
-abbrev pub service : ℕ → Option ℕ → (rules holds : Bool) → Service
-service turns stats rules holds = record { turns = turns; stats = stats; rules = rules; holds = holds }
+abbrev pub service : ℕ → Option ℕ → (rules : Bool) → Service
+service turns stats rules = record { turns = turns; stats = stats; rules = rules }
 
 -- All turns were served, and the gateway is as they left it.
 pub record ServesWhole (c : Configuration) (turns : ℕ) (before after : Ends) : Type 0 where

@@ -69,15 +69,18 @@ impl<K: StateKeeper, Q: Requests, M: Store + Drop> HoldingRun<K, Q, M> {
         ensures running { result ≡ true → self.new.running ≡ record self.old.running { keeper = record self.old.running.keeper {
             waiting = length self.new.waiting;
             withheld = one_more self.old.running.keeper.withheld } } }
-        ensures still { result ≡ false → self.new ≡ self.old }
+        ensures left { result ≡ false → self.new.waiting ≡ self.old.waiting }
+        ensures still { result ≡ false → self.new.running ≡ record self.old.running { keeper = record self.old.running.keeper {
+            waiting = length self.new.waiting } } }
         ensures said { E.NeverFails errors.old →
             Appends (E.held errors.old) (E.held errors.new) (if result then waits_line else []) }
         ensures lasts { E.NeverFails errors.old → E.NeverFails errors.new }
     {
-        if !self.waiting.push(&self.running.state.unwritten) {
+        let waits = self.waiting.push(&self.running.state.unwritten);
+        self.running.keeper.waiting = self.waiting.len();
+        if !waits {
             return false;
         }
-        self.running.keeper.waiting = self.waiting.len();
         self.running.keeper.withheld = one_more(self.running.keeper.withheld);
         write_note(b"bacgw: log failed, denied messages wait\n", errors);
         true
@@ -111,11 +114,14 @@ impl<K: StateKeeper, Q: Requests, M: Store + Drop> HoldingRun<K, Q, M> {
         let ended = self
             .running
             .advance(alloc, wire, log, errors, schedule, turns);
-        if has_log_failed(ended) && self.hold(errors) {
-            return Ok(None);
+        if !has_log_failed(ended) {
+            self.running.keeper.waiting = self.waiting.len();
+            return ended;
         }
-        self.running.keeper.waiting = self.waiting.len();
-        ended
+        if !self.hold(errors) {
+            return Err(ServeFault::Log);
+        }
+        Ok(None)
     }
 
     /// Serves a stretch over what waits, as over a log: what is denied waits, too.
@@ -292,7 +298,7 @@ impl<K: StateKeeper, Q: Requests, M: Store + Drop> HoldingRun<K, Q, M> {
     /// # Errors
     ///
     /// Those of [`HoldingRun::serve`].
-    pub(crate) fn run<W: Wire, L: Notes, E: OctetSink>(
+    pub fn run<W: Wire, L: Notes, E: OctetSink>(
         &mut self,
         alloc: Global,
         wire: &mut W,

@@ -401,7 +401,7 @@ fn run_on<
     options: &RunOptions,
 ) -> Result<(), ServiceFault>
     requires failures { X.failure_count sockets.old < 2 ^ 127 }
-    ensures ran { (text : List ℕ) × LeavesKept (given S.held Q.recorded T.held before) config (service options.now.turns options.now.stats options.now.stats_rules options.now.stamp)
+    ensures ran { (text : List ℕ) × LeavesKept (given S.held Q.recorded T.held before) config (service options.now.turns options.now.stats options.now.stats_rules)
         (ends (L.held log.old) (X.calls sockets.old)) (ends (L.held log.new) (X.calls sockets.new)) text result
         × (E.NeverFails errors.old → Appends (E.held errors.old) (E.held errors.new) text) }
     ensures lasting { E.NeverFails errors.old → E.NeverFails errors.new }
@@ -421,24 +421,12 @@ fn run_on<
     match watcher {
         Some(watcher) => {
             let mut watched = running.watched_by(watcher);
-            if options.stamp {
-                let mut held = watched.holding(alloc);
-                let answer = held.run(alloc, sockets, log, errors, &schedule, turns);
-                outcome_of(answer, held.running.keeper.troubles().state)
-            } else {
-                let answer = watched.run(alloc, sockets, log, errors, &schedule, turns);
-                outcome_of(answer, watched.keeper.troubles().state)
-            }
+            let answer = watched.run(alloc, sockets, log, errors, &schedule, turns);
+            outcome_of(answer, watched.keeper.troubles().state)
         }
         None => {
-            if options.stamp {
-                let mut held = running.holding(alloc);
-                let answer = held.run(alloc, sockets, log, errors, &schedule, turns);
-                outcome_of(answer, held.running.keeper.troubles().state)
-            } else {
-                let answer = running.run(alloc, sockets, log, errors, &schedule, turns);
-                outcome_of(answer, running.keeper.troubles().state)
-            }
+            let answer = running.run(alloc, sockets, log, errors, &schedule, turns);
+            outcome_of(answer, running.keeper.troubles().state)
         }
     }
 }
@@ -465,7 +453,7 @@ fn run_open<
     requires unbuffered { log.old ≡ None → writer_buffer output.old ≡ [] }
     ensures ran { let held = writer_contents W.contents output.old in
         let holds = writer_contents W.contents output.new in
-        (text : List ℕ) × LeavesKept (given S.held Q.recorded L.held before) config (service options.now.turns options.now.stats options.now.stats_rules options.now.stamp)
+        (text : List ℕ) × LeavesKept (given S.held Q.recorded L.held before) config (service options.now.turns options.now.stats options.now.stats_rules)
         (ends (log_held L.held log.old held) (X.calls sockets.old))
         (ends (log_held L.held log.new holds) (X.calls sockets.new)) text result
         × (E.NeverFails errors.old → Appends (E.held errors.old) (E.held errors.new) text) }
@@ -516,7 +504,7 @@ pub(crate) fn serve_kept<H: Host, W: Write + Drop, E: OctetSink>(
         (state_machine (H.FileReads host.old) (H.LastDenials host.old) (H.StoreOpens host.old) (H.ReloadsOpen host.old)
         H.StateStore.held H.Reloads.recorded) (names_of options.now)
         (writer_contents W.contents output.old) (writer_contents W.contents output.new) config
-        (service options.now.turns options.now.stats options.now.stats_rules options.now.stamp) options.now.verbose (startup_line options.now.verbose config (option_map string_bytes options.now.log)) said result
+        (service options.now.turns options.now.stats options.now.stats_rules) options.now.verbose (startup_line options.now.verbose config (option_map string_bytes options.now.log)) said result
         × (E.NeverFails errors.old → Appends (E.held errors.old) (E.held errors.new) said) }
     ensures lasting { E.NeverFails errors.old → E.NeverFails errors.new }
     ensures flush { OnOk result (IsFlushedFor (option_map string_bytes options.now.log)

@@ -288,7 +288,7 @@ impl<K: StateKeeper, Q: Requests, M: Store + Drop> Running<K, Q, M> {
             × (E.NeverFails errors.old → Appends (E.held errors.old) (E.held errors.new) text) }
         ensures rest { (rest : ℕ) → self.new.state.served.turns + rest ≤ self.old.state.served.turns + turns →
             CanCount self.new.state.served self.new.state.tally (W.failure_count wire.new) rest }
-        ensures more { 0 < turns → OnOk result (self.old.state.served.turns < self.new.state.served.turns) }
+        ensures more { 0 < turns → self.old.state.served.turns < self.new.state.served.turns }
         ensures most { self.new.state.served.turns ≤ self.old.state.served.turns + turns }
         ensures asking { result ≡ Ok (Some End.Stopped) → IsAsking (Q.recorded self.new.requests) }
         ensures lasts { E.NeverFails errors.old → E.NeverFails errors.new }
@@ -496,7 +496,7 @@ impl<K: StateKeeper, Q: Requests, M: Store + Drop> Running<K, Q, M> {
     }
 
     /// The same gateway, which goes on if its log fails. Nothing waits.
-    pub(crate) fn holding(self, alloc: Global) -> HoldingRun<K, Q, M>
+    pub fn holding(self, alloc: Global) -> HoldingRun<K, Q, M>
         ensures running { result.running ≡ holding_of self }
         ensures waiting { result.waiting ≡ [] }
     {

@@ -19,7 +19,7 @@ use Rattle.gw_service.proofs.kept.run_on.Goals as goal
 pub returns-in_err-running-clause-ran : goal.returns-in_err-running-clause-ran
 returns-in_err-running-clause-ran g c =
     let from = given g.S.Store.held g.Q.Requests.recorded g.T.OctetSink.held c.args.before in
-    let how = service c.args.options.now.turns c.args.options.now.stats c.args.options.now.stats_rules c.args.options.now.stamp in
+    let how = service c.args.options.now.turns c.args.options.now.stats c.args.options.now.stats_rules in
     let at = ends (g.L.OctetSink.held c.args.log.now) (g.X.Wire.calls c.args.sockets.now) in
     let never = g.E.OctetSink.NeverFails c.args.errors.now in
     let held = g.E.OctetSink.held c.args.errors.now in
@@ -34,7 +34,7 @@ returns-in-None-clause-ran g c =
     let held = g.E.OctetSink.held in
     let said = recorded_by g.Q.Requests.recorded in
     ran_kept (given g.S.Store.held g.Q.Requests.recorded g.T.OctetSink.held c.args.before) c.args.config
-    (service c.args.options.now.turns c.args.options.now.stats c.args.options.now.stats_rules c.args.options.now.stamp) c.counts.result c.is_kept-keeps.result c.is_some-reloads.result run.gateway run.keeper
+    (service c.args.options.now.turns c.args.options.now.stats c.args.options.now.stats_rules) c.counts.result c.is_kept-keeps.result c.is_some-reloads.result run.gateway run.keeper
     run.state.served run.state.tally (said run.requests) run.counts run.announcing (metered run.metrics)
     (ends (g.L.OctetSink.held c.args.log.now) (g.X.Wire.calls c.args.sockets.now))
     (ends (g.L.OctetSink.held c.run-answer-in-None.new.log) (g.X.Wire.calls c.run-answer-in-None.new.wire)) c.run-answer-in-None.result
@@ -55,7 +55,7 @@ returns-in-Some-clause-ran g c =
     let said = recorded_by g.Q.Requests.recorded in
     let from = given g.S.Store.held g.Q.Requests.recorded g.T.OctetSink.held c.args.before in
     ran_watched from c.in-Some.watcher c.args.config
-    (service c.args.options.now.turns c.args.options.now.stats c.args.options.now.stats_rules c.args.options.now.stamp) c.counts.result c.is_kept-keeps.result c.is_some-reloads.result watched.gateway watched.keeper
+    (service c.args.options.now.turns c.args.options.now.stats c.args.options.now.stats_rules) c.counts.result c.is_kept-keeps.result c.is_some-reloads.result watched.gateway watched.keeper
     watched.state.served watched.state.tally (said watched.requests) watched.counts watched.announcing (metered watched.metrics)
     (ends (g.L.OctetSink.held c.args.log.now) (g.X.Wire.calls c.args.sockets.now))
     (ends (g.L.OctetSink.held c.run-answer.new.log) (g.X.Wire.calls c.run-answer.new.wire)) c.run-answer.result

@@ -10,7 +10,7 @@ returns-in-None-clause-ran g c =
     let done = c.run_on-in-None.ensures.ran in (
       done.0,
       on_output g.L.OctetSink.held
-          (λ (before then : Ends). LeavesKept (given g.S.Store.held g.Q.Requests.recorded g.L.OctetSink.held c.args.before) c.args.config (service c.args.options.now.turns c.args.options.now.stats c.args.options.now.stats_rules c.args.options.now.stamp) before then done.0
+          (λ (before then : Ends). LeavesKept (given g.S.Store.held g.Q.Requests.recorded g.L.OctetSink.held c.args.before) c.args.config (service c.args.options.now.turns c.args.options.now.stats c.args.options.now.stats_rules) before then done.0
           c.run_on-in-None.result) c.args.log.now
           (g.W.Write.contents c.get_mut-log.result.now) (g.W.Write.contents (writer_inner c.args.output.now))
           (g.W.Write.contents c.run_on-in-None.new.log) (writer_buffer c.args.output.now) (g.X.Wire.calls c.args.sockets.now)

@@ -5,7 +5,7 @@ use Rattle.gw_turns.specs.declared.serving.ServeFault.{ServeFault}
 use Rattle.gw_service.specs.Holding.{Hold, hold, holding_manner, stage_of}
 use Rattle.gw_service.specs.declared.running.End.{End}
 use Rattle.gw_service.specs.Scheduled.{reporting_by}
-use Rattle.gw_service.proofs.HoldingRunLemmas.{Gone, ServedSo, served_fault, served_so, stepped_more, stepped_none}
+use Rattle.gw_service.proofs.HoldingRunLemmas.{Gone, ServedSo, served_fault, served_so, served_whole, stepped_more, stepped_none}
 use Rattle.gw_service.proofs.holding_run.HoldingRun.serve_steps.Goals as goal
 
 pub loop-init : goal.loop-init
@@ -97,3 +97,33 @@ returns-in-Some-clause-serves g c =
     (never c.args.errors.now) (never c.loop.errors) (held c.args.errors.now) (held c.loop.errors) (held c.step.new.errors) kept.4
     (subst (λ (ending : Option End). Gone how now.running.origin at (Ok ending) new.running.origin last (never c.loop.errors)
     (held c.loop.errors) (held c.step.new.errors)) c.in-Some.is c.in_ok-ended.ensures.comes) kept.3
+
+pub returns-then-left-eq0-clause-serves : goal.returns-then-left-eq0-clause-serves
+returns-then-left-eq0-clause-serves g c =
+    let how = holding_manner g.K.Guard.Passes g.K.StateKeeper.Ticks g.K.StateKeeper.Adopts g.K.StateKeeper.troubles g.K.StateKeeper.unkept
+    g.K.StateKeeper.more (reporting_by c.args.schedule.now) g.K.StateKeeper.Lasts in
+    let old = c.args.self.now in
+    let now = c.loop.self in
+    let kept = c.loop.invariant in
+    served_whole how c.args.turns old.running.origin now.running.origin
+    (λ (config : Configuration). hold (stage_of g.Q.Requests.recorded config old.running (g.L.OctetSink.held c.args.log.now)
+    (g.W.Wire.calls c.args.wire.now)) old.waiting)
+    (λ (config : Configuration). hold (stage_of g.Q.Requests.recorded config now.running (g.L.OctetSink.held c.loop.log)
+    (g.W.Wire.calls c.loop.wire)) now.waiting)
+    (g.E.OctetSink.NeverFails c.args.errors.now) (g.E.OctetSink.held c.args.errors.now) (g.E.OctetSink.held c.loop.errors) kept.4
+    (λ a b. omega (arith, kept.1, c.if-left-eq0.true))
+
+pub returns-clause-serves : goal.returns-clause-serves
+returns-clause-serves g c =
+    let how = holding_manner g.K.Guard.Passes g.K.StateKeeper.Ticks g.K.StateKeeper.Adopts g.K.StateKeeper.troubles g.K.StateKeeper.unkept
+    g.K.StateKeeper.more (reporting_by c.args.schedule.now) g.K.StateKeeper.Lasts in
+    let old = c.args.self.now in
+    let now = c.loop.self in
+    let kept = c.loop.invariant in
+    served_whole how c.args.turns old.running.origin now.running.origin
+    (λ (config : Configuration). hold (stage_of g.Q.Requests.recorded config old.running (g.L.OctetSink.held c.args.log.now)
+    (g.W.Wire.calls c.args.wire.now)) old.waiting)
+    (λ (config : Configuration). hold (stage_of g.Q.Requests.recorded config now.running (g.L.OctetSink.held c.loop.log)
+    (g.W.Wire.calls c.loop.wire)) now.waiting)
+    (g.E.OctetSink.NeverFails c.args.errors.now) (g.E.OctetSink.held c.args.errors.now) (g.E.OctetSink.held c.loop.errors) kept.4
+    (λ a b. omega (arith, kept.0, kept.1, c.loop-test.false, c.loop.auto.counter-end))

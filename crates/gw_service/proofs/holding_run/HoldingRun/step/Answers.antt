@@ -6,8 +6,8 @@ use Rattle.gw_service.specs.Scheduled.{reporting_by}
 use Rattle.gw_service.proofs.HoldingRunLemmas.{goes_on_by, goes_written}
 use Rattle.gw_service.proofs.holding_run.HoldingRun.step.Goals as goal
 
-pub returns-then-goes_on-clause-comes : goal.returns-then-goes_on-clause-comes
-returns-then-goes_on-clause-comes g c = λ config is_config.
+pub returns-then-ticks-counts-clause-comes : goal.returns-then-ticks-counts-clause-comes
+returns-then-ticks-counts-clause-comes g c = λ config is_config.
     let how = holding_manner g.K.Guard.Passes g.K.StateKeeper.Ticks g.K.StateKeeper.Adopts g.K.StateKeeper.troubles g.K.StateKeeper.unkept
     g.K.StateKeeper.more (reporting_by c.args.schedule.now) g.K.StateKeeper.Lasts in
     let old = c.args.self.now in

@@ -15,7 +15,7 @@ use Rattle.gw_service.specs.Metrics.{PutsDue}
 use Rattle.gw_service.proofs.MeteringLemmas.{puts_metered}
 use Rattle.gw_service.specs.Scheduled.{reporting_by}
 use Rattle.gw_service.specs.Stats.{all_stats, due_stats}
-use Rattle.gw_service.proofs.ChainLemmas.{advanced_by, advances_as, ends_as, more_at_tick, more_at_turns, more_withheld, went_kept}
+use Rattle.gw_service.proofs.ChainLemmas.{advanced_by, advances_as, ends_as, more_at_tick, more_at_turns, more_faulty, more_withheld, went_kept}
 use Rattle.gw_notices.proofs.AppendLemmas.{appends_nothing, appends_two}
 use Rattle.gw_service.proofs.running.Running.advance.Goals as goal
 
@@ -266,3 +266,14 @@ returns-in-Ok-Withheld-clause-more g c = λ some.
     (moment (scene c.serve_to_tick.new.gateway (g.L.OctetSink.held c.serve_to_tick.new.log) (g.W.Wire.calls c.serve_to_tick.new.wire))
     c.serve_to_tick.new.guard c.serve_to_tick.new.self.served c.serve_to_tick.new.self.tally) c.serve_to_tick.result c.serve_to_tick.new.self.unwritten.items c.in-Ok-Withheld.field-0
     pause.Withheld c.in-Ok-Withheld.is c.in-Ok-Withheld.field-0-is c.serve_to_tick.ensures.end)
+
+pub returns-in-Err-clause-more : goal.returns-in-Err-clause-more
+returns-in-Err-clause-more g c = λ some.
+    let old = c.args.self.now in
+    let new = c.serve_to_tick.new in
+    let held = g.L.OctetSink.held in
+    let calls = g.W.Wire.calls in
+    more_faulty g.K.Guard.Passes c.args.turns
+    (moment (scene old.gateway (held c.args.log.now) (calls c.args.wire.now)) old.keeper old.state.served old.state.tally)
+    (moment (scene new.gateway (held new.log) (calls new.wire)) new.guard new.self.served new.self.tally)
+    c.in-Err.fault new.self.unwritten.items c.in-Err.ensures.end
