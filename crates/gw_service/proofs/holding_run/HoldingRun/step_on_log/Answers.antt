@@ -1,9 +1,10 @@
 use Rattle.std.proofs.Common.{◌≡◌, ◌∙◌, ◌++◌, List, [], ℕ, Bool, Option, ap, if◌then◌else◌, length, refl, subst, sym}
-use Rattle.std.specs.Prelude.{Result, Ok, None}
+use Rattle.std.specs.Prelude.{Result, Ok, Err, None}
 use Rattle.std.proofs.lemmas.List.{append-nil}
 use Rattle.std.specs.Io.KnownBytes.{Appends}
 use Rattle.gw_notices.proofs.AppendLemmas.{appends_two}
 use Rattle.gw_turns.specs.declared.serving.ServeFault.{ServeFault}
+use Rattle.gw_turns.specs.declared.serving.ServeFault.TheVariants as serving
 use Rattle.gw_service.specs.Holding.{GoesTo, counting, hold, holding_manner, stage_of, waits_line}
 use Rattle.gw_service.specs.declared.running.End.{End}
 use Rattle.gw_service.specs.declared.running.Running.{Running}
@@ -54,7 +55,7 @@ returns-then-not-hold-clause-comes g c = λ config is_config.
       done.0,
       done.1,
       ap (λ (r : Running _ _ _). r.origin) running ∙ done.2,
-      subst (λ (r : Running _ _ _). GoesTo how before _ done.1 (hold (stage_of recorded done.0 r (log now.log) (calls now.wire)) is.waiting)) (sym running)
+      subst (λ (r : Running _ _ _). GoesTo how before (Err serving.Log) done.1 (hold (stage_of recorded done.0 r (log now.log) (calls now.wire)) is.waiting)) (sym running)
           (subst (λ (a : Result (Option End) ServeFault). GoesTo how before a done.1 (hold (counting mid (length is.waiting) mid.now.guard.withheld) is.waiting)) failed
           (goes_over_log how c.args.turns was mid old.waiting is.waiting c.advance-ended.result done.1 _ c.requires.none left done.3)),
       λ never. subst (λ (l : List ℕ). Appends (held c.args.errors.now) (held c.hold.new.errors) l) (append-nil done.1)
