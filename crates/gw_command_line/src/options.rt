@@ -7,8 +7,8 @@ mod files;
 mod values;
 
 pub use builders::{
-    FILE, NUMBER, VERSION, WORD, make_flag, make_needed, make_needed_flag, make_number, make_of_file,
-    make_option, make_positional,
+    FILE, NUMBER, VERSION, WORD, make_flag, make_needed, make_needed_flag, make_number,
+    make_of_file, make_option, make_positional,
 };
 pub use fault::WordsFault;
 pub use files::{FileOption, FileUse, add_read, add_replaced, add_request, add_written, clash_of};

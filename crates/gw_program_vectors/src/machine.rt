@@ -626,7 +626,10 @@ fn run_with(
         failing_log: Failing {
             sync: section.number("failing sync ").map(|number| number as u64),
             write: section.number("failing write ").map(|number| number as u64),
-            writes: section.number("writes ").map(|number| number as u64).unwrap_or(1),
+            writes: section
+                .number("writes ")
+                .map(|number| number as u64)
+                .unwrap_or(1),
         },
         beside: section.number("beside "),
         trial: trial_of(alloc, section, config)?,

@@ -124,21 +124,21 @@ ran_kept {S} given c how start keeps reloads w k s t q u a m before after answer
       ran.0,
       inl (subst (λ (o : Option (Watching _ _)). RunsBy given o how.holds c how before after ran.0 outcome) (sym unwatched)
           (subst (λ (h : Bool). RunsBy given None h c how before after ran.0 outcome) (sym ends) (record {
-        gateway = w;
-        begins = begins;
-        keeper = k;
-        keeps = is_kept;
-        answer = answer;
-        left = left;
-        runs = from_start (manner_of given.held (reporting_of given how w)) (end_stats unkept_in no_more (reporting_of given how w)) (counts_of w) how.turns c
-            (scene w before.log before.calls) k s zero_counts t no_tally q (recorded_by given.said given.requests) u (counts_since w.ticks) a first_announcing (troubles_in k)
-            m (metered (option_map nothing_written given.metrics)) answer after left ran.0 served tally requests is_counts is_announcing is_metered
-            (subst (λ (x : Counts). RunsFrom (manner_of given.held (reporting_of given how w)) (end_stats unkept_in no_more (reporting_of given how w)) x how.turns at
-            answer after left ran.0) is_start
-            (subst (λ (x : Reporting). RunsFrom (manner_of given.held x) (end_stats unkept_in no_more x) start how.turns at answer after left ran.0) same
-            ran.1));
-        answers = answers;
-      }))),
+            gateway = w;
+            begins = begins;
+            keeper = k;
+            keeps = is_kept;
+            answer = answer;
+            left = left;
+            runs = from_start (manner_of given.held (reporting_of given how w)) (end_stats unkept_in no_more (reporting_of given how w)) (counts_of w) how.turns c
+                (scene w before.log before.calls) k s zero_counts t no_tally q (recorded_by given.said given.requests) u (counts_since w.ticks) a first_announcing (troubles_in k)
+                m (metered (option_map nothing_written given.metrics)) answer after left ran.0 served tally requests is_counts is_announcing is_metered
+                (subst (λ (x : Counts). RunsFrom (manner_of given.held (reporting_of given how w)) (end_stats unkept_in no_more (reporting_of given how w)) x how.turns at
+                answer after left ran.0) is_start
+                (subst (λ (x : Reporting). RunsFrom (manner_of given.held x) (end_stats unkept_in no_more x) start how.turns at answer after left ran.0) same
+                ran.1));
+            answers = answers;
+          }))),
       ran.2,
     )
 
@@ -164,22 +164,22 @@ ran_watched {S} given watcher c how start keeps reloads w k s t q u a m before a
       ran.0,
       inl (subst (λ (o : Option (Watching _ _)). RunsBy given o how.holds c how before after ran.0 outcome) (sym watched)
           (subst (λ (h : Bool). RunsBy given (Some watcher) h c how before after ran.0 outcome) (sym ends) (record {
-        gateway = w;
-        begins = begins;
-        keeper = k;
-        keeps = is_kept;
-        watches = watches;
-        answer = answer;
-        left = left;
-        runs = from_start (watched_manner_of given.held given.log_held (reporting_of given how w)) (end_stats unkept_of more_of (reporting_of given how w))
-            (counts_of w) how.turns c (scene w before.log before.calls) k s zero_counts t no_tally q (recorded_by given.said given.requests) u (counts_since w.ticks) a
-            first_announcing (troubles_of k) m (metered (option_map nothing_written given.metrics)) answer after left ran.0 served tally requests is_counts is_announcing is_metered
-            (subst (λ (x : Counts). RunsFrom (watched_manner_of given.held given.log_held (reporting_of given how w))
-            (end_stats unkept_of more_of (reporting_of given how w)) x how.turns at answer after left ran.0) is_start
-            (subst (λ (x : Reporting). RunsFrom (watched_manner_of given.held given.log_held x) (end_stats unkept_of more_of x) start how.turns at answer
-            after left ran.0) same ran.1));
-        answers = answers;
-      }))),
+            gateway = w;
+            begins = begins;
+            keeper = k;
+            keeps = is_kept;
+            watches = watches;
+            answer = answer;
+            left = left;
+            runs = from_start (watched_manner_of given.held given.log_held (reporting_of given how w)) (end_stats unkept_of more_of (reporting_of given how w))
+                (counts_of w) how.turns c (scene w before.log before.calls) k s zero_counts t no_tally q (recorded_by given.said given.requests) u (counts_since w.ticks) a
+                first_announcing (troubles_of k) m (metered (option_map nothing_written given.metrics)) answer after left ran.0 served tally requests is_counts is_announcing is_metered
+                (subst (λ (x : Counts). RunsFrom (watched_manner_of given.held given.log_held (reporting_of given how w))
+                (end_stats unkept_of more_of (reporting_of given how w)) x how.turns at answer after left ran.0) is_start
+                (subst (λ (x : Reporting). RunsFrom (watched_manner_of given.held given.log_held x) (end_stats unkept_of more_of x) start how.turns at answer
+                after left ran.0) same ran.1));
+            answers = answers;
+          }))),
       ran.2,
     )
 

@@ -66,12 +66,18 @@ impl<K: StateKeeper, Q: Requests, M: Store + Drop> HoldingRun<K, Q, M> {
     /// too many octets, or there is no memory.
     fn hold<E: OctetSink>(&mut self, errors: &mut E) -> bool
         ensures waiting { result ≡ true → self.new.waiting ≡ self.old.waiting ++ self.old.running.state.unwritten.items }
-        ensures running { result ≡ true → self.new.running ≡ record self.old.running { keeper = record self.old.running.keeper {
+        ensures running { result ≡ true → self.new.running ≡ record self.old.running {
+          keeper = record self.old.running.keeper {
             waiting = length self.new.waiting;
-            withheld = one_more self.old.running.keeper.withheld } } }
+            withheld = one_more self.old.running.keeper.withheld;
+          };
+        } }
         ensures left { result ≡ false → self.new.waiting ≡ self.old.waiting }
-        ensures still { result ≡ false → self.new.running ≡ record self.old.running { keeper = record self.old.running.keeper {
-            waiting = length self.new.waiting } } }
+        ensures still { result ≡ false → self.new.running ≡ record self.old.running {
+          keeper = record self.old.running.keeper {
+            waiting = length self.new.waiting;
+          };
+        } }
         ensures said { E.NeverFails errors.old →
             Appends (E.held errors.old) (E.held errors.new) (if result then waits_line else []) }
         ensures lasts { E.NeverFails errors.old → E.NeverFails errors.new }
