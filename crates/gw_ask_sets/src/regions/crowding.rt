@@ -16,7 +16,10 @@ use crate::regions::{Region, Values};
 use gw_rules::{FieldName, Range, Rule, admit};
 use std::alloc::{AllocError, Global};
 
-/// How many rules are counted at most.
+/// How many rules are counted first.
+const FIRST_RULES: usize = 32;
+
+/// How many are counted at most.
 const COUNTED_RULES: usize = 128;
 
 /// Some rules, those at these places, in one field.
@@ -196,6 +199,13 @@ fn meeting_places(
     Ok(places)
 }
 
+/// Whether they are seen to be too many.
+fn are_crowding(rules: &[Rule], places: &[usize], region: &Region) -> bool
+    ensures { result ≡ true → (ask : SpecAsk) → lies region.now ask ≡ true → is_matched rules.now ask ≡ true }
+{
+    !are_seen_few(rules, places, region) && are_too_many(rules, places, region)
+}
+
 /// Whether rules are seen to match each ask of the region since they are so many. An `Err` if there is no memory.
 pub(crate) fn is_crowded(
     alloc: Global,
@@ -205,8 +215,9 @@ pub(crate) fn is_crowded(
     ensures { IfOk result (λ crowded. crowded ≡ true → (ask : SpecAsk) → lies region.now ask ≡ true → is_matched rules.now ask ≡ true) }
 {
     let places = meeting_places(alloc, rules, region)?;
-    if are_seen_few(rules, &places, region) {
-        return Ok(false);
+    let first = FIRST_RULES.min(places.len());
+    if are_crowding(rules, &places[..first], region) {
+        return Ok(true);
     }
-    Ok(are_too_many(rules, &places, region))
+    Ok(first < places.len() && are_crowding(rules, &places, region))
 }
