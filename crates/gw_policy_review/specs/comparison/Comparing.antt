@@ -1,7 +1,8 @@
 -- A comparison of two configurations that goes on in portions.
-use Rattle.std.specs.Prelude.{ℕ, Bool, ◌||◌, ◌==◌, nat_le, List, ◌∷◌, [], ◌++◌, length, codes, decimal}
+use Rattle.std.specs.Prelude.{ℕ, ◌+◌, ◌*◌, Bool, ◌||◌, ◌==◌, nat_le, List, ◌∷◌, [], ◌++◌, length, codes, decimal}
 use Rattle.gw_configuration.specs.Configuration.{Configuration}
 use Rattle.gw_ask_sets.specs.regions.Comparing.{IsComparison}
+use Rattle.gw_ask_sets.specs.regions.Ranges.{lesser}
 use Rattle.gw_ask_sets.specs.regions.Regions.{Region}
 use Rattle.gw_ask_sets.specs.regions.Steps.{IsReached, stage}
 use Rattle.gw_ask_sets.specs.regions.Tidying.{all_tidied}
@@ -23,9 +24,16 @@ pub record IsUnderWay (p : Progress) : Type 0 where
   pub reached : IsReached (asks_of p.old_one p.new_one) (all_tidied p.old_one.rules) (all_tidied p.new_one.rules) p.steps
       (stage p.found p.left)
 
+-- how many steps are made of two lists of so many rules: 1,024, and 63 for each rule, up to 512 of a list, so at most 65,536
+abbrev pub most_steps : (old new : ℕ) → ℕ
+most_steps old new = 1024 + 63 * (lesser 512 old + lesser 512 new)
+
+abbrev pub steps_for : (old new : Configuration) → ℕ
+steps_for old new = most_steps (length old.rules) (length new.rules)
+
 -- nothing is left, or all steps are used
 abbrev pub is_finished : Progress → Bool
-is_finished p = (length p.left == 0) || nat_le 65536 p.steps
+is_finished p = (length p.left == 0) || nat_le (steps_for p.old_one p.new_one) p.steps
 
 -- `44 of 65536 steps were used`
 abbrev pub steps_text : ℕ → List ℕ

@@ -1,7 +1,7 @@
 //! A comparison that goes on in portions.
 ghost use Rattle.std.specs.Prelude.{◌≡◌, ◌≤◌, ◌<◌, ◌+◌, [], length, true, IfOk, OnErr, OnOk};
 ghost use Rattle.gw_addr.specs.Appending.{IsAppended, IsAppendedWhole};
-ghost use Rattle.gw_policy_review.specs.comparison.Comparing.{IsUnderWay, is_finished, steps_text};
+ghost use Rattle.gw_policy_review.specs.comparison.Comparing.{IsUnderWay, is_finished, most_steps, steps_for, steps_text};
 ghost use Rattle.gw_policy_review.specs.comparison.Comparison.{AppendsComparison, AppendsCounted, AreResults, manner_of};
 ghost use Rattle.gw_policy_review.specs.comparison.PairLines.{known_of};
 
@@ -11,11 +11,29 @@ use crate::comparison::comparison::{
 };
 use crate::comparison::pairs::{have_lines, pairs_if};
 use gw_addr::{keep_whole, put_decimal, put_slice};
-use gw_ask_sets::regions::{Comparison, MAX_STEPS, Policies, Region, all_tidied};
+use gw_ask_sets::regions::{Comparison, Policies, Region, all_tidied};
 use gw_configuration::Config;
 use gw_rules::Rule;
 use std::alloc::{AllocError, Global};
 use std::marker::Model;
+
+/// How many steps a comparison makes of two lists without rules.
+const FIRST_STEPS: u32 = 1_024;
+
+/// How many it makes for each rule.
+const RULE_STEPS: u32 = 63;
+
+/// For how many rules of a list it does.
+const COUNTED_RULES: usize = 512;
+
+/// How many steps a comparison makes of two lists of so many rules, at most 65,536.
+fn most_steps(old: usize, new: usize) -> u32
+    ensures is { result ≡ most_steps old new }
+    ensures most { result ≤ 65536 }
+{
+    let rules = COUNTED_RULES.min(old) + COUNTED_RULES.min(new);
+    FIRST_STEPS + RULE_STEPS * rules as u32
+}
 
 /// A comparison of the rules of two configurations, over all asks that a gateway of either may raise. It goes on in
 /// portions, so that a caller can report between them how far it is.
@@ -88,8 +106,19 @@ impl<'a> Comparing<'a> {
         })
     }
 
-    /// Goes on by at most so many steps: by fewer only if it is finished then. It uses at most 65,536 steps in all.
-    /// An `Err` if there is no memory: what was found may be lost then.
+    /// How many steps it makes in all: 1,024, and 63 for each rule of the two, up to 512 of a list.
+    fn most_steps(&self) -> u32
+        ensures is { result ≡ steps_for self.now.old_one self.now.new_one }
+        ensures most { result ≤ 65536 }
+    {
+        most_steps(
+            self.before.rules().rules().len(),
+            self.after.rules().rules().len(),
+        )
+    }
+
+    /// Goes on by at most so many steps: by fewer only if it is finished then. It uses at most 65,536 steps in all, and
+    /// fewer of short lists. An `Err` if there is no memory: what was found may be lost then.
     pub fn go_on(&mut self, alloc: Global, steps: u32) -> Result<(), AllocError>
         ensures old { self.new.old_one ≡ self.old.old_one }
         ensures new { self.new.new_one ≡ self.old.new_one }
@@ -99,7 +128,7 @@ impl<'a> Comparing<'a> {
         ensures limit { OnOk result (self.old.steps ≤ 65536 → self.new.steps ≤ 65536) }
         ensures finished { OnOk result (self.new.steps < self.old.steps + steps → is_finished self.new ≡ true) }
     {
-        let rest = MAX_STEPS.saturating_sub(self.comparison.steps);
+        let rest = self.most_steps().saturating_sub(self.comparison.steps);
         let portion = if steps < rest { steps } else { rest };
         let policies = Policies {
             old: &self.old_rules,
@@ -109,11 +138,11 @@ impl<'a> Comparing<'a> {
         self.comparison.go_on(alloc, &policies, portion)
     }
 
-    /// Whether nothing is left, or all 65,536 steps are used.
+    /// Whether nothing is left, or all steps are used that are made of two lists of so many rules.
     pub fn is_finished(&self) -> bool
         ensures { result ≡ is_finished self.now }
     {
-        self.comparison.left.is_empty() || MAX_STEPS <= self.comparison.steps
+        self.comparison.left.is_empty() || self.most_steps() <= self.comparison.steps
     }
 
     /// How many steps were used.
