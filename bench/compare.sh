@@ -18,7 +18,7 @@
 #
 #     bench/compare.sh           # 200 pairs
 #     bench/compare.sh 5 9       # 5 pairs, from the seed 9
-#     bench/compare.sh lists     # lists as a site has them, of 3 to 512 rules, after an edit: how many lines, and in what time
+#     bench/compare.sh lists     # lists as a site has them, of 3 to 512 rules, after an edit: how many lines, in what time and steps
 #     bench/compare.sh lists 3   # the same, with 3 lists of each length and edit in the place of 10
 #     bench/compare.sh pairs 50 # hostile lists of so many rules, wide but for slits: the comparison is complete by pairs of rules, each
 #                               # pair has an ask that shows it, and no random ask is of another pair
@@ -546,21 +546,22 @@ def shown(numbers, form):
 
 
 def measure(room, dice, length, edit, lists):
-    """The kinds that are found and the seconds that it takes, middle and most; and how many comparisons weren't finished."""
-    kinds, seconds, unfinished = [], [], 0
+    """The kinds that are found, the seconds and the steps that it takes; and how many comparisons weren't finished."""
+    kinds, seconds, steps, unfinished = [], [], [], 0
     files = [room / "old.toml", room / "new.toml"]
     for _ in range(lists):
         old = site_list(dice, length)
         for path, rules in zip(files, [old, edited(dice, old, edit)]):
             path.write_text(text_of(named(rules), 2, NETWORKS), encoding="utf-8")
         start = time.monotonic()
-        status, said, wrong = compare(*files)
+        status, said, wrong = compare(*files, "--steps")
         seconds.append(time.monotonic() - start)
         assert status in (0, 1, 3) and not wrong, f"{length} rules, {edit}: {status} {wrong}"
+        steps.append(int(said.pop().split()[0]))
         count = re.search(r"(\d+) kinds? of asks", said[-1])
         kinds.append(int(count[1]) if count else 0)
         unfinished += said[-1].startswith("not finished")
-    return kinds, seconds, unfinished
+    return kinds, seconds, unfinished, steps
 
 
 def measure_lists(room, lists, seed):
@@ -571,6 +572,7 @@ def measure_lists(room, lists, seed):
         found = [measure(room, dice, length, edit, lists) for edit in EDITS]
         print(f"| {length}, kinds | " + " | ".join(shown(it[0], "{:.0f}") for it in found) + " |")
         print(f"| {length}, seconds | " + " | ".join(shown(it[1], "{:.2f}") for it in found) + " |", flush=True)
+        print(f"| {length}, steps | " + " | ".join(shown(it[3], "{:.0f}") for it in found) + " |", flush=True)
         left = [f"{it[2]} of {lists} ({edit})" for it, edit in zip(found, EDITS) if it[2]]
         if left:
             print(f"{length} rules, not finished: " + ", ".join(left), file=sys.stderr)

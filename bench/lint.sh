@@ -16,7 +16,8 @@
 #
 # And how long `bacgwctl report` takes over the same and over a shipped policy, and how many cells of each kind its table has.
 #
-#     bench/lint.sh              # prints a line for each: seconds, the least of three runs, and how many lines of each kind; or over 60 s
+#     bench/lint.sh              # prints a line for each: seconds, the least of three runs, the most memory, and how many lines of each
+#                                # kind; or over 60 s
 #     bench/lint.sh FOLDER       # and keeps the texts there
 #
 # It wants python3 and the program built, as `./bacgw prove` leaves it; LINT and REPORT name another program, with its words.
@@ -26,8 +27,10 @@ top=$(cd "$(dirname "$0")/.." && pwd)
 program=$top/crates/bacgwctl/out/bacgwctl
 exec python3 - "$top" "${LINT:-$program lint --config}" "${REPORT:-$program report --config}" "$@" <<'PYTHON'
 import collections
+import os
 import random
 import re
+import signal
 import subprocess
 import sys
 import tempfile
@@ -182,15 +185,40 @@ def kinds(text):
     return ", ".join(f"{count} {kind}" for kind, count in sorted(found.items()))
 
 
-def seconds(words, path):
-    least, out = float("inf"), ""
-    for _ in range(RUNS):
+def run(words, path):
+    """What a run prints, its seconds, and the most memory that it had, in MB."""
+    with tempfile.TemporaryFile() as out:
         start = time.perf_counter()
-        done = subprocess.run([*words, str(path)], check=True, stdin=subprocess.DEVNULL, stdout=subprocess.PIPE, text=True, timeout=MOST)
-        least, out = min(least, time.perf_counter() - start), done.stdout
-    return least, out
+        child = subprocess.Popen([*words, str(path)], stdin=subprocess.DEVNULL, stdout=out)
+        signal.alarm(MOST)
+        try:
+            _, status, usage = os.wait4(child.pid, 0)
+        except TimeoutError:
+            child.kill()
+            child.wait()
+            raise
+        finally:
+            signal.alarm(0)
+        taken = time.perf_counter() - start
+        assert status == 0, status
+        child.returncode = 0
+        out.seek(0)
+        return out.read().decode("utf-8"), taken, usage.ru_maxrss / 1024
 
 
+def is_over(*_):
+    raise TimeoutError
+
+
+def seconds(words, path):
+    least, most, out = float("inf"), 0, ""
+    for _ in range(RUNS):
+        out, taken, memory = run(words, path)
+        least, most = min(least, taken), max(most, memory)
+    return least, most, out
+
+
+signal.signal(signal.SIGALRM, is_over)
 with tempfile.TemporaryDirectory() as folder:
     room = Path(sys.argv[4]) if len(sys.argv) > 4 else Path(folder)
     lists = [
@@ -212,8 +240,8 @@ with tempfile.TemporaryDirectory() as folder:
     for tool, words, told, of in [("lint", lint, kinds, paths), ("report", report, cells, [*paths, policy])]:
         for path in of:
             try:
-                taken, said = seconds(words, path)
-                print(f"{tool}, {path.stem}: {taken:.2f} s ({told(said)})", flush=True)
-            except subprocess.TimeoutExpired:
+                taken, memory, said = seconds(words, path)
+                print(f"{tool}, {path.stem}: {taken:.2f} s, {memory:.0f} MB ({told(said)})", flush=True)
+            except TimeoutError:
                 print(f"{tool}, {path.stem}: over {MOST} s", flush=True)
 PYTHON

@@ -126,6 +126,7 @@ pub(crate) fn steps_given(left: u32) -> u32
 }
 
 /// What is found of the rules of a policy, and how many steps are left for other searches.
+#[derive(Drop)]
 pub struct Findings {
     /// What is found of each rule, in order.
     pub found: Vec<Finding>,

@@ -53,6 +53,7 @@ pub(crate) fn search_shape(
 }
 
 /// What is found of asks of several shapes that pass, and how many steps are left for other searches.
+#[derive(Drop)]
 pub(crate) struct Passages {
     /// What is found of each shape, in order.
     pub(crate) found: Vec<Outcome>,

@@ -167,7 +167,13 @@ impl Reader<'_> {
             out.old.items out.new.items) }
     {
         let between = self.put_property(alloc, out, PRIORITY_ARRAY, "Priority_Array", left)?;
-        self.put_property(alloc, out, RELINQUISH_DEFAULT, "Relinquish_Default", between)
+        self.put_property(
+            alloc,
+            out,
+            RELINQUISH_DEFAULT,
+            "Relinquish_Default",
+            between,
+        )
     }
 
     /// Appends that this property is read, if it is.

@@ -35,7 +35,7 @@ returns-then-is_never c =
     let out = c.args.out.now.items in
     let new = c.put_request_note.new.out.items in
     subst (λ (b : Bool). IfOk c.put_request_note.result
-        (λ (rest : ℕ). Appends (IsAnswerNote b config lines number port other_number other left rest) out new)) (sym apart)
+    (λ (rest : ℕ). Appends (IsAnswerNote b config lines number port other_number other left rest) out new)) (sym apart)
     (unanswered c.put_request_note.result config lines number port other_number other back left between out new is
     (sym c.if-is_never.ensures) c.put_request_note.ensures)
 
