@@ -24,9 +24,9 @@ pub record IsUnderWay (p : Progress) : Type 0 where
   pub reached : IsReached (asks_of p.old_one p.new_one) (all_tidied p.old_one.rules) (all_tidied p.new_one.rules) p.steps
       (stage p.found p.left)
 
--- how many steps are made of two lists of so many rules: 1,024, and 63 for each rule, up to 512 of a list, so at most 65,536
+-- how many steps are made of two lists of so many rules: 4,096, and 60 for each rule, up to 512 of a list, so at most 65,536
 abbrev pub most_steps : (old new : ℕ) → ℕ
-most_steps old new = 1024 + 63 * (lesser 512 old + lesser 512 new)
+most_steps old new = 4096 + 60 * (lesser 512 old + lesser 512 new)
 
 abbrev pub steps_for : (old new : Configuration) → ℕ
 steps_for old new = most_steps (length old.rules) (length new.rules)

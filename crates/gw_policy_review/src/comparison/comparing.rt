@@ -18,10 +18,10 @@ use std::alloc::{AllocError, Global};
 use std::marker::Model;
 
 /// How many steps a comparison makes of two lists without rules.
-const FIRST_STEPS: u32 = 1_024;
+const FIRST_STEPS: u32 = 4_096;
 
 /// How many it makes for each rule.
-const RULE_STEPS: u32 = 63;
+const RULE_STEPS: u32 = 60;
 
 /// For how many rules of a list it does.
 const COUNTED_RULES: usize = 512;
@@ -106,7 +106,7 @@ impl<'a> Comparing<'a> {
         })
     }
 
-    /// How many steps it makes in all: 1,024, and 63 for each rule of the two, up to 512 of a list.
+    /// How many steps it makes in all: 4,096, and 60 for each rule of the two, up to 512 of a list.
     fn most_steps(&self) -> u32
         ensures is { result ≡ steps_for self.now.old_one self.now.new_one }
         ensures most { result ≤ 65536 }
