@@ -221,6 +221,6 @@ pub sum_step : (rules : List Rule) (places : List ℕ) (ask : Ask) (fields : Lis
 sum_step rules places ask fields place d sum more next within few grown before =
     let field = get_or fields place d in
     let parted : miss_sum rules places (drop place fields) ask
-        ≡ miss_count rules places field (value_of field ask) + miss_sum rules places (drop (place + 1) fields) ask =
+    ≡ miss_count rules places field (value_of field ask) + miss_sum rules places (drop (place + 1) fields) ask =
     ap (λ (fs : List FieldName). miss_sum rules places fs ask) (next_item fields place d within) in
     omega (arith, few, grown, before, parted)

@@ -207,11 +207,7 @@ fn are_crowding(rules: &[Rule], places: &[usize], region: &Region) -> bool
 }
 
 /// Whether rules are seen to match each ask of the region since they are so many. An `Err` if there is no memory.
-pub(crate) fn is_crowded(
-    alloc: Global,
-    rules: &[Rule],
-    region: &Region,
-) -> Result<bool, AllocError>
+pub(crate) fn is_crowded(alloc: Global, rules: &[Rule], region: &Region) -> Result<bool, AllocError>
     ensures { IfOk result (λ crowded. crowded ≡ true → (ask : SpecAsk) → lies region.now ask ≡ true → is_matched rules.now ask ≡ true) }
 {
     let places = meeting_places(alloc, rules, region)?;
