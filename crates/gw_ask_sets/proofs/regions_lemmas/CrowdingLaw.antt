@@ -15,6 +15,8 @@ use Rattle.gw_rules.specs.declared.field.FieldName.{FieldName}
 use Rattle.gw_rules.specs.declared.field.TheConstants.FieldName.{ALL}
 use Rattle.gw_rules.specs.declared.range.Range.{Range}
 use Rattle.gw_rules.specs.declared.rule.Rule.{Rule}
+use Rattle.gw_rules.proofs.EachField.{each_field_at}
+use Rattle.gw_ask_sets.specs.regions.Regions.{Region, lies}
 use Rattle.gw_ask_sets.specs.regions.Unmatched.{is_matched}
 use Rattle.gw_ask_sets.specs.regions.Values.{has}
 use Rattle.gw_ask_sets.specs.regions.internal.Crowding.{AreFew, ends_at, miss_count, miss_sum, misses}
@@ -212,6 +214,14 @@ crowded rules places ask sum few more = by (is_matched rules ask) refl
     by false e =
         let all = all_missed rules places ask e in
         absurd (omega (arith, all, few, more))
+
+-- at most so many miss what an ask of a region has in a field
+pub few_at : (rules : List Rule) (places : List ℕ) (region : Region) (ask : Ask) (field : FieldName) (values : Values) (most : ℕ)
+    → values ≡ value_of field region → AreFew rules places field values most → lies region ask ≡ true
+    → miss_count rules places field (value_of field ask) ≤ most
+few_at rules places region ask field values most same few there =
+    few (value_of field ask)
+    (ap (λ (v : Values). has v (value_of field ask)) same ∙ each_field_at (λ f. has (value_of f region) (value_of f ask)) there field)
 
 -- what is missed in the fields that are left, before one of them and behind it
 pub sum_step : (rules : List Rule) (places : List ℕ) (ask : Ask) (fields : List FieldName) (place : ℕ) (d : FieldName) (sum more next : ℕ)

@@ -1,13 +1,9 @@
 use Rattle.std.proofs.Common.{List, length, rules, ◌≡◌, ◌≤◌, ◌<◌, ◌+◌, ap, arith, drop, get_or, subst}
 use Rattle.std.proofs.lemmas.List.{drop_all}
-use Rattle.gw_rules.specs.Fields.{value_of}
 use Rattle.gw_rules.specs.declared.field.FieldName.{FieldName}
 use Rattle.gw_rules.specs.declared.field.TheConstants.FieldName.{ALL}
-use Rattle.gw_rules.proofs.EachField.{each_field_at}
-use Rattle.gw_ask_sets.specs.regions.Values.{has}
-use Rattle.gw_ask_sets.specs.regions.internal.Crowding.{AreFew, miss_sum}
-use Rattle.gw_ask_sets.specs.declared.regions.values.Values.{Values}
-use Rattle.gw_ask_sets.proofs.regions_lemmas.CrowdingLaw.{crowded, sum_step}
+use Rattle.gw_ask_sets.specs.regions.internal.Crowding.{miss_sum}
+use Rattle.gw_ask_sets.proofs.regions_lemmas.CrowdingLaw.{crowded, few_at, sum_step}
 use Rattle.gw_ask_sets.proofs.regions.crowding.are_too_many.Goals as goal
 
 pub loop-field-init : goal.loop-field-init
@@ -19,11 +15,9 @@ loop-field-preserved c = λ ask there.
     let places = c.args.places.now in
     let region = c.args.region.now in
     let index = c.loop-field.field-index in
-    let field = c.field-item.result in
-    let few = subst (λ (v : Values). AreFew all places field v c.most_of.result) c.get.ensures c.most_of.ensures in
-    let here = each_field_at (λ f. has (value_of f region) (value_of f ask)) there field in
+    let few = few_at all places region ask _ _ c.most_of.result c.get.ensures c.most_of.ensures there in
     let grown : c.in-Some.more ≡ c.most_of.result + c.loop-field.sum = search rules in
-    sum_step all places ask ALL index _ c.loop-field.sum c.most_of.result c.in-Some.more c.loop-field-test.true (few (value_of field ask) here) grown
+    sum_step all places ask ALL index _ c.loop-field.sum c.most_of.result c.in-Some.more c.loop-field-test.true few grown
     (c.loop-field.invariant ask there)
 
 pub returns : goal.returns

@@ -20,7 +20,7 @@ loop-one-preserved c =
           (λ k t within.
           let counted = subst
           (λ (n : ℕ). range.low ≤ n → n < range.high → miss_count self.rules.now self.places.now self.field (Some (n + 1)) ≤ c.count_behind.result)
-          (eqb-true c.one-item.result.high k t) c.count_behind.ensures within.0 within.1 in
+          (eqb-true _ k t) c.count_behind.ensures within.0 within.1 in
           omega (arith, counted, second))
           c.loop-one.invariant.ends;
     }
