@@ -107,17 +107,19 @@ few_in rules places field low high most first ends (suc k) least within =
     elim (cases_order low (suc k)) [
       | inl same ↦ subst (λ (n : ℕ). miss_count rules places field (Some n) ≤ most) same first
       | inr apart ↦ elim apart [
-        | inl below ↦ by (list_any (ends_at rules field k) places) refl (omega (arith, below))
+        | inl below ↦ by (list_any (ends_at rules field k) places) refl
+            (λ (from : low ≤ k). few_in rules places field low high most first ends k from (omega (arith, within))) (omega (arith, below))
         | inr above ↦ absurd (omega (arith, above, least))
       ]
     ]
   where
-    by : (b : Bool) → list_any (ends_at rules field k) places ≡ b → low ≤ k → miss_count rules places field (Some (suc k)) ≤ most
-    by true e from =
+    by : (b : Bool) → list_any (ends_at rules field k) places ≡ b → (low ≤ k → miss_count rules places field (Some k) ≤ most) → low ≤ k
+        → miss_count rules places field (Some (suc k)) ≤ most
+    by true e earlier from =
         subst (λ (n : ℕ). miss_count rules places field (Some n) ≤ most) (add-one k) (ends k e (from, omega (arith, within)))
-    by false e from =
+    by false e earlier from =
         let fewer = no_more rules places field k e in
-        let before = few_in rules places field low high most first ends k from (omega (arith, within)) in
+        let before = earlier from in
         omega (arith, fewer, before)
 
 -- ---- one item more
@@ -152,14 +154,14 @@ few_of rules places field values most absent numbers (Some n) t = numbers n t
 -- an ask is missed in one field at least by a rule that doesn't match it
 one_missed : (test : FieldName → Bool) (fields : List FieldName) → list_all test fields ≡ false → 1 ≤ length (filter (λ field. not (test field)) fields)
 one_missed test [] none = absurd cc
-one_missed test (field ∷ fields) none = by (test field) refl
+one_missed test (field ∷ fields) none = by (test field) refl (λ (rest : list_all test fields ≡ false). one_missed test fields rest)
   where
-    by : (b : Bool) → test field ≡ b
+    by : (b : Bool) → test field ≡ b → (list_all test fields ≡ false → 1 ≤ length (filter (λ f. not (test f)) fields))
         → 1 ≤ length (cond (not b) (field ∷ filter (λ f. not (test f)) fields) (filter (λ f. not (test f)) fields))
-    by true e =
+    by true e others =
         let rest : list_all test fields ≡ false = rw e at none in
-        one_missed test fields rest
-    by false e = omega arith
+        others rest
+    by false e others = omega arith
 
 missed_by : (found : Option Rule) (ask : Ask) → ((rule : Rule) → found ≡ Some rule → matches rule ask ≡ false)
     → 1 ≤ length (filter (λ field. option_map_or (λ (rule : Rule). not (admits (ranges_of field rule) (value_of field ask))) found true) ALL)
