@@ -7,7 +7,7 @@ use Rattle.gw_ask_sets.specs.declared.regions.comparison.Found.{Found}
 use Rattle.gw_ask_sets.specs.declared.regions.pairs.ShownPair.{ShownPair}
 use Rattle.gw_configuration.specs.Configuration.{Configuration, are_counted}
 use Rattle.gw_policy_review.specs.Places.{place_words}
-use Rattle.gw_policy_review.specs.comparison.Comparison.{IsComparisonText, asks_text, by_both_text, by_pairs_text, ending_text}
+use Rattle.gw_policy_review.specs.comparison.Comparison.{asks_text, by_both_text, by_pairs_text, ending_text}
 use Rattle.gw_policy_review.specs.comparison.Groups.{count_text, firsts, found_text, group_head, group_of, group_text, groups_text, head_text, more_text, regions_text, was_text}
 use Rattle.gw_policy_review.specs.comparison.Laws.{NoPlaceIsNamed, bare}
 use Rattle.gw_policy_review.specs.comparison.Lines.{Naming, line_text, name_of, names_text, naming, rule_name, verdict_text}

@@ -1,13 +1,11 @@
 -- The operations of the asks of the shapes that lie in a region, and the region with these alone.
 use Rattle.std.proofs.Common.{◌≡◌, ◌∙◌, sym, ap, refl, subst, ℕ, ◌+◌, ◌<◌, zero, suc, add-one, arith, get_or, length, take, Bool, true, false, ◌&&◌, ◌||◌, List, [], ◌∷◌, ◌++◌, Option, Some, None, inl, inr}
-use Rattle.std.specs.Prelude.{not}
-use Rattle.std.specs.List.{AllByRecursion, list_all, list_any}
+use Rattle.std.specs.List.{AllByRecursion, list_all}
 use Rattle.std.proofs.Math.Seq.{take-suc}
 use Rattle.std.proofs.lemmas.Bool.{and_from, and_parts, both_ways, or_cases, or_left, or_right}
 use Rattle.std.proofs.lemmas.List.Folds.{list_all-append, list_any-append}
 use Rattle.gw_rules.specs.Ask.{Ask}
 use Rattle.gw_rules.specs.Fields.{value_of, with_value}
-use Rattle.gw_rules.specs.Range.{holds}
 use Rattle.gw_rules.specs.declared.field.FieldName.{FieldName}
 use Rattle.gw_rules.specs.declared.field.FieldName.TheVariants.{DestinationNetwork, Instance, ObjectType, Operation, Port, Priority}
 use Rattle.gw_rules.specs.declared.field.FieldName.TheVariants.{Property, Sender, Service, SourceKey, SourceNetwork, Station}
@@ -16,8 +14,7 @@ use Rattle.gw_ask_sets.specs.regions.Meeting.{AreCommon, have_common}
 use Rattle.gw_ask_sets.specs.regions.Merging.{IsWide, lies_but}
 use Rattle.gw_ask_sets.specs.regions.Presence.{IsLacking, IsMeantBy, NoneIsMeant}
 use Rattle.gw_ask_sets.specs.regions.Regions.{Region, lies, lies_in_one}
-use Rattle.gw_ask_sets.specs.regions.Values.{common, has, shares}
-use Rattle.gw_ask_sets.specs.declared.regions.comparison.Found.{Found}
+use Rattle.gw_ask_sets.specs.regions.Values.{common, has}
 use Rattle.gw_ask_sets.specs.declared.regions.values.Values.{Values}
 use Rattle.gw_ask_sets.proofs.regions_lemmas.MeetingLaw.{common_lies, nothing_common}
 use Rattle.gw_ask_sets.proofs.regions_lemmas.RangeLaw.{and_none, or_none, same, shared_law}

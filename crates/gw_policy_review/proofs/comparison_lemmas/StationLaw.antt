@@ -1,5 +1,5 @@
 -- What is said of stations as subnets.
-use Rattle.std.proofs.Common.{◌≡◌, ◌∙◌, sym, ap, refl, subst, ℕ, Bool, true, false, ◌&&◌, ◌==◌, List, [], ◌∷◌, Option, Some, None, drop, nat_le, take}
+use Rattle.std.proofs.Common.{◌≡◌, ◌∙◌, sym, ap, refl, subst, Bool, true, false, ◌&&◌, ◌==◌, List, [], ◌∷◌, Option, Some, None, drop, nat_le}
 use Rattle.std.specs.Prelude.{◌%◌, find, if◌then◌else◌, not}
 use Rattle.std.specs.Int.{from_be_bytes, to_be_bytes, w32, w64}
 use Rattle.std.specs.List.{list_any}
@@ -7,7 +7,7 @@ use Rattle.std.specs.Option.{option_map_or}
 use Rattle.std.proofs.lemmas.Bool.{and_parts, both_ways, eqb-true, leb-true}
 use Rattle.std.proofs.lemmas.Option.{cond_some}
 use Rattle.gw_addr.proofs.Reading.{AreOctets-drop, AreOctets-take, wide32, wide64}
-use Rattle.gw_configuration.specs.Subnet.{IsSubnet, Subnet, keys_of, size_of, subnet_of}
+use Rattle.gw_configuration.specs.Subnet.{IsSubnet, Subnet, keys_of, size_of}
 use Rattle.gw_rules.specs.Range.{holds}
 use Rattle.gw_rules.specs.declared.range.Range.{Range}
 use Rattle.gw_ask_sets.proofs.regions_lemmas.RangeLaw.{without_law}

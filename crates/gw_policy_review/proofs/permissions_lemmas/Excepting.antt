@@ -1,8 +1,8 @@
 -- An ask that a rule matches, and allows, is denied only by a rule before it that its line names.
-use Rattle.std.proofs.Common.{◌≡◌, ◌∙◌, inl, inr, ℕ, ◌+◌, ◌-◌, ◌<◌, ◌≤◌, Bool, true, false, not, ◌&&◌, ◌||◌, ◌==◌, List, [], ◌∷◌, Option, Some, None, ap, arith, get_or, length, nat_le, refl, slice_get, subst, sym}
-use Rattle.std.specs.List.{Any, list_any}
+use Rattle.std.proofs.Common.{◌≡◌, ◌∙◌, inl, inr, ℕ, ◌-◌, ◌<◌, Bool, true, false, not, ◌||◌, ◌==◌, List, Option, Some, None, ap, arith, get_or, length, nat_le, refl, slice_get, subst, sym}
+use Rattle.std.specs.List.{list_any}
 use Rattle.std.specs.Option.{option_map_or}
-use Rattle.std.proofs.lemmas.Bool.{and_from, and_parts, both_ways, cases_order, false≢true, le-leb, leb-true, or_left, or_right}
+use Rattle.std.proofs.lemmas.Bool.{and_from, and_parts, both_ways, cases_order, false≢true, le-leb, leb-true}
 use Rattle.std.proofs.lemmas.List.Folds.{Any-from_list_any, list_any-from_Any}
 use Rattle.std.proofs.lemmas.Option.{get_or_from_slice_get, slice_get_within}
 use Rattle.gw_rules.specs.Ask.{Ask}
@@ -10,16 +10,13 @@ use Rattle.gw_rules.specs.Fields.{value_of}
 use Rattle.gw_rules.specs.Range.{admits, holds}
 use Rattle.gw_rules.specs.Rule.{Matches, matches, ranges_of}
 use Rattle.gw_rules.specs.RuleList.{HasNumber, IsFirst, allows, first}
-use Rattle.gw_rules.specs.declared.field.FieldName.{FieldName}
 use Rattle.gw_rules.specs.declared.range.Range.{Range}
 use Rattle.gw_rules.specs.declared.rule.Rule.{Rule}
 use Rattle.gw_rules.proofs.EachField.{each_field_at, each_field_from}
 use Rattle.gw_rules.proofs.First.{allows_iff, first_iff, none_iff}
 use Rattle.gw_rules.proofs.Matching.{matches_iff}
 use Rattle.gw_ask_sets.specs.shapes.Meeting.{overlaps}
-use Rattle.gw_ask_sets.specs.shapes.Shape.{LiesInOne, Shape}
-use Rattle.gw_policy_review.specs.lint.Finding.{AreTrue}
-use Rattle.gw_policy_review.specs.permissions.Allowances.{is_exception, meet, stops}
+use Rattle.gw_policy_review.specs.permissions.Allowances.{meet, stops}
 use Rattle.gw_policy_review.specs.permissions.Laws.{OnlyExceptionsDeny}
 use Rattle.gw_policy_review.specs.permissions.Passing.{finding_at}
 use Rattle.gw_policy_review.specs.warnings.Oversights.{share}

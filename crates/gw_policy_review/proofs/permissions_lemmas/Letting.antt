@@ -9,7 +9,7 @@ use Rattle.gw_rules.specs.Ask.{Ask}
 use Rattle.gw_rules.specs.RuleList.{HasNumber, IsFirst, allows, first}
 use Rattle.gw_rules.specs.declared.rule.Rule.{Rule}
 use Rattle.gw_rules.proofs.First.{allows_iff, first_iff}
-use Rattle.gw_ask_sets.specs.shapes.Shape.{LiesIn, LiesInOne, Shape}
+use Rattle.gw_ask_sets.specs.shapes.Shape.{LiesInOne, Shape}
 use Rattle.gw_script.specs.Order.{in_order}
 use Rattle.gw_script.proofs.Order.{in_order_front, in_order_next}
 use Rattle.gw_policy_review.specs.lint.Finding.{AreTrue, Finds}

@@ -1,8 +1,8 @@
 -- The line that `bacgwctl lint` has for a rule.
 use Rattle.std.specs.Prelude.{◌≡◌, ℕ, ◌-◌, ◌&&◌, Bool, true, false, not, if◌then◌else◌, List, [], ◌∷◌, ◌++◌, slice_get, take}
-use Rattle.std.specs.Prelude.{Option, codes, decimal}
-use Rattle.std.specs.List.{flat_map, list_all}
-use Rattle.std.specs.Option.{is_some, option_map_or}
+use Rattle.std.specs.Prelude.{codes, decimal}
+use Rattle.std.specs.List.{list_all}
+use Rattle.std.specs.Option.{option_map_or}
 use Rattle.gw_ask_sets.specs.AskText.{ask_fields_text}
 use Rattle.gw_rules.specs.RuleList.{allows_at}
 use Rattle.gw_rules.specs.declared.rule.Rule.{Rule}

@@ -15,7 +15,7 @@ use Rattle.gw_configuration.specs.declared.route.Route.{Route}
 use Rattle.gw_rules.specs.Ask.{Ask, ask_of}
 use Rattle.gw_rules.specs.Bounds.{is_within}
 use Rattle.gw_rules.specs.Operation.{operation_number}
-use Rattle.gw_rules.specs.Range.{admits, holds}
+use Rattle.gw_rules.specs.Range.{holds}
 use Rattle.gw_rules.specs.Rule.{each_field, ranges_of}
 use Rattle.gw_rules.specs.RuleList.{allows}
 use Rattle.gw_rules.specs.declared.field.FieldName.{FieldName}

@@ -1,4 +1,4 @@
-use Rattle.std.proofs.Common.{List, length, rules, ◌≡◌, ◌∙◌, ◌<◌, ◌≤◌, ◌+◌, ap, drop, get_or, subst}
+use Rattle.std.proofs.Common.{List, length, rules, ◌≡◌, ◌∙◌, ◌<◌, ◌≤◌, ◌+◌, ap, get_or, subst}
 use Rattle.std.proofs.lemmas.List.{drop_all}
 use Rattle.gw_configuration.specs.declared.port.Port.{Port}
 use Rattle.gw_policy_review.specs.lint.Notes.{ArePortNotes}

@@ -1,8 +1,7 @@
-use Rattle.std.proofs.Common.{arith, length, rules, ◌≡◌, ◌∙◌, ◌<◌, ap, get_or, subst, ◌++◌, ◌+◌, sym}
+use Rattle.std.proofs.Common.{length, rules, ◌≡◌, ◌<◌, get_or, subst, ◌++◌, ◌+◌, sym}
 use Rattle.std.specs.Prelude.{ℕ, List}
 use Rattle.gw_policy_review.specs.permissions.Permissions.{note_line}
-use Rattle.gw_script.specs.Order.{in_order}
-use Rattle.gw_script.proofs.Order.{in_order_end, in_order_none, in_order_step}
+use Rattle.gw_script.proofs.Order.{in_order_none, in_order_step}
 use Rattle.gw_policy_review.proofs.permissions.notes.put_notes.Goals as goal
 
 pub loop-place-init : goal.loop-place-init

@@ -1,4 +1,4 @@
-use Rattle.std.proofs.Common.{◌≡◌, ◌∙◌, ◌==◌, ℕ, List, ap, arith, length, subst, sym, true}
+use Rattle.std.proofs.Common.{◌≡◌, ◌∙◌, ◌==◌, ℕ, List, ap, arith, length, subst, sym}
 use Rattle.std.specs.Prelude.{IfSome, not}
 use Rattle.gw_ask_sets.specs.regions.Comparing.{IsComparison, IsSummary}
 use Rattle.gw_ask_sets.specs.regions.Pairs.{AreSought}
