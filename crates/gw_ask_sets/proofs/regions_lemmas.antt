@@ -1,6 +1,7 @@
 pub mod AllowsLaw
 pub mod ComparingLaw
 pub mod CoverageLaw
+pub mod CrowdingLaw
 pub mod DecidersLaw
 pub mod DecidingLaw
 pub mod Growing

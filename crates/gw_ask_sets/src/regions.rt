@@ -6,6 +6,7 @@
 mod comparing;
 mod comparison;
 pub(crate) mod coverage;
+mod crowding;
 mod deciders;
 mod deciding;
 pub mod laws;

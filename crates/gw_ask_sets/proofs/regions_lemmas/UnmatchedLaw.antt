@@ -107,6 +107,11 @@ is_cut rules region place rule field is at =
       parts = refl;
     }
 
+-- a region each of whose asks is matched
+pub all_matched : (rules : List Rule) (region : Region) → ((ask : Ask) → lies region ask ≡ true → is_matched rules ask ≡ true)
+    → AreAllMatched (region ∷ []) rules
+all_matched rules region all ask there = all ask (sym (or_false (lies region ask)) ∙ there)
+
 -- a region without an ask
 pub empty_matched : (rules : List Rule) (region : Region) → ((ask : Ask) → lies region ask ≡ false) → AreAllMatched (region ∷ []) rules
 empty_matched rules region none ask there = absurd (both_ways (lies region ask) (none ask) (sym (or_false (lies region ask)) ∙ there))

@@ -11,6 +11,7 @@ ghost use Rattle.gw_ask_sets.specs.regions.internal.Nearest.{IsNearest};
 
 use crate::regions::Region;
 use crate::regions::coverage::{Coverage, coverage_of, covers};
+use crate::regions::crowding::is_crowded;
 use crate::regions::meeting::ask_in;
 use crate::regions::region::push_piece;
 use gw_rules::{Ask, FieldName, Rule};
@@ -151,8 +152,8 @@ fn put_parts(
     push_piece(alloc, left, field, region, outer)
 }
 
-/// An ask of a region, if none of the rules is seen to match any of it. Else the region is dropped if they match all
-/// of it, or parted, and its parts are put back.
+/// An ask of a region, if none of the rules is seen to match any of it. Else the region is dropped if they are seen to
+/// match all of it, by one of them or by their number, or parted, and its parts are put back.
 fn narrow(
     alloc: Global,
     rules: &[Rule],
@@ -171,6 +172,9 @@ fn narrow(
             field,
             lacking: _,
         } => {
+            if is_crowded(alloc, rules, &region)? {
+                return Ok(None);
+            }
             put_parts(alloc, left, &rules[place], field, &region)?;
             Ok(None)
         }
@@ -179,8 +183,8 @@ fn narrow(
 
 /// Searches these regions for an ask that none of these rules matches, in at most so many steps: `Found` with one,
 /// `Nothing` if the rules match each ask of the regions, `Unknown` only if all steps were used. Each step takes up a
-/// region; it looks at the rule that is nearest to matching all of it, and parts the region in a field in which this
-/// rule doesn't. The rules' ranges are best in order ([`all_tidied`](crate::regions::all_tidied)). An `Err` if there
+/// region, which it drops if the rules are so many that no ask of it is missed by all; it looks at the rule that is nearest
+/// to matching all of it, and parts the region in a field in which this rule doesn't. The rules' ranges are best in order ([`all_tidied`](crate::regions::all_tidied)). An `Err` if there
 /// is no memory.
 pub fn search_unmatched(
     alloc: Global,
