@@ -101,7 +101,8 @@ fn make_run_of_reports<'a>(alloc: Global) -> Result<Command<'a>, AllocError>
     ensures app { IfOk result (λ command. app_of command ≡ run_of_reports) }
     ensures local { IfOk result (λ command. (out-Command command).has_globals ≡ false) }
 {
-    let help = "Reports at the start what is served, or where a fault is";
+    let help =
+        "Reports at the start what is served, or where a fault is, and each minute what is dropped or fails";
     let verbose = make_flag(alloc, "verbose", help);
     let help = "Reports what was done, each so many seconds, from 1 to 4294967295, and at the end";
     let stats = make_number(alloc, "stats", "SECONDS", MAX_SECONDS, help);
