@@ -1,15 +1,12 @@
 -- What a keeper's text is of after a tick.
-use Rattle.std.proofs.Common.{◌≡◌, ◌∙◌, refl, sym, ap, ap₂, subst, true≢false, ℕ, ◌+◌, ◌<◌, ◌⊎◌, ◌||◌, ◌==◌, not, Bool, true, false, List, [], ◌∷◌, map, length, Option, nat_le, nat_lt, inl, inr, arith}
+use Rattle.std.proofs.Common.{◌≡◌, ◌∙◌, refl, sym, ap, subst, ℕ, ◌+◌, Bool, true, false, List, Option, inl, inr, arith}
 use Rattle.std.specs.Prelude.{Result, Ok, Err}
-use Rattle.std.specs.List.{list_any}
 use Rattle.std.proofs.lemmas.Bool.{and_from, and_parts, leb-false, lt-ltb, ltb-true}
-use Rattle.std.proofs.lemmas.List.{length-map}
 use Rattle.gw_state.specs.Saved.{Origin, Saved}
-use Rattle.gw_state.specs.declared.port.SavedPort.{SavedPort}
 use Rattle.gw_core.specs.Resumed.{saved_of}
 use Rattle.gw_core.specs.State.{State}
 use Rattle.gw_turns.specs.Keeping.{FreshIsSpared, IsRecent, IsYoung, KeepsChanged, Keeping, KeptBy, RecentIsYoung, TicksBy, TicksKeepRecent, TicksKeepYoung}
-use Rattle.gw_turns.specs.Keeping.{alike_but_ticks, but_ticks, ending, ending_port, has_devices, is_due, is_fresh, is_kept, is_registering}
+use Rattle.gw_turns.specs.Keeping.{alike_but_ticks, is_due, is_fresh, is_kept}
 use Rattle.gw_turns.specs.declared.pace.Pace.{Pace}
 use Rattle.gw_turns.specs.declared.alike.Part.TheVariants.{AllButTicks}
 use Rattle.gw_wire.specs.declared.store.StoreFault.{StoreFault}
@@ -56,30 +53,11 @@ pub ticks_keep_recent : {S : Type 0} (held : S → Option (List ℕ)) → TicksK
 ticks_keep_recent {S} held k l w p =
     subst (λ (j : Keeping S). IsRecent j.kept (saved_of j.origin w)) (sym p.2) (ticks_by held k p.0 w (is_due k.kept k.pace w.ticks) refl p.1)
 
--- ---- while anybody is registered
-
--- whether devices are registered doesn't rest on when they end
-still_has : (since : ℕ) (p : SavedPort) → has_devices (ending_port since p) ≡ has_devices p
-still_has since p = ap (λ (n : ℕ). not (n == 0)) (length-map p.devices (ending since))
-
-any_still : (since : ℕ) (ps : List SavedPort) → list_any has_devices (map (ending_port since) ps) ≡ list_any has_devices ps
-any_still since [] = refl
-any_still since (p ∷ ps) = ap₂ (λ a b. a || b) (still_has since p) (any_still since ps)
-
--- of two states that differ only in their ticks, in both anybody is registered or in none
-registering_alike : (s due : Saved) → but_ticks s ≡ but_ticks due → is_registering s ≡ is_registering due
-registering_alike s due same =
-    sym (any_still s.counts.since s.ports) ∙ ap (λ (t : Saved). is_registering t) same ∙ any_still due.counts.since due.ports
-
-young_by : (is : Bool) (due kept : ℕ) → is ≡ true → (not is || nat_lt due (kept + 600)) ≡ true → due < kept + 600
-young_by true due kept registering fresh = ltb-true due (kept + 600) fresh
-young_by false due kept registering fresh = absurd (true≢false (sym registering))
+-- ---- how old it gets
 
 pub recent_is_young : RecentIsYoung
-recent_is_young (Ok s) due (inl few) = λ registering. omega (arith, few)
-recent_is_young (Ok s) due (inr p) =
-    λ registering.
-    young_by (is_registering s) due.counts.ticks s.counts.ticks (registering_alike s due p.same ∙ registering) p.fresh
+recent_is_young (Ok s) due (inl few) = omega (arith, few)
+recent_is_young (Ok s) due (inr p) = ltb-true due.counts.ticks (s.counts.ticks + 600) p.fresh
 recent_is_young (Err fault) due recent = tt
 
 pub ticks_keep_young : {S : Type 0} (held : S → Option (List ℕ)) → TicksKeepYoung held
@@ -87,16 +65,11 @@ ticks_keep_young held k l w p = recent_is_young l.kept (saved_of l.origin w) (ti
 
 -- ---- what isn't written again
 
-fresh_by : (is : Bool) (due kept : ℕ) → (is ≡ false) ⊎ (due < kept + 600) → (not is || nat_lt due (kept + 600)) ≡ true
-fresh_by false due kept young = refl
-fresh_by true due kept (inl nobody) = absurd (true≢false nobody)
-fresh_by true due kept (inr few) = lt-ltb due (kept + 600) few
-
 pub fresh_is_spared : {S : Type 0} (held : S → Option (List ℕ)) → FreshIsSpared held
 fresh_is_spared {S} held k l w s p is same young =
     let due = saved_of k.origin w in
     let as_kept : is_kept AllButTicks k.kept due ≡ true =
     ap (λ (r : Result Saved StoreFault). is_kept AllButTicks r due) is
     ∙ and_from (alike_but_ticks s due) (is_fresh s due) (equal_but_ticks_is_alike s due same)
-    (fresh_by (is_registering s) due.counts.ticks s.counts.ticks young) in
+    (lt-ltb due.counts.ticks (s.counts.ticks + 600) young) in
     subst (λ (b : Bool). KeptBy b held k due l) as_kept p

@@ -1,8 +1,7 @@
 -- What is kept of a gateway in a store: the text of its state, before what lasts is answered, and each ten ticks.
-use Rattle.std.specs.Prelude.{◌≡◌, ◌⊎◌, ℕ, ◌+◌, ◌-◌, ◌<◌, ◌≤◌, ◌^◌, ◌&&◌, ◌||◌, ◌==◌, not, Bool, true, false, if◌then◌else◌, length, nat_eq, nat_le, nat_lt, List, [], map, Option, Some, None, ⊤}
+use Rattle.std.specs.Prelude.{◌≡◌, ◌⊎◌, ℕ, ◌+◌, ◌<◌, ◌≤◌, ◌&&◌, Bool, true, false, nat_eq, nat_le, nat_lt, List, [], map, Option, Some, None, ⊤}
 use Rattle.std.specs.Prelude.{Result, Ok, Err}
 use Rattle.std.specs.Cmp.Lexicographic.{pointwise}
-use Rattle.std.specs.List.{list_any}
 use Rattle.gw_objects.specs.declared.value.PropertyValue.{PropertyValue}
 use Rattle.gw_objects.specs.Values.{same_value}
 use Rattle.gw_tables.specs.declared.routes.route.Route.{Route}
@@ -126,17 +125,9 @@ EqualButTicksIsAlike = (a b : Saved) → but_ticks a ≡ but_ticks b → alike_b
 
 -- ---- whether it is fresh
 
--- foreign devices are registered at the port
-abbrev pub has_devices : SavedPort → Bool
-has_devices p = not (length p.devices == 0)
-
--- anybody is registered
-abbrev pub is_registering : Saved → Bool
-is_registering s = list_any has_devices s.ports
-
--- nobody is registered in what is kept, or what is due was made fewer than 600 ticks later
+-- what is due was made fewer than 600 ticks after what is kept
 abbrev pub is_fresh : (kept due : Saved) → Bool
-is_fresh kept due = not (is_registering kept) || nat_lt due.counts.ticks (kept.counts.ticks + OLDEST_TICKS)
+is_fresh kept due = nat_lt due.counts.ticks (kept.counts.ticks + OLDEST_TICKS)
 
 -- ---- a keeper
 
@@ -274,9 +265,9 @@ IsRecent (Err fault) due = ⊤
 abbrev pub TicksKeepRecent : {S : Type 0} → (S → Option (List ℕ)) → Type 0
 TicksKeepRecent {S} held = (k l : Keeping S) (w : State) → KeepsAtTick held k w l → IsRecent l.kept (saved_of l.origin w)
 
--- While anybody is registered, the text is that of a state fewer than 600 ticks ago, or the last try failed.
+-- The text is that of a state fewer than 600 ticks ago, or the last try failed.
 abbrev pub IsYoung : Result Saved StoreFault → Saved → Type 0
-IsYoung (Ok s) due = is_registering due ≡ true → due.counts.ticks < s.counts.ticks + 600
+IsYoung (Ok s) due = due.counts.ticks < s.counts.ticks + 600
 IsYoung (Err fault) due = ⊤
 
 -- so it is wherever the text is recent
@@ -287,11 +278,11 @@ RecentIsYoung = (kept : Result Saved StoreFault) (due : Saved) → IsRecent kept
 abbrev pub TicksKeepYoung : {S : Type 0} → (S → Option (List ℕ)) → Type 0
 TicksKeepYoung {S} held = (k l : Keeping S) (w : State) → KeepsAtTick held k w l → IsYoung l.kept (saved_of l.origin w)
 
--- What differs only in its ticks isn't written again before: where nobody is registered never, else for fewer than 600 ticks.
+-- What differs only in its ticks isn't written again before.
 abbrev pub FreshIsSpared : {S : Type 0} → (S → Option (List ℕ)) → Type 0
 FreshIsSpared {S} held = (k l : Keeping S) (w : State) (s : Saved) →
     KeepsChanged AllButTicks held k (saved_of k.origin w) l true → k.kept ≡ Ok s → but_ticks s ≡ but_ticks (saved_of k.origin w) →
-    (is_registering s ≡ false) ⊎ (w.ticks < s.counts.ticks + 600) → l ≡ k
+    w.ticks < s.counts.ticks + 600 → l ≡ k
 
 -- ---- how often the store is tried
 

@@ -1,10 +1,9 @@
 //! Whether of two saved states the same lasts.
 
 ghost use Rattle.std.specs.Prelude.{◌≡◌, ◌+◌, Bool};
-ghost use Rattle.std.specs.List.{list_any};
 ghost use Rattle.std.specs.Cmp.Lexicographic.{pointwise};
 ghost use Rattle.gw_state.specs.Carried.{same_entry};
-ghost use Rattle.gw_turns.specs.Keeping.{alike_but_ticks, are_ending_alike, ends_alike, has_devices, is_fresh, is_same, is_same_object, is_same_port, is_same_route, is_same_slot, lasts_alike};
+ghost use Rattle.gw_turns.specs.Keeping.{alike_but_ticks, are_ending_alike, ends_alike, is_fresh, is_same, is_same_object, is_same_port, is_same_route, is_same_slot, lasts_alike};
 
 use gw_addr::{BdtEntry, NetNum};
 use gw_objects::PropertyValue;
@@ -12,7 +11,7 @@ use gw_state::{Saved, SavedObject, SavedPort};
 use gw_tables::bdt_fdt::KeptDevice;
 use gw_tables::routes::Route;
 
-/// After how many ticks a state in which anybody is registered is kept again, also if it differs only in its ticks.
+/// After how many ticks a state is kept again, also if it differs only in its ticks.
 pub(crate) const OLDEST_TICKS: u64 = 600;
 
 /// What of two saved states is compared.
@@ -21,7 +20,7 @@ pub enum Part {
     /// What lasts: the ports with their tables of peers, and the objects with their slots and defaults.
     Lasting,
     /// All but how many ticks there were, and how many are left of a registration that ends at the same tick; for fewer than 600
-    /// ticks, if anybody is registered.
+    /// ticks.
     AllButTicks,
 }
 
@@ -52,25 +51,11 @@ fn alike_but_ticks(a: &Saved, b: &Saved) -> bool
         && a.counts().denials == b.counts().denials
 }
 
-/// Whether a kept state is fresh: nobody is registered in it, or the other was made fewer than 600 ticks later.
+/// Whether a kept state is fresh: the other was made fewer than 600 ticks later.
 fn is_fresh(kept: &Saved, due: &Saved) -> bool
     ensures { result ≡ is_fresh kept.now due.now }
 {
-    !is_registering(kept.ports()) || due.counts().ticks < kept.counts().ticks + OLDEST_TICKS
-}
-
-/// Whether foreign devices are registered at a port.
-fn has_devices(port: &SavedPort) -> bool
-    ensures { result ≡ has_devices port.now }
-{
-    !port.devices.as_slice().is_empty()
-}
-
-/// Whether anybody is registered at these ports.
-fn is_registering(ports: &[SavedPort]) -> bool
-    ensures { result ≡ list_any has_devices ports.now }
-{
-    ports.iter().any(|port| has_devices(port))
+    due.counts().ticks < kept.counts().ticks + OLDEST_TICKS
 }
 
 /// Whether at the ports of two saved states the same foreign devices are registered, and each ends at the same tick.

@@ -14,8 +14,7 @@ use crate::pace::{LONGEST_PAUSE, MOST_REPLACES};
 use gw_core::Guard;
 use gw_wire::Store;
 
-/// Between two ticks a store is tried at 64 events at most, and it rests 60 ticks at most. A state in which anybody is registered
-/// is kept again after 600 ticks.
+/// Between two ticks a store is tried at 64 events at most, and it rests 60 ticks at most. A state is kept again after 600 ticks.
 pub fn limits()
     ensures tries { MOST_REPLACES ≡ 64 }
     ensures pause { LONGEST_PAUSE ≡ 60 }
@@ -49,10 +48,10 @@ pub fn keeping<S: Store>()
     ensures recent { TicksKeepRecent S.held }
 {}
 
-/// How old the text of a keeper gets: while anybody is registered, after each tick it is that of a state fewer than 600 ticks ago,
-/// unless the last try failed. So a registration that a restart takes over from it runs at most 600 ticks longer than it would
-/// have, besides those in which the gateway was off. What differs only in its ticks isn't written again before that, and where
-/// nobody is registered never.
+/// How old the text of a keeper gets: after each tick it is that of a state fewer than 600 ticks ago, unless the last try failed. So a
+/// registration that a restart takes over from it runs at most 600 ticks longer than it would have, besides those in which the
+/// gateway was off; and a file that somebody took away is there again. What differs only in its ticks isn't written again before
+/// that.
 pub fn renewing<S: Store>()
     ensures recent { RecentIsYoung }
     ensures ticks { TicksKeepYoung S.held }

@@ -10,7 +10,7 @@ use Rattle.gw_core.specs.History.{next, state_from}
 use Rattle.gw_core.specs.Lasting.{lasts}
 use Rattle.gw_core.specs.Resumed.{saved_of}
 use Rattle.gw_core.specs.State.{State}
-use Rattle.gw_turns.specs.Keeping.{IsHeld, IsRecent, IsTried, IsUpToDate, IsYoung, KeepsChanged, Keeping, KeptBy, TicksBy, Tries, is_due, is_kept, is_registering, nothing_kept}
+use Rattle.gw_turns.specs.Keeping.{IsHeld, IsRecent, IsTried, IsUpToDate, IsYoung, KeepsChanged, Keeping, KeptBy, TicksBy, Tries, is_due, is_kept, nothing_kept}
 use Rattle.gw_turns.specs.Serve.{Turn, empty_turn, events_of, failed_turn, lost_event, taken_event, turn_events}
 use Rattle.gw_turns.specs.Stretch.{AreGuarded, GoOn, GuardsTurn, IsFaulty, Moment, asked_until}
 use Rattle.gw_turns.specs.declared.alike.Part.TheVariants.{AllButTicks}
@@ -399,13 +399,13 @@ pub watched_runs_keep_recent : {S L : Type 0} (held : S → Option (List ℕ)) (
 watched_runs_keep_recent held log_held how stops s t turns look text p =
     tick_recent held second_part (watched_manner_of held log_held how) (second held log_held how) stops s t turns look text p
 
--- ---- while anybody is registered
+-- ---- how old the text gets
 
 pub kept_is_young : {S : Type 0} (held : S → Option (List ℕ)) → KeptIsYoung held
-kept_is_young held kept c w now recent lasts registering =
+kept_is_young held kept c w now recent lasts =
     let k = now.keeper in
     let there = kept_so k k.kept refl (ap failing_in (sym now.is) ∙ lasts) in
     let text = subst (λ (r : Result Saved StoreFault). IsHeld (held k.store) r) there.1 now.current.text in
     let young = subst (λ (r : Result Saved StoreFault). IsYoung r (saved_of k.origin w)) there.1
     (recent_is_young k.kept (saved_of k.origin w) (recent k now.is)) in
-    (there.0, text, young (subst (λ (o : Origin). is_registering (saved_of o w) ≡ true) (sym now.origin) registering))
+    (there.0, text, young)

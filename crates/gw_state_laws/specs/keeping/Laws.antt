@@ -7,7 +7,7 @@ use Rattle.gw_core.specs.History.{next}
 use Rattle.gw_core.specs.Lasting.{lasts}
 use Rattle.gw_core.specs.Resumed.{saved_of}
 use Rattle.gw_core.specs.State.{State}
-use Rattle.gw_turns.specs.Keeping.{HasPassed, IsHeld, IsRecent, IsTried, IsUnkept, IsUpToDate, KeepsAtTick, Keeping, is_registering, lasting_of}
+use Rattle.gw_turns.specs.Keeping.{HasPassed, IsHeld, IsRecent, IsTried, IsUnkept, IsUpToDate, KeepsAtTick, Keeping, lasting_of}
 use Rattle.gw_turns.specs.Serve.{Turn}
 use Rattle.gw_turns.specs.Stretch.{EndsFaulty, EndsStretch, Moment, asked_until}
 use Rattle.gw_core.specs.declared.guard.Both.{Both}
@@ -185,7 +185,7 @@ WatchedRunsKeepRecent {S} {L} held log_held = (how : Reporting) (stops : Bool) (
 abbrev pub HoldsYoung : Option (List ℕ) → State → Type 0
 HoldsYoung held w = (s : Saved) × Holds held (state_text s) × (w.ticks < s.counts.ticks + 600)
 
--- So it is after each tick while anybody is registered, where no last try failed: what a kill leaves isn't older.
+-- So it is after each tick, where no last try failed: what a kill leaves isn't older.
 abbrev pub KeptIsYoung : {S : Type 0} → (S → Option (List ℕ)) → Type 0
 KeptIsYoung {S} held = (kept : Kept S) (c : Configuration) (w : State) → (now : KeepsCurrent held kept c w) → IsRecentIn kept w →
-    failing_in kept ≡ None → is_registering (saved_of (origin_of c) w) ≡ true → HoldsYoung (held now.keeper.store) w
+    failing_in kept ≡ None → HoldsYoung (held now.keeper.store) w
