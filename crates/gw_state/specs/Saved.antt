@@ -1,5 +1,5 @@
 -- What of a gateway outlives it, with what was configured of it then.
-use Rattle.std.specs.Prelude.{◌^◌, Bool, ◌&&◌, nat_le, List, [], ◌∷◌, length, map}
+use Rattle.std.specs.Prelude.{ℕ, ◌^◌, Bool, ◌&&◌, nat_le, List, [], ◌∷◌, length, map}
 use Rattle.gw_addr.specs.declared.entry.BdtEntry.{BdtEntry}
 use Rattle.gw_tables.specs.bdt_fdt.Kept.{kept}
 use Rattle.gw_tables.specs.bdt_fdt.Registrations.{Registered}
@@ -57,6 +57,10 @@ pub record Saved : Type 0 where
   pub routes : Routed
   pub objects : List SavedObject
   pub counts : SavedCounts
+
+-- the same, with this number of the last denial
+abbrev pub with_denials : Saved → ℕ → Saved
+with_denials s denials = record s { counts = record s.counts { denials = denials } }
 
 -- a port with its table of peers and its foreign devices
 abbrev pub saved_port : OriginPort → List BdtEntry → Registered → SavedPort

@@ -1,6 +1,6 @@
 //! What of a gateway outlives it.
 ghost use Rattle.std.specs.Prelude.{◌≡◌, ◌≤◌, ◌↔◌, ◌^◌, ◌&&◌, not, IfOk, IsErrOf, IsFalse, IsOk, IsTrue};
-ghost use Rattle.gw_state.specs.Saved.{are_countable, are_few};
+ghost use Rattle.gw_state.specs.Saved.{are_countable, are_few, with_denials};
 
 use crate::{SavedCounts, SavedFault, SavedObject, SavedPort};
 use gw_addr::{MAX_PORTS, NetNum};
@@ -117,6 +117,29 @@ impl Saved {
         ensures denials { result.denials ≤ 2 ^ 63 }
     {
         self.counts
+    }
+
+    /// The same, with this number of the last denial.
+    pub fn with_denials(self, denials: u64) -> Self
+        requires { denials ≤ 2 ^ 63 }
+        ensures { result ≡ with_denials self denials }
+    {
+        let Saved {
+            ports,
+            routes,
+            objects,
+            counts,
+        } = self;
+        Saved {
+            ports,
+            routes,
+            objects,
+            counts: SavedCounts {
+                since: counts.since,
+                ticks: counts.ticks,
+                denials,
+            },
+        }
     }
 }
 
