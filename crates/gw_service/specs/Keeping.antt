@@ -4,7 +4,7 @@ use Rattle.gw_configuration.specs.Configuration.{Configuration}
 use Rattle.gw_core.specs.State.{State}
 use Rattle.gw_state.specs.Saved.{origin_of}
 use Rattle.gw_script.specs.Event.{Event}
-use Rattle.gw_turns.specs.Keeping.{HasPassed, IsTried, KeepsAtTick, failing_of}
+use Rattle.gw_turns.specs.Keeping.{HasPassed, IsTried, IsTriedLast, KeepsAtTick, failing_of}
 use Rattle.gw_wire.specs.declared.store.StoreFault.{StoreFault}
 use Rattle.gw_notices.specs.declared.metrics.counts.StateTries.{StateTries}
 use Rattle.gw_service.specs.declared.keeping.Kept.{Kept}
@@ -40,10 +40,10 @@ IsKeptFor held Nowhere c w Nowhere = ⊤
 IsKeptFor held (In k) c w (In l) = IsTried held (record k { origin = origin_of c }) w l
 IsKeptFor held _ c w _ = ⊥
 
--- at the end: its state is kept at once
+-- at the end: its state is kept at once, with the number of its last denial
 abbrev pub IsKeptLast : {S : Type 0} → (S → Option (List ℕ)) → Kept S → State → Kept S → Type 0
 IsKeptLast held Nowhere w Nowhere = ⊤
-IsKeptLast held (In k) w (In l) = IsTried held k w l
+IsKeptLast held (In k) w (In l) = IsTriedLast held k w l
 IsKeptLast held _ w _ = ⊥
 
 -- why the last try failed, if it did

@@ -7,10 +7,9 @@ use Rattle.gw_script.specs.Event.{Event}
 use Rattle.gw_state.specs.Saved.{Saved}
 use Rattle.gw_core.specs.History.{next}
 use Rattle.gw_core.specs.Lasting.{lasts}
-use Rattle.gw_core.specs.Resumed.{saved_of}
 use Rattle.gw_core.specs.State.{State}
 use Rattle.gw_turns.specs.Keeping.{EventsTryFew, FailingIsSpared, KeepsBy, KeepsChanged, Keeping, KeptBy, PassesBy, RestsAtTicks, RestsEnd}
-use Rattle.gw_turns.specs.Keeping.{TicksBeginAnew, TicksBy, is_due, is_kept, spared}
+use Rattle.gw_turns.specs.Keeping.{TicksBeginAnew, TicksBy, due_of, is_due, is_kept, spared}
 use Rattle.gw_turns.specs.Pace.{PausesGrow, is_resting, may_try, one_more, paced, pause_after, rested, ticked}
 use Rattle.gw_turns.specs.declared.pace.Pace.{Pace}
 use Rattle.gw_turns.specs.declared.alike.Part.{Part}
@@ -58,7 +57,7 @@ few_event held k l due true passes p = few_by held k l due (may_try k.pace) pass
 few_event held k l due false passes p = few_same k l p.0
 
 pub events_try_few : {S : Type 0} (held : S → Option (List ℕ)) → EventsTryFew held
-events_try_few held k l w event passes p = few_event held k l (saved_of k.origin (next w event)) (lasts w event) passes p
+events_try_few held k l w event passes p = few_event held k l (due_of k (next w event)) (lasts w event) passes p
 
 pub ticks_begin_anew : {S : Type 0} (held : S → Option (List ℕ)) → TicksBeginAnew held
 ticks_begin_anew held k l w p = ap (λ (j : Keeping _). j.pace.replaces) p.2
@@ -76,12 +75,12 @@ spared_event held k l due false passes is resting p = absurd (true≢false (sym 
 
 pub failing_is_spared : {S : Type 0} (held : S → Option (List ℕ)) → FailingIsSpared held
 failing_is_spared held k l w event passes p lasting resting =
-    spared_event held k l (saved_of k.origin (next w event)) (lasts w event) passes lasting resting p
+    spared_event held k l (due_of k (next w event)) (lasts w event) passes lasting resting p
 
 -- at a tick
-due_by : {S : Type 0} (k : Keeping S) (ticks : ℕ) (fault : StoreFault) (kept : Result Saved StoreFault) → kept ≡ Err fault
-    → is_due kept k.pace ticks ≡ is_due (Err fault) k.pace ticks
-due_by k ticks fault kept is = ap (λ (r : Result Saved StoreFault). is_due r k.pace ticks) is
+due_by : {S : Type 0} (k : Keeping S) (w : State) (fault : StoreFault) (kept : Result Saved StoreFault) → kept ≡ Err fault
+    → is_due kept k.pace w ≡ is_due (Err fault) k.pace w
+due_by k w fault kept is = ap (λ (r : Result Saved StoreFault). is_due r k.pace w) is
 
 rests_by : {S : Type 0} (held : S → Option (List ℕ)) (k l : Keeping S) (due : Saved) (is : Bool) → is ≡ false → TicksBy is held k due l
     → l ≡ record k { pace = rested k.pace }
@@ -96,8 +95,8 @@ yet left few = le-leb left 1 few
 
 pub rests_at_ticks : {S : Type 0} (held : S → Option (List ℕ)) → RestsAtTicks held
 rests_at_ticks {S} held k l w fault p failed more =
-    let is = due_by k w.ticks fault k.kept failed ∙ not_yet k.pace.left more in
-    let done = rests_by held k p.0 (saved_of k.origin w) (is_due k.kept k.pace w.ticks) is p.1 in
+    let is = due_by k w fault k.kept failed ∙ not_yet k.pace.left more in
+    let done = rests_by held k p.0 (due_of k w) (is_due k.kept k.pace w) is p.1 in
     let left : l.pace.left ≡ k.pace.left - 1 = ap (λ (j : Keeping S). j.pace.left) p.2 ∙ ap (λ (j : Keeping S). j.pace.left) done in (
       ap (λ (j : Keeping S). j.store) p.2 ∙ ap (λ (j : Keeping S). j.store) done,
       ap (λ (j : Keeping S). j.kept) p.2 ∙ ap (λ (j : Keeping S). j.kept) done,
@@ -119,8 +118,8 @@ ends_by held k l due fault false is failed p = absurd (true≢false (sym is))
 
 pub rests_end : {S : Type 0} (held : S → Option (List ℕ)) → RestsEnd held
 rests_end {S} held k l w fault p failed few =
-    let is = due_by k w.ticks fault k.kept failed ∙ yet k.pace.left few in
-    let done = ends_by held k p.0 (saved_of k.origin w) fault (is_due k.kept k.pace w.ticks) is failed p.1 in
+    let is = due_by k w fault k.kept failed ∙ yet k.pace.left few in
+    let done = ends_by held k p.0 (due_of k w) fault (is_due k.kept k.pace w) is failed p.1 in
     (done.0, ap (λ (j : Keeping S). j.pace) p.2 ∙ ap ticked done.1)
 
 pub pauses_grow : PausesGrow

@@ -1,5 +1,5 @@
 -- What is kept of a gateway in a store: the text of its state, before what lasts is answered, and each ten ticks.
-use Rattle.std.specs.Prelude.{◌≡◌, ◌⊎◌, ℕ, ◌+◌, ◌<◌, ◌≤◌, ◌&&◌, Bool, true, false, nat_eq, nat_le, nat_lt, List, [], map, Option, Some, None, ⊤}
+use Rattle.std.specs.Prelude.{◌≡◌, ◌⊎◌, ℕ, ◌+◌, ◌<◌, ◌≤◌, ◌^◌, ◌&&◌, ◌||◌, not, Bool, true, false, if◌then◌else◌, nat_eq, nat_le, nat_lt, List, [], map, Option, Some, None, ⊤}
 use Rattle.std.specs.Prelude.{Result, Ok, Err}
 use Rattle.std.specs.Cmp.Lexicographic.{pointwise}
 use Rattle.gw_objects.specs.declared.value.PropertyValue.{PropertyValue}
@@ -9,7 +9,7 @@ use Rattle.gw_tables.specs.declared.bdt_fdt.kept.KeptDevice.{KeptDevice}
 use Rattle.gw_state.specs.declared.port.SavedPort.{SavedPort}
 use Rattle.gw_tables.specs.bdt_fdt.Registrations.{same as same_address}
 use Rattle.gw_state.specs.Carried.{same_entry}
-use Rattle.gw_state.specs.Saved.{Origin, Saved, SavedObject}
+use Rattle.gw_state.specs.Saved.{Origin, Saved, SavedObject, with_denials}
 use Rattle.gw_state_text.specs.Text.{state_text}
 use Rattle.gw_script.specs.Event.{Event}
 use Rattle.gw_core.specs.History.{next}
@@ -21,6 +21,7 @@ use Rattle.gw_turns.specs.declared.pace.Pace.{Pace}
 use Rattle.gw_turns.specs.declared.alike.Part.{Part}
 use Rattle.gw_turns.specs.declared.alike.Part.TheVariants.{Lasting, AllButTicks}
 use Rattle.gw_turns.specs.declared.alike.TheConstants.{OLDEST_TICKS}
+use Rattle.gw_turns.specs.declared.ahead.TheConstants.{LEAST_AHEAD, MOST_AHEAD}
 use Rattle.gw_wire.specs.Store.{Holds}
 use Rattle.gw_wire.specs.declared.store.StoreFault.{StoreFault}
 use Rattle.gw_wire.specs.declared.store.StoreFault.TheVariants.{Memory, TooMany}
@@ -129,6 +130,29 @@ EqualButTicksIsAlike = (a b : Saved) → but_ticks a ≡ but_ticks b → alike_b
 abbrev pub is_fresh : (kept due : Saved) → Bool
 is_fresh kept due = nat_lt due.counts.ticks (kept.counts.ticks + OLDEST_TICKS)
 
+-- ---- which number of a denial it has
+
+-- A number is ahead of that of the last denial: none of the next 500 has a greater one, or there is no greater one.
+abbrev pub is_ahead : (number denials : ℕ) → Bool
+is_ahead number denials = nat_le (denials + LEAST_AHEAD) number || nat_eq number (2 ^ 63)
+
+-- 1,000 more than that of the last denial, as far as it is counted
+abbrev pub far_ahead : ℕ → ℕ
+far_ahead denials = if nat_le (denials + MOST_AHEAD) (2 ^ 63) then denials + MOST_AHEAD else 2 ^ 63
+
+-- the number that a text has if it is written now: that of the text which is kept, while it is ahead
+abbrev pub number_for : Result Saved StoreFault → (denials : ℕ) → ℕ
+number_for (Ok s) denials = if is_ahead s.counts.denials denials then s.counts.denials else far_ahead denials
+number_for (Err fault) denials = far_ahead denials
+
+-- what is due to be kept of a state: the state with that number
+abbrev pub numbered : Result Saved StoreFault → Saved → Saved
+numbered kept s = with_denials s (number_for kept s.counts.denials)
+
+-- a number that is ahead is one that no denial has before 500 more came
+abbrev pub AheadIsUnreached : Type 0
+AheadIsUnreached = (number denials later : ℕ) → is_ahead number denials ≡ true → later ≤ denials + 500 → later ≤ 2 ^ 63 → later ≤ number
+
 -- ---- a keeper
 
 -- the store; what was configured of the gateway; what the store holds the text of, or why the last try failed; how many tries failed
@@ -143,6 +167,10 @@ pub record Keeping (S : Type 0) : Type 0 where
 -- a keeper that kept nothing yet
 abbrev pub nothing_kept : {S : Type 0} → S → Origin → Keeping S
 nothing_kept store origin = record { store = store; origin = origin; kept = Err Memory; unkept = 0; pace = fresh_pace }
+
+-- what is due to be kept of a gateway in this state
+abbrev pub due_of : {S : Type 0} → Keeping S → State → Saved
+due_of k w = numbered k.kept (saved_of k.origin w)
 
 -- what a store holds, if the last try didn't fail
 abbrev pub IsHeld : Option (List ℕ) → Result Saved StoreFault → Type 0
@@ -181,7 +209,11 @@ Tries held k due l false = HasFailed held k due l
 
 -- a try to keep a state
 abbrev pub IsTried : {S : Type 0} → (S → Option (List ℕ)) → Keeping S → State → Keeping S → Type 0
-IsTried held k w l = (kept : Bool) × Tries held k (saved_of k.origin w) l kept
+IsTried held k w l = (kept : Bool) × Tries held k (due_of k w) l kept
+
+-- the last one: of a gateway that ends the number of its last denial is kept
+abbrev pub IsTriedLast : {S : Type 0} → (S → Option (List ℕ)) → Keeping S → State → Keeping S → Type 0
+IsTriedLast held k w l = (kept : Bool) × Tries held k (saved_of k.origin w) l kept
 
 -- ---- what is kept only if it differs
 
@@ -228,14 +260,15 @@ PassesBy false held k due l passes = (l ≡ k) × (passes ≡ true)
 -- What a keeper does about an event: nothing if it doesn't last; else what lasts of the state after it is kept, or the
 -- event isn't answered. While the store rests, and after 64 tries since the last tick, it isn't answered, and the store isn't called.
 abbrev pub HasPassed : {S : Type 0} → (S → Option (List ℕ)) → Keeping S → State → Event → Keeping S → Bool → Type 0
-HasPassed held k w event l passes = PassesBy (lasts w event) held k (saved_of k.origin (next w event)) l passes
+HasPassed held k w event l passes = PassesBy (lasts w event) held k (due_of k (next w event)) l passes
 
 -- ---- at a tick
 
--- the text is that of a state ten ticks ago; or the last try failed, and the rest after it ends with this tick
-abbrev pub is_due : Result Saved StoreFault → Pace → ℕ → Bool
-is_due (Ok s) pace ticks = nat_le (s.counts.ticks + 10) ticks
-is_due (Err fault) pace ticks = nat_le pace.left 1
+-- the text is that of a state ten ticks ago, or its number isn't ahead; or the last try failed, and the rest after it ends with this
+-- tick
+abbrev pub is_due : Result Saved StoreFault → Pace → State → Bool
+is_due (Ok s) pace w = nat_le (s.counts.ticks + 10) w.ticks || not (is_ahead s.counts.denials w.denials)
+is_due (Err fault) pace w = nat_le pace.left 1
 
 -- by whether it is due; if not, it rests one tick less
 abbrev pub TicksBy : {S : Type 0} → Bool → (S → Option (List ℕ)) → Keeping S → Saved → Keeping S → Type 0
@@ -244,7 +277,7 @@ TicksBy false held k due l = l ≡ record k { pace = rested k.pace }
 
 -- what is due at a tick, in this state: if one is due, it keeps the state unless only its ticks differ and what is kept is fresh
 abbrev pub KeepsDue : {S : Type 0} → (S → Option (List ℕ)) → Keeping S → State → Keeping S → Type 0
-KeepsDue held k w l = TicksBy (is_due k.kept k.pace w.ticks) held k (saved_of k.origin w) l
+KeepsDue held k w l = TicksBy (is_due k.kept k.pace w) held k (due_of k w) l
 
 -- what a keeper does at a tick, in this state: what is due, and from then on tries are counted anew
 abbrev pub KeepsAtTick : {S : Type 0} → (S → Option (List ℕ)) → Keeping S → State → Keeping S → Type 0
@@ -255,10 +288,12 @@ pub record IsAsKept (s due : Saved) : Type 0 where
   pub same : but_ticks s ≡ but_ticks due
   pub fresh : is_fresh s due ≡ true
 
--- The text is that of a state fewer than ten ticks ago, or of one that differs only in its ticks and is fresh; or the last try
--- failed.
+-- The text is that of a state fewer than ten ticks ago, or of one that differs only in its ticks and is fresh; and its number is ahead.
+-- Or the last try failed.
 abbrev pub IsRecent : Result Saved StoreFault → Saved → Type 0
-IsRecent (Ok s) due = (due.counts.ticks < s.counts.ticks + 10) ⊎ IsAsKept s due
+IsRecent (Ok s) due =
+    ((due.counts.ticks < s.counts.ticks + 10) ⊎ IsAsKept s (numbered (Ok s) due))
+    × (is_ahead s.counts.denials due.counts.denials ≡ true)
 IsRecent (Err fault) due = ⊤
 
 -- so it is after each tick
@@ -270,7 +305,16 @@ abbrev pub IsYoung : Result Saved StoreFault → Saved → Type 0
 IsYoung (Ok s) due = due.counts.ticks < s.counts.ticks + 600
 IsYoung (Err fault) due = ⊤
 
--- so it is wherever the text is recent
+-- The number of the text is ahead, or the last try failed.
+abbrev pub HasAhead : Result Saved StoreFault → (denials : ℕ) → Type 0
+HasAhead (Ok s) denials = is_ahead s.counts.denials denials ≡ true
+HasAhead (Err fault) denials = ⊤
+
+-- so it is after each tick
+abbrev pub TicksKeepAhead : {S : Type 0} → (S → Option (List ℕ)) → Type 0
+TicksKeepAhead {S} held = (k l : Keeping S) (w : State) → KeepsAtTick held k w l → HasAhead l.kept w.denials
+
+-- the text is young wherever it is recent
 abbrev pub RecentIsYoung : Type 0
 RecentIsYoung = (kept : Result Saved StoreFault) (due : Saved) → IsRecent kept due → IsYoung kept due
 
@@ -281,7 +325,7 @@ TicksKeepYoung {S} held = (k l : Keeping S) (w : State) → KeepsAtTick held k w
 -- What differs only in its ticks isn't written again before.
 abbrev pub FreshIsSpared : {S : Type 0} → (S → Option (List ℕ)) → Type 0
 FreshIsSpared {S} held = (k l : Keeping S) (w : State) (s : Saved) →
-    KeepsChanged AllButTicks held k (saved_of k.origin w) l true → k.kept ≡ Ok s → but_ticks s ≡ but_ticks (saved_of k.origin w) →
+    KeepsChanged AllButTicks held k (due_of k w) l true → k.kept ≡ Ok s → but_ticks s ≡ but_ticks (due_of k w) →
     w.ticks < s.counts.ticks + 600 → l ≡ k
 
 -- ---- how often the store is tried

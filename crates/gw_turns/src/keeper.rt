@@ -1,19 +1,20 @@
 //! What keeps the state of a gateway in a store.
 
-ghost use Rattle.std.specs.Prelude.{◌≡◌, ◌⊎◌, OnOk, OnErr, Err, false};
+ghost use Rattle.std.specs.Prelude.{◌≡◌, ◌⊎◌, IfOk, OnOk, OnErr, Err, false};
 ghost use Rattle.gw_core.specs.Resumed.{saved_of};
 ghost use Rattle.gw_state_text.specs.Text.{state_text};
-ghost use Rattle.gw_turns.specs.Keeping.{HasPassed, IsHeld, IsTried, KeepsAtTick, KeepsBy, KeepsChanged, KeepsDue, Tries, failing_of, is_due, is_kept, nothing_kept, spared, spared_by};
+ghost use Rattle.gw_turns.specs.Keeping.{HasPassed, IsHeld, IsTried, IsTriedLast, KeepsAtTick, KeepsBy, KeepsChanged, KeepsDue, Tries, due_of, failing_of, is_due, is_kept, nothing_kept, spared, spared_by};
 ghost use Rattle.gw_turns.specs.Pace.{may_try, one_more, paced, ticked};
 ghost use Rattle.gw_wire.specs.Store.{Holds};
 
+use crate::ahead::{is_ahead, number_for};
 use crate::alike::{Part, is_same};
 use crate::pace::{Pace, one_more};
 use gw_core::{AllAsked, Gateway, Guard, Taken};
 use gw_state::{Origin, Saved};
 use gw_state_text::put_state;
 use gw_wire::{Store, StoreFault};
-use std::alloc::Global;
+use std::alloc::{AllocError, Global};
 use std::marker::Model;
 
 /// After how many ticks a state is kept again.
@@ -21,7 +22,8 @@ const KEPT_TICKS: u64 = 10;
 
 /// Keeps the state of a gateway in a store. As a guard it keeps the state after each event that lasts before
 /// anything of it is sent, unless what lasts is kept already; and doesn't let it be answered if that
-/// fails. A store that failed rests before it is tried again, and between two ticks it is tried at few events ([`Pace`]).
+/// fails. A store that failed rests before it is tried again, and between two ticks it is tried at few events ([`Pace`]). The text has
+/// a number of a denial that none has yet, so that a gateway which goes on from it after a kill repeats none.
 /// Contracts see the store, what was configured, what the store holds the text of, or why the last
 /// try failed, how many tries failed, and how often the store is tried.
 pub struct Keeper<S: Store + Drop> {
@@ -87,9 +89,9 @@ impl<S: Store + Drop> Keeper<S> {
         keeper
     }
 
-    /// Does what is due at a tick: keeps the state, if the text is that of a state ten ticks ago or more, or if the last try
-    /// failed and the rest after it ends with this tick; unless it differs only in its ticks. From then on tries at events are
-    /// counted anew.
+    /// Does what is due at a tick: keeps the state, if the text is that of a state ten ticks ago or more, or its number of a denial
+    /// isn't 500 ahead, or if the last try failed and the rest after it ends with this tick; unless it differs only in its ticks.
+    /// From then on tries at events are counted anew.
     pub fn keep_at_tick(&mut self, alloc: Global, gateway: &Gateway)
         ensures { KeepsAtTick S.held self.old gateway.now self.new }
     {
@@ -105,11 +107,11 @@ impl<S: Store + Drop> Keeper<S> {
         self.keep_now(alloc, gateway);
     }
 
-    /// Keeps the state of the gateway at once, whether that is due or not, as at the end of a run.
+    /// Keeps the state of a gateway that ends at once, whether that is due or not, with the number of its last denial.
     pub fn keep_last(&mut self, alloc: Global, gateway: &Gateway)
-        ensures { IsTried S.held self.old gateway.now self.new }
+        ensures { IsTriedLast S.held self.old gateway.now self.new }
     {
-        self.keep_now(alloc, gateway);
+        self.keep_as_it_is(alloc, gateway);
     }
 
     /// Why the last try failed, if it did.
@@ -146,12 +148,25 @@ impl<S: Store + Drop> Keeper<S> {
 
     /// Whether a text is due at a tick.
     fn is_due(&self, gateway: &Gateway) -> bool
-        ensures { result ≡ is_due self.now.kept self.now.pace gateway.now.ticks }
+        ensures { result ≡ is_due self.now.kept self.now.pace gateway.now }
     {
+        let counts = gateway.counts();
         match &self.kept {
-            Ok(kept) => kept.counts().ticks + KEPT_TICKS <= gateway.counts().ticks,
+            Ok(kept) => {
+                let was = kept.counts();
+                was.ticks + KEPT_TICKS <= counts.ticks || !is_ahead(was.denials, counts.denials)
+            }
             Err(_) => self.pace.left <= 1,
         }
+    }
+
+    /// What is due to be kept of a gateway. An `Err` only if a growth was refused.
+    fn due(&self, alloc: Global, gateway: &Gateway) -> Result<Saved, AllocError>
+        ensures { IfOk result (λ due. due ≡ due_of self.now gateway.now) }
+    {
+        let saved = gateway.save(alloc, &self.origin)?;
+        let number = number_for(&self.kept, saved.counts().denials);
+        Ok(saved.with_denials(number))
     }
 
     /// Keeps the state if that is due at a tick, or else rests one tick less.
@@ -230,6 +245,19 @@ impl<S: Store + Drop> Keeper<S> {
 
     /// Tries to keep the state of a gateway, and says whether it is kept.
     fn keep_now(&mut self, alloc: Global, gateway: &Gateway) -> bool
+        ensures { Tries S.held self.old (due_of self.old gateway.now) self.new result }
+    {
+        match self.due(alloc, gateway) {
+            Ok(due) => self.keep(due),
+            Err(_) => {
+                self.fail();
+                false
+            }
+        }
+    }
+
+    /// Tries to keep the state of a gateway with the number of its last denial, and says whether it is kept.
+    fn keep_as_it_is(&mut self, alloc: Global, gateway: &Gateway) -> bool
         ensures { Tries S.held self.old (saved_of self.old.origin gateway.now) self.new result }
     {
         match gateway.save(alloc, &self.origin) {
@@ -243,10 +271,10 @@ impl<S: Store + Drop> Keeper<S> {
 
     /// Tries to keep the state of a gateway unless this of it is kept, and says whether it is kept.
     fn keep_changed(&mut self, alloc: Global, gateway: &Gateway, part: Part) -> bool
-        ensures { KeepsChanged part S.held self.old (saved_of self.old.origin gateway.now) self.new result }
+        ensures { KeepsChanged part S.held self.old (due_of self.old gateway.now) self.new result }
     {
-        match gateway.save(alloc, &self.origin) {
-            Ok(saved) => self.is_kept(part, &saved) || self.keep(saved),
+        match self.due(alloc, gateway) {
+            Ok(due) => self.is_kept(part, &due) || self.keep(due),
             Err(_) => {
                 self.fail();
                 false
@@ -256,7 +284,7 @@ impl<S: Store + Drop> Keeper<S> {
 
     /// Keeps what lasts of a gateway, if the store may be tried, and says whether it is kept.
     fn keep_lasting(&mut self, alloc: Global, gateway: &Gateway) -> bool
-        ensures { KeepsBy (may_try self.old.pace) S.held self.old (saved_of self.old.origin gateway.now) self.new result }
+        ensures { KeepsBy (may_try self.old.pace) S.held self.old (due_of self.old gateway.now) self.new result }
     {
         if !self.pace.may_try() {
             self.spare();

@@ -4,21 +4,25 @@ ghost use Rattle.std.specs.Prelude.{◌≡◌};
 ghost use Rattle.gw_turns.specs.Announcing.{NothingDueNothingDone, PortsAreAll, UnannouncedIsSilent};
 ghost use Rattle.gw_turns.specs.ByPort.{AgainIsReportedOnce, PortsAddUp};
 ghost use Rattle.gw_turns.specs.Both.{GoOnUnderFirst, GoOnUnderSecond, IsUnderFirst, IsUnderSecond};
-ghost use Rattle.gw_turns.specs.Keeping.{AlikeButTicksIsEqual, AlikeIsEqual, EqualButTicksIsAlike, EqualIsAlike, EventsTryFew, FailingIsSpared, FreshIsSpared, RecentIsYoung, RestsAtTicks, RestsEnd, TicksBeginAnew, TicksKeepRecent, TicksKeepYoung};
+ghost use Rattle.gw_turns.specs.Keeping.{AheadIsUnreached, AlikeButTicksIsEqual, AlikeIsEqual, EqualButTicksIsAlike, EqualIsAlike, EventsTryFew, FailingIsSpared, FreshIsSpared, RecentIsYoung, RestsAtTicks, RestsEnd, TicksBeginAnew, TicksKeepAhead, TicksKeepRecent, TicksKeepYoung};
 ghost use Rattle.gw_turns.specs.Logged.{ServingLogsFirst, StopsLogFirst, StretchesLogFirst};
 ghost use Rattle.gw_turns.specs.Pace.{PausesGrow};
 ghost use Rattle.gw_turns.specs.Served.{StopsAreServed, TurnsAreServed};
 
+use crate::ahead::{LEAST_AHEAD, MOST_AHEAD};
 use crate::alike::OLDEST_TICKS;
 use crate::pace::{LONGEST_PAUSE, MOST_REPLACES};
 use gw_core::Guard;
 use gw_wire::Store;
 
-/// Between two ticks a store is tried at 64 events at most, and it rests 60 ticks at most. A state is kept again after 600 ticks.
+/// Between two ticks a store is tried at 64 events at most, and it rests 60 ticks at most. A state is kept again after 600 ticks. The
+/// number of its last denial is 1,000 ahead once it is written anew, and 500 at least.
 pub fn limits()
     ensures tries { MOST_REPLACES ≡ 64 }
     ensures pause { LONGEST_PAUSE ≡ 60 }
     ensures oldest { OLDEST_TICKS ≡ 600 }
+    ensures most_ahead { MOST_AHEAD ≡ 1000 }
+    ensures least_ahead { LEAST_AHEAD ≡ 500 }
 {}
 
 /// What `serve` promises, in the words of a wire: the turns are the receives; the events that were handed in are those
@@ -39,7 +43,8 @@ pub fn logged_first<G: Guard>()
 
 /// When a keeper doesn't write: of two saved states that it takes for alike the same lasts, and it takes all such for
 /// alike; or they differ only in their ticks, and it takes all such for alike: no registration is new, renewed or gone. After each
-/// tick the text is that of a state fewer than ten ticks ago, or of one that differs only in its ticks, unless the last try failed.
+/// tick the text is that of a state fewer than ten ticks ago, or of one that differs only in its ticks, and its number of a denial is
+/// ahead, unless the last try failed.
 pub fn keeping<S: Store>()
     ensures lasting { AlikeIsEqual }
     ensures alike { EqualIsAlike }
@@ -56,6 +61,14 @@ pub fn renewing<S: Store>()
     ensures recent { RecentIsYoung }
     ensures ticks { TicksKeepYoung S.held }
     ensures fresh { FreshIsSpared S.held }
+{}
+
+/// Which number of a denial the text of a keeper has: after each tick one that none has before 500 more came, unless the last try
+/// failed. So a gateway that goes on from it after a kill repeats none, whatever its log holds, unless more than 500 came since the
+/// last tick.
+pub fn numbering<S: Store>()
+    ensures ticks { TicksKeepAhead S.held }
+    ensures unreached { AheadIsUnreached }
 {}
 
 /// How often a keeper tries its store: at most 64 times at events between two ticks. After a try that failed it rests 1, 2, 4, 8, 16,

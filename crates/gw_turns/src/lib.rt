@@ -1,6 +1,7 @@
 //! A gateway on a wire: what comes is taken, what is denied is logged, and what is to go is sent.
 #![tactic(auto)]
 
+mod ahead;
 mod alike;
 mod announcing;
 mod keeper;

@@ -16,7 +16,7 @@ use Rattle.gw_core.specs.Resumed.{saved_of, saved_ports}
 use Rattle.gw_core.specs.State.{State}
 use Rattle.gw_state_laws.specs.continuity.Laws.{entries_of}
 use Rattle.gw_state_laws.proofs.continuity_lemmas.LastingChanges.{only_lasting_changes}
-use Rattle.gw_turns.specs.Keeping.{HasPassed, IsHeld, IsUnkept, IsUpToDate, KeepsBy, KeepsChanged, Keeping, KeptBy, PassesBy, TicksBy, Tries, is_due, is_kept, lasting_of, lasting_port, spared, spared_by}
+use Rattle.gw_turns.specs.Keeping.{HasPassed, IsHeld, IsUnkept, IsUpToDate, KeepsBy, KeepsChanged, Keeping, KeptBy, PassesBy, TicksBy, Tries, due_of, is_due, is_kept, lasting_of, lasting_port, spared, spared_by}
 use Rattle.gw_turns.specs.Pace.{may_try}
 use Rattle.gw_wire.specs.Store.{Holds}
 use Rattle.gw_turns.specs.Serve.{Turn, empty_turn, events_of, failed_turn, lost_event, taken_event, turn_events}
@@ -29,7 +29,7 @@ use Rattle.gw_turns.specs.declared.alike.Part.TheVariants.{AllButTicks, Lasting}
 use Rattle.gw_wire.specs.declared.store.StoreFault.{StoreFault}
 use Rattle.gw_turns.proofs.AlikeLemmas.{alike_is_equal}
 use Rattle.gw_turns.proofs.ServeLemmas.{state_along}
-use Rattle.gw_state_laws.specs.keeping.Laws.{AnsweredIsKept, CurrentIsUpToDate, FaultsKeep, HeldStays, IsCurrent, LastsAs, PausesKeep, TicksKeepCurrent, TriedIsCurrent, WithheldIsOldOrNew}
+use Rattle.gw_state_laws.specs.keeping.Laws.{AnsweredIsKept, CurrentIsUpToDate, FaultsKeep, HeldStays, IsCurrent, LastsAs, PausesKeep, TicksKeepCurrent, TriedIsCurrent, TriedLastIsCurrent, WithheldIsOldOrNew}
 
 -- ---- what doesn't last leaves what lasts
 
@@ -71,6 +71,19 @@ alike_lasts (Err fault) due alike = tt
 -- what a keeper has, of this state and in this store
 abbrev Has : {S : Type 0} → (S → Option (List ℕ)) → Keeping S → Saved → Type 0
 Has held k due = IsHeld (held k.store) k.kept × LastsAs k.kept due
+
+-- a keeper that has a state of which the same lasts is current
+current_by : {S : Type 0} (held : S → Option (List ℕ)) (k l : Keeping S) (w : State) (due : Saved)
+    → lasting_of (saved_of k.origin w) ≡ lasting_of due → Has held l due × (l.origin ≡ k.origin) → IsCurrent held l w
+current_by held k l w due same has = record {
+  text = has.0.0;
+  lasts = subst (λ (o : Origin). LastsAs l.kept (saved_of o w)) (sym has.1) (lasts_on l.kept (saved_of k.origin w) due same has.0.1);
+}
+
+-- so is one that has what is due of this state
+has_current : {S : Type 0} (held : S → Option (List ℕ)) (k l : Keeping S) (w : State) → Has held l (due_of k w) × (l.origin ≡ k.origin)
+    → IsCurrent held l w
+has_current held k l w has = current_by held k l w (due_of k w) refl has
 
 -- what was just kept
 just_kept : {S : Type 0} (held : S → Option (List ℕ)) (l : Keeping S) (due : Saved) → l.kept ≡ Ok due → Holds (held l.store) (state_text due)
@@ -115,16 +128,16 @@ withheld_unkept {S} held k l due false p = record {
 }
 
 pub passed_has : {S : Type 0} (held : S → Option (List ℕ)) (k l : Keeping S) (w : State) (event : Event) (is passes : Bool) → lasts w event ≡ is
-    → PassesBy is held k (saved_of k.origin (next w event)) l passes → IsHeld (held k.store) k.kept → LastsAs k.kept (saved_of k.origin w)
-    → Has held l (saved_of k.origin (next w event)) × (l.origin ≡ k.origin)
+    → PassesBy is held k (due_of k (next w event)) l passes → IsHeld (held k.store) k.kept → LastsAs k.kept (saved_of k.origin w)
+    → Has held l (due_of k (next w event)) × (l.origin ≡ k.origin)
 passed_has held k l w event true true is p has lasted =
-    let due = saved_of k.origin (next w event) in
+    let due = due_of k (next w event) in
     kept_has held k l due (is_kept Lasting k.kept due) refl (passed_changed held k l due (may_try k.pace) p) has
 passed_has held k l w event true false is p has lasted =
-    let due = saved_of k.origin (next w event) in
+    let due = due_of k (next w event) in
     unkept_has held k l due (withheld_unkept held k l due (may_try k.pace) p)
 passed_has held k l w event false passes is p has lasted =
-    let due = saved_of k.origin (next w event) in
+    let due = due_of k (next w event) in
     subst (λ (j : Keeping _). Has held j due × (j.origin ≡ k.origin)) (sym p.0)
     ((has, lasts_on k.kept due (saved_of k.origin w) (lasting_stays k.origin w event is) lasted), refl)
 
@@ -132,19 +145,15 @@ passed_has held k l w event false passes is p has lasted =
 pub event_current : {S : Type 0} (held : S → Option (List ℕ)) (k l : Keeping S) (w : State) (event : Event) (passes : Bool)
     → HasPassed held k w event l passes → IsCurrent held k w → IsCurrent held l (next w event)
 event_current held k l w event passes p current =
-    let has = passed_has held k l w event (lasts w event) passes refl p current.text current.lasts in
-    record {
-      text = has.0.0;
-      lasts = subst (λ (o : Origin). LastsAs l.kept (saved_of o (next w event))) (sym has.1) has.0.1;
-    }
+    has_current held k l (next w event) (passed_has held k l w event (lasts w event) passes refl p current.text current.lasts)
 
 held_by : {S : Type 0} (held : S → Option (List ℕ)) (k l : Keeping S) (w : State) (event : Event) (is passes : Bool)
-    → PassesBy is held k (saved_of k.origin (next w event)) l passes → IsHeld (held k.store) k.kept → IsHeld (held l.store) l.kept
+    → PassesBy is held k (due_of k (next w event)) l passes → IsHeld (held k.store) k.kept → IsHeld (held l.store) l.kept
 held_by held k l w event true true p has =
-    let due = saved_of k.origin (next w event) in
+    let due = due_of k (next w event) in
     (kept_has held k l due (is_kept Lasting k.kept due) refl (passed_changed held k l due (may_try k.pace) p) has).0.0
 held_by held k l w event true false p has =
-    let due = saved_of k.origin (next w event) in
+    let due = due_of k (next w event) in
     (unkept_has held k l due (withheld_unkept held k l due (may_try k.pace) p)).0.0
 held_by held k l w event false passes p has = subst (λ (j : Keeping _). IsHeld (held j.store) j.kept) (sym p.0) has
 
@@ -175,24 +184,23 @@ is_there {S} held k l due true alike same = of_kept k.kept alike (ap (λ (j : Ke
 is_there held k l due false alike kept = (due, kept.kept)
 
 answered_by : {S : Type 0} (held : S → Option (List ℕ)) (k l : Keeping S) (w : State) (event : Event) (is : Bool) → lasts w event ≡ is → is ≡ true
-    → PassesBy is held k (saved_of k.origin (next w event)) l true → IsHeld (held k.store) k.kept
+    → PassesBy is held k (due_of k (next w event)) l true → IsHeld (held k.store) k.kept
     → IsUpToDate l.origin (next w event) (held l.store)
 answered_by held k l w event true is so p has =
-    let due = saved_of k.origin (next w event) in
+    let due = due_of k (next w event) in
     let alike = is_kept Lasting k.kept due in
     let changed = passed_changed held k l due (may_try k.pace) p in
     let then = kept_has held k l due alike refl changed has in
     let there = is_there held k l due alike refl changed in
-    current_is_up_to_date held l (next w event) there.0 there.1
-    (record { text = then.0.0; lasts = subst (λ (o : Origin). LastsAs l.kept (saved_of o (next w event))) (sym then.1) then.0.1 })
+    current_is_up_to_date held l (next w event) there.0 there.1 (has_current held k l (next w event) then)
 answered_by held k l w event false is so p has = absurd (true≢false (sym so))
 
 pub answered_is_kept : {S : Type 0} (held : S → Option (List ℕ)) → AnsweredIsKept held
 answered_is_kept held k l w event p lasting has = answered_by held k l w event (lasts w event) refl lasting p has
 
 withheld_by : {S : Type 0} (held : S → Option (List ℕ)) (k l : Keeping S) (w : State) (event : Event) (is : Bool)
-    → PassesBy is held k (saved_of k.origin (next w event)) l false → (is ≡ true) × IsUnkept held k (saved_of k.origin (next w event)) l
-withheld_by held k l w event true p = (refl, withheld_unkept held k l (saved_of k.origin (next w event)) (may_try k.pace) p)
+    → PassesBy is held k (due_of k (next w event)) l false → (is ≡ true) × IsUnkept held k (due_of k (next w event)) l
+withheld_by held k l w event true p = (refl, withheld_unkept held k l (due_of k (next w event)) (may_try k.pace) p)
 withheld_by held k l w event false p = absurd (true≢false (sym p.1))
 
 pub withheld_is_old_or_new : {S : Type 0} (held : S → Option (List ℕ)) → WithheldIsOldOrNew held
@@ -200,43 +208,43 @@ withheld_is_old_or_new held k l w event p = withheld_by held k l w event (lasts 
 
 -- ---- at each try
 
--- a keeper that has what is due of this state is current
-has_current : {S : Type 0} (held : S → Option (List ℕ)) (k l : Keeping S) (w : State) → Has held l (saved_of k.origin w) × (l.origin ≡ k.origin)
-    → IsCurrent held l w
-has_current held k l w has = record {
-  text = has.0.0;
-  lasts = subst (λ (o : Origin). LastsAs l.kept (saved_of o w)) (sym has.1) has.0.1;
-}
+tried_has : {S : Type 0} (held : S → Option (List ℕ)) (k l : Keeping S) (due : Saved) (kept : Bool) → Tries held k due l kept
+    → Has held l due × (l.origin ≡ k.origin)
+tried_has held k l due true p = (just_kept held l due p.kept p.text, p.origin)
+tried_has held k l due false p = unkept_has held k l due p.unkept
 
-tried_by : {S : Type 0} (held : S → Option (List ℕ)) (k l : Keeping S) (w : State) (kept : Bool) → Tries held k (saved_of k.origin w) l kept
+tried_by : {S : Type 0} (held : S → Option (List ℕ)) (k l : Keeping S) (w : State) (kept : Bool) → Tries held k (due_of k w) l kept
     → IsCurrent held l w
-tried_by held k l w true p = has_current held k l w (just_kept held l (saved_of k.origin w) p.kept p.text, p.origin)
-tried_by held k l w false p = has_current held k l w (unkept_has held k l (saved_of k.origin w) p.unkept)
+tried_by held k l w kept p = has_current held k l w (tried_has held k l (due_of k w) kept p)
 
 pub tried_is_current : {S : Type 0} (held : S → Option (List ℕ)) → TriedIsCurrent held
 tried_is_current held k l w p = tried_by held k l w p.0 p.1
+
+pub tried_last_is_current : {S : Type 0} (held : S → Option (List ℕ)) → TriedLastIsCurrent held
+tried_last_is_current held k l w p =
+    current_by held k l w (saved_of k.origin w) refl (tried_has held k l (saved_of k.origin w) p.0 p.1)
 
 stays_current : {S : Type 0} (held : S → Option (List ℕ)) (k l : Keeping S) (w : State) → l ≡ k → IsCurrent held k w → IsCurrent held l w
 stays_current held k l w same current = subst (λ (j : Keeping _). IsCurrent held j w) (sym same) current
 
 changed_current : {S : Type 0} (held : S → Option (List ℕ)) (k l : Keeping S) (w : State) (is : Bool)
-    → KeptBy is held k (saved_of k.origin w) l → IsCurrent held k w → IsCurrent held l w
+    → KeptBy is held k (due_of k w) l → IsCurrent held k w → IsCurrent held l w
 changed_current held k l w true same current = stays_current held k l w same current
 changed_current held k l w false kept current = tried_by held k l w true kept
 
 ticked_by : {S : Type 0} (held : S → Option (List ℕ)) (k l : Keeping S) (w : State) (is : Bool)
-    → TicksBy is held k (saved_of k.origin w) l → IsCurrent held k w → IsCurrent held l w
+    → TicksBy is held k (due_of k w) l → IsCurrent held k w → IsCurrent held l w
 ticked_by {S} held k l w true p current = by p.0 p.1
   where
-    by : (b : Bool) → KeepsChanged AllButTicks held k (saved_of k.origin w) l b → IsCurrent held l w
-    by true q = changed_current held k l w (is_kept AllButTicks k.kept (saved_of k.origin w)) q current
+    by : (b : Bool) → KeepsChanged AllButTicks held k (due_of k w) l b → IsCurrent held l w
+    by true q = changed_current held k l w (is_kept AllButTicks k.kept (due_of k w)) q current
     by false q = tried_by held k l w false q
 ticked_by {S} held k l w false same current =
     subst (λ (j : Keeping S). IsCurrent held j w) (sym same) (record { text = current.text; lasts = current.lasts })
 
 pub ticks_keep_current : {S : Type 0} (held : S → Option (List ℕ)) → TicksKeepCurrent held
 ticks_keep_current {S} held k l w p current =
-    let done = ticked_by held k p.0 w (is_due k.kept k.pace w.ticks) p.1 current in
+    let done = ticked_by held k p.0 w (is_due k.kept k.pace w) p.1 current in
     subst (λ (j : Keeping S). IsCurrent held j w) (sym p.2) (record { text = done.text; lasts = done.lasts })
 
 -- ---- turn by turn

@@ -1,5 +1,5 @@
 -- What is kept stays current over a run, link by link.
-use Rattle.std.proofs.Common.{◌≡◌, ◌∙◌, refl, sym, ap, subst, ℕ, Bool, true, false, List, [], ◌∷◌, ◌++◌, Option, Some, None, arith, inl}
+use Rattle.std.proofs.Common.{◌≡◌, ◌∙◌, refl, sym, ap, subst, ℕ, Bool, true, false, List, [], ◌∷◌, ◌++◌, Option, Some, None}
 use Rattle.std.specs.Prelude.{Result, Ok, Err}
 use Rattle.std.proofs.lemmas.List.Concat.{flat_map-cons}
 use Rattle.gw_configuration.specs.Configuration.{Configuration}
@@ -10,14 +10,14 @@ use Rattle.gw_core.specs.History.{next, state_from}
 use Rattle.gw_core.specs.Lasting.{lasts}
 use Rattle.gw_core.specs.Resumed.{saved_of}
 use Rattle.gw_core.specs.State.{State}
-use Rattle.gw_turns.specs.Keeping.{IsHeld, IsRecent, IsTried, IsUpToDate, IsYoung, KeepsChanged, Keeping, KeptBy, TicksBy, Tries, is_due, is_kept, nothing_kept}
+use Rattle.gw_turns.specs.Keeping.{HasAhead, IsHeld, IsRecent, IsTried, IsUpToDate, IsYoung, KeepsChanged, Keeping, KeptBy, TicksBy, Tries, due_of, is_due, is_kept, nothing_kept}
 use Rattle.gw_turns.specs.Serve.{Turn, empty_turn, events_of, failed_turn, lost_event, taken_event, turn_events}
 use Rattle.gw_turns.specs.Stretch.{AreGuarded, GoOn, GuardsTurn, IsFaulty, Moment, asked_until}
 use Rattle.gw_turns.specs.declared.alike.Part.TheVariants.{AllButTicks}
 use Rattle.gw_turns.specs.declared.serving.ServeFault.{ServeFault}
 use Rattle.gw_turns.specs.declared.serving.ServeFault.TheVariants as serving
 use Rattle.gw_wire.specs.declared.store.StoreFault.{StoreFault}
-use Rattle.gw_turns.proofs.KeepingLemmas.{recent_is_young, ticks_keep_recent}
+use Rattle.gw_turns.proofs.KeepingLemmas.{just_recent, recent_has_ahead, recent_is_young, ticks_keep_recent}
 use Rattle.gw_turns.proofs.ServeLemmas.{state_along}
 use Rattle.gw_service.specs.Chain.{AreLinks, Begins, IsLink, IsLooked, IsTicked, Link, Look, Manner, Runs, Stage, Standing}
 use Rattle.gw_service.specs.Chain.{ended, inquired, passed_over, refused, served, stopping, taken_over, ticked, unrequested, withheld}
@@ -28,8 +28,8 @@ use Rattle.gw_service.specs.Kept.{Given, KeepsFirst, manner_of, reporting_of, wa
 use Rattle.gw_service.specs.Stats.{Reporting}
 use Rattle.gw_service.specs.declared.keeping.Kept.{Kept}
 use Rattle.gw_service.specs.declared.keeping.Kept.TheVariants.{Nowhere, In}
-use Rattle.gw_state_laws.specs.keeping.Laws.{FirstIsCurrent, IsCurrent, IsCurrentIn, IsRecentIn, KeepsAt, KeepsAtEnd, KeepsCurrent, KeptIsUpToDate, KeptIsYoung, RunsEndCurrent, RunsKeepCurrent, RunsKeepLast, RunsKeepRecent, WatchedRunsEndCurrent, WatchedRunsKeepCurrent, WatchedRunsKeepLast, WatchedRunsKeepRecent, second_part, itself}
-use Rattle.gw_state_laws.proofs.keeping_lemmas.Currency.{current_is_up_to_date, event_current, passed_has, ticks_keep_current, tried_is_current}
+use Rattle.gw_state_laws.specs.keeping.Laws.{FirstIsCurrent, IsCurrent, IsCurrentIn, IsRecentIn, KeepsAt, KeepsAtEnd, KeepsCurrent, KeptIsAhead, KeptIsUpToDate, KeptIsYoung, RunsEndCurrent, RunsKeepCurrent, RunsKeepLast, RunsKeepRecent, WatchedRunsEndCurrent, WatchedRunsKeepCurrent, WatchedRunsKeepLast, WatchedRunsKeepRecent, second_part, itself}
+use Rattle.gw_state_laws.proofs.keeping_lemmas.Currency.{current_is_up_to_date, event_current, passed_has, ticks_keep_current, tried_is_current, tried_last_is_current}
 
 -- ---- a keeper of the configuration in force
 
@@ -86,7 +86,7 @@ ticked_keeps held Nowhere l c w p now = absurd (nowhere_keeps now.keeper now.is)
 ticked_keeps held (In k) Nowhere c w p now = absurd p
 ticked_keeps held (In k) (In l) c w p now =
     keeps held l c w (ap (λ (j : Keeping _). j.origin) p.2
-    ∙ ticked_origin held k p.0 (saved_of k.origin w) (is_due k.kept k.pace w.ticks) p.1 ∙ keeps_origin held k c w now)
+    ∙ ticked_origin held k p.0 (due_of k w) (is_due k.kept k.pace w) p.1 ∙ keeps_origin held k c w now)
     (ticks_keep_current held k l w p (keeps_current held k c w now))
 
 -- ---- another configuration
@@ -99,7 +99,7 @@ tried_origin held k l due false p = p.unkept.origin
 tried_keeps : {S : Type 0} (held : S → Option (List ℕ)) (k l : Keeping S) (c : Configuration) (w : State) → k.origin ≡ origin_of c
     → IsTried held k w l → KeepsCurrent held (In l) c w
 tried_keeps held k l c w origin p =
-    keeps held l c w (tried_origin held k l (saved_of k.origin w) p.0 p.1 ∙ origin) (tried_is_current held k l w p)
+    keeps held l c w (tried_origin held k l (due_of k w) p.0 p.1 ∙ origin) (tried_is_current held k l w p)
 
 adopted_keeps : {S : Type 0} (held : S → Option (List ℕ)) (k l : Kept S) (c d : Configuration) (v w : State) → IsKeptFor held k d w l
     → KeepsCurrent held k c v → KeepsCurrent held l d w
@@ -301,7 +301,7 @@ keeps_in : {S : Type 0} (held : S → Option (List ℕ)) (k l : Kept S) (j : Kee
     → IsCurrentIn held w l
 keeps_in held Nowhere l j w same p = absurd (nowhere_keeps j same)
 keeps_in held (In k) Nowhere j w same p = absurd p
-keeps_in held (In k) (In l) j w same p = record { keeper = l; is = refl; current = tried_is_current held k l w p }
+keeps_in held (In k) (In l) j w same p = record { keeper = l; is = refl; current = tried_last_is_current held k l w p }
 
 -- what is kept at the end of a run is kept in a store, however that ended
 kept_at_end : {S K : Type 0} (held : S → Option (List ℕ)) (part : K → Kept S) (manner : Manner K) (count : ℕ) (first last : Stage K)
@@ -344,10 +344,10 @@ recent_in : {S : Type 0} (l : Keeping S) (w : State) → IsRecent l.kept (saved_
 recent_in l w recent k same = subst (λ (j : Keeping _). IsRecent j.kept (saved_of j.origin w)) (same_keeper l k same) recent
 
 tried_recent : {S : Type 0} (held : S → Option (List ℕ)) (k l : Keeping S) (w : State) (kept : Bool)
-    → Tries held k (saved_of k.origin w) l kept → IsRecent l.kept (saved_of l.origin w)
+    → Tries held k (due_of k w) l kept → IsRecent l.kept (saved_of l.origin w)
 tried_recent held k l w true p =
     subst (λ (r : Result Saved StoreFault). IsRecent r (saved_of l.origin w)) (sym p.kept)
-    (subst (λ (o : Origin). IsRecent (Ok (saved_of k.origin w)) (saved_of o w)) (sym p.origin) (inl (omega arith)))
+    (subst (λ (o : Origin). IsRecent (Ok (due_of k w)) (saved_of o w)) (sym p.origin) (just_recent k.kept (saved_of k.origin w)))
 tried_recent held k l w false p = subst (λ (r : Result Saved StoreFault). IsRecent r (saved_of l.origin w)) (sym p.unkept.kept) tt
 
 ticked_recent : {S : Type 0} (held : S → Option (List ℕ)) (k l : Kept S) (w : State) → IsKeptAtTick held k w l → IsRecentIn l w
@@ -409,3 +409,14 @@ kept_is_young held kept c w now recent lasts =
     let young = subst (λ (r : Result Saved StoreFault). IsYoung r (saved_of k.origin w)) there.1
     (recent_is_young k.kept (saved_of k.origin w) (recent k now.is)) in
     (there.0, text, young)
+
+-- ---- how far ahead its number is
+
+pub kept_is_ahead : {S : Type 0} (held : S → Option (List ℕ)) → KeptIsAhead held
+kept_is_ahead held kept c w now recent lasts =
+    let k = now.keeper in
+    let there = kept_so k k.kept refl (ap failing_in (sym now.is) ∙ lasts) in
+    let text = subst (λ (r : Result Saved StoreFault). IsHeld (held k.store) r) there.1 now.current.text in
+    let ahead = subst (λ (r : Result Saved StoreFault). HasAhead r w.denials) there.1
+    (recent_has_ahead k.kept (saved_of k.origin w) (recent k now.is)) in
+    (there.0, text, ahead)

@@ -7,7 +7,7 @@ use Rattle.gw_core.specs.History.{next}
 use Rattle.gw_core.specs.Lasting.{lasts}
 use Rattle.gw_core.specs.Resumed.{saved_of}
 use Rattle.gw_core.specs.State.{State}
-use Rattle.gw_turns.specs.Keeping.{HasPassed, IsHeld, IsRecent, IsTried, IsUnkept, IsUpToDate, KeepsAtTick, Keeping, lasting_of}
+use Rattle.gw_turns.specs.Keeping.{HasPassed, IsHeld, IsRecent, IsTried, IsTriedLast, IsUnkept, IsUpToDate, KeepsAtTick, Keeping, due_of, is_ahead, lasting_of}
 use Rattle.gw_turns.specs.Serve.{Turn}
 use Rattle.gw_turns.specs.Stretch.{EndsFaulty, EndsStretch, Moment, asked_until}
 use Rattle.gw_core.specs.declared.guard.Both.{Both}
@@ -55,13 +55,17 @@ AnsweredIsKept {S} held = (k l : Keeping S) (w : State) (event : Event) →
 -- If its datagrams are withheld, it is an event that lasts; the store holds the text of the state after it, or what it held.
 abbrev pub WithheldIsOldOrNew : {S : Type 0} → (S → Option (List ℕ)) → Type 0
 WithheldIsOldOrNew {S} held = (k l : Keeping S) (w : State) (event : Event) →
-    HasPassed held k w event l false → (lasts w event ≡ true) × IsUnkept held k (saved_of k.origin (next w event)) l
+    HasPassed held k w event l false → (lasts w event ≡ true) × IsUnkept held k (due_of k (next w event)) l
 
 -- ---- at each try
 
 -- After a try the keeper is current.
 abbrev pub TriedIsCurrent : {S : Type 0} → (S → Option (List ℕ)) → Type 0
 TriedIsCurrent {S} held = (k l : Keeping S) (w : State) → IsTried held k w l → IsCurrent held l w
+
+-- So it is after the last one.
+abbrev pub TriedLastIsCurrent : {S : Type 0} → (S → Option (List ℕ)) → Type 0
+TriedLastIsCurrent {S} held = (k l : Keeping S) (w : State) → IsTriedLast held k w l → IsCurrent held l w
 
 -- After what it does at a tick it is current, if it was.
 abbrev pub TicksKeepCurrent : {S : Type 0} → (S → Option (List ℕ)) → Type 0
@@ -189,3 +193,12 @@ HoldsYoung held w = (s : Saved) × Holds held (state_text s) × (w.ticks < s.cou
 abbrev pub KeptIsYoung : {S : Type 0} → (S → Option (List ℕ)) → Type 0
 KeptIsYoung {S} held = (kept : Kept S) (c : Configuration) (w : State) → (now : KeepsCurrent held kept c w) → IsRecentIn kept w →
     failing_in kept ≡ None → HoldsYoung (held now.keeper.store) w
+
+-- The store holds the text of a state whose number of a denial is ahead.
+abbrev pub HoldsAhead : Option (List ℕ) → State → Type 0
+HoldsAhead held w = (s : Saved) × Holds held (state_text s) × (is_ahead s.counts.denials w.denials ≡ true)
+
+-- So it does after each tick, where no last try failed: a gateway that goes on from what a kill leaves repeats no number.
+abbrev pub KeptIsAhead : {S : Type 0} → (S → Option (List ℕ)) → Type 0
+KeptIsAhead {S} held = (kept : Kept S) (c : Configuration) (w : State) → (now : KeepsCurrent held kept c w) → IsRecentIn kept w →
+    failing_in kept ≡ None → HoldsAhead (held now.keeper.store) w

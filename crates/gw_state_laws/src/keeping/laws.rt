@@ -1,6 +1,6 @@
 //! Laws of a keeper that guards a gateway, over any store. The functions do nothing: their contracts are the laws.
 ghost use Rattle.gw_service.specs.Kept.{Given};
-ghost use Rattle.gw_state_laws.specs.keeping.Laws.{AnsweredIsKept, CurrentIsUpToDate, FaultsKeep, FirstIsCurrent, HeldStays, KeptIsUpToDate, KeptIsYoung, PausesKeep, RunsEndCurrent, RunsKeepCurrent, RunsKeepLast, RunsKeepRecent, TicksKeepCurrent, TriedIsCurrent, WatchedRunsEndCurrent, WatchedRunsKeepCurrent, WatchedRunsKeepLast, WatchedRunsKeepRecent, WithheldIsOldOrNew};
+ghost use Rattle.gw_state_laws.specs.keeping.Laws.{AnsweredIsKept, CurrentIsUpToDate, FaultsKeep, FirstIsCurrent, HeldStays, KeptIsAhead, KeptIsUpToDate, KeptIsYoung, PausesKeep, RunsEndCurrent, RunsKeepCurrent, RunsKeepLast, RunsKeepRecent, TicksKeepCurrent, TriedIsCurrent, TriedLastIsCurrent, WatchedRunsEndCurrent, WatchedRunsKeepCurrent, WatchedRunsKeepLast, WatchedRunsKeepRecent, WithheldIsOldOrNew};
 
 use gw_script::OctetSink;
 use gw_system::Requests;
@@ -18,6 +18,7 @@ pub fn at_each_answer<S: Store>()
 /// What a store holds after a try to keep a state, and after a tick: it is up to date, or the try failed.
 pub fn at_each_try<S: Store>()
     ensures tried { TriedIsCurrent S.held }
+    ensures last { TriedLastIsCurrent S.held }
     ensures ticked { TicksKeepCurrent S.held }
 {}
 
@@ -31,8 +32,8 @@ pub fn at_each_pause<S: Store>()
 
 /// What a store holds over a run, which is a chain of stretches with what is done between them. If it is up to date at one stage, or
 /// the last try failed, then it is so at each later one, of the configuration that is in force there: over reloads and withheld
-/// datagrams too. At the first stage it is. After each tick the text isn't older than ten ticks, but for the ticks; and while
-/// anybody is registered the store holds the text of a state fewer than 600 ticks ago, unless the last try failed.
+/// datagrams too. At the first stage it is. After each tick the text isn't older than ten ticks, but for the ticks; and the store holds
+/// the text of a state fewer than 600 ticks ago, whose number of a denial is ahead, unless the last try failed.
 pub fn over_a_run<S: Store, L: OctetSink>()
     ensures first { FirstIsCurrent S.held }
     ensures runs { RunsKeepCurrent S.held }
@@ -41,6 +42,7 @@ pub fn over_a_run<S: Store, L: OctetSink>()
     ensures recent { RunsKeepRecent S.held }
     ensures watched_recent { WatchedRunsKeepRecent S.held L.held }
     ensures young { KeptIsYoung S.held }
+    ensures ahead { KeptIsAhead S.held }
 {}
 
 /// What a store holds at the end of a run that keeps its state there, watched or not: it is up to date, or the last try failed. If the

@@ -1,4 +1,4 @@
-use Rattle.gw_state_laws.proofs.keeping_lemmas.Runs.{first_is_current, kept_is_up_to_date, kept_is_young, runs_keep_current, runs_keep_recent, watched_runs_keep_current, watched_runs_keep_recent}
+use Rattle.gw_state_laws.proofs.keeping_lemmas.Runs.{first_is_current, kept_is_ahead, kept_is_up_to_date, kept_is_young, runs_keep_current, runs_keep_recent, watched_runs_keep_current, watched_runs_keep_recent}
 use Rattle.gw_state_laws.proofs.keeping.laws.over_a_run.Goals as goal
 
 pub returns-clause-first : goal.returns-clause-first
@@ -21,3 +21,6 @@ returns-clause-watched_recent g c = watched_runs_keep_recent g.S.Store.held g.L.
 
 pub returns-clause-young : goal.returns-clause-young
 returns-clause-young g c = kept_is_young g.S.Store.held
+
+pub returns-clause-ahead : goal.returns-clause-ahead
+returns-clause-ahead g c = kept_is_ahead g.S.Store.held
