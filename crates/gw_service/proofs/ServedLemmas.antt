@@ -344,7 +344,8 @@ run_serves held how count c before after s t (Err f) failing links runs none now
 begins_first : (c : Configuration) (state : Option Saved) (line : Option (List ℕ)) (w : State) → state ≡ None → line ≡ None
     → BeginsAs c state line w → w ≡ state_after c no_counts []
 begins_first c None None w no_state no_line begins =
-    begins.state ∙ ap (λ (k : Counts). record (begun c None) { ticks = k.ticks; denials = k.denials }) begins.from
+    begins.state ∙ ap (λ (k : Counts). record (begun c begins.numbered) { ticks = k.ticks; denials = k.denials }) begins.from
+    ∙ ap (begun c) begins.is
 begins_first c None (Some line) w no_state no_line begins = absurd cc
 begins_first c (Some state) line w no_state no_line begins = absurd cc
 

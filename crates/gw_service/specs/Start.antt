@@ -16,7 +16,7 @@ use Rattle.gw_state_text.specs.declared.fault.StateFault.{StateFault}
 use Rattle.gw_system.specs.declared.reading.ReadFailure.{ReadFailure}
 use Rattle.gw_system.specs.declared.reading.ReadFailure.TheVariants as reading
 use Rattle.gw_state_words.specs.Words.{dropped_words}
-use Rattle.gw_service.specs.Counts.{GoesOnFrom}
+use Rattle.gw_service.specs.Counts.{GoesOnFrom, IsNumbered}
 use Rattle.gw_service.specs.declared.fault.ServiceFault.{ServiceFault}
 use Rattle.gw_service.specs.declared.fault.ServiceFault.TheVariants as fault
 
@@ -64,11 +64,14 @@ begun c (Some s) = carried c s
 abbrev pub counts_of : State → Counts
 counts_of w = record { ticks = w.ticks; denials = w.denials }
 
--- It goes on from the greater ones of the counts of the state and those of the last denial of its log.
+-- It goes on from the greater ones of the counts of the state and those of the last denial of its log, where the number that was saved
+-- isn't ahead of what the log shows.
 pub record BeginsAs (c : Configuration) (saved : Option Saved) (line : Option (List ℕ)) (w : State) : Type 0 where
+  pub numbered : Option Saved
+  pub is : IsNumbered saved line numbered
   pub counts : Counts
-  pub from : GoesOnFrom (counts_of (begun c saved)) line counts
-  pub state : w ≡ record (begun c saved) { ticks = counts.ticks; denials = counts.denials }
+  pub from : GoesOnFrom (counts_of (begun c numbered)) line counts
+  pub state : w ≡ record (begun c numbered) { ticks = counts.ticks; denials = counts.denials }
 
 -- what is said of a state at the start: that it is new, if more is asked for, or what of it isn't taken over
 abbrev pub start_text : Bool → List ℕ → Configuration → Option Saved → List ℕ

@@ -334,7 +334,7 @@ fn make_running<S: Store + Drop, Q: Requests + Drop, T: OctetSink + Drop>(
     } = before;
     let origin = Origin::of(alloc, &config)?;
     let kept = Origin::of(alloc, &config)?;
-    let gateway = begin_after(alloc, config, &saved, &line)?;
+    let gateway = begin_after(alloc, config, saved, &line)?;
     let keeper = kept_in(alloc, store, kept, &gateway);
     let counts = ReloadCounts::since(gateway.counts().ticks);
     Ok(Running {

@@ -4,7 +4,7 @@ ghost use Rattle.std.specs.Prelude.{◌≡◌, IfOk, option_map};
 ghost use Rattle.gw_service.specs.Start.{BeginsAs, IsStateRead, IsTextRead, are_at_end, begun, fault_of_reading, fault_of_text, start_text};
 ghost use Rattle.gw_system.specs.Requests.{text_found};
 
-use crate::counts::{LAST_COUNT, go_on_from};
+use crate::counts::{LAST_COUNT, go_on_from, numbered};
 use crate::fault::ServiceFault;
 use gw_configuration::{Config, put_shown};
 use gw_core::{Counts, Gateway};
@@ -99,16 +99,17 @@ fn begin(alloc: Global, config: Config, saved: &Option<Saved>) -> Result<Gateway
 }
 
 /// A gateway of a configuration that takes over what was saved, and goes on from the greater ones of its counts and those
-/// of the last denial of its log. The only fault is want of memory.
+/// of the last denial of its log, where the number that was saved isn't ahead of what the log shows. The only fault is want of memory.
 pub(crate) fn begin_after(
     alloc: Global,
     config: Config,
-    saved: &Option<Saved>,
+    saved: Option<Saved>,
     line: &Option<Vec<u8>>,
 ) -> Result<Gateway, AllocError>
-    ensures { IfOk result (BeginsAs config saved.now (option_map (λ line. line.items) line.now)) }
+    ensures { IfOk result (BeginsAs config saved (option_map (λ line. line.items) line.now)) }
 {
-    let mut gateway = begin(alloc, config, saved)?;
+    let saved = numbered(saved, line);
+    let mut gateway = begin(alloc, config, &saved)?;
     let counts = go_on_from(gateway.counts(), line);
     gateway.count_on(counts);
     Ok(gateway)

@@ -7,7 +7,7 @@ use gw_state::{MAX_COUNT, Saved};
 use gw_wire::StoreFault;
 
 /// How far the number of a text is ahead of that of the last denial once it is written anew.
-pub(crate) const MOST_AHEAD: u64 = 1_000;
+pub const MOST_AHEAD: u64 = 1_000;
 
 /// How far it is ahead at least; else it is written anew.
 pub(crate) const LEAST_AHEAD: u64 = 500;

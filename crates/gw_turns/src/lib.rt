@@ -15,6 +15,7 @@ mod stretch;
 mod tally;
 mod unwritten;
 
+pub use ahead::MOST_AHEAD;
 pub use alike::Part;
 pub use announcing::Announcing;
 pub use keeper::Keeper;
