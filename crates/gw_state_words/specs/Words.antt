@@ -206,7 +206,7 @@ line finding = finding_words finding ++ codes "\n"
 
 abbrev pub counts_line : SavedCounts → List ℕ
 counts_line counts =
-    codes "state: after " ++ counted counts.ticks (codes " tick") (codes " ticks") ++ codes " and "
+    codes "state: after " ++ counted counts.ticks (codes " tick") (codes " ticks") ++ codes " and at most "
     ++ counted counts.denials (codes " denial") (codes " denials") ++ codes "\n"
 
 -- what a state holds, and what of it is taken over

@@ -15,7 +15,7 @@ use std::alloc::{AllocError, Global};
 /// or drops, with the reason.
 ///
 /// ```text
-/// state: after 86400 ticks and 17 denials
+/// state: after 86400 ticks and at most 1017 denials
 /// port 1, network 1, 192.168.1.1:47808: table of 3 peers and 2 foreign devices taken over
 /// port 2, network 3, 192.168.3.1:47808: other peers are configured: table of 3 peers dropped, 1 foreign device taken over
 /// port 3, network 4, 192.168.4.1:47808: not in the state: begins anew
@@ -59,7 +59,7 @@ fn put_counts(out: &mut Vec<u8>, counts: SavedCounts) -> Result<(), AllocError>
 {
     out.extend_from_slice(b"state: after ")?;
     put_counted(out, counts.ticks, " tick", " ticks")?;
-    out.extend_from_slice(b" and ")?;
+    out.extend_from_slice(b" and at most ")?;
     put_counted(out, counts.denials, " denial", " denials")?;
     out.extend_from_slice(b"\n")
 }
