@@ -566,10 +566,13 @@ same 'the mode of a state' "$(stat -c %a "$work/state")" 600
 "$tool" state --config "$work/served.toml" --state "$work/state" > "$work/out" 2> "$work/err"
 status=$?
 same 'a state in words' "$status $(sed -E 's/after [0-9]+ ticks?/after some ticks/' "$work/out")" \
-    '0 state: after some ticks and 3 denials
+    '0 state: after some ticks and at most 1002 denials
 port 1, network 1, 127.3.0.10:47808: peers as configured, 0 foreign devices taken over
 port 2, network 2, 127.4.0.10:47808: peers as configured, 0 foreign devices taken over
 object 5,1 binary-value, priority 8: inactive: taken over'
+rm "$work/log"
+python3 "$here/loopback.py" kept "$program" "$work/served.toml" "$work/log" "$work/state" > /dev/null 2>&1
+same 'the denials go on from the state if the log is lost' "$(cut -d' ' -f1 "$work/log" | xargs)" '1003 1004 1005'
 sed 's/^instance = 1$/instance = 9/' "$work/served.toml" > "$work/other.toml"
 same 'a state under another configuration' \
     "$("$program" run --config "$work/other.toml" --state "$work/state" --turns 1 2>&1 > /dev/null)" \
