@@ -7,7 +7,7 @@ use Rattle.gw_configuration.specs.Configuration.{Configuration}
 use Rattle.gw_configuration.specs.Duplicates.{has_duplicates, has_twice, identifiers, networks, peer_addresses, port_addresses}
 use Rattle.gw_core.specs.Resumed.{carried, saved, saved_of}
 use Rattle.gw_core.specs.State.{State}
-use Rattle.gw_state.specs.Saved.{Saved, SavedObject, are_few, origin_of}
+use Rattle.gw_state.specs.Saved.{Saved, SavedObject, are_few, origin_of, with_denials}
 use Rattle.gw_state_text.specs.Fit.{AreFit, FitsObjects, FitsRoutes}
 use Rattle.gw_state_text.specs.Items.{AllFit}
 use Rattle.gw_state_text.specs.Laws.{TextsAreRead}
@@ -17,7 +17,7 @@ use Rattle.gw_state_laws.proofs.continuity_lemmas.PortStates.{ports_saved}
 use Rattle.gw_state_laws.proofs.continuity_lemmas.Slots.{slots_are_saved}
 use Rattle.gw_state_laws.proofs.continuity_lemmas.Values.{objects_saved}
 use Rattle.gw_state_laws.specs.restoring.GatewayOf.{IsGatewayOf}
-use Rattle.gw_state_laws.specs.restoring.Laws.{CountsLeaveThemSo, NewOnesAre, ReloadedOnesAre, ResumedOnesAre, SavedOnesAreRead, SavedOnesAreRestored, SavedOnesFit, TheyStaySo}
+use Rattle.gw_state_laws.specs.restoring.Laws.{CountsLeaveThemSo, NewOnesAre, NumberedOnesAreRead, NumberedOnesFit, ReloadedOnesAre, ResumedOnesAre, SavedOnesAreRead, SavedOnesAreRestored, SavedOnesFit, TheyStaySo}
 use Rattle.gw_state_laws.specs.restoring.internal.Typed.{IsTyped}
 use Rattle.gw_state_laws.proofs.restoring_lemmas.ObjectsFit.{objects_fit}
 use Rattle.gw_state_laws.proofs.restoring_lemmas.PortsFit.{length_saved, ports_fit}
@@ -57,9 +57,10 @@ has_once c e =
 
 -- ---- what is saved fits
 
-typed_fits : (c : Configuration) (w : State) → HasOnce c → IsGatewayOf c w → IsTyped (saved c w) → AreFit (saved c w)
-typed_fits c w once is typed =
-    let s = saved c w in
+typed_fits : (c : Configuration) (w : State) (denials : ℕ) → HasOnce c → IsGatewayOf c w → IsTyped (with_denials (saved c w) denials)
+    → AreFit (with_denials (saved c w) denials)
+typed_fits c w denials once is typed =
+    let s = with_denials (saved c w) denials in
     let ports = and_parts (nat_le (length s.ports) 8) _ typed.few in
     let others = and_parts (nat_le (length s.routes) 512) (nat_le (length s.objects) 256) ports.1 in
     let table = is.state.routes in
@@ -76,9 +77,16 @@ typed_fits c w once is typed =
           objects_fit c.objects w.device.states is.state.values is.slots once.of_objects (leb-true _ 256 others.1) typed.objects;
     }
 
+pub numbered_ones_fit : (c : Configuration) (s : Saved) → has_duplicates c ≡ false → IsTyped s → NumberedOnesFit c s
+numbered_ones_fit c s none typed = λ w denials is same.
+    subst AreFit (sym same) (typed_fits c w denials (has_once c none) is (subst IsTyped same typed))
+
+pub numbered_ones_are_read : (c : Configuration) (s : Saved) → has_duplicates c ≡ false → IsTyped s → TextsAreRead → NumberedOnesAreRead c s
+numbered_ones_are_read c s none typed read = λ w denials is same. read s (numbered_ones_fit c s none typed w denials is same)
+
+-- with its own number it is what was saved
 pub saved_ones_fit : (c : Configuration) (s : Saved) → has_duplicates c ≡ false → IsTyped s → SavedOnesFit c s
-saved_ones_fit c s none typed = λ w is same.
-    subst AreFit (sym same) (typed_fits c w (has_once c none) is (subst IsTyped same typed))
+saved_ones_fit c s none typed = λ w is same. numbered_ones_fit c s none typed w w.denials is same
 
 pub saved_ones_are_read : (c : Configuration) (s : Saved) → has_duplicates c ≡ false → IsTyped s → TextsAreRead → SavedOnesAreRead c s
 saved_ones_are_read c s none typed read = λ w is same. read s (saved_ones_fit c s none typed w is same)

@@ -5,7 +5,7 @@ use Rattle.gw_core.specs.History.{state_after, state_from}
 use Rattle.gw_core.specs.Resumed.{carried, saved, saved_of}
 use Rattle.gw_core.specs.State.{State}
 use Rattle.gw_core.specs.declared.event.Counts.{Counts}
-use Rattle.gw_state.specs.Saved.{Saved, origin_of}
+use Rattle.gw_state.specs.Saved.{Saved, origin_of, with_denials}
 use Rattle.gw_script.specs.Event.{Event}
 use Rattle.gw_state_text.specs.Fit.{AreFit}
 use Rattle.gw_state_text.specs.Reading.{state_of}
@@ -41,9 +41,17 @@ CountsLeaveThemSo c = (w : State) (ticks denials : ℕ) → IsGatewayOf c w →
 abbrev pub SavedOnesFit : Configuration → Saved → Type 0
 SavedOnesFit c s = (w : State) → IsGatewayOf c w → s ≡ saved_of (origin_of c) w → AreFit s
 
+-- So it does with another number of its last denial, as it is kept.
+abbrev pub NumberedOnesFit : Configuration → Saved → Type 0
+NumberedOnesFit c s = (w : State) (denials : ℕ) → IsGatewayOf c w → s ≡ with_denials (saved_of (origin_of c) w) denials → AreFit s
+
 -- So its text is read, as what was saved.
 abbrev pub SavedOnesAreRead : Configuration → Saved → Type 0
 SavedOnesAreRead c s = (w : State) → IsGatewayOf c w → s ≡ saved_of (origin_of c) w → state_of (state_text s) ≡ Ok s
+
+abbrev pub NumberedOnesAreRead : Configuration → Saved → Type 0
+NumberedOnesAreRead c s = (w : State) (denials : ℕ) → IsGatewayOf c w → s ≡ with_denials (saved_of (origin_of c) w) denials →
+    state_of (state_text s) ≡ Ok s
 
 -- And what takes it over is in the state in which it was saved.
 abbrev pub SavedOnesAreRestored : Configuration → Saved → Type 0

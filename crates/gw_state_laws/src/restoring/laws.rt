@@ -4,7 +4,7 @@
 ghost use Rattle.std.specs.Prelude.{IsFalse};
 ghost use Rattle.gw_configuration.specs.Duplicates.{has_duplicates};
 ghost use Rattle.gw_state_laws.specs.restoring.Laws.{CountsLeaveThemSo, NewOnesAre, ReloadedOnesAre, ResumedOnesAre, TheyStaySo};
-ghost use Rattle.gw_state_laws.specs.restoring.Laws.{SavedOnesAreRead, SavedOnesAreRestored, SavedOnesFit};
+ghost use Rattle.gw_state_laws.specs.restoring.Laws.{NumberedOnesAreRead, NumberedOnesFit, SavedOnesAreRead, SavedOnesAreRestored, SavedOnesFit};
 
 use crate::continuity::laws::{nothing_is_lost, slots_are_kept, states_are_kept};
 use crate::restoring::typed::typed;
@@ -35,11 +35,14 @@ pub fn gateways_are(config: &Config)
 
 /// What is saved of a gateway in such a state fits its text: entries, devices, routes and objects within their
 /// limits, none of them twice, and each value in its range. So its text is read, as what was saved; and what takes
-/// that over under the same configuration is in the same state.
+/// that over under the same configuration is in the same state. It fits and is read with another number of its last denial, too, as a
+/// keeper writes it.
 pub fn what_is_saved_fits(config: &Config, saved: &Saved)
     ensures fit { SavedOnesFit config.now saved.now }
     ensures read { SavedOnesAreRead config.now saved.now }
     ensures restored { SavedOnesAreRestored config.now saved.now }
+    ensures numbered_fit { NumberedOnesFit config.now saved.now }
+    ensures numbered_read { NumberedOnesAreRead config.now saved.now }
 {
     is_unique(config);
     typed(saved);
