@@ -603,8 +603,10 @@ if "$program" run --help | grep -q -e --metrics; then
     same 'the ticks of metrics' "$(sed -n 's/^bacgw_ticks_total //p' "$work/bacgw.prom")" 1
     same 'the ports of metrics' "$(grep -c '^bacgw_foreign_devices{' "$work/bacgw.prom")" 2
     same 'the sends by port of metrics' "$(sed -n 's/^bacgw_port_sends_total//p' "$work/bacgw.prom" | xargs)" '{port=1} 0 {port=2} 0'
-    same 'the families of metrics' "$(grep -c '^# TYPE ' "$work/bacgw.prom")" 24
+    same 'the families of metrics' "$(grep -c '^# TYPE ' "$work/bacgw.prom")" 25
     same 'the version in metrics' "$(sed -n 's/^bacgw_build_info//p' "$work/bacgw.prom")" '{version="0.1.0"} 1'
+    same 'the checksum of a configuration' "$(sed -n 's/^bacgw_configuration_info//p' "$work/bacgw.prom")" \
+        "{sha256=\"$(sha256sum < "$work/served.toml" | cut -d' ' -f1)\"} 1"
     same 'the age of a configuration' "$(sed -n 's/^bacgw_configuration_age_seconds //p' "$work/bacgw.prom")" 1
     same 'the mode of metrics' "$(stat -c %a "$work/bacgw.prom")" 644
     (umask 077; timeout 3 "$program" run --config "$work/served.toml" --metrics "$work/masked.prom" --turns 3 < /dev/null > "$work/out" 2> "$work/err")

@@ -1,3 +1,4 @@
+pub mod Checksum
 pub mod Startup
 pub mod Notices
 pub mod Parts

@@ -1,4 +1,4 @@
--- What is reported of a configuration that is read again, and how often one was.
+-- What is reported of a configuration that is read again, how often one was, and which text the one in force has.
 use Rattle.std.specs.Prelude.{◌≡◌, ℕ, ◌⊎◌, List, [], ◌++◌, ◌∷◌, length, Option, Some, Result, Ok, codes, decimal}
 use Rattle.std.specs.List.{flat_map}
 use Rattle.gw_policy_text.specs.faults.Explanation.{ExplainsText}
@@ -15,6 +15,7 @@ use Rattle.gw_system.specs.declared.reading.ReadFailure.TheVariants as reading
 use Rattle.gw_state_words.specs.takeover.Findings.{take_over}
 use Rattle.gw_decisions.specs.tally.Tally.{one_more}
 use Rattle.gw_notices.specs.Parts.{part_words}
+use Rattle.gw_notices.specs.declared.checksum.Checksum.{Checksum}
 use Rattle.gw_notices.specs.declared.parts.Part.{Part}
 use Rattle.gw_notices.specs.declared.reload.ReloadCounts.{ReloadCounts}
 use Rattle.gw_notices.specs.declared.reload.ReloadFault.{ReloadFault}
@@ -80,18 +81,22 @@ abbrev pub reload_line : List Rule → Configuration → Saved → List Part →
 reload_line rules c s differ =
     codes "reload: " ++ policy_words rules c ++ objects_words c ++ take_over_words (take_over c s) ++ flat_map part_words differ ++ 10 ∷ []
 
--- ---- how often
+-- ---- how often, and which text is in force
 
--- no configuration was read again since the one in force began at this tick
-abbrev pub counts_since : ℕ → ReloadCounts
-counts_since tick = record { taken_over = 0; refused = 0; since = tick }
+-- no configuration was read again since the one in force, of whose text this is the checksum, began at this tick
+abbrev pub counts_since : ℕ → Checksum → ReloadCounts
+counts_since tick checksum = record { taken_over = 0; refused = 0; since = tick; checksum = checksum }
 
--- one more was taken over, at this tick
-abbrev pub with_taken_over : ReloadCounts → (tick : ℕ) → ReloadCounts
-with_taken_over counts tick =
-    record { taken_over = one_more counts.taken_over; refused = counts.refused; since = tick }
+-- one more was taken over, at this tick, of whose text this is the checksum
+abbrev pub with_taken_over : ReloadCounts → (tick : ℕ) → Checksum → ReloadCounts
+with_taken_over counts tick checksum =
+    record { taken_over = one_more counts.taken_over; refused = counts.refused; since = tick; checksum = checksum }
 
 -- one more was refused
 abbrev pub with_refused : ReloadCounts → ReloadCounts
-with_refused counts =
-    record { taken_over = counts.taken_over; refused = one_more counts.refused; since = counts.since }
+with_refused counts = record {
+  taken_over = counts.taken_over;
+  refused = one_more counts.refused;
+  since = counts.since;
+  checksum = counts.checksum;
+}

@@ -2,6 +2,7 @@
 //! kept or recorded, the counts of a report, and metrics.
 #![tactic(auto)]
 
+mod checksum;
 mod line;
 mod losses;
 pub mod metrics;
@@ -15,6 +16,7 @@ mod stats;
 mod troubles;
 mod watch_report;
 
+pub use checksum::Checksum;
 pub use line::{line_with_place, name_of, refusal_line, reload_line};
 pub use losses::Losses;
 pub use note::write_note;

@@ -1,9 +1,10 @@
-//! Why a configuration that was read again isn't taken over, and how often one was read again.
+//! Why a configuration that was read again isn't taken over, how often one was read again, and which text the one in force has.
 
 ghost use Rattle.std.specs.Prelude.{◌≡◌};
 ghost use Rattle.gw_decisions.specs.tally.Tally.{one_more};
 ghost use Rattle.gw_notices.specs.Reload.{counts_since, with_refused, with_taken_over};
 
+use crate::checksum::Checksum;
 use gw_configuration::ConfigFault;
 use gw_system::{Obstacle, ReadFailure};
 use std::alloc::AllocError;
@@ -60,7 +61,7 @@ impl From<AllocError> for ReloadFault {
     }
 }
 
-/// How often a configuration was read again.
+/// How often a configuration was read again, and which text the one in force has.
 #[derive(Clone, Copy)]
 pub struct ReloadCounts {
     /// How many were taken over.
@@ -69,6 +70,8 @@ pub struct ReloadCounts {
     pub refused: u64,
     /// The tick since which the one in force is.
     pub since: u64,
+    /// The checksum of its text.
+    pub checksum: Checksum,
 }
 
 /// A count and one more, unless it would pass its end.
@@ -79,25 +82,27 @@ fn one_more(count: u64) -> u64
 }
 
 impl ReloadCounts {
-    /// None was read again since the one in force began at this tick.
-    pub fn since(tick: u64) -> Self
-        ensures { result ≡ counts_since tick }
+    /// None was read again since the one in force, of whose text this is the checksum, began at this tick.
+    pub fn since(tick: u64, checksum: Checksum) -> Self
+        ensures { result ≡ counts_since tick checksum }
     {
         ReloadCounts {
             taken_over: 0,
             refused: 0,
             since: tick,
+            checksum,
         }
     }
 
-    /// One more was taken over, at this tick.
-    pub fn with_taken_over(self, tick: u64) -> Self
-        ensures { result ≡ with_taken_over self tick }
+    /// One more was taken over, at this tick, of whose text this is the checksum.
+    pub fn with_taken_over(self, tick: u64, checksum: Checksum) -> Self
+        ensures { result ≡ with_taken_over self tick checksum }
     {
         ReloadCounts {
             taken_over: one_more(self.taken_over),
             refused: self.refused,
             since: tick,
+            checksum,
         }
     }
 
@@ -109,6 +114,7 @@ impl ReloadCounts {
             taken_over: self.taken_over,
             refused: one_more(self.refused),
             since: self.since,
+            checksum: self.checksum,
         }
     }
 }

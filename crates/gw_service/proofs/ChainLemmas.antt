@@ -78,13 +78,13 @@ pub taken_so : {K : Type 0} (Adopts : K → Configuration → State → K → Ty
     (Takes : L → List ℕ → Result (Unit {0}) WriteFailed → L → Type 0) (log log_then : L) (written : Result (Unit {0}) WriteFailed) (report : List ℕ)
     → IsReloaded w o read made
     → ((c : Configuration) → IsSuccessor c made.successor → Adopts k c made.gateway l) → GoesOn first middle (asked read ∷ []) → GoesOn middle last (answered line ∷ [])
-    → line ≡ made.line.items → then ≡ with_taken_over counts w.ticks → due ≡ with_due announcing → (Never → Appends held holds line)
-    → Takes log line written log_then
+    → line ≡ made.line.items → then ≡ with_taken_over counts w.ticks made.checksum → due ≡ with_due announcing
+    → (Never → Appends held holds line) → Takes log line written log_then
     → Looks (IsLooked Adopts) (IsNotedWith Takes log log_then false report) o (standing w k first counts announcing) made.origin
     (standing made.gateway l last then due) Never held holds
 taken_so {K} Adopts o w k l (Ok (Some text)) made first middle last line counts then announcing due Never held holds Takes log log_then written report is
     adopts asks answers is_line is_counts is_due records noted = λ c is_origin.
-    let new = is.config in
+    let new = is.edition.config in
     let same : saved_of o w ≡ saved c w = ap (λ (x : Origin). saved_of x w) is_origin in
     let is_text : line ≡ taken_over_line w new (saved c w) = is_line ∙ is.adopted.line ∙ ap (taken_over_line w new) same in (
       new,
@@ -92,13 +92,13 @@ taken_so {K} Adopts o w k l (Ok (Some text)) made first middle last line counts 
       is.adopted.origin,
       record {
         config = refl;
-        reads = is.reads;
+        reads = is.reads.config;
         ports = is.ports;
         gateway = is.adopted.gateway ∙ ap (carried new) same;
         keeper = adopts new is.adopted.successor;
         requests = subst (λ (t : List ℕ). GoesOn first last (asked (Ok (Some text)) ∷ answered t ∷ [])) is_text
             (goes_two first middle last (asked (Ok (Some text))) (answered line) asks answers);
-        counts = is_counts;
+        counts = is_counts ∙ ap (with_taken_over counts w.ticks) (is.adopted.checksum ∙ is.reads.checksum);
         announcing = is_due;
       },
       λ never. subst (λ (t : List ℕ). Appends held holds t) is_text (records never),

@@ -109,7 +109,7 @@ pub ran_kept : {S Q L : Type 0} (given : Given S Q L) (c : Configuration) (how :
     (s : Served) (t : Tally) (q : Asking) (u : ReloadCounts) (a : Announcing) (m : Option Metering) (before after : Ends) (answer : Result End ServeFault)
     (left : Rest (Kept S)) (outcome : Result (Unit {0}) ServiceFault) (Never : Type 0) (held holds : Option (List ℕ)) → given.watcher ≡ None → start ≡ counts_of w
     → BeginsAs c given.saved given.line w → KeepsFirst given.held given.store c w k → s ≡ zero_counts → t ≡ no_tally
-    → q ≡ recorded_by given.said given.requests → u ≡ counts_since w.ticks → a ≡ first_announcing
+    → q ≡ recorded_by given.said given.requests → u ≡ counts_since w.ticks given.checksum → a ≡ first_announcing
     → m ≡ metered (option_map nothing_written given.metrics) → keeps ≡ (is_some given.requests || is_some given.store)
     → reloads ≡ is_some given.requests → how.holds ≡ false → outcome ≡ outcome_by answer (failing_in left.keeper)
     → ((text : List ℕ) × RunsFrom (manner_of given.held (reporting how.stats how.rules start keeps reloads how.verbose))
@@ -131,7 +131,7 @@ ran_kept {S} given c how start keeps reloads w k s t q u a m before after answer
             answer = answer;
             left = left;
             runs = from_start (manner_of given.held (reporting_of given how w)) (end_stats unkept_in no_more (reporting_of given how w)) (counts_of w) how.turns c
-                (scene w before.log before.calls) k s zero_counts t no_tally q (recorded_by given.said given.requests) u (counts_since w.ticks) a first_announcing (troubles_in k)
+                (scene w before.log before.calls) k s zero_counts t no_tally q (recorded_by given.said given.requests) u (counts_since w.ticks given.checksum) a first_announcing (troubles_in k)
                 m (metered (option_map nothing_written given.metrics)) answer after left ran.0 served tally requests is_counts is_announcing is_metered
                 (subst (λ (x : Counts). RunsFrom (manner_of given.held (reporting_of given how w)) (end_stats unkept_in no_more (reporting_of given how w)) x how.turns at
                 answer after left ran.0) is_start
@@ -149,7 +149,7 @@ pub ran_watched : {S Q L : Type 0} (given : Given S Q L) (watcher : Watching L L
     (left : Rest (Both (Watching L L) (Kept S))) (outcome : Result (Unit {0}) ServiceFault) (Never : Type 0)
     (held holds : Option (List ℕ)) → given.watcher ≡ Some watcher → start ≡ counts_of w
     → BeginsAs c given.saved given.line w → KeepsFirst given.held given.store c w k.second → k.first ≡ watcher → s ≡ zero_counts → t ≡ no_tally
-    → q ≡ recorded_by given.said given.requests → u ≡ counts_since w.ticks → a ≡ first_announcing
+    → q ≡ recorded_by given.said given.requests → u ≡ counts_since w.ticks given.checksum → a ≡ first_announcing
     → m ≡ metered (option_map nothing_written given.metrics) → keeps ≡ (is_some given.requests || is_some given.store)
     → reloads ≡ is_some given.requests → how.holds ≡ false → outcome ≡ outcome_by answer (failing_in left.keeper.second)
     → ((text : List ℕ) × RunsFrom (watched_manner_of given.held given.log_held (reporting how.stats how.rules start keeps reloads how.verbose))
@@ -172,7 +172,7 @@ ran_watched {S} given watcher c how start keeps reloads w k s t q u a m before a
             answer = answer;
             left = left;
             runs = from_start (watched_manner_of given.held given.log_held (reporting_of given how w)) (end_stats unkept_of more_of (reporting_of given how w))
-                (counts_of w) how.turns c (scene w before.log before.calls) k s zero_counts t no_tally q (recorded_by given.said given.requests) u (counts_since w.ticks) a
+                (counts_of w) how.turns c (scene w before.log before.calls) k s zero_counts t no_tally q (recorded_by given.said given.requests) u (counts_since w.ticks given.checksum) a
                 first_announcing (troubles_of k) m (metered (option_map nothing_written given.metrics)) answer after left ran.0 served tally requests is_counts is_announcing is_metered
                 (subst (λ (x : Counts). RunsFrom (watched_manner_of given.held given.log_held (reporting_of given how w))
                 (end_stats unkept_of more_of (reporting_of given how w)) x how.turns at answer after left ran.0) is_start
@@ -199,7 +199,7 @@ pub held_kept : {S Q L : Type 0} (given : Given S Q L) (c : Configuration) (how 
     (s : Served) (t : Tally) (q : Asking) (u : ReloadCounts) (a : Announcing) (m : Option Metering) (before after : Ends) (answer : Result End ServeFault)
     (left : Rest (Holding (Kept S))) (outcome : Result (Unit {0}) ServiceFault) (Never : Type 0) (held holds : Option (List ℕ)) → given.watcher ≡ None → start ≡ counts_of w
     → BeginsAs c given.saved given.line w → KeepsFirst given.held given.store c w k → s ≡ zero_counts → t ≡ no_tally
-    → q ≡ recorded_by given.said given.requests → u ≡ counts_since w.ticks → a ≡ first_announcing
+    → q ≡ recorded_by given.said given.requests → u ≡ counts_since w.ticks given.checksum → a ≡ first_announcing
     → m ≡ metered (option_map nothing_written given.metrics) → keeps ≡ (is_some given.requests || is_some given.store)
     → reloads ≡ is_some given.requests → how.holds ≡ true → outcome ≡ outcome_by answer (failing_in left.keeper.keeper)
     → ((text : List ℕ) × RunsFromHolding (holding_manner_of given.held (reporting how.stats how.rules start keeps reloads how.verbose))
@@ -223,7 +223,7 @@ held_kept {S} given c how start keeps reloads w k s t q u a m before after answe
             answer = answer;
             left = left;
             runs = from_stage (λ x. RunsFromHolding (holding_manner_of given.held now) (report now) (counts_of w) how.turns x answer after left ran.0)
-                c (scene w before.log before.calls) (unheld k) s zero_counts t no_tally q (recorded_by given.said given.requests) u (counts_since w.ticks) a
+                c (scene w before.log before.calls) (unheld k) s zero_counts t no_tally q (recorded_by given.said given.requests) u (counts_since w.ticks given.checksum) a
                 first_announcing (troubles_in k) m (metered (option_map nothing_written given.metrics)) served tally requests is_counts is_announcing is_metered
                 (subst (λ (x : Counts). RunsFromHolding (holding_manner_of given.held now) (report now) x how.turns at answer after left ran.0) is_start
                 (subst (λ (x : Reporting). RunsFromHolding (holding_manner_of given.held x) (report x) start how.turns at answer after left ran.0) same
@@ -239,7 +239,7 @@ pub held_watched : {S Q L : Type 0} (given : Given S Q L) (watcher : Watching L 
     (left : Rest (Holding (Both (Watching L L) (Kept S)))) (outcome : Result (Unit {0}) ServiceFault) (Never : Type 0)
     (held holds : Option (List ℕ)) → given.watcher ≡ Some watcher → start ≡ counts_of w
     → BeginsAs c given.saved given.line w → KeepsFirst given.held given.store c w k.second → k.first ≡ watcher → s ≡ zero_counts → t ≡ no_tally
-    → q ≡ recorded_by given.said given.requests → u ≡ counts_since w.ticks → a ≡ first_announcing
+    → q ≡ recorded_by given.said given.requests → u ≡ counts_since w.ticks given.checksum → a ≡ first_announcing
     → m ≡ metered (option_map nothing_written given.metrics) → keeps ≡ (is_some given.requests || is_some given.store)
     → reloads ≡ is_some given.requests → how.holds ≡ true → outcome ≡ outcome_by answer (failing_in left.keeper.keeper.second)
     → ((text : List ℕ) × RunsFromHolding (watched_holding_manner_of given.held given.log_held (reporting how.stats how.rules start keeps reloads how.verbose))
@@ -265,7 +265,7 @@ held_watched {S} {Q} {L} given watcher c how start keeps reloads w k s t q u a m
             left = left;
             runs = from_stage (λ x. RunsFromHolding (watched_holding_manner_of given.held given.log_held now) (report now) (counts_of w) how.turns x answer
                 after left ran.0)
-                c (scene w before.log before.calls) (unheld k) s zero_counts t no_tally q (recorded_by given.said given.requests) u (counts_since w.ticks) a
+                c (scene w before.log before.calls) (unheld k) s zero_counts t no_tally q (recorded_by given.said given.requests) u (counts_since w.ticks given.checksum) a
                 first_announcing (troubles_of k) m (metered (option_map nothing_written given.metrics)) served tally requests is_counts is_announcing is_metered
                 (subst (λ (x : Counts). RunsFromHolding (watched_holding_manner_of given.held given.log_held now) (report now) x how.turns at answer after left
                 ran.0) is_start

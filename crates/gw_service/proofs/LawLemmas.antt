@@ -1,5 +1,5 @@
--- The rules in force, and the numbers of denials.
-use Rattle.std.proofs.Common.{◌≡◌, ◌∙◌, ℕ, ◌+◌, ◌<◌, ◌≤◌, List, [], ◌∷◌, Bool, Option, Some, None, refl, sym, ap, subst, arith}
+-- The rules and the checksum in force, and the numbers of denials.
+use Rattle.std.proofs.Common.{◌≡◌, ◌∙◌, ℕ, ◌+◌, ◌<◌, ◌≤◌, List, [], ◌∷◌, Bool, Option, Some, None, Ok, refl, sym, ap, subst, arith}
 use Rattle.std.specs.List.{AllByRecursion}
 use Rattle.std.specs.Prelude.{◌^◌, true, false, nat_le, if◌then◌else◌}
 use Rattle.std.proofs.Common.{leb-false, leb-true}
@@ -17,13 +17,15 @@ use Rattle.gw_core.specs.Denials.{denials_from, denials_of}
 use Rattle.gw_core.specs.Effects.{effects_at}
 use Rattle.gw_core.specs.History.{next, state_from}
 use Rattle.gw_core.specs.State.{State}
+use Rattle.gw_notices.specs.declared.reload.ReloadCounts.{ReloadCounts}
 use Rattle.gw_rules.specs.declared.rule.Rule.{Rule}
 use Rattle.gw_script.specs.Event.{Event}
 use Rattle.gw_turns.specs.Serve.{Turn, events_of}
 use Rattle.gw_turns.specs.Stretch.{GoOn, Moment}
 use Rattle.gw_service.specs.Chain.{AreLinks, IsLink, IsLooked, Link, Look, Manner, Stage, Standing}
 use Rattle.gw_service.specs.Chain.{ended, inquired, passed_over, refused, served, stopping, taken_over, ticked, unrequested, withheld}
-use Rattle.gw_service.specs.Laws.{HasItsRules, NumbersGoOn, RulesAreInForce, RulesStay}
+use Rattle.gw_service.specs.Edition.{IsEdition}
+use Rattle.gw_service.specs.Laws.{ChecksumIsInForce, HasItsChecksum, HasItsRules, NumbersGoOn, RulesAreInForce, RulesStay}
 
 -- ---- the rules in force
 
@@ -74,6 +76,48 @@ unfolding AreLinks
 rules_in_force manner s t [] chain has = subst (λ (x : Stage _). HasItsRules x) (sym chain) has
 rules_in_force manner s t (link ∷ links) chain has =
     rules_in_force manner chain.0 t links chain.2 (link_rules manner s chain.0 link chain.1 has)
+
+-- ---- the checksum in force
+
+abbrev HasChecksum : Configuration → ReloadCounts → Type 0
+HasChecksum c counts = (text : List ℕ) × IsEdition text (record { config = c; checksum = counts.checksum })
+
+-- it stays with the configuration
+checksum_stays : (c d : Configuration) (before after : ReloadCounts) → d ≡ c → after.checksum ≡ before.checksum → HasChecksum c before
+    → HasChecksum d after
+checksum_stays c d before after is_config is_checksum has =
+    (has.0, record { config = has.1.config ∙ ap Ok (sym is_config); checksum = is_checksum ∙ has.1.checksum })
+
+-- what comes of a request leaves the checksum of the configuration in force
+looked_checksum : {K : Type 0} (Adopts : K → Configuration → State → K → Type 0) (c d : Configuration) (s t : Standing K) (look : Look)
+    → IsLooked Adopts c s look d t → HasChecksum c s.counts → HasChecksum d t.counts
+looked_checksum Adopts c d s t unrequested is has =
+    checksum_stays c d s.counts t.counts is.stays.config (ap (λ (x : ReloadCounts). x.checksum) is.counts) has
+looked_checksum Adopts c d s t passed_over is has =
+    checksum_stays c d s.counts t.counts is.stays.config (ap (λ (x : ReloadCounts). x.checksum) is.counts) has
+looked_checksum Adopts c d s t stopping is has =
+    checksum_stays c d s.counts t.counts is.stays.config (ap (λ (x : ReloadCounts). x.checksum) is.counts) has
+looked_checksum Adopts c d s t (inquired answer) is has =
+    checksum_stays c d s.counts t.counts is.stays.config (ap (λ (x : ReloadCounts). x.checksum) is.counts) has
+looked_checksum Adopts c d s t (refused read f line) is has =
+    checksum_stays c d s.counts t.counts is.stays.config (ap (λ (x : ReloadCounts). x.checksum) is.counts) has
+looked_checksum Adopts c d s t (taken_over text new) is has =
+    (text, record { config = is.reads ∙ ap Ok (sym is.config); checksum = ap (λ (x : ReloadCounts). x.checksum) is.counts })
+
+link_checksum : {K : Type 0} (manner : Manner K) (s t : Stage K) (link : Link) → IsLink manner s link t → HasItsChecksum s
+    → HasItsChecksum t
+link_checksum manner s t (served turns) is has =
+    checksum_stays s.config t.config s.counts t.counts is.config (ap (λ (x : ReloadCounts). x.checksum) is.counts) has
+link_checksum manner s t (ticked turns look text) is has = looked_checksum manner.Adopts s.config t.config _ _ look is.done.looked has
+link_checksum manner s t (withheld turns event text) is has =
+    checksum_stays s.config t.config s.counts t.counts is.config (ap (λ (x : ReloadCounts). x.checksum) is.counts) has
+link_checksum manner s t (ended turns text) is has = absurd is
+
+pub checksum_in_force : {K : Type 0} (manner : Manner K) → ChecksumIsInForce manner
+unfolding AreLinks
+checksum_in_force manner s t [] chain has = subst (λ (x : Stage _). HasItsChecksum x) (sym chain) has
+checksum_in_force manner s t (link ∷ links) chain has =
+    checksum_in_force manner chain.0 t links chain.2 (link_checksum manner s chain.0 link chain.1 has)
 
 -- ---- the numbers of denials
 

@@ -35,6 +35,7 @@ use Rattle.gw_service.specs.Stats.{Reporting, due_by, end_by, is_due, minute_tex
 use Rattle.gw_turns.specs.declared.serving.Served.{Served}
 use Rattle.gw_turns.specs.declared.tally.Tally.{Tally}
 use Rattle.gw_service.specs.Watch.{IsAuditNamed, IsTrialNamed, IsUnwatched, IsWatcherUnder, WatchNames, is_watched, watch_names}
+use Rattle.gw_service.specs.declared.edition.Edition.{Edition}
 use Rattle.gw_service.specs.declared.fault.ServiceFault.{ServiceFault}
 use Rattle.gw_service.specs.declared.fault.ServiceFault.TheVariants as fault
 use Rattle.gw_service.specs.declared.keeping.Kept.{Kept}
@@ -291,16 +292,16 @@ no_note false said none = none
 -- ---- the whole
 
 serves_plain : {Log Sockets S Q : Type 0} (m : Machine Log Sockets) (states : StateMachine S Q) (names : Names) (held holds : Option (List ℕ))
-    (c : Configuration) (how : Service) (is_verbose : Bool) (line said : List ℕ) (outcome : Result (Unit {0}) ServiceFault) → AreNone names
-    → how.stats ≡ None → how.verbose ≡ is_verbose → how.holds ≡ false → c.announce ≡ false
-    → LeavesWithState m states names held holds c how is_verbose line said outcome
-    → LeavesServed m names.log held holds c how.turns is_verbose line said outcome
-serves_plain m states names held holds c how is_verbose line said outcome none unreported is_loud ends quiet (unprepared f sockets opens why is stays unsaid) =
-    shut (opening.Log log_failure.Memory) (sockets, opens, inl (refl, stays)) (is ∙ ap Err (unprepared_memory states m.LogOpens names c f none why))
+    (e : Edition) (how : Service) (is_verbose : Bool) (line said : List ℕ) (outcome : Result (Unit {0}) ServiceFault) → AreNone names
+    → how.stats ≡ None → how.verbose ≡ is_verbose → how.holds ≡ false → e.config.announce ≡ false
+    → LeavesWithState m states names held holds e how is_verbose line said outcome
+    → LeavesServed m names.log held holds e.config how.turns is_verbose line said outcome
+serves_plain m states names held holds e how is_verbose line said outcome none unreported is_loud ends quiet (unprepared f sockets opens why is stays unsaid) =
+    shut (opening.Log log_failure.Memory) (sockets, opens, inl (refl, stays)) (is ∙ ap Err (unprepared_memory states m.LogOpens names e.config f none why))
     (no_note is_verbose said unsaid)
-serves_plain m states names held holds c how is_verbose line said outcome none unreported is_loud ends quiet (unopened failure opens is note) =
+serves_plain m states names held holds e how is_verbose line said outcome none unreported is_loud ends quiet (unopened failure opens is note) =
     shut failure opens is note
-serves_plain m states names held holds c how is_verbose line said outcome none unreported is_loud ends quiet
+serves_plain m states names held holds e how is_verbose line said outcome none unreported is_loud ends quiet
     (ran before log log_then sockets sockets_then output warning text prepared opens closes stays leaves warns is) =
     let at = given states.held states.said m.held before in
     let no_saved = state_none states.FileReads names.state before.saved none.state prepared.saved in
@@ -308,13 +309,13 @@ serves_plain m states names held holds c how is_verbose line said outcome none u
     let no_store = store_none states.StoreOpens names.state before.store none.state prepared.store in
     let no_metrics = metrics_none states.StoreOpens names.metrics before.metrics none.metrics prepared.metrics in
     let no_requests = requests_none states.ReloadsOpen names.reload names.config before.requests none.reload prepared.requests in
-    let no_watcher = watcher_none states.FileReads states.LastDenials m.LogOpens c names.watch before.watcher none.watched prepared.watcher in
+    let no_watcher = watcher_none states.FileReads states.LastDenials m.LogOpens e.config names.watch before.watcher none.watched prepared.watcher in
     let told = prepared.text in
-    let no_text : before.text.items ≡ [] = told.says ∙ ap₂ (λ (x y : List ℕ). x ++ y) (text_none names.state is_verbose c before.saved none.state)
-    (note_none states.FileReads names.watch.trial c told.note none.trial told.tried) in
-    let serves = as_served at no_saved no_line no_store no_requests c how _ _ text outcome ends quiet leaves in
+    let no_text : before.text.items ≡ [] = told.says ∙ ap₂ (λ (x y : List ℕ). x ++ y) (text_none names.state is_verbose e.config before.saved none.state)
+    (note_none states.FileReads names.watch.trial e.config told.note none.trial told.tried) in
+    let serves = as_served at no_saved no_line no_store no_requests e.config how _ _ text outcome ends quiet leaves in
     let nothing : is_verbose ≡ false → text ≡ [] = λ mute.
-    silent at no_saved no_line no_store no_metrics no_requests no_watcher c how _ _ text outcome quiet unreported (is_loud ∙ mute) ends leaves in
+    silent at no_saved no_line no_store no_metrics no_requests no_watcher e.config how _ _ text outcome quiet unreported (is_loud ∙ mute) ends leaves in
     served_by log log_then sockets sockets_then output warning text opens closes stays serves warns nothing
     (is ∙ ap (λ (x : List ℕ). ((line ++ warning) ++ x) ++ text) no_text ∙ ap (λ (x : List ℕ). x ++ text) (append-nil (line ++ warning)))
 
@@ -335,16 +336,16 @@ or_parts false b is = (refl, is)
 or_parts true b is = absurd cc
 
 pub plain_is_served : {Log Sockets S Q : Type 0} (m : Machine Log Sockets) (states : StateMachine S Q) (options : RunOptions)
-    (held holds : Option (List ℕ)) (c : Configuration) (line said : List ℕ) (outcome : Result (Unit {0}) ServiceFault) → is_plain options ≡ true
-    → c.announce ≡ false → LeavesWithState m states (names_of options) held holds c (service options.turns options.stats options.stats_rules options.verbose options.holds) options.verbose line said outcome
-    → LeavesServed m (option_map string_bytes options.log) held holds c options.turns options.verbose line said outcome
-plain_is_served m states options held holds c line said outcome plain quiet leaves =
+    (held holds : Option (List ℕ)) (e : Edition) (line said : List ℕ) (outcome : Result (Unit {0}) ServiceFault) → is_plain options ≡ true
+    → e.config.announce ≡ false → LeavesWithState m states (names_of options) held holds e (service options.turns options.stats options.stats_rules options.verbose options.holds) options.verbose line said outcome
+    → LeavesServed m (option_map string_bytes options.log) held holds e.config options.turns options.verbose line said outcome
+plain_is_served m states options held holds e line said outcome plain quiet leaves =
     let names = names_of options in
     let parts = plain_parts (is_some options.state) (is_some options.reload) (is_watched names.watch) options.holds plain in
     let trial = or_parts (is_some names.watch.trial) (is_some names.watch.audit || names.watch.counts) parts.2 in
     let audit = or_parts (is_some names.watch.audit) names.watch.counts trial.1 in
     let counts = or_parts (is_some options.stats) (is_some options.metrics) audit.1 in
-    serves_plain m states names held holds c (service options.turns options.stats options.stats_rules options.verbose options.holds) options.verbose line said outcome
+    serves_plain m states names held holds e (service options.turns options.stats options.stats_rules options.verbose options.holds) options.verbose line said outcome
     (record {
       state = ap (option_map string_bytes) (none_of options.state parts.0);
       metrics = ap (option_map string_bytes) (none_of options.metrics counts.1);

@@ -21,6 +21,7 @@ use Rattle.gw_turns.specs.declared.serving.Served.{Served}
 use Rattle.gw_turns.specs.declared.tally.Tally.{Tally}
 use Rattle.gw_system.specs.Requests.{Asking, Exchange, GoesOn, answered, asked, asked_to_say, asked_to_stop, unasked, untaken}
 use Rattle.gw_system.specs.declared.reading.ReadFailure.{ReadFailure}
+use Rattle.gw_notices.specs.Checksum.{checksum_of}
 use Rattle.gw_notices.specs.Reload.{IsRefusalLine, with_refused, with_taken_over}
 use Rattle.gw_service.specs.Reload.{IsRefused, have_same_ports, taken_over_line}
 use Rattle.gw_notices.specs.metrics.Writing.{Metering}
@@ -64,7 +65,7 @@ manner Passes Ticks Adopts troubles report status Meters Lasts = record {
 
 -- ---- a request
 
--- the gateway, its keeper, what is known of requests, how often there was one, and what is to be announced
+-- the gateway, its keeper, what is known of requests, how often there was one and which text is in force, and what is to be announced
 pub record Standing (K : Type 0) : Type 0 where
   pub gateway : State
   pub keeper : K
@@ -119,7 +120,7 @@ pub record IsTakenOver {K : Type 0} (Adopts : K → Configuration → State → 
   pub keeper : Adopts s.keeper new t.gateway t.keeper
   pub requests : GoesOn s.requests t.requests
       (asked (Ok (Some text)) ∷ answered (taken_over_line s.gateway new (saved c s.gateway)) ∷ [])
-  pub counts : t.counts ≡ with_taken_over s.counts s.gateway.ticks
+  pub counts : t.counts ≡ with_taken_over s.counts s.gateway.ticks (checksum_of text)
   pub announcing : t.announcing ≡ with_due s.announcing
 
 -- There was no request.
@@ -214,8 +215,8 @@ Looks Done Noted o s p t Never held holds =
 -- ---- one stretch, and what is done after it
 
 -- what there is between two stretches: the configuration in force; the gateway, the log, the wire, the keeper and what was
--- counted; what was asked and answered, and how often; what is to be announced; what was reported last of what isn't kept or
--- recorded; and how metrics are put, if they are
+-- counted; what was asked and answered, how often, and which text is in force; what is to be announced; what was reported last of
+-- what isn't kept or recorded; and how metrics are put, if they are
 pub record Stage (K : Type 0) : Type 0 where
   pub config : Configuration
   pub now : Moment K

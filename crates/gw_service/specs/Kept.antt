@@ -44,7 +44,9 @@ use Rattle.gw_service.specs.Watch.{IsKeptAtTickBeside, IsKeptForBeside, IsKeptLa
 use Rattle.gw_service.specs.Serving.{AreOpen, ArentOpen, Ends, LeavesServed, LogStays, Machine, Service, ends, log_held, service}
 use Rattle.gw_service.specs.Start.{BeginsAs, IsStateRead, counts_of, start_text}
 use Rattle.gw_notices.specs.Reload.{counts_since}
+use Rattle.gw_notices.specs.declared.checksum.Checksum.{Checksum}
 use Rattle.gw_service.specs.Stats.{Reporting, all_stats, due_stats, end_stats, reporting}
+use Rattle.gw_service.specs.declared.edition.Edition.{Edition}
 use Rattle.gw_service.specs.declared.fault.ServiceFault.{ServiceFault}
 use Rattle.gw_service.specs.declared.fault.ServiceFault.TheVariants as fault
 use Rattle.gw_service.specs.declared.keeping.Kept.{Kept}
@@ -150,7 +152,7 @@ KeepsFirst held _ c w _ = ⊥
 -- ---- a run
 
 -- what a store holds, what requests say and what a log beside the log holds; what was saved, the last denial of the log, and the
--- store, that of the metrics, the requests and what watches, if there are some
+-- store, that of the metrics, the requests and what watches, if there are some; and the checksum of the configuration's text
 pub record Given (S Q L : Type 0) : Type 0 where
   pub held : S → Option (List ℕ)
   pub said : Q → Asking
@@ -161,6 +163,7 @@ pub record Given (S Q L : Type 0) : Type 0 where
   pub metrics : Option S
   pub requests : Option Q
   pub watcher : Option (Watching L L)
+  pub checksum : Checksum
 
 abbrev pub given : {S Q L : Type 0} → (S → Option (List ℕ)) → (Q → Asking) → (L → Option (List ℕ)) → Before S Q L → Given S Q L
 given held said log_held before = record {
@@ -173,6 +176,7 @@ given held said log_held before = record {
   metrics = before.metrics;
   requests = before.requests;
   watcher = before.watcher;
+  checksum = before.checksum;
 }
 
 -- what keeps the state of a gateway, by a store, reports no more of itself
@@ -242,8 +246,8 @@ MetersEnd (Err fault) before seconds after = after ≡ before
 -- the first stage: nothing was counted, an announcement is due, and it was reported whether the state is kept
 abbrev pub first_stage : {S Q L K : Type 0} → Given S Q L → Configuration → State → K → Troubles → Ends → Stage K
 first_stage given c w keeper troubles ends =
-    stage c (moment (scene w ends.log ends.calls) keeper zero_counts no_tally) (recorded_by given.said given.requests) (counts_since w.ticks)
-    first_announcing troubles (metered (option_map nothing_written given.metrics))
+    stage c (moment (scene w ends.log ends.calls) keeper zero_counts no_tally) (recorded_by given.said given.requests)
+    (counts_since w.ticks given.checksum) first_announcing troubles (metered (option_map nothing_written given.metrics))
 
 -- What is reported of such a run, of which a gateway in this state begins: whether each report counts the asks of each rule; how
 -- often its state couldn't be kept, if it is or requests are looked for; how often its configuration was read again, if they are; and
@@ -432,15 +436,16 @@ names_of options = record {
 }
 
 -- what was read and made before the log was opened
-pub record IsPrepared {S Q Log : Type 0} (machine : StateMachine S Q) (LogOpens : LogOpening Log) (names : Names) (c : Configuration)
+pub record IsPrepared {S Q Log : Type 0} (machine : StateMachine S Q) (LogOpens : LogOpening Log) (names : Names) (e : Edition)
     (is_verbose : Bool) (before : Before S Q Log) : Type 0 where
   pub saved : IsStateUnder machine.FileReads names.state (Ok before.saved)
   pub line : IsLastDenial machine.LastDenials names.state names.log (Ok (option_map (λ line. line.items) before.line))
-  pub text : IsTextBefore machine.FileReads names.state names.watch.trial is_verbose c before.saved before.text.items
+  pub text : IsTextBefore machine.FileReads names.state names.watch.trial is_verbose e.config before.saved before.text.items
   pub store : IsStoreUnder machine.StoreOpens names.state (Ok before.store)
   pub metrics : IsMetricsUnder machine.StoreOpens names.metrics (Ok before.metrics)
   pub requests : AreRequestsUnder machine.ReloadsOpen names.reload names.config before.requests
-  pub watcher : IsWatcherUnder machine.FileReads machine.LastDenials LogOpens c names.watch before.watcher
+  pub watcher : IsWatcherUnder machine.FileReads machine.LastDenials LogOpens e.config names.watch before.watcher
+  pub checksum : before.checksum ≡ e.checksum
 
 -- Why it couldn't be: the state can't be read, or isn't one; the log can't be read; its store can't be opened,
 -- or that of the metrics; what is to watch can't; or memory ran out.
@@ -454,22 +459,23 @@ IsUnprepared machine LogOpens names c f =
 -- be opened, and why may be written; or all was opened, this line, a warning of the machine and what is due of the state were
 -- written, and then it ran and was closed.
 pub data LeavesWithState {Log Sockets S Q : Type 0} (machine : Machine Log Sockets) (states : StateMachine S Q) (names : Names)
-    (held holds : Option (List ℕ)) (c : Configuration) (how : Service) (is_verbose : Bool) (line said : List ℕ)
+    (held holds : Option (List ℕ)) (e : Edition) (how : Service) (is_verbose : Bool) (line said : List ℕ)
     (outcome : Result (Unit {0}) ServiceFault) : Type 0 where
-  unprepared : (f : ServiceFault) (sockets : Sockets) → machine.SocketsOpen c.ports (Ok sockets) →
-      IsUnprepared states machine.LogOpens names c f → outcome ≡ Err f → holds ≡ held → said ≡ [] →
-      LeavesWithState machine states names held holds c how is_verbose line said outcome
-  unopened : (failure : OpenFailure) → ArentOpen machine.LogOpens (machine.SocketsOpen c.ports) names.log held holds failure →
+  unprepared : (f : ServiceFault) (sockets : Sockets) → machine.SocketsOpen e.config.ports (Ok sockets) →
+      IsUnprepared states machine.LogOpens names e.config f → outcome ≡ Err f → holds ≡ held → said ≡ [] →
+      LeavesWithState machine states names held holds e how is_verbose line said outcome
+  unopened : (failure : OpenFailure) → ArentOpen machine.LogOpens (machine.SocketsOpen e.config.ports) names.log held holds failure →
       outcome ≡ Err (fault_of_opening failure) → IsNote is_verbose failure said →
-      LeavesWithState machine states names held holds c how is_verbose line said outcome
+      LeavesWithState machine states names held holds e how is_verbose line said outcome
   ran : (before : Before S Q Log) (log log_then : Option Log) (sockets sockets_then : Sockets) (output : Option (List ℕ))
-      (warning text : List ℕ) → IsPrepared states machine.LogOpens names c is_verbose before →
-      AreOpen machine.LogOpens (machine.SocketsOpen c.ports) names.log held output log sockets →
+      (warning text : List ℕ) → IsPrepared states machine.LogOpens names e is_verbose before →
+      AreOpen machine.LogOpens (machine.SocketsOpen e.config.ports) names.log held output log sockets →
       machine.Closes sockets_then log_then → LogStays log log_then output holds →
-      LeavesKept (given states.held states.said machine.held before) c how (ends (log_held machine.held log output) (machine.calls sockets))
-      (ends (log_held machine.held log_then holds) (machine.calls sockets_then)) text outcome →
+      LeavesKept (given states.held states.said machine.held before) e.config how
+      (ends (log_held machine.held log output) (machine.calls sockets)) (ends (log_held machine.held log_then holds) (machine.calls sockets_then))
+      text outcome →
       IsWarning machine.RoutesIp is_verbose warning → said ≡ ((line ++ warning) ++ before.text.items) ++ text →
-      LeavesWithState machine states names held holds c how is_verbose line said outcome
+      LeavesWithState machine states names held holds e how is_verbose line said outcome
 
 -- neither a state nor a request file is named, nothing watches, and it doesn't go on if its log fails
 abbrev pub is_plain : RunOptions → Bool
@@ -489,12 +495,12 @@ whole_machine machine states Waits = record { machine = machine; states = states
 -- What a run leaves under a configuration, by its options. If they name neither a state nor a request file, nothing watches and
 -- nothing is announced, then it is also what one of `serve` from the gateway's first state leaves.
 abbrev pub LeavesChosen : {Log Sockets S Q : Type 0} → WholeMachine Log Sockets S Q → RunOptions → (held holds : Option (List ℕ))
-    → Configuration → List ℕ → Result (Unit {0}) ServiceFault → Type 0
-LeavesChosen whole options held holds c said outcome =
+    → Edition → List ℕ → Result (Unit {0}) ServiceFault → Type 0
+LeavesChosen whole options held holds e said outcome =
     let name = option_map string_bytes options.log in
-    let line = startup_line options.verbose c name in
-    LeavesWithState whole.machine whole.states (names_of options) held holds c (service options.turns options.stats options.stats_rules options.verbose options.holds) options.verbose line said outcome
-    × (is_plain options ≡ true → c.announce ≡ false → LeavesServed whole.machine name held holds c options.turns options.verbose line said outcome)
+    let line = startup_line options.verbose e.config name in
+    LeavesWithState whole.machine whole.states (names_of options) held holds e (service options.turns options.stats options.stats_rules options.verbose options.holds) options.verbose line said outcome
+    × (is_plain options ≡ true → e.config.announce ≡ false → LeavesServed whole.machine name held holds e.config options.turns options.verbose line said outcome)
 
 -- whether opening the log may wait for its reader: if it is in a file, what the machine says of that
 abbrev pub IsWaiting : (Waits : List ℕ → Bool → Type 0) → (log : Option (List ℕ)) → Bool → Type 0
@@ -508,7 +514,7 @@ waiting_note false = []
 
 -- and before all it is said if rules say that they are audited, and no audit is named; and if the log waits for its reader
 abbrev pub LeavesService : {Log Sockets S Q : Type 0} → WholeMachine Log Sockets S Q → RunOptions → (held holds : Option (List ℕ))
-    → Configuration → List ℕ → Result (Unit {0}) ServiceFault → Type 0
-LeavesService whole options held holds c said outcome =
-    (waits : Bool) × IsWaiting whole.Waits (option_map string_bytes options.log) waits × (rest : List ℕ) × (said ≡ (unaudited_note c.audits (is_some options.audit) ++ waiting_note waits) ++ rest)
-    × LeavesChosen whole options held holds c rest outcome
+    → Edition → List ℕ → Result (Unit {0}) ServiceFault → Type 0
+LeavesService whole options held holds e said outcome =
+    (waits : Bool) × IsWaiting whole.Waits (option_map string_bytes options.log) waits × (rest : List ℕ) × (said ≡ (unaudited_note e.config.audits (is_some options.audit) ++ waiting_note waits) ++ rest)
+    × LeavesChosen whole options held holds e rest outcome

@@ -16,6 +16,7 @@ use Rattle.gw_service.specs.declared.running.End.{End}
 use Rattle.gw_configuration.specs.Configuration.{Configuration}
 use Rattle.gw_watchers.specs.Watching.{Watching}
 use Rattle.gw_service.specs.Counts.{GoesOnFrom}
+use Rattle.gw_service.specs.Edition.{IsEdition}
 use Rattle.gw_service.specs.Kept.{Given, LeavesKept, RunsKept, RunsWatched}
 use Rattle.gw_service.specs.Serving.{Ends, Serves, Service}
 use Rattle.gw_service.specs.declared.fault.ServiceFault.{ServiceFault}
@@ -32,6 +33,15 @@ RulesAreInForce {K} manner =
 -- In a stretch its rules stay.
 abbrev pub RulesStay : Type 0
 RulesStay = (w : State) (events : List Event) → (state_from w events).rules ≡ w.rules
+
+-- what is counted has the checksum of a text of the configuration in force
+abbrev pub HasItsChecksum : {K : Type 0} → Stage K → Type 0
+HasItsChecksum s = (text : List ℕ) × IsEdition text (record { config = s.config; checksum = s.counts.checksum })
+
+-- It has that wherever a chain leads, if it did at first.
+abbrev pub ChecksumIsInForce : {K : Type 0} → Manner K → Type 0
+ChecksumIsInForce {K} manner =
+    (s t : Stage K) (links : List Link) → AreLinks manner s links t → HasItsChecksum s → HasItsChecksum t
 
 -- A gateway that goes on from these counts and the last denial of its log gives each denial a greater number than that of the last
 -- denial that was counted, and than that of the denial that the log's text shows last, whatever that holds before it, and after it

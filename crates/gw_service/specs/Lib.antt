@@ -1,5 +1,6 @@
 pub mod Chain
 pub mod Counts
+pub mod Edition
 pub mod Fault
 pub mod Reload
 pub mod Serving

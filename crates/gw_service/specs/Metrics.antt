@@ -93,6 +93,7 @@ pub record AreCounts (m : Measures) (in_force : List Rule) (decided : Option (Li
   pub peers : c.peers ≡ m.report.peers
   pub learned_routes : c.learned_routes ≡ m.report.learned_routes
   pub reloads : c.reloads ≡ reloads_of m.reloads
+  pub checksum : c.checksum ≡ m.reloads.checksum
   pub configuration_age : c.configuration_age ≡ m.age
   pub state : c.state ≡ m.tries
   pub lost_trial_lines : c.lost_trial_lines ≡ m.losses.trial_lines

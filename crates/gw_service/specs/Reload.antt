@@ -17,7 +17,9 @@ use Rattle.gw_state.specs.declared.port.SavedPort.{SavedPort}
 use Rattle.gw_system.specs.declared.obstacle.Obstacle.TheVariants as obstacle
 use Rattle.gw_system.specs.declared.reading.ReadFailure.{ReadFailure}
 use Rattle.gw_system.specs.declared.reading.ReadFailure.TheVariants as reading
+use Rattle.gw_service.specs.Edition.{IsEdition}
 use Rattle.gw_service.specs.Keeping.{IsSuccessor}
+use Rattle.gw_service.specs.declared.edition.Edition.{Edition}
 use Rattle.gw_service.specs.declared.reload.Adopted.{Adopted}
 use Rattle.gw_notices.specs.Parts.{unless}
 use Rattle.gw_notices.specs.Reload.{reload_line}
@@ -96,18 +98,19 @@ taken_over_line w c s = reload_line w.rules c s (differing w s c)
 
 -- By what a gateway in this state, of which this is configured, goes on as one of another configuration: it takes over what
 -- is saved.
-pub record IsAdopted (w : State) (o : Origin) (c : Configuration) (made : Adopted) : Type 0 where
-  pub gateway : made.gateway ≡ carried c (saved_of o w)
-  pub origin : made.origin ≡ origin_of c
-  pub successor : IsSuccessor c made.successor
-  pub line : made.line.items ≡ taken_over_line w c (saved_of o w)
+pub record IsAdopted (w : State) (o : Origin) (e : Edition) (made : Adopted) : Type 0 where
+  pub gateway : made.gateway ≡ carried e.config (saved_of o w)
+  pub origin : made.origin ≡ origin_of e.config
+  pub checksum : made.checksum ≡ e.checksum
+  pub successor : IsSuccessor e.config made.successor
+  pub line : made.line.items ≡ taken_over_line w e.config (saved_of o w)
 
--- the configuration is that of this text, and has the ports that are served
+-- the configuration and the checksum are those of this text, and it has the ports that are served
 pub record IsReloadedBy (w : State) (o : Origin) (text : List ℕ) (made : Adopted) : Type 0 where
-  pub config : Configuration
-  pub reads : configuration text ≡ Ok config
-  pub ports : have_same_ports w.relay.ports config.ports ≡ true
-  pub adopted : IsAdopted w o config made
+  pub edition : Edition
+  pub reads : IsEdition text edition
+  pub ports : have_same_ports w.relay.ports edition.config.ports ≡ true
+  pub adopted : IsAdopted w o edition made
 
 abbrev pub IsReloaded : State → Origin → Result (Option (List ℕ)) ReadFailure → Adopted → Type 0
 IsReloaded w o (Ok (Some text)) made = IsReloadedBy w o text made

@@ -5,13 +5,13 @@ use Rattle.gw_script.specs.declared.sink.WriteFailed.{WriteFailed}
 use Rattle.gw_log_words.specs.Noted.{IsNoted}
 use Rattle.gw_log_words.specs.Stamped.{held_without}
 use Rattle.gw_configuration.specs.declared.run_options.RunOptions.{RunOptions}
-use Rattle.gw_configuration.specs.Configuration.{Configuration}
 use Rattle.gw_log_words.specs.declared.noted.Noted.{Noted}
 use Rattle.gw_log_words.specs.declared.stamped.Stamped.{Stamped}
 use Rattle.gw_system.specs.Host.{OpensAtLine}
 use Rattle.gw_system.specs.StampedHost.{IsWhole, OpensStamped, held_in, log_if, log_in}
 use Rattle.gw_service.specs.Kept.{LeavesService, WholeMachine, whole_machine}
 use Rattle.gw_service.specs.Serving.{Machine, machine}
+use Rattle.gw_service.specs.declared.edition.Edition.{Edition}
 use Rattle.gw_service.specs.declared.fault.ServiceFault.{ServiceFault}
 
 -- what the last note says, with the version of the program
@@ -55,8 +55,8 @@ LeavesBy false Stamped Plain = Plain
 
 -- What a run leaves, by whether its options ask for stamps and notes: if they don't, what any run leaves.
 abbrev pub LeavesTimed : {C Log Sockets S Q : Type 0} → TimedMachine C Log Sockets S Q → RunOptions → (held holds : Option (List ℕ))
-    → Configuration → List ℕ → Result (Unit {0}) ServiceFault → Type 0
-LeavesTimed {C = C} timed options held holds c said outcome =
+    → Edition → List ℕ → Result (Unit {0}) ServiceFault → Type 0
+LeavesTimed {C = C} timed options held holds e said outcome =
     LeavesBy options.stamp
-    (LeavesService (whole_with_stamps {C = C} timed.whole) options held holds c said outcome)
-    (LeavesService timed.whole options held holds c said outcome)
+    (LeavesService (whole_with_stamps {C = C} timed.whole) options held holds e said outcome)
+    (LeavesService timed.whole options held holds e said outcome)

@@ -25,6 +25,7 @@ ghost use Rattle.gw_service.specs.Watch.{IsWatcherUnder, watch_names};
 ghost use Rattle.gw_system.specs.Host.{OpensAtLine};
 ghost use Rattle.gw_system.specs.Requests.{text_found};
 
+use crate::edition::Edition;
 use crate::fault::ServiceFault;
 use crate::keeping::{Kept, StateKeeper};
 use crate::metrics::metrics_in;
@@ -36,7 +37,7 @@ use crate::watch::watcher_under;
 use gw_configuration::{Config, RunOptions};
 use gw_core::Gateway;
 use gw_log_words::Notes;
-use gw_notices::{ReloadCounts, Troubles, trial_line, warning_of, write_note};
+use gw_notices::{Checksum, ReloadCounts, Troubles, trial_line, warning_of, write_note};
 use gw_policy_text::{MAX_OCTETS, read_config};
 use gw_script::OctetSink;
 use gw_state::{Origin, Saved};
@@ -48,7 +49,8 @@ use std::alloc::{AllocError, Global};
 use std::io::{BufWriter, Write};
 
 /// What is read and made before the log is opened: what was saved, the last denial of the log, what is said of
-/// the state, its store, that of the metrics, and what asks to read the configuration again; and what watches.
+/// the state, its store, that of the metrics, and what asks to read the configuration again; what watches; and the checksum of the
+/// configuration's text.
 #[derive(Drop)]
 pub(crate) struct Before<S, Q, L: OctetSink + Drop> {
     /// What was saved, if something was.
@@ -65,6 +67,8 @@ pub(crate) struct Before<S, Q, L: OctetSink + Drop> {
     pub requests: Option<Q>,
     /// What watches, if something does.
     pub watcher: Option<Watcher<L, L>>,
+    /// The checksum of the configuration's text.
+    pub checksum: Checksum,
 }
 
 /// What was saved in the file of this name. Nothing is read if none is named.
@@ -229,6 +233,7 @@ fn text_of<H: Host>(
 pub(crate) fn prepare<H: Host>(
     alloc: Global,
     config: &Config,
+    checksum: Checksum,
     options: &RunOptions,
     host: &H,
 ) -> Result<Before<H::StateStore, H::Reloads, H::Log>, ServiceFault>
@@ -247,6 +252,7 @@ pub(crate) fn prepare<H: Host>(
     ensures watcher { let LogOpens = OpensAtLine (H.LogOpens host.now) (H.LogIsCut host.now) H.Log.held in
         IfOk result (λ before. IsWatcherUnder (H.FileReads host.now) (H.LastDenials host.now) LogOpens config.now
         (watch_names options.now) before.watcher) }
+    ensures checksum { IfOk result (λ before. before.checksum ≡ checksum) }
     ensures fault { IfErr result (IsUnprepared (state_machine (H.FileReads host.now) (H.LastDenials host.now)
         (H.StoreOpens host.now) (H.ReloadsOpen host.now) H.StateStore.held H.Reloads.recorded)
         (OpensAtLine (H.LogOpens host.now) (H.LogIsCut host.now) H.Log.held) (names_of options.now) config.now) }
@@ -285,6 +291,7 @@ pub(crate) fn prepare<H: Host>(
         metrics,
         requests,
         watcher,
+        checksum,
     })
 }
 
@@ -314,7 +321,7 @@ fn make_running<S: Store + Drop, Q: Requests + Drop, T: OctetSink + Drop>(
         (λ r. BeginsAs config before.saved (option_map (λ line. line.items) before.line) r.gateway) }
     ensures keeps { IfOk result (λ r. KeepsFirst S.held before.store config r.gateway r.keeper) }
     ensures requests { IfOk result (λ r. r.requests ≡ before.requests) }
-    ensures counts { IfOk result (λ r. r.counts ≡ counts_since r.gateway.ticks) }
+    ensures counts { IfOk result (λ r. r.counts ≡ counts_since r.gateway.ticks before.checksum) }
     ensures announcing { IfOk result (λ r. r.announcing ≡ first_announcing) }
     ensures served { IfOk result (λ r. r.state.served ≡ zero_counts) }
     ensures tally { IfOk result (λ r. r.state.tally ≡ no_tally) }
@@ -331,12 +338,13 @@ fn make_running<S: Store + Drop, Q: Requests + Drop, T: OctetSink + Drop>(
         metrics,
         requests,
         watcher: _,
+        checksum,
     } = before;
     let origin = Origin::of(alloc, &config)?;
     let kept = Origin::of(alloc, &config)?;
     let gateway = begin_after(alloc, config, saved, &line)?;
     let keeper = kept_in(alloc, store, kept, &gateway);
-    let counts = ReloadCounts::since(gateway.counts().ticks);
+    let counts = ReloadCounts::since(gateway.counts().ticks, checksum);
     Ok(Running {
         gateway,
         origin,
@@ -505,7 +513,7 @@ fn refused<E: OctetSink>(
 /// and all else as it was. Faults: those of [`serve_ports`](crate::serve_ports).
 pub(crate) fn serve_kept<H: Host, W: Write + Drop, E: OctetSink>(
     alloc: Global,
-    config: Config,
+    edition: Edition,
     options: &RunOptions,
     host: &mut H,
     output: &mut BufWriter<W>,
@@ -516,18 +524,19 @@ pub(crate) fn serve_kept<H: Host, W: Write + Drop, E: OctetSink>(
         (H.SocketsOpen host.old) (H.RoutesIp host.old) (H.Closes host.new) H.Log.held H.Sockets.calls)
         (state_machine (H.FileReads host.old) (H.LastDenials host.old) (H.StoreOpens host.old) (H.ReloadsOpen host.old)
         H.StateStore.held H.Reloads.recorded) (names_of options.now)
-        (writer_contents W.contents output.old) (writer_contents W.contents output.new) config
-        (service options.now.turns options.now.stats options.now.stats_rules options.now.verbose options.now.holds) options.now.verbose (startup_line options.now.verbose config (option_map string_bytes options.now.log)) said result
+        (writer_contents W.contents output.old) (writer_contents W.contents output.new) edition
+        (service options.now.turns options.now.stats options.now.stats_rules options.now.verbose options.now.holds) options.now.verbose (startup_line options.now.verbose edition.config (option_map string_bytes options.now.log)) said result
         × (E.NeverFails errors.old → Appends (E.held errors.old) (E.held errors.new) said) }
     ensures lasting { E.NeverFails errors.old → E.NeverFails errors.new }
     ensures flush { OnOk result (IsFlushedFor (option_map string_bytes options.now.log)
         (writer_buffer output.old) (writer_buffer output.new)) }
 {
+    let Edition { config, checksum } = edition;
     let mut sockets = match host.open_sockets(alloc, config.ports()) {
         Ok(sockets) => sockets,
         Err(failure) => return Err(refused(alloc, options, OpenFailure::Sockets(failure), errors)),
     };
-    let before = match prepare(alloc, &config, options, host) {
+    let before = match prepare(alloc, &config, checksum, options, host) {
         Ok(before) => before,
         Err(fault) => return Err(fault),
     };

@@ -13,7 +13,7 @@ ghost use Rattle.gw_notices.specs.declared.reload.ReloadCounts.{ReloadCounts};
 ghost use Rattle.gw_service.specs.Kept.{Given};
 ghost use Rattle.gw_service.specs.Metering.{meters_by};
 ghost use Rattle.gw_service.specs.WatchedRuns.{AuditIsWhole, CountsAreWhole, TrialIsWhole};
-ghost use Rattle.gw_service.specs.Laws.{IsAsServed, IsAsUnwatched, NobodyAsks, NumbersGoOn, RulesAreInForce, RulesStay};
+ghost use Rattle.gw_service.specs.Laws.{ChecksumIsInForce, IsAsServed, IsAsUnwatched, NobodyAsks, NumbersGoOn, RulesAreInForce, RulesStay};
 
 use crate::keeping::StateKeeper;
 use crate::waiting::MOST_WAITING;
@@ -27,6 +27,12 @@ pub fn rules_are_in_force<K: StateKeeper>()
     ensures chain { (start : Counts) (report status : K → ReloadCounts → Announcing → Option ℕ → State → Served → Tally → List ℕ) →
         RulesAreInForce (manner K.Passes K.Ticks K.Adopts K.troubles report status (meters_by start) K.Lasts) }
     ensures stretch { RulesStay }
+{}
+
+/// The checksum that metrics show is that of the configuration in force: wherever a run leads, it is the one of a text of that.
+pub fn checksum_is_in_force<K: StateKeeper>()
+    ensures { (start : Counts) (report status : K → ReloadCounts → Announcing → Option ℕ → State → Served → Tally → List ℕ) →
+        ChecksumIsInForce (manner K.Passes K.Ticks K.Adopts K.troubles report status (meters_by start) K.Lasts) }
 {}
 
 /// No number of a denial is used twice: a gateway that begins with a state goes on after the number of the last denial that was

@@ -4,6 +4,7 @@
 
 mod counts;
 mod differing;
+mod edition;
 mod fault;
 mod holding;
 mod holding_run;
@@ -22,6 +23,7 @@ mod waiting;
 mod watch;
 mod watched;
 
+pub use edition::Edition;
 pub use fault::ServiceFault;
 pub use gw_configuration::RunOptions;
 pub use holding::Holding;

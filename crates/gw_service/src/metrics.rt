@@ -24,7 +24,7 @@ use std::alloc::Global;
 pub(crate) struct Measures {
     /// What was done since the gateway began, and what its tables hold.
     pub report: Report,
-    /// How often its configuration was read again.
+    /// How often its configuration was read again, and which text the one in force has.
     pub reloads: ReloadCounts,
     /// How many ticks ago the configuration in force was read.
     pub age: u64,
@@ -125,6 +125,7 @@ fn counts_of<'a>(
         peers: report.peers,
         learned_routes: report.learned_routes,
         reloads: reloads_of(reloads),
+        checksum: reloads.checksum,
         configuration_age: age,
         state: tries,
         lost_trial_lines: losses.trial_lines,

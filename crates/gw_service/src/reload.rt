@@ -9,11 +9,11 @@ ghost use Rattle.gw_service.specs.Reload.{IsAdopted, IsPortsOrMemory, IsRefused,
 ghost use Rattle.gw_system.specs.Requests.{text_found};
 
 use crate::differing::differing;
+use crate::edition::Edition;
 use crate::successor::Successor;
 use gw_configuration::{Config, Port};
 use gw_core::Gateway;
-use gw_notices::{ReloadFault, reload_line};
-use gw_policy_text::read_config;
+use gw_notices::{Checksum, ReloadFault, reload_line};
 use gw_relay::PortState;
 use gw_state::{Origin, Saved};
 use gw_system::{Obstacle, ReadFailure};
@@ -43,14 +43,16 @@ fn have_same_ports(states: &[PortState], ports: &[Port]) -> bool
     true
 }
 
-/// By what a gateway goes on: the gateway, what is configured of it, what is made for the keeper of its state and what watches
-/// it, and the line that is reported.
+/// By what a gateway goes on: the gateway, what is configured of it, the checksum of its configuration's text, what is made for the
+/// keeper of its state and what watches it, and the line that is reported.
 #[derive(Drop)]
 pub struct Adopted {
     /// The gateway.
     pub gateway: Gateway,
     /// What is configured of what can be written.
     pub origin: Origin,
+    /// The checksum of its configuration's text.
+    pub checksum: Checksum,
     /// What is made for what keeps its state and watches it.
     pub successor: Successor,
     /// The line.
@@ -97,10 +99,11 @@ fn adopt(
     alloc: Global,
     gateway: &Gateway,
     origin: &Origin,
-    config: Config,
+    edition: Edition,
 ) -> Result<Adopted, AllocError>
-    ensures { IfOk result (IsAdopted gateway.now origin.now config) }
+    ensures { IfOk result (IsAdopted gateway.now origin.now edition) }
 {
+    let Edition { config, checksum } = edition;
     let Prepared {
         saved,
         origin,
@@ -111,6 +114,7 @@ fn adopt(
     Ok(Adopted {
         gateway,
         origin,
+        checksum,
         successor,
         line,
     })
@@ -121,16 +125,16 @@ fn adopt_ports(
     alloc: Global,
     gateway: &Gateway,
     origin: &Origin,
-    config: Config,
+    edition: Edition,
 ) -> Result<Adopted, ReloadFault>
-    ensures adopted { IfOk result (IsAdopted gateway.now origin.now config) }
-    ensures same { IfOk result (λ _. have_same_ports gateway.now.relay.ports config.ports ≡ true) }
-    ensures fault { IfErr result (IsPortsOrMemory gateway.now config) }
+    ensures adopted { IfOk result (IsAdopted gateway.now origin.now edition) }
+    ensures same { IfOk result (λ _. have_same_ports gateway.now.relay.ports edition.config.ports ≡ true) }
+    ensures fault { IfErr result (IsPortsOrMemory gateway.now edition.config) }
 {
-    if !have_same_ports(gateway.relay().ports(), config.ports()) {
+    if !have_same_ports(gateway.relay().ports(), edition.config.ports()) {
         return Err(ReloadFault::Ports);
     }
-    Ok(adopt(alloc, gateway, origin, config)?)
+    Ok(adopt(alloc, gateway, origin, edition)?)
 }
 
 /// What becomes of what was read again: the gateway of its configuration with what is saved of this one, or why this
@@ -145,7 +149,7 @@ pub fn reloaded(
     ensures fault { IfErr result (IsRefused gateway.now (text_found read.now)) }
 {
     match read {
-        Ok(Some(text)) => adopt_ports(alloc, gateway, origin, read_config(alloc, text)?),
+        Ok(Some(text)) => adopt_ports(alloc, gateway, origin, Edition::of(alloc, text)?),
         Ok(None) => Err(ReloadFault::Unreadable(Obstacle::Absent)),
         Err(failure) => Err(ReloadFault::from(*failure)),
     }

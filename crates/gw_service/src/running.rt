@@ -154,11 +154,14 @@ impl<K: StateKeeper, Q: Requests, M: Store + Drop> Running<K, Q, M> {
                 Adopted {
                     gateway,
                     origin,
+                    checksum,
                     successor,
                     line,
                 },
             ) => {
-                self.counts = self.counts.with_taken_over(self.gateway.counts().ticks);
+                self.counts = self
+                    .counts
+                    .with_taken_over(self.gateway.counts().ticks, checksum);
                 self.announcing = self.announcing.with_due();
                 self.gateway = gateway;
                 self.origin = origin;

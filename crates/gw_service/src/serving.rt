@@ -11,6 +11,7 @@ ghost use Rattle.std.specs.List.{list_any};
 ghost use Rattle.gw_service.specs.Watch.{is_unaudited, unaudited_note};
 ghost use Rattle.gw_service.specs.Serving.{IsFlushedFor, LogIsOpen, LogIsShut, machine};
 
+use crate::edition::Edition;
 use crate::fault::ServiceFault;
 use crate::kept::serve_kept;
 use gw_configuration::{Config, RunOptions};
@@ -140,7 +141,7 @@ fn waiting_note(waits: bool) -> &'static str
 /// audit is, `Trial` and `Audit`. At `Socket` nothing else was opened, and at those of a state, a trial or an audit the log wasn't.
 pub fn serve_ports<H: Host, W: Write + Drop, E: OctetSink>(
     alloc: Global,
-    config: Config,
+    edition: Edition,
     options: &RunOptions,
     host: &mut H,
     output: &mut BufWriter<W>,
@@ -151,14 +152,14 @@ pub fn serve_ports<H: Host, W: Write + Drop, E: OctetSink>(
         (H.SocketsOpen host.old) (H.RoutesIp host.old) (H.Closes host.new) H.Log.held H.Sockets.calls)
         (state_machine (H.FileReads host.old) (H.LastDenials host.old) (H.StoreOpens host.old)
         (H.ReloadsOpen host.old) H.StateStore.held H.Reloads.recorded) (H.Waits host.old)) options.now
-        (writer_contents W.contents output.old) (writer_contents W.contents output.new) config said result
+        (writer_contents W.contents output.old) (writer_contents W.contents output.new) edition said result
         × (E.NeverFails errors.old → Appends (E.held errors.old) (E.held errors.new) said) }
     ensures lasting { E.NeverFails errors.old → E.NeverFails errors.new }
     ensures flush { OnOk result (IsFlushedFor (option_map string_bytes options.now.log)
         (writer_buffer output.old) (writer_buffer output.new)) }
 {
-    write_note(unaudited_note(&config, options).as_bytes(), errors);
+    write_note(unaudited_note(&edition.config, options).as_bytes(), errors);
     let waits = is_waiting(&options.log, host);
     write_note(waiting_note(waits).as_bytes(), errors);
-    serve_kept(alloc, config, options, host, output, errors)
+    serve_kept(alloc, edition, options, host, output, errors)
 }

@@ -23,7 +23,8 @@ use Rattle.gw_shell.specs.Ending.{PlaceBy, chosen, error_text_by, usage_of}
 use Rattle.gw_shell.specs.Replay.{Plays}
 use Rattle.gw_service.specs.Serving.{IsFlushedFor}
 use Rattle.gw_service.specs.StampedRun.{TimedMachine}
-use Rattle.gw_shell.specs.Serving.{LeavesRun}
+use Rattle.gw_service.specs.declared.edition.Edition.{Edition}
+use Rattle.gw_shell.specs.Serving.{IsEditionOf, LeavesRun}
 
 -- what the words of a call choose, or why they choose nothing
 abbrev pub IsChoiceOf : List (List ℕ) → Result Choice Fault → Type 0
@@ -89,8 +90,8 @@ LeavesOutput Reads machine input held holds said (Ok (choice.Replay file explain
     LeavesPlayedIn Reads (option_map string_bytes file) (record { explains = explains; counts = counts }) input held holds said outcome
 LeavesOutput Reads machine input held holds said (Ok (choice.Run options)) outcome =
     (text : Result (List ℕ) Fault) × Reads (string_bytes options.config) text
-    × (c : Result Configuration Fault) × IsConfigurationOf text c
-    × LeavesRun machine held holds options c said outcome
+    × (e : Result Edition Fault) × IsEditionOf text e
+    × LeavesRun machine held holds options e said outcome
 LeavesOutput Reads machine input held holds said (Ok (choice.Help text)) (Ok done) =
     Appends held holds (string_bytes text)
 LeavesOutput Reads machine input held holds said (Ok (choice.Help text)) (Err f) =

@@ -4,15 +4,14 @@ ghost use Rattle.std.specs.Prelude.{◌≡◌, ◌++◌, [], List, ℕ, Ok, Some
 ghost use Rattle.std.specs.Io.Buffered.{writer_buffer, writer_contents};
 ghost use Rattle.std.specs.Io.KnownBytes.{Appends};
 ghost use Rattle.std.specs.Process.{exit_status};
-ghost use Rattle.gw_configuration.specs.Configuration.{Configuration};
-ghost use Rattle.gw_ending.specs.reading.Configured.{IsConfigurationOf};
 ghost use Rattle.gw_ending.specs.reading.Files.{result_map};
-ghost use Rattle.gw_shell.specs.Serving.{LeavesRun, served};
+ghost use Rattle.gw_shell.specs.Serving.{IsEditionOf, LeavesRun, served};
 ghost use Rattle.gw_system.specs.Host.{OpensAtLine};
 ghost use Rattle.gw_shell.specs.Program.{IsChoiceOf, IsFlushed, IsFollowed, IsRun, LeavesConfigured, LeavesOfText, LeavesOutput};
 ghost use Rattle.gw_service.specs.Kept.{state_machine, whole_machine};
 ghost use Rattle.gw_service.specs.Serving.{IsFlushedFor, machine};
 ghost use Rattle.gw_service.specs.StampedRun.{timed_machine};
+ghost use Rattle.gw_service.specs.declared.edition.Edition.{Edition as SpecEdition};
 ghost use Rattle.gw_ending.specs.declared.fault.Fault.{Fault};
 
 use crate::deciding::{Playing, play_in};
@@ -27,7 +26,7 @@ use gw_ending::reading::{
 };
 use gw_notices::write_note;
 use gw_script::{OctetSink, OctetSource};
-use gw_service::{ServiceFault, serve_run};
+use gw_service::{Edition, ServiceFault, serve_run};
 use gw_system::Host;
 use std::alloc::Global;
 use std::io::{BufWriter, Write};
@@ -98,6 +97,17 @@ fn served(done: Result<(), ServiceFault>) -> Result<(), Fault>
     }
 }
 
+/// The configuration of a text that was read, with the text's checksum. Faults: the fault of reading; `Configuration` with
+/// the text's first fault; and `Memory`.
+fn edition_of(alloc: Global, text: &Result<Vec<u8>, Fault>) -> Result<Edition, Fault>
+    ensures { IsEditionOf (result_map (λ octets. octets.items) text.now) result }
+{
+    match text {
+        Ok(text) => Ok(Edition::of(alloc, text)?),
+        Err(fault) => Err(*fault),
+    }
+}
+
 /// Serves the ports of the configuration of a text that was read.
 fn serve<H: Host, W: Write + Drop, E: OctetSink>(
     alloc: Global,
@@ -107,22 +117,22 @@ fn serve<H: Host, W: Write + Drop, E: OctetSink>(
     output: &mut BufWriter<W>,
     errors: &mut E,
 ) -> Result<(), Fault>
-    ensures served { (said : List ℕ) × (config : Result Configuration Fault)
-        × IsConfigurationOf (result_map (λ octets. octets.items) text.now) config
+    ensures served { (said : List ℕ) × (edition : Result SpecEdition Fault)
+        × IsEditionOf (result_map (λ octets. octets.items) text.now) edition
         × LeavesRun (timed_machine {C = H.Calendar}
         (whole_machine (machine (OpensAtLine (H.LogOpens host.old) (H.LogIsCut host.old) H.Log.held)
         (H.SocketsOpen host.old) (H.RoutesIp host.old) (H.Closes host.new) H.Log.held H.Sockets.calls)
         (state_machine (H.FileReads host.old) (H.LastDenials host.old) (H.StoreOpens host.old)
         (H.ReloadsOpen host.old) H.StateStore.held H.Reloads.recorded) (H.Waits host.old)))
         (writer_contents W.contents output.old) (writer_contents W.contents output.new) options.now
-        config said result
+        edition said result
         × (E.NeverFails errors.old → Appends (E.held errors.old) (E.held errors.new) said) }
     ensures lasting { E.NeverFails errors.old → E.NeverFails errors.new }
     ensures flush { OnOk result (IsFlushedFor (option_map string_bytes options.now.log)
         (writer_buffer output.old) (writer_buffer output.new)) }
 {
-    match configuration_of(alloc, text) {
-        Ok(config) => served(serve_run(alloc, config, options, host, output, errors)),
+    match edition_of(alloc, text) {
+        Ok(edition) => served(serve_run(alloc, edition, options, host, output, errors)),
         Err(fault) => Err(fault),
     }
 }

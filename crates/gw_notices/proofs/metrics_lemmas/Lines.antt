@@ -108,6 +108,7 @@ name_lacks family.ForeignDevices = refl
 name_lacks family.Peers = refl
 name_lacks family.LearnedRoutes = refl
 name_lacks family.Reloads = refl
+name_lacks family.Configuration = refl
 name_lacks family.ConfigurationAge = refl
 name_lacks family.StateIsKept = refl
 name_lacks family.UnkeptStates = refl
@@ -136,6 +137,7 @@ help_lacks family.ForeignDevices = refl
 help_lacks family.Peers = refl
 help_lacks family.LearnedRoutes = refl
 help_lacks family.Reloads = refl
+help_lacks family.Configuration = refl
 help_lacks family.ConfigurationAge = refl
 help_lacks family.StateIsKept = refl
 help_lacks family.UnkeptStates = refl
@@ -153,6 +155,7 @@ label_lacks label.Rule = refl
 label_lacks label.Port = refl
 label_lacks label.Outcome = refl
 label_lacks label.Log = refl
+label_lacks label.Sha256 = refl
 
 chosen : (b : Bool) (first other : List ℕ) → Lacks 10 first → (b ≡ false → Lacks 10 other) → Lacks 10 (cond b first other)
 chosen true first other is rest = is

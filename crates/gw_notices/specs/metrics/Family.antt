@@ -31,6 +31,7 @@ families =
     ∷ family.Peers
     ∷ family.LearnedRoutes
     ∷ family.Reloads
+    ∷ family.Configuration
     ∷ family.ConfigurationAge
     ∷ family.StateIsKept
     ∷ family.UnkeptStates
@@ -60,6 +61,7 @@ family_name family.ForeignDevices = codes "bacgw_foreign_devices"
 family_name family.Peers = codes "bacgw_peers"
 family_name family.LearnedRoutes = codes "bacgw_learned_routes"
 family_name family.Reloads = codes "bacgw_reloads_total"
+family_name family.Configuration = codes "bacgw_configuration_info"
 family_name family.ConfigurationAge = codes "bacgw_configuration_age_seconds"
 family_name family.StateIsKept = codes "bacgw_state_is_kept"
 family_name family.UnkeptStates = codes "bacgw_unkept_states_total"
@@ -88,6 +90,7 @@ family_help family.ForeignDevices = codes "Foreign devices that are registered, 
 family_help family.Peers = codes "Other broadcast managers of all ports."
 family_help family.LearnedRoutes = codes "Networks whose router was learned."
 family_help family.Reloads = codes "Configurations that were read again, by whether they were taken over."
+family_help family.Configuration = codes "The configuration in force, by the SHA-256 of its text."
 family_help family.ConfigurationAge = codes "Seconds since the configuration in force was read, at the start or the last reload."
 family_help family.StateIsKept = codes "1 if the last try to keep the state succeeded, else 0."
 family_help family.UnkeptStates = codes "Tries to keep the state that failed."
@@ -117,6 +120,7 @@ family_kind family.ForeignDevices = Gauge
 family_kind family.Peers = Gauge
 family_kind family.LearnedRoutes = Gauge
 family_kind family.Reloads = Counter
+family_kind family.Configuration = Gauge
 family_kind family.ConfigurationAge = Gauge
 family_kind family.StateIsKept = Gauge
 family_kind family.UnkeptStates = Counter
@@ -134,3 +138,4 @@ label_name label.Rule = codes "rule"
 label_name label.Port = codes "port"
 label_name label.Outcome = codes "outcome"
 label_name label.Log = codes "log"
+label_name label.Sha256 = codes "sha256"

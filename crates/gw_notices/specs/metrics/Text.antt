@@ -1,7 +1,9 @@
 -- The text of metrics: the exposition format 0.0.4 of Prometheus.
 use Rattle.std.specs.Prelude.{ℕ, ◌+◌, ◌==◌, Bool, if◌then◌else◌, List, [], ◌∷◌, ◌++◌, length, map, slice_index, codes, decimal, Option, Some, None}
 use Rattle.std.specs.List.{flat_map}
+use Rattle.hex.specs.Hex.{encode_lower}
 use Rattle.gw_rules.specs.declared.rule.Rule.{Rule}
+use Rattle.gw_notices.specs.declared.checksum.Checksum.{Checksum}
 use Rattle.gw_notices.specs.declared.metrics.counts.Counts.{Counts}
 use Rattle.gw_notices.specs.declared.metrics.counts.Drops.{Drops}
 use Rattle.gw_notices.specs.declared.metrics.counts.PortCounts.{PortCounts}
@@ -125,6 +127,10 @@ reload_samples r =
     ∷ labelled label.Outcome (codes "refused") r.refused
     ∷ []
 
+-- a 1 that has the digits of this checksum
+abbrev pub configuration_samples : Checksum → List Sample
+configuration_samples checksum = labelled label.Sha256 (encode_lower checksum.octets) 1 ∷ []
+
 abbrev pub lost_samples : (trial audit : ℕ) → List Sample
 lost_samples trial audit =
     labelled label.Log (codes "trial") trial
@@ -165,6 +171,7 @@ samples_of c family.ForeignDevices = port_samples family.ForeignDevices c.ports.
 samples_of c family.Peers = single c.peers
 samples_of c family.LearnedRoutes = single c.learned_routes
 samples_of c family.Reloads = Some (reload_samples c.reloads)
+samples_of c family.Configuration = Some (configuration_samples c.checksum)
 samples_of c family.ConfigurationAge = single c.configuration_age
 samples_of c family.StateIsKept = kept_samples c.state
 samples_of c family.UnkeptStates = unkept_samples c.state

@@ -1,5 +1,6 @@
 //! What is written of a gateway.
 
+use crate::checksum::Checksum;
 use gw_decisions::tally::Tally;
 use gw_rules::RuleList;
 
@@ -90,7 +91,9 @@ pub struct Counts<'a> {
     pub learned_routes: u64,
     /// How often the configuration was read again.
     pub reloads: Reloads,
-    /// How many seconds ago the configuration in force was read.
+    /// The checksum of the text of the configuration in force.
+    pub checksum: Checksum,
+    /// How many seconds ago that was read.
     pub configuration_age: u64,
     /// How the state is kept, if it is.
     pub state: Option<StateTries>,

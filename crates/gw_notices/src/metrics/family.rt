@@ -48,7 +48,9 @@ pub enum Family {
     LearnedRoutes,
     /// How often the configuration was read again, by the outcome.
     Reloads,
-    /// How many seconds ago the configuration in force was read.
+    /// The checksum of the text of the configuration in force, as the label of a 1.
+    Configuration,
+    /// How many seconds ago that was read.
     ConfigurationAge,
     /// Whether the last try to keep the state succeeded: 1, or else 0.
     StateIsKept,
@@ -84,6 +86,8 @@ pub enum Label {
     Outcome,
     /// A log.
     Log,
+    /// The SHA-256 of a text, in digits.
+    Sha256,
 }
 
 impl Kind {
@@ -110,13 +114,14 @@ impl Label {
             Label::Port => "port",
             Label::Outcome => "outcome",
             Label::Log => "log",
+            Label::Sha256 => "sha256",
         }
     }
 }
 
 impl Family {
     /// All families, in the order of the text.
-    pub const ALL: [Family; 26] = [
+    pub const ALL: [Family; 27] = [
         Family::Build,
         Family::Ticks,
         Family::Received,
@@ -138,6 +143,7 @@ impl Family {
         Family::Peers,
         Family::LearnedRoutes,
         Family::Reloads,
+        Family::Configuration,
         Family::ConfigurationAge,
         Family::StateIsKept,
         Family::UnkeptStates,
@@ -171,6 +177,7 @@ impl Family {
             Family::Peers => "bacgw_peers",
             Family::LearnedRoutes => "bacgw_learned_routes",
             Family::Reloads => "bacgw_reloads_total",
+            Family::Configuration => "bacgw_configuration_info",
             Family::ConfigurationAge => "bacgw_configuration_age_seconds",
             Family::StateIsKept => "bacgw_state_is_kept",
             Family::UnkeptStates => "bacgw_unkept_states_total",
@@ -188,6 +195,7 @@ impl Family {
             | Family::ForeignDevices
             | Family::Peers
             | Family::LearnedRoutes
+            | Family::Configuration
             | Family::ConfigurationAge
             | Family::StateIsKept => Kind::Gauge,
             _ => Kind::Counter,
@@ -225,6 +233,7 @@ impl Family {
             Family::LearnedRoutes => "Networks whose router was learned.",
             Family::Reloads =>
                 "Configurations that were read again, by whether they were taken over.",
+            Family::Configuration => "The configuration in force, by the SHA-256 of its text.",
             Family::ConfigurationAge =>
                 "Seconds since the configuration in force was read, at the start or the last reload.",
             Family::StateIsKept => "1 if the last try to keep the state succeeded, else 0.",

@@ -4,8 +4,9 @@ ghost use Rattle.std.specs.Prelude.{◌≡◌, ◌++◌, ◌+◌, [], ◌∷◌,
 ghost use Rattle.std.specs.List.{flat_map};
 ghost use Rattle.gw_script.specs.Order.{in_order};
 ghost use Rattle.gw_notices.specs.metrics.Family.{families};
-ghost use Rattle.gw_notices.specs.metrics.Text.{Count, Help, KindOf, build_samples, decided_samples, decision_samples, drop_samples, family_lines, family_text, full_line, kept_samples, labelled, label_text, lines_text, lost_samples, metrics_text, number_if, plain, port_line, port_number, port_samples, reload_samples, rule_line, single, unkept_samples};
+ghost use Rattle.gw_notices.specs.metrics.Text.{Count, Help, KindOf, build_samples, configuration_samples, decided_samples, decision_samples, drop_samples, family_lines, family_text, full_line, kept_samples, labelled, label_text, lines_text, lost_samples, metrics_text, number_if, plain, port_line, port_number, port_samples, reload_samples, rule_line, single, unkept_samples};
 
+use crate::checksum::Checksum;
 use crate::metrics::counts::{Counts, Drops, PortCounts, Reloads, StateTries};
 use crate::metrics::escape::put_escaped;
 use crate::metrics::family::{Family, Label};
@@ -44,11 +45,12 @@ fn make_text(alloc: Global, counts: &Counts<'_>) -> Result<Vec<u8>, AllocError>
     ensures { IfOk result (λ text. text.items ≡ metrics_text counts.now) }
 {
     let mut text = Vec::new(alloc);
-    put_families(&Family::ALL, counts, &mut text)?;
+    put_families(alloc, &Family::ALL, counts, &mut text)?;
     Ok(text)
 }
 
 fn put_families(
+    alloc: Global,
     families: &[Family],
     counts: &Counts<'_>,
     out: &mut Vec<u8>,
@@ -56,13 +58,18 @@ fn put_families(
     ensures { OnOk result (out.new.items ≡ out.old.items ++ flat_map (family_text counts.now) families.now) }
 {
     for family in families {
-        put_family(*family, counts, out)?;
+        put_family(alloc, *family, counts, out)?;
     }
     Ok(())
 }
 
 /// Appends the lines of a family, if it is counted.
-fn put_family(family: Family, counts: &Counts<'_>, out: &mut Vec<u8>) -> Result<(), AllocError>
+fn put_family(
+    alloc: Global,
+    family: Family,
+    counts: &Counts<'_>,
+    out: &mut Vec<u8>,
+) -> Result<(), AllocError>
     ensures { OnOk result (out.new.items ≡ out.old.items ++ family_text counts.now family) }
 {
     match family {
@@ -87,6 +94,7 @@ fn put_family(family: Family, counts: &Counts<'_>, out: &mut Vec<u8>) -> Result<
         Family::Peers => put_single(family, u128::from(counts.peers), out),
         Family::LearnedRoutes => put_single(family, u128::from(counts.learned_routes), out),
         Family::Reloads => put_reloads(counts.reloads, out),
+        Family::Configuration => put_configuration(alloc, counts.checksum, out),
         Family::ConfigurationAge => {
             put_single(family, u128::from(counts.configuration_age), out)
         }
@@ -346,6 +354,22 @@ fn put_outcome(outcome: &str, number: u64, out: &mut Vec<u8>) -> Result<(), Allo
         Label::Outcome,
         outcome.as_bytes(),
         u128::from(number),
+        out,
+    )
+}
+
+/// Appends the digits of a checksum, as the label of a 1.
+fn put_configuration(alloc: Global, checksum: Checksum, out: &mut Vec<u8>) -> Result<(), AllocError>
+    ensures { OnOk result (out.new.items ≡ out.old.items
+        ++ lines_text (family_lines Family.Configuration (Some (configuration_samples checksum)))) }
+{
+    let digits = hex::encode(alloc, checksum.octets)?;
+    put_head(Family::Configuration, out)?;
+    put_labelled(
+        Family::Configuration,
+        Label::Sha256,
+        digits.as_bytes(),
+        1,
         out,
     )
 }

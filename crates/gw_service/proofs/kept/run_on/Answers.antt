@@ -75,7 +75,8 @@ returns-else-options-clause-ran g c =
     (subst (λ (k : Kept _). KeepsFirst from.held from.store c.args.config watched.gateway k) (sym by.second)
     (subst (λ (w : State). KeepsFirst from.held from.store c.args.config w run.keeper) (sym by.gateway) is.keeps))
     by.first (ap (λ (x : ServeState). x.served) by.state ∙ is.served) (ap (λ (x : ServeState). x.tally) by.state ∙ is.tally)
-    (ap said by.requests ∙ ap said is.requests) (by.counts ∙ is.counts ∙ ap (λ (w : State). counts_since w.ticks) (sym by.gateway))
+    (ap said by.requests ∙ ap said is.requests)
+    (by.counts ∙ is.counts ∙ ap (λ (w : State). counts_since w.ticks from.checksum) (sym by.gateway))
     (by.announcing ∙ is.announcing) (ap metered by.metrics ∙ ap metered is.metrics) c.is_kept-keeps.ensures c.is_some-reloads.ensures c.if-options.false (c.outcome_of-else-options.ensures ∙ ap (λ (t : Troubles). outcome_by c.run-answer-else-options.result t.state) c.troubles-else-options.ensures)
     (c.run-answer-else-options.ensures.runs c.args.config (by.origin ∙ is.origin))
 
@@ -137,7 +138,8 @@ returns-then-options-clause-ran g c =
     (subst (λ (k : Kept _). KeepsFirst from.held from.store c.args.config watched.gateway k) (sym by.second)
     (subst (λ (w : State). KeepsFirst from.held from.store c.args.config w run.keeper) (sym by.gateway) is.keeps))
     by.first (ap (λ (x : ServeState). x.served) by.state ∙ is.served) (ap (λ (x : ServeState). x.tally) by.state ∙ is.tally)
-    (ap said by.requests ∙ ap said is.requests) (by.counts ∙ is.counts ∙ ap (λ (w : State). counts_since w.ticks) (sym by.gateway))
+    (ap said by.requests ∙ ap said is.requests)
+    (by.counts ∙ is.counts ∙ ap (λ (w : State). counts_since w.ticks from.checksum) (sym by.gateway))
     (by.announcing ∙ is.announcing) (ap metered by.metrics ∙ ap metered is.metrics) c.is_kept-keeps.ensures c.is_some-reloads.ensures c.if-options.true (c.outcome_of.ensures ∙ ap (λ (t : Troubles). outcome_by at.result t.state) c.troubles.ensures)
     ran
 

@@ -25,7 +25,16 @@ returns-in-Ok-open-clause-served g c =
       ((line ++ warning) ++ text) ++ done.0,
       ran before c.in-Ok-open.field-0.log c.run_open-outcome.new.log c.in-Ok.sockets c.run_open-outcome.new.sockets
           (writer_contents g.W.Write.contents c.open.new.output) warning done.0
-          (record { saved = is.saved; line = is.line; text = is.text; store = is.store; metrics = is.metrics; requests = is.requests; watcher = is.watcher })
+          (record {
+            saved = is.saved;
+            line = is.line;
+            text = is.text;
+            store = is.store;
+            metrics = is.metrics;
+            requests = is.requests;
+            watcher = is.watcher;
+            checksum = is.checksum;
+          })
           (record { log_is = c.in-Ok-open.ensures.open; sockets_are = opens }) c.close.ensures c.run_open-outcome.ensures.log done.1
           c.warning_of.ensures (ap (λ (l : List ℕ). ((l ++ warning) ++ text) ++ done.0) c.in-Ok-open.ensures.line),
       λ never.

@@ -20,8 +20,8 @@ returns-then-options-clause-served g c =
     let done = c.serve_stamped.ensures.served in (
       done.0,
       with_them options.stamp
-          (LeavesService (whole_with_stamps {C = g.row.H-Calendar.Denot} whole) options held holds c.args.config done.0 c.serve_stamped.result)
-          (LeavesService whole options held holds c.args.config done.0 c.serve_stamped.result) c.if-options.true done.1,
+          (LeavesService (whole_with_stamps {C = g.row.H-Calendar.Denot} whole) options held holds c.args.edition done.0 c.serve_stamped.result)
+          (LeavesService whole options held holds c.args.edition done.0 c.serve_stamped.result) c.if-options.true done.1,
       done.2,
     )
 
@@ -39,7 +39,7 @@ returns-else-options-clause-served g c =
     let done = c.serve_ports.ensures.served in (
       done.0,
       without_them options.stamp
-          (LeavesService (whole_with_stamps {C = g.row.H-Calendar.Denot} whole) options held holds c.args.config done.0 c.serve_ports.result)
-          (LeavesService whole options held holds c.args.config done.0 c.serve_ports.result) c.if-options.false done.1,
+          (LeavesService (whole_with_stamps {C = g.row.H-Calendar.Denot} whole) options held holds c.args.edition done.0 c.serve_ports.result)
+          (LeavesService whole options held holds c.args.edition done.0 c.serve_ports.result) c.if-options.false done.1,
       done.2,
     )

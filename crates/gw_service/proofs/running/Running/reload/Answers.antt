@@ -15,7 +15,8 @@ returns-in-Ok-clause-looked g c = λ first report goes.
     c.with_due-self.result
     (g.E.OctetSink.NeverFails c.args.errors.now) (held c.args.errors.now) (held c.write_note.new.errors) g.L.Notes.Takes c.args.log.now
     c.take_note.new.self c.take_note.result report c.in-Ok.ensures.adopted c.adopt.ensures goes
-    c.answer.ensures c.deref.ensures.value (c.with_taken_over-self.ensures ∙ ap (with_taken_over old.counts) c.counts.ensures.ticks)
+    c.answer.ensures c.deref.ensures.value
+    (c.with_taken_over-self.ensures ∙ ap (λ (n : ℕ). with_taken_over old.counts n c.in-Ok.field-0.checksum) c.counts.ensures.ticks)
     c.with_due-self.ensures
     (λ never. subst (λ (t : List ℕ). Appends (held c.args.errors.now) (held c.write_note.new.errors) t)
     (c.deref-in-Ok-2.ensures.value ∙ sym c.deref.ensures.value) (c.write_note.ensures.said never))
