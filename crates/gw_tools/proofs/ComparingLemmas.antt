@@ -8,7 +8,7 @@ use Rattle.std.proofs.lemmas.Grind.{flat_map-append}
 use Rattle.std.specs.declared.alloc.AllocError.{AllocError}
 use Rattle.gw_policy_review.specs.declared.comparison.comparison.Compared.{Compared}
 use Rattle.gw_configuration.specs.Configuration.{Configuration}
-use Rattle.gw_policy_review.specs.comparison.Comparing.{IsUnderWay, Progress, steps_for}
+use Rattle.gw_policy_review.specs.comparison.Comparing.{IsUnderWay, Progress}
 use Rattle.gw_tools.specs.Comparing.{ArePassed, AreProgress, IsPassed, progress_line}
 use Rattle.gw_tools.specs.Program.{LeavesLines, LeavesSome}
 use Rattle.gw_tools.specs.declared.comparing.Lines.{Lines}
@@ -64,10 +64,6 @@ module _ (Is : Compared → List ℕ → Type 0) (held holds : Option (List ℕ)
 
 -- ---- progress
 
--- a line of how far a comparison of the two is
-abbrev pub line_of : (old new : Configuration) → ℕ × ℕ → List ℕ
-line_of old new = progress_line (steps_for old new)
-
 -- each of these lines is after at most so many steps
 abbrev pub UpTo : ℕ → List (ℕ × ℕ) → Type 0
 UpTo steps lines = AllByRecursion (λ (at : ℕ × ℕ). at.0 ≤ steps) lines
@@ -77,7 +73,7 @@ pub record Tells (old new : Configuration) (steps : ℕ) (Sure : Type 0) (held h
   pub lines : List (ℕ × ℕ)
   pub passed : ArePassed old new 0 lines
   pub bound : UpTo steps lines
-  pub appends : Sure → Appends held holds (flat_map (line_of old new) lines)
+  pub appends : Sure → Appends held holds (flat_map progress_line lines)
 
 pub tells_none : (old new : Configuration) (steps : ℕ) (Sure : Type 0) (held : Option (List ℕ)) → Tells old new steps Sure held held
 tells_none old new steps Sure held = record { lines = []; passed = tt; bound = tt; appends = λ sure. appends_nothing held }
@@ -86,7 +82,7 @@ tells_none old new steps Sure held = record { lines = []; passed = tt; bound = t
 pub as_progress : (old new : Configuration) (steps : ℕ) (Sure : Type 0) (held holds : Option (List ℕ)) → Tells old new steps Sure held holds
     → (said : List ℕ) × AreProgress old new said × (Sure → Appends held holds said)
 as_progress old new steps Sure held holds tells =
-    (flat_map (line_of old new) tells.lines, (tells.lines, tells.passed, refl), tells.appends)
+    (flat_map progress_line tells.lines, (tells.lines, tells.passed, refl), tells.appends)
 
 passed_more : (old new : Configuration) (first last steps count : ℕ) (lines : List (ℕ × ℕ)) → ArePassed old new first lines → UpTo last lines
     → first ≤ last → last < steps → IsPassed old new steps count → ArePassed old new first (lines ++ (steps, count) ∷ [])
@@ -105,35 +101,26 @@ up_to last steps (at ∷ lines) bound grows = (omega (arith, bound.0, grows), up
 -- one line more, or none
 pub tells_next : (old new : Configuration) (last steps count : ℕ) (Sure Still : Type 0) (a b c : Option (List ℕ)) (more : Bool)
     → Tells old new last Sure a b → last < steps → IsPassed old new steps count → (Sure → Still)
-    → (Still → Appends b c (if more then line_of old new (steps, count) else [])) → Tells old new steps Sure a c
+    → (Still → Appends b c (if more then progress_line (steps, count) else [])) → Tells old new steps Sure a c
 tells_next old new last steps count Sure Still a b c true tells grows is lasts adds =
-    let line = line_of old new (steps, count) in
-    let all : flat_map (line_of old new) tells.lines ++ line ≡ flat_map (line_of old new) (tells.lines ++ (steps, count) ∷ []) =
-    ap (λ (t : List ℕ). flat_map (line_of old new) tells.lines ++ t) (sym (nothing_behind line))
-    ∙ sym (flat_map-append (line_of old new) tells.lines ((steps, count) ∷ [])) in
+    let line = progress_line (steps, count) in
+    let all : flat_map progress_line tells.lines ++ line ≡ flat_map progress_line (tells.lines ++ (steps, count) ∷ []) =
+    ap (λ (t : List ℕ). flat_map progress_line tells.lines ++ t) (sym (nothing_behind line))
+    ∙ sym (flat_map-append progress_line tells.lines ((steps, count) ∷ [])) in
     record {
       lines = tells.lines ++ (steps, count) ∷ [];
       passed = passed_more old new 0 last steps count tells.lines tells.passed tells.bound (omega arith) grows is;
       bound = up_to_more last steps count tells.lines tells.bound grows;
       appends = λ sure. subst (λ (t : List ℕ). Appends a c t) all
-          (appends_two a b c (flat_map (line_of old new) tells.lines) line (tells.appends sure) (adds (lasts sure)));
+          (appends_two a b c (flat_map progress_line tells.lines) line (tells.appends sure) (adds (lasts sure)));
     }
 tells_next old new last steps count Sure Still a b c false tells grows is lasts adds = record {
   lines = tells.lines;
   passed = tells.passed;
   bound = up_to last steps tells.lines tells.bound grows;
-  appends = λ sure. subst (λ (t : List ℕ). Appends a c t) (nothing_behind (flat_map (line_of old new) tells.lines))
-      (appends_two a b c (flat_map (line_of old new) tells.lines) [] (tells.appends sure) (adds (lasts sure)));
+  appends = λ sure. subst (λ (t : List ℕ). Appends a c t) (nothing_behind (flat_map progress_line tells.lines))
+      (appends_two a b c (flat_map progress_line tells.lines) [] (tells.appends sure) (adds (lasts sure)));
 }
-
--- what is reported of a comparison of the two is how far that is
-pub line_at : (p : Progress) (old new : Configuration) (more : Bool) (Still : Type 0) (b c : Option (List ℕ)) → p.old_one ≡ old → p.new_one ≡ new
-    → (Still → Appends b c (if more then line_of p.old_one p.new_one (p.steps, length p.found) else []))
-    → Still → Appends b c (if more then line_of old new (p.steps, length p.found) else [])
-line_at p old new more Still b c is_old is_new adds =
-    let at = (p.steps, length p.found) in
-    subst (λ (one : Configuration). Still → Appends b c (if more then line_of one new at else [])) is_old
-    (subst (λ (other : Configuration). Still → Appends b c (if more then line_of p.old_one other at else [])) is_new adds)
 
 -- a comparison under way is one of the two so far
 pub passed_at : (p : Progress) (old new : Configuration) → p.old_one ≡ old → p.new_one ≡ new → IsUnderWay p

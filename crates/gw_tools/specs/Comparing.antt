@@ -6,7 +6,7 @@ use Rattle.gw_ask_sets.specs.regions.Steps.{IsReached, stage}
 use Rattle.gw_ask_sets.specs.regions.Tidying.{all_tidied}
 use Rattle.gw_ask_sets.specs.declared.regions.comparison.Found.{Found}
 use Rattle.gw_policy_review.specs.comparison.Asks.{asks_of}
-use Rattle.gw_policy_review.specs.comparison.Comparing.{steps_for, steps_text}
+use Rattle.gw_policy_review.specs.comparison.Comparing.{steps_text}
 use Rattle.gw_policy_review.specs.comparison.Comparison.{IsComparisonText, Manner}
 use Rattle.gw_policy_review.specs.declared.comparison.comparison.Compared.{Compared}
 use Rattle.gw_policy_review.specs.declared.comparison.comparison.Compared.TheVariants as compared
@@ -17,11 +17,10 @@ use Rattle.gw_ending.specs.declared.fault.Fault.TheVariants as fault
 use Rattle.gw_tools.specs.declared.comparing.Limits.{Limits}
 use Rattle.gw_tools.specs.declared.placed.Placed.{Placed}
 
--- how far a comparison is that makes so many steps at most: `bacgwctl: compared 256 of 4216 steps, 12 found`
-abbrev pub progress_line : (most : ℕ) → ℕ × ℕ → List ℕ
-progress_line most p =
-    ((codes "bacgwctl: compared " ++ (decimal p.0 ++ codes " of ")) ++ ([] ++ (decimal most ++ codes " steps, ")))
-    ++ ([] ++ (decimal p.1 ++ codes " found\n"))
+-- how far a comparison is: `bacgwctl: compared 4096 of 65536 steps, 12 found`
+abbrev pub progress_line : ℕ × ℕ → List ℕ
+progress_line p =
+    (codes "bacgwctl: compared " ++ (decimal p.0 ++ codes " of 65536 steps, ")) ++ ([] ++ (decimal p.1 ++ codes " found\n"))
 
 -- A comparison of the two gets so far: in so many steps it finds so many regions.
 abbrev pub IsPassed : (old new : Configuration) → (steps count : ℕ) → Type 0
@@ -36,8 +35,7 @@ ArePassed old new steps (at ∷ more) = (steps < at.0) × IsPassed old new at.0 
 
 -- lines of how far a comparison of the two is, one after the other
 abbrev pub AreProgress : (old new : Configuration) → List ℕ → Type 0
-AreProgress old new said =
-    (lines : List (ℕ × ℕ)) × ArePassed old new 0 lines × (said ≡ flat_map (progress_line (steps_for old new)) lines)
+AreProgress old new said = (lines : List (ℕ × ℕ)) × ArePassed old new 0 lines × (said ≡ flat_map progress_line lines)
 
 -- what is reported if two are to be compared: these lines, and nothing if one wasn't read
 abbrev pub ReportsProgress : (old new : Result Placed Fault) → List ℕ → Type 0
@@ -45,16 +43,15 @@ ReportsProgress (Ok old) (Ok new) said = AreProgress old.config new.config said
 ReportsProgress (Ok old) (Err f) said = said ≡ []
 ReportsProgress (Err f) new said = said ≡ []
 
--- a comparison, and after it how many steps it took, of how many, if that is asked for
-abbrev pub IsWithSteps : (steps : Bool) → (used most : ℕ) → (lines text : List ℕ) → Type 0
-IsWithSteps false used most lines text = text ≡ lines
-IsWithSteps true used most lines text = text ≡ lines ++ steps_text used most
+-- a comparison, and after it how many steps it took if that is asked for
+abbrev pub IsWithSteps : (steps : Bool) → (used : ℕ) → (lines text : List ℕ) → Type 0
+IsWithSteps false used lines text = text ≡ lines
+IsWithSteps true used lines text = text ≡ lines ++ steps_text used
 
 -- what is printed of two configurations in this manner, behind this text: the steps are those in which the comparison got there
 abbrev pub IsComparedBehind : (steps : Bool) → Manner → (front : List ℕ) → (old new : Configuration) → Compared → List ℕ → Type 0
 IsComparedBehind steps how front old new made text =
-    (lines : List ℕ) × (is : IsComparisonText old new how made lines)
-    × IsWithSteps steps is.steps (steps_for old new) (front ++ lines) text
+    (lines : List ℕ) × (is : IsComparisonText old new how made lines) × IsWithSteps steps is.steps (front ++ lines) text
 
 -- how two are printed within these limits
 abbrev pub manner_within : Limits → (old new : Placed) → Manner

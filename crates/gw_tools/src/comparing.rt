@@ -3,7 +3,7 @@
 ghost use Rattle.std.specs.Prelude.{◌≡◌, [], ℕ, Bool, List, if◌then◌else◌, length, IfOk, IsOk, OnOk};
 ghost use Rattle.std.specs.Io.Buffered.{writer_buffer, writer_contents};
 ghost use Rattle.std.specs.Io.KnownBytes.{Appends};
-ghost use Rattle.gw_policy_review.specs.comparison.Comparing.{IsUnderWay, steps_for};
+ghost use Rattle.gw_policy_review.specs.comparison.Comparing.{IsUnderWay};
 ghost use Rattle.gw_policy_review.specs.comparison.Comparison.{manner_of};
 ghost use Rattle.gw_tools.specs.Comparing.{AreProgress, IsCompared, IsComparedBehind, ReportsProgress, outcome_of_comparison, progress_line};
 ghost use Rattle.gw_tools.specs.Program.{LeavesCompared, LeavesComparison, LeavesLines};
@@ -90,29 +90,28 @@ impl<C: Calendar> Seconds<C> {
     }
 }
 
-/// Writes how far a comparison is that makes so many steps at most.
-fn write_progress<E: OctetSink>(
-    most: u32,
-    steps: u32,
-    found: usize,
-    errors: &mut E,
-) -> Result<(), WriteFailed>
-    ensures ok { OnOk result (Appends (E.held errors.old) (E.held errors.new) (progress_line most (steps, found))) }
+/// Writes how far a comparison is.
+fn write_progress<E: OctetSink>(steps: u32, found: usize, errors: &mut E) -> Result<(), WriteFailed>
+    ensures ok { OnOk result (Appends (E.held errors.old) (E.held errors.new) (progress_line (steps, found))) }
     ensures sure { E.NeverFails errors.old → IsOk result }
     ensures lasts { E.NeverFails errors.old → E.NeverFails errors.new }
 {
-    write_number("bacgwctl: compared ", u64::from(steps), " of ", errors)?;
-    write_number("", u64::from(most), " steps, ", errors)?;
+    write_number(
+        "bacgwctl: compared ",
+        u64::from(steps),
+        " of 65536 steps, ",
+        errors,
+    )?;
     write_number("", found as u64, " found\n", errors)
 }
 
 /// Reports how far a comparison is.
-fn report_progress<E: OctetSink>(most: u32, steps: u32, found: usize, errors: &mut E)
+fn report_progress<E: OctetSink>(steps: u32, found: usize, errors: &mut E)
     ensures said { E.NeverFails errors.old →
-        Appends (E.held errors.old) (E.held errors.new) (progress_line most (steps, found)) }
+        Appends (E.held errors.old) (E.held errors.new) (progress_line (steps, found)) }
     ensures lasts { E.NeverFails errors.old → E.NeverFails errors.new }
 {
-    let _ = write_progress(most, steps, found, errors);
+    let _ = write_progress(steps, found, errors);
 }
 
 /// Reports how far a comparison is if a second has passed.
@@ -121,18 +120,12 @@ fn report_second<C: Calendar, E: OctetSink>(
     seconds: &mut Seconds<C>,
     errors: &mut E,
 )
-    ensures said { let most = steps_for comparing.now.old_one comparing.now.new_one in
-        (has_passed : Bool) × (E.NeverFails errors.old → Appends (E.held errors.old) (E.held errors.new)
-        (if has_passed then progress_line most (comparing.now.steps, length comparing.now.found) else [])) }
+    ensures said { (has_passed : Bool) × (E.NeverFails errors.old → Appends (E.held errors.old) (E.held errors.new)
+        (if has_passed then progress_line (comparing.now.steps, length comparing.now.found) else [])) }
     ensures lasts { E.NeverFails errors.old → E.NeverFails errors.new }
 {
     if seconds.has_passed() {
-        report_progress(
-            comparing.most_steps(),
-            comparing.steps(),
-            comparing.found(),
-            errors,
-        );
+        report_progress(comparing.steps(), comparing.found(), errors);
     }
 }
 
@@ -193,11 +186,10 @@ fn lines_of(
         comparing.entry.old_one comparing.entry.new_one lines.made lines.text.items) }
 {
     let used = comparing.steps();
-    let most = comparing.most_steps();
     let mut text = front;
     let made = comparing.put(alloc, how, &mut text)?;
     if steps {
-        put_steps(used, most, &mut text)?;
+        put_steps(used, &mut text)?;
     }
     Ok(Lines { text, made })
 }

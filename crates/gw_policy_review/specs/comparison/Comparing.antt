@@ -35,6 +35,6 @@ steps_for old new = most_steps (length old.rules) (length new.rules)
 abbrev pub is_finished : Progress → Bool
 is_finished p = (length p.left == 0) || nat_le (steps_for p.old_one p.new_one) p.steps
 
--- `44 of 4216 steps were used`
-abbrev pub steps_text : (used most : ℕ) → List ℕ
-steps_text used most = ((decimal used ++ codes " of ") ++ decimal most) ++ codes " steps were used\n"
+-- `44 of 65536 steps were used`
+abbrev pub steps_text : ℕ → List ℕ
+steps_text steps = decimal steps ++ (codes " of 65536 steps were used" ++ 10 ∷ [])

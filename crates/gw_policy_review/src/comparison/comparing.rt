@@ -107,7 +107,7 @@ impl<'a> Comparing<'a> {
     }
 
     /// How many steps it makes in all: 4,096, and 60 for each rule of the two, up to 512 of a list.
-    pub fn most_steps(&self) -> u32
+    fn most_steps(&self) -> u32
         ensures is { result ≡ steps_for self.now.old_one self.now.new_one }
         ensures most { result ≤ 65536 }
     {
@@ -208,21 +208,19 @@ impl<'a> Comparing<'a> {
     }
 }
 
-/// Appends how many steps a comparison used, and how many it may: `44 of 4216 steps were used`, and the end of the line. An `Err`
-/// if there is no memory: the buffer then holds what it held.
-pub fn put_steps(used: u32, most: u32, out: &mut Vec<u8>) -> Result<(), AllocError>
-    ensures { IsAppendedWhole (steps_text used most) out.old out.new result }
+/// Appends how many steps a comparison used: `44 of 65536 steps were used`, and the end of the line. An `Err` if
+/// there is no memory: the buffer then holds what it held.
+pub fn put_steps(steps: u32, out: &mut Vec<u8>) -> Result<(), AllocError>
+    ensures { IsAppendedWhole (steps_text steps) out.old out.new result }
 {
     let len = out.len();
-    let put = put_used(used, most, out);
+    let put = put_used(steps, out);
     keep_whole(out, len, put)
 }
 
-fn put_used(used: u32, most: u32, out: &mut Vec<u8>) -> Result<(), AllocError>
-    ensures { IsAppended (steps_text used most) out.old out.new result }
+fn put_used(steps: u32, out: &mut Vec<u8>) -> Result<(), AllocError>
+    ensures { IsAppended (steps_text steps) out.old out.new result }
 {
-    put_decimal(out, used)?;
-    put_slice(out, b" of ")?;
-    put_decimal(out, most)?;
-    put_slice(out, b" steps were used\n")
+    put_decimal(out, steps)?;
+    put_slice(out, b" of 65536 steps were used\n")
 }

@@ -1,5 +1,5 @@
 use Rattle.std.proofs.Common.{◌∙◌, length, refl, sym}
-use Rattle.gw_tools.proofs.ComparingLemmas.{as_progress, further, line_at, passed_at, tells_next, tells_none}
+use Rattle.gw_tools.proofs.ComparingLemmas.{as_progress, further, passed_at, tells_next, tells_none}
 use Rattle.gw_tools.proofs.comparing.finish.Goals as goal
 
 pub loop-portion-init : goal.loop-portion-init
@@ -30,9 +30,7 @@ loop-portion-preserved g c =
       λ right. goes.is_right (before.2 right),
       λ right. tells_next was.old_one was.new_one c.loop-portion.comparing.steps at.steps (length at.found) (sure c.args.errors.now)
           (sure c.loop-portion.errors) (held c.args.errors.now) (held c.loop-portion.errors) (held c.report_second.new.errors) second.0
-          (before.3 right) grows (passed_at at was.old_one was.new_one is_old is_new (goes.is_right (before.2 right))) before.4
-          (line_at at was.old_one was.new_one second.0 (sure c.loop-portion.errors) (held c.loop-portion.errors) (held c.report_second.new.errors)
-          is_old is_new second.1),
+          (before.3 right) grows (passed_at at was.old_one was.new_one is_old is_new (goes.is_right (before.2 right))) before.4 second.1,
       λ never. c.report_second.ensures.lasts (before.4 never),
     )
 

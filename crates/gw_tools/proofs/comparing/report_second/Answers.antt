@@ -9,8 +9,6 @@ returns-then-has_passed-clause-said g c =
     let holds = g.E.OctetSink.held c.report_progress.new.errors in
     let at = c.args.comparing.now in (
       true,
-      λ never. subst (λ (most : ℕ). Appends held holds (progress_line most (at.steps, length at.found))) c.most_steps.ensures.is
-          (subst (λ (steps : ℕ). Appends held holds (progress_line c.most_steps.result (steps, length at.found))) c.steps.ensures
-          (subst (λ (count : ℕ). Appends held holds (progress_line c.most_steps.result (c.steps.result, count))) c.found.ensures
-          (c.report_progress.ensures.said never))),
+      λ never. subst (λ (steps : ℕ). Appends held holds (progress_line (steps, length at.found))) c.steps.ensures
+          (subst (λ (count : ℕ). Appends held holds (progress_line (c.steps.result, count))) c.found.ensures (c.report_progress.ensures.said never)),
     )
