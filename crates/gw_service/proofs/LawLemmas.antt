@@ -25,7 +25,9 @@ use Rattle.gw_turns.specs.Stretch.{GoOn, Moment}
 use Rattle.gw_service.specs.Chain.{AreLinks, IsLink, IsLooked, Link, Look, Manner, Stage, Standing}
 use Rattle.gw_service.specs.Chain.{ended, inquired, passed_over, refused, served, stopping, taken_over, ticked, unrequested, withheld}
 use Rattle.gw_service.specs.Edition.{IsEdition}
-use Rattle.gw_service.specs.Laws.{ChecksumIsInForce, HasItsChecksum, HasItsRules, NumbersGoOn, RulesAreInForce, RulesStay}
+use Rattle.gw_service.specs.Laws.{ChecksumIsInForce, HasItsChecksum, HasItsRules, NumbersGoOn, NumbersGoOnAlone, RulesAreInForce, RulesStay}
+use Rattle.gw_service.specs.Start.{begun}
+use Rattle.gw_state.specs.Saved.{Saved}
 
 -- ---- the rules in force
 
@@ -162,3 +164,24 @@ numbers_above counts later text shown w e from showable shows most is =
     All-from_recursion (λ (d : Denial). (counts.denials < d.number) × (shown.number < d.number)) (effects_at w e).denials
     (numbered counts.denials shown.number w.rules (w.denials + 1) w.ticks (origin received)
     (denied_of w.rules (asks_for w.rules w.relay w.device received)) (omega (arith, least.0, number, is)) (omega (arith, least.1, same, number, is)))
+
+above_from : (m : ℕ) (rules : List Rule) (number tick : ℕ) (from : Sender) (refusals : List Refusal) → m < number
+    → AllByRecursion (λ (d : Denial). m < d.number) (denials_from rules number tick from refusals)
+above_from m rules number tick from [] more = tt
+above_from m rules number tick from (refusal ∷ refusals) more =
+    (more, above_from m rules (number + 1) tick from refusals (omega (arith, more)))
+
+above : (m : ℕ) (rules : List Rule) (number tick : ℕ) (from : Option Sender) (refusals : List Refusal) → m < number
+    → AllByRecursion (λ (d : Denial). m < d.number) (denials_of rules number tick from refusals)
+above m rules number tick None refusals more = tt
+above m rules number tick (Some from) refusals more = above_from m rules number tick from refusals more
+
+pub numbers_above_alone : NumbersGoOnAlone
+unfolding effects_at
+numbers_above_alone c s w e begins =
+    let number : w.denials ≡ s.counts.denials = ap (λ (x : State). x.denials) begins.state ∙ ap (λ (k : Counts). k.denials) begins.from
+    ∙ ap (λ (n : Option Saved). (begun c n).denials) begins.is in
+    let received = receive w e in
+    All-from_recursion (λ (d : Denial). s.counts.denials < d.number) (effects_at w e).denials
+    (above s.counts.denials w.rules (w.denials + 1) w.ticks (origin received)
+    (denied_of w.rules (asks_for w.rules w.relay w.device received)) (omega (arith, number)))

@@ -1,5 +1,5 @@
 -- Laws of a run.
-use Rattle.std.specs.Prelude.{◌≡◌, ⊤, ℕ, ◌<◌, ◌≤◌, ◌^◌, false, List, None, Result, All}
+use Rattle.std.specs.Prelude.{◌≡◌, ⊤, ℕ, ◌<◌, ◌≤◌, ◌^◌, false, List, Some, None, Result, All}
 use Rattle.gw_audit.specs.Entry.{IsShowable}
 use Rattle.gw_audit.specs.declared.denial.Denial.{Denial}
 use Rattle.gw_core.specs.Effects.{effects_at}
@@ -19,6 +19,8 @@ use Rattle.gw_service.specs.Counts.{GoesOnFrom}
 use Rattle.gw_service.specs.Edition.{IsEdition}
 use Rattle.gw_service.specs.Kept.{Given, LeavesKept, RunsKept, RunsWatched}
 use Rattle.gw_service.specs.Serving.{Ends, Serves, Service}
+use Rattle.gw_service.specs.Start.{BeginsAs}
+use Rattle.gw_state.specs.Saved.{Saved}
 use Rattle.gw_service.specs.declared.fault.ServiceFault.{ServiceFault}
 
 -- a gateway judges by the rules of the configuration in force
@@ -51,6 +53,13 @@ NumbersGoOn =
     (counts later : Counts) (text : List ℕ) (shown : Denial) (w : State) (e : Event) → GoesOnFrom counts (last_denial text) later
     → IsShowable shown → ShowsLast text shown → shown.number ≤ 2 ^ 63 → w.denials ≡ later.denials
     → All (λ (d : Denial). (counts.denials < d.number) × (shown.number < d.number)) (effects_at w e).denials
+
+-- If its log shows no denial, it gives each a greater number than that of its state. None has that number before 500 more came since the
+-- last tick (`KeptIsAhead` of `gw_state_laws`).
+abbrev pub NumbersGoOnAlone : Type 0
+NumbersGoOnAlone =
+    (c : Configuration) (s : Saved) (w : State) (e : Event) → BeginsAs c (Some s) None w
+    → All (λ (d : Denial). s.counts.denials < d.number) (effects_at w e).denials
 
 -- A run that is watched is one that isn't, but for what is reported: its log, its wire's calls, its state and its outcome are those
 -- of one without what watches.

@@ -13,7 +13,7 @@ ghost use Rattle.gw_notices.specs.declared.reload.ReloadCounts.{ReloadCounts};
 ghost use Rattle.gw_service.specs.Kept.{Given};
 ghost use Rattle.gw_service.specs.Metering.{meters_by};
 ghost use Rattle.gw_service.specs.WatchedRuns.{AuditIsWhole, CountsAreWhole, TrialIsWhole};
-ghost use Rattle.gw_service.specs.Laws.{ChecksumIsInForce, IsAsServed, IsAsUnwatched, NobodyAsks, NumbersGoOn, RulesAreInForce, RulesStay};
+ghost use Rattle.gw_service.specs.Laws.{ChecksumIsInForce, IsAsServed, IsAsUnwatched, NobodyAsks, NumbersGoOn, NumbersGoOnAlone, RulesAreInForce, RulesStay};
 
 use crate::keeping::StateKeeper;
 use crate::waiting::MOST_WAITING;
@@ -35,10 +35,11 @@ pub fn checksum_is_in_force<K: StateKeeper>()
         ChecksumIsInForce (manner K.Passes K.Ticks K.Adopts K.troubles report status (meters_by start) K.Lasts) }
 {}
 
-/// No number of a denial is used twice: a gateway that begins with a state goes on after the number of the last denial that was
-/// counted there, and after that of the denial that its log shows last, whatever is in front of it and whatever notes follow.
+/// No number of a denial is used twice: a gateway that begins with a state goes on after the number of the denial that its log shows
+/// last, whatever is in front of it and whatever notes follow; or after the number of the state, which no denial has, if it shows none.
 pub fn numbers_go_on()
-    ensures { NumbersGoOn }
+    ensures shown { NumbersGoOn }
+    ensures lost { NumbersGoOnAlone }
 {}
 
 /// What watches changes nothing but what is reported: the log, the calls of the wire, the state and the outcome are those of a run
