@@ -1,5 +1,5 @@
 -- That saved states of which the same lasts have equal lasting parts, and those with equal ones are alike.
-use Rattle.std.proofs.Common.{◌≡◌, ◌∙◌, refl, sym, ap, ap₂, true≢false, ℕ, Bool, true, false, ◌&&◌, nat_eq, List, [], ◌∷◌, map, Option, Some, None}
+use Rattle.std.proofs.Common.{◌≡◌, ◌∙◌, refl, sym, ap, ap₂, true≢false, ℕ, Bool, true, ◌&&◌, nat_eq, List, [], ◌∷◌, map, Option, Some, None}
 use Rattle.std.specs.Cmp.{nat_eq_equiv}
 use Rattle.std.specs.Cmp.Lexicographic.{pointwise, same_text}
 use Rattle.std.proofs.lemmas.Bool.{and_from, and_parts, eqb-true}
@@ -18,7 +18,7 @@ use Rattle.gw_state.specs.declared.port.SavedPort.{SavedPort}
 use Rattle.gw_state.specs.Carried.{same_entry}
 use Rattle.gw_state.specs.Saved.{Saved, SavedObject}
 use Rattle.gw_codecs.specs.tags.Object.{Object}
-use Rattle.gw_turns.specs.Keeping.{AlikeButTicksIsEqual, AlikeIsEqual, EqualButTicksIsAlike, EqualIsAlike, alike_but_ticks, are_ending_alike, but_ticks, ending, ending_port, ends_alike, is_same_device, is_same_object, is_same_port, is_same_route, is_same_slot, lasting_of, lasting_port, lasts_alike}
+use Rattle.gw_turns.specs.Keeping.{AlikeButTicksIsEqual, AlikeIsEqual, EqualButTicksIsAlike, EqualIsAlike, are_ending_alike, but_ticks, ending, ending_port, ends_alike, is_same_device, is_same_object, is_same_port, is_same_route, is_same_slot, lasting_of, lasting_port, lasts_alike}
 
 -- ---- lists
 

@@ -9,7 +9,7 @@ use Rattle.gw_relay.specs.State.{Relay, at_port, port_at}
 use Rattle.std.specs.List.{flat_map, range_with_len}
 use Rattle.gw_relay.specs.declared.port.PortState.{PortState}
 use Rattle.gw_addr.specs.declared.TheConstants.{MAX_PORTS}
-use Rattle.gw_turns.specs.Announcing.{AnnouncesAt, AnnouncesBy, AreAnnounced, NothingDueNothingDone, PortsAreAll, UnannouncedIsSilent, is_due_at}
+use Rattle.gw_turns.specs.Announcing.{AnnouncesBy, AreAnnounced, NothingDueNothingDone, PortsAreAll, UnannouncedIsSilent, is_due_at}
 use Rattle.gw_turns.specs.Serve.{Try, try_call}
 use Rattle.gw_turns.specs.declared.announcing.Announcing.{Announcing}
 use Rattle.gw_turns.proofs.ServeLemmas.{tells_more, tells_none}

@@ -1,17 +1,15 @@
 -- The result of a turn with a guard, by its parts; and its result if the guard lets all go.
-use Rattle.std.proofs.Common.{◌≡◌, ℕ, ◌+◌, List, [], ◌∷◌, length, map, Option, Bool, true, false, true≢false, refl, sym, ap, subst, ◌∙◌}
+use Rattle.std.proofs.Common.{◌≡◌, ℕ, List, [], ◌∷◌, Option, Bool, true, false, true≢false, refl, sym, ap, subst, ◌∙◌}
 use Rattle.std.specs.Prelude.{Ok, Err}
 use Rattle.std.specs.Io.KnownBytes.{Appends}
 use Rattle.gw_script.specs.Event.{Event}
 use Rattle.gw_core.specs.declared.effects.Effects.{Effects}
 use Rattle.gw_core.specs.declared.gateway.Taken.{Taken}
-use Rattle.gw_core.specs.Effects.{effects_at}
 use Rattle.gw_core.specs.State.{State}
-use Rattle.gw_relay.specs.Sends.{Sending}
-use Rattle.gw_turns.specs.Serve.{EndsBy, LeadTo, Scene, Turn, count_fault, count_turn, counts_after, empty_turn, events_of, failed_turn, failures, lines_of, lost_event, scene, successes, taken_event, ticks_with, turn_events}
+use Rattle.gw_turns.specs.Serve.{EndsBy, LeadTo, Scene, Turn, count_fault, count_turn, counts_after, empty_turn, events_of, failed_turn, lines_of, lost_event, scene, taken_event, ticks_with, turn_events}
 use Rattle.gw_turns.specs.ServeTurn.{AreTried, GuardedEnd, TurnEnd}
 use Rattle.gw_core.specs.declared.asked.Asked.{Asked}
-use Rattle.gw_turns.specs.Stretch.{AreGuarded, GuardsTurn, IsLoggedLast, IsPassedAt, Moment, count_taken, moment}
+use Rattle.gw_turns.specs.Stretch.{AreGuarded, GuardsTurn, IsLoggedLast, IsPassedAt, count_taken, moment}
 use Rattle.gw_core.specs.Guard.{IsSeen, IsTaken}
 use Rattle.gw_turns.specs.Tally.{tally_from}
 use Rattle.gw_wire.specs.Wire.{Call}

@@ -1,5 +1,5 @@
 -- What a keeper's text is of after a tick.
-use Rattle.std.proofs.Common.{◌≡◌, ◌∙◌, refl, sym, ap, subst, ℕ, ◌+◌, ◌≤◌, ◌<◌, ◌^◌, ◌⊎◌, ◌||◌, not, Bool, true, false, List, Option, nat_le, inl, inr, arith}
+use Rattle.std.proofs.Common.{◌≡◌, ◌∙◌, refl, sym, ap, subst, ℕ, ◌+◌, ◌≤◌, ◌<◌, ◌^◌, ◌⊎◌, not, Bool, true, false, List, Option, nat_le, inl, inr, arith}
 use Rattle.std.specs.Prelude.{Result, Ok, Err, if◌then◌else◌, nat_eq}
 use Rattle.std.proofs.lemmas.Bool.{and_from, and_parts, eq-eqb, eqb-true, le-leb, leb-false, leb-true, lt-ltb, ltb-true, not-false, or_cases, or_left, or_parts, or_right}
 use Rattle.gw_state.specs.Saved.{Origin, Saved}
@@ -53,9 +53,9 @@ not_due (Err fault) pace o w e = tt
 -- one that differs only in its ticks needs no other
 differs : (kept : Result Saved StoreFault) (due : Saved) → is_kept AllButTicks kept (numbered kept due) ≡ true → IsRecent kept due
 differs (Ok s) due e =
-    let then = numbered (Ok s) due in
-    let parts = and_parts (alike_but_ticks s then) (is_fresh s then) e in
-    let same : but_ticks s ≡ but_ticks then = alike_but_ticks_is_equal s then parts.0 in
+    let now = numbered (Ok s) due in
+    let parts = and_parts (alike_but_ticks s now) (is_fresh s now) e in
+    let same : but_ticks s ≡ but_ticks now = alike_but_ticks_is_equal s now parts.0 in
     let number : s.counts.denials ≡ number_for (Ok s) due.counts.denials = ap (λ (t : Saved). t.counts.denials) same in (
       inr (record { same = same; fresh = parts.1 }),
       subst (λ (n : ℕ). is_ahead n due.counts.denials ≡ true) (sym number) (number_is_ahead (Ok s) due.counts.denials),

@@ -2,7 +2,7 @@
 use Rattle.std.proofs.Common.{◌≡◌, ◌∙◌, sym, subst, ℕ, Bool, List, [], ◌∷◌, ◌++◌, Option}
 use Rattle.std.proofs.KnownBytes.{Appends-nil, Appends-trans}
 use Rattle.std.proofs.lemmas.List.{append-nil}
-use Rattle.std.specs.Prelude.{Result, Ok, Err}
+use Rattle.std.specs.Prelude.{Ok, Err}
 use Rattle.std.specs.Io.KnownBytes.{Appends}
 use Rattle.gw_script.specs.Event.{Event}
 use Rattle.gw_script.specs.Event as event
@@ -13,10 +13,8 @@ use Rattle.gw_turns.proofs.ServeLemmas.{tells_more}
 use Rattle.gw_turns.proofs.ServedLemmas.{sent_run, tried_no_more, with_arrival}
 use Rattle.gw_turns.specs.Logged.{IsLoggedFirst, ServingLogsFirst, StopsLogFirst, StretchesLogFirst}
 use Rattle.gw_turns.specs.Serve.{EndsBy, LeadTo, Scene, Turn, calls_of, events_of, lines_of, log_of, taken_event}
-use Rattle.gw_turns.specs.Stretch.{EndsStretch, Moment}
 use Rattle.gw_turns.specs.declared.serving.ServeFault.{ServeFault}
 use Rattle.gw_turns.specs.declared.serving.ServeFault.TheVariants.{Log, Memory, CountEnd}
-use Rattle.gw_turns.specs.declared.stretch.Pause.{Pause}
 use Rattle.gw_turns.specs.declared.stretch.Pause.TheVariants.{Turns, Tick, Withheld}
 use Rattle.gw_wire.specs.Wire.{Records, arrival}
 

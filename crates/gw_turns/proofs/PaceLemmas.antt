@@ -1,18 +1,16 @@
 -- How often a keeper tries its store.
 use Rattle.std.proofs.Common.{◌≡◌, ◌∙◌, refl, sym, ap, subst, true≢false, ℕ, ◌+◌, ◌-◌, ◌^◌, ◌<◌, ◌≤◌, ◌⊎◌, nat_le, Bool, true, false, List, Option, inl, inr, arith}
-use Rattle.std.specs.Prelude.{Result, Ok, Err}
+use Rattle.std.specs.Prelude.{Result, Err}
 use Rattle.std.specs.Prelude.{nat_eq, nat_lt}
 use Rattle.std.proofs.lemmas.Bool.{and_parts, eqb-true, le-leb, lt-leb, lt-ltb, ltb-true}
-use Rattle.gw_script.specs.Event.{Event}
 use Rattle.gw_state.specs.Saved.{Saved}
 use Rattle.gw_core.specs.History.{next}
 use Rattle.gw_core.specs.Lasting.{lasts}
 use Rattle.gw_core.specs.State.{State}
 use Rattle.gw_turns.specs.Keeping.{EventsTryFew, FailingIsSpared, KeepsBy, KeepsChanged, Keeping, KeptBy, PassesBy, RestsAtTicks, RestsEnd}
-use Rattle.gw_turns.specs.Keeping.{TicksBeginAnew, TicksBy, due_of, is_due, is_kept, spared}
+use Rattle.gw_turns.specs.Keeping.{TicksBeginAnew, TicksBy, due_of, is_due, is_kept}
 use Rattle.gw_turns.specs.Pace.{PausesGrow, is_resting, may_try, one_more, paced, pause_after, rested, ticked}
 use Rattle.gw_turns.specs.declared.pace.Pace.{Pace}
-use Rattle.gw_turns.specs.declared.alike.Part.{Part}
 use Rattle.gw_turns.specs.declared.alike.Part.TheVariants.{AllButTicks, Lasting}
 use Rattle.gw_wire.specs.declared.store.StoreFault.{StoreFault}
 

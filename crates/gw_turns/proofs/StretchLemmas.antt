@@ -1,18 +1,15 @@
 -- The result of the turns of a stretch, one after the other.
-use Rattle.std.proofs.Common.{◌≡◌, ℕ, ◌+◌, ◌<◌, ◌≤◌, List, [], ◌∷◌, ◌++◌, length, map, Option, Bool, true, false, refl, sym, ap, subst, ◌∙◌, arith}
+use Rattle.std.proofs.Common.{◌≡◌, ℕ, ◌+◌, ◌<◌, ◌≤◌, List, [], ◌∷◌, ◌++◌, Bool, true, false, refl, sym, ap, subst, ◌∙◌, arith}
 use Rattle.std.specs.Prelude.{Ok, Err}
-use Rattle.std.specs.List.{flat_map}
-use Rattle.std.specs.Io.KnownBytes.{Appends}
 use Rattle.std.proofs.lemmas.Grind.{flat_map-append}
-use Rattle.std.proofs.lemmas.List.{append-nil, length-append}
+use Rattle.std.proofs.lemmas.List.{length-append}
 use Rattle.std.proofs.lemmas.List.Concat.{flat_map-cons}
 use Rattle.gw_script.specs.Event.{Datagram, Event, Tick}
-use Rattle.gw_core.specs.declared.effects.Effects.{Effects}
 use Rattle.gw_core.specs.History.{next, state_from}
 use Rattle.gw_core.specs.State.{State}
-use Rattle.gw_turns.specs.Serve.{LeadTo, Scene, Try, Turn, count_turn, counts_after, empty_turn, events_of, failed_turn, lost_event, taken_event, turn_events}
+use Rattle.gw_turns.specs.Serve.{Try, Turn, count_turn, counts_after, empty_turn, events_of, failed_turn, lost_event, taken_event, turn_events}
 use Rattle.gw_turns.specs.ServeTurn.{GuardedEnd}
-use Rattle.gw_turns.specs.Stretch.{AreGuarded, EndsAtTick, EndsAtTurns, EndsFaulty, EndsWithheld, GoOn, GuardsTurn, Moment}
+use Rattle.gw_turns.specs.Stretch.{AreGuarded, EndsAtTick, EndsAtTurns, EndsFaulty, EndsWithheld, GoOn, Moment}
 use Rattle.gw_turns.specs.Tally.{tally_from}
 use Rattle.gw_turns.specs.declared.serving.Served.{Served}
 use Rattle.gw_turns.specs.declared.serving.ServeFault.{ServeFault}

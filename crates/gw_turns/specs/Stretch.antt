@@ -7,7 +7,7 @@ use Rattle.gw_script.specs.Event as event
 use Rattle.gw_core.specs.Effects.{effects_at}
 use Rattle.gw_core.specs.History.{state_from}
 use Rattle.gw_core.specs.State.{State}
-use Rattle.gw_turns.specs.Serve.{EndsBy, IsTakenLast, LeadTo, Scene, Try, Turn, count_fault, count_turn, counts_after}
+use Rattle.gw_turns.specs.Serve.{EndsBy, IsTakenLast, LeadTo, Scene, Try, Turn, count_fault, counts_after}
 use Rattle.gw_turns.specs.Serve.{empty_turn, events_of}
 use Rattle.gw_turns.specs.Serve.{failed_turn, lines_of, lost_event, taken_event, turn_events}
 use Rattle.gw_turns.specs.Tally.{IsBelow, tally_from}

@@ -14,10 +14,9 @@ pub(crate) const LEAST_AHEAD: u64 = 500;
 
 /// Whether a number is ahead of that of the last denial: none of the next 500 has a greater one, or there is no greater one.
 pub(crate) fn is_ahead(number: u64, denials: u64) -> bool
-    requires { denials ≤ 2 ^ 63 }
     ensures { result ≡ is_ahead number denials }
 {
-    denials + LEAST_AHEAD <= number || number == MAX_COUNT
+    u128::from(denials) + u128::from(LEAST_AHEAD) <= u128::from(number) || number == MAX_COUNT
 }
 
 /// 1,000 more than the number of the last denial, as far as it is counted.

@@ -1,5 +1,5 @@
-use Rattle.std.proofs.Common.{◌≡◌, ◌∙◌, ℕ, ◌+◌, ◌<◌, ◌≤◌, Bool, true, false, arith, refl, sym, ap, subst}
-use Rattle.std.specs.Prelude.{Ok, Err}
+use Rattle.std.proofs.Common.{◌≡◌, ◌∙◌, ◌+◌, Bool, arith, refl, subst}
+use Rattle.std.specs.Prelude.{Ok}
 use Rattle.gw_turns.specs.Serve.{scene}
 use Rattle.gw_turns.specs.ServeTurn.{GuardedEnd}
 use Rattle.gw_turns.specs.Stretch.{moment}

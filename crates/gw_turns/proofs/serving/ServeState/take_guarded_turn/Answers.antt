@@ -1,12 +1,12 @@
-use Rattle.std.proofs.Common.{◌≡◌, ℕ, None, Some, Err, Bool, true, refl, ap, subst, arith, Ok}
+use Rattle.std.proofs.Common.{ℕ, None, Some, Err, Bool, refl, ap, subst, arith, Ok}
 use Rattle.std.proofs.lemmas.Grind.{common_steps}
 use Rattle.std.specs.Io.KnownBytes.{Appends}
 use Rattle.gw_script.specs.Event.{event_view}
 use Rattle.gw_core.specs.declared.effects.Effects.{Effects}
 use Rattle.gw_turns.specs.Serve.{empty_turn, failed_turn, lines_of, lost_event, scene}
-use Rattle.gw_turns.specs.ServeTurn.{AreTried, GuardedEnd, LogEnd}
+use Rattle.gw_turns.specs.ServeTurn.{AreTried, LogEnd}
 use Rattle.gw_turns.specs.declared.serving.ServeFault.TheVariants.{Log, Memory}
-use Rattle.gw_turns.specs.Stretch.{IsLoggedLast, count_taken, moment}
+use Rattle.gw_turns.specs.Stretch.{IsLoggedLast, count_taken}
 use Rattle.gw_turns.proofs.GuardLemmas.{guarded_fault, guarded_with, guarded_without, seen_by}
 use Rattle.gw_turns.proofs.ServeLemmas.{arrives, ends_at_log, ends_at_memory, lead_without, tallied, tried_counted}
 use Rattle.gw_turns.proofs.serving.ServeState.take_guarded_turn.Goals as goal
