@@ -1,5 +1,5 @@
 -- Texts that are appended to what is known.
-use Rattle.std.proofs.Common.{◌≡◌, ◌∙◌, ◌++◌, ap, append_assoc, List, [], ℕ, Option, Some, None, OnOk, Result, Ok, Err, rules}
+use Rattle.std.proofs.Common.{◌∙◌, ◌++◌, ap, append_assoc, List, [], ℕ, Option, Some, None, OnOk, Result, Ok, Err, rules}
 use Rattle.std.specs.Io.KnownBytes.{Appends}
 
 -- nothing is appended if nothing is reported

@@ -1,5 +1,5 @@
 -- What `run --verbose` reports at the start: one line on what is served.
-use Rattle.std.specs.Prelude.{◌≡◌, ℕ, Bool, true, false, List, [], ◌∷◌, ◌++◌, length, map, Option, Some, None}
+use Rattle.std.specs.Prelude.{◌≡◌, ℕ, Bool, true, false, List, [], ◌∷◌, ◌++◌, length, Option, Some, None}
 use Rattle.std.specs.Prelude.{codes, decimal}
 use Rattle.gw_addr.specs.Address.{text_of}
 use Rattle.gw_configuration.specs.Configuration.{Configuration}

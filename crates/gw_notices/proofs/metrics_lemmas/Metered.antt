@@ -1,7 +1,7 @@
 -- What is known of tries without what is written.
 use Rattle.std.proofs.Common.{◌≡◌, ◌∙◌, ℕ, Bool, true, false, List, Option, Some, None, ap}
 use Rattle.gw_decisions.specs.tally.Tally.{one_more}
-use Rattle.gw_notices.specs.metrics.Writing.{IsTried, IsTriedAt, Metering, MetersBy, TicksAreMetered, Tries, TriesAreMetered, Writing, WritesBy, is_due, metering_of}
+use Rattle.gw_notices.specs.metrics.Writing.{IsTriedAt, Metering, MetersBy, TicksAreMetered, Tries, TriesAreMetered, Writing, WritesBy, is_due, metering_of}
 use Rattle.gw_wire.specs.declared.store.StoreFault.{StoreFault}
 
 abbrev made : Option ℕ → ℕ → Option StoreFault → Metering
