@@ -1,14 +1,12 @@
 -- What the steps of a run send and write that goes on if its log fails.
-use Rattle.std.proofs.Common.{◌≡◌, ◌∙◌, refl, sym, ap, subst, append_assoc, arith, inl, inr, ℕ, ◌+◌, ◌&&◌, Bool, true, false, not, List, [], ◌∷◌, ◌++◌, length, Option, Some, None}
+use Rattle.std.proofs.Common.{◌≡◌, ◌∙◌, refl, sym, ap, subst, append_assoc, arith, inl, inr, ℕ, ◌&&◌, Bool, true, false, not, List, [], ◌∷◌, ◌++◌, length, Option, Some, None}
 use Rattle.std.proofs.KnownBytes.{Appends-nil, Appends-trans}
 use Rattle.std.proofs.lemmas.Bool.{eqb-true}
 use Rattle.std.proofs.lemmas.List.{append-nil}
 use Rattle.std.proofs.lemmas.List.Concat.{flat_map-cons}
 use Rattle.std.specs.Prelude.{◌==◌, if◌then◌else◌, OnOk, Result}
 use Rattle.gw_notices.proofs.AppendLemmas.{appends_two, two_writes}
-use Rattle.std.specs.List.{flat_map}
 use Rattle.std.specs.Io.KnownBytes.{Appends, append_known}
-use Rattle.gw_audit.specs.declared.denial.Denial.{Denial}
 use Rattle.gw_core.specs.Effects.{effects_at}
 use Rattle.gw_core.specs.History.{run_from, state_from}
 use Rattle.gw_core.specs.State.{State}
@@ -17,10 +15,10 @@ use Rattle.gw_script.specs.Event.{Event}
 use Rattle.gw_turns.proofs.ServeLemmas.{log_along, run_along, tells_none}
 use Rattle.gw_turns.specs.Pace.{one_more}
 use Rattle.gw_turns.specs.Serve.{AreTurns, Scene, Turn, calls_of, empty_turn, events_of, failed_turn, lines_of, log_of, lost_event, taken_event, turn_events}
-use Rattle.gw_turns.specs.Stretch.{AreGuarded, GoOn, GuardsTurn, Moment}
+use Rattle.gw_turns.specs.Stretch.{AreGuarded, GuardsTurn}
 use Rattle.gw_wire.specs.Wire.{Call, Records}
 use Rattle.gw_service.specs.Chain.{IsLink, Link, Manner, Stage, ended, served, ticked, withheld}
-use Rattle.gw_service.specs.Holding.{AreLastCalls, AreLinesOf, AreLogged, AreSteps, ChainsLogFirst, ChainsLoseNothing, Hold, IsStep, IsWritten, OverLog, OverWaiting, PassesHolding, SendsLogged, Step, StepsLogFirst, StepsLoseNothing}
+use Rattle.gw_service.specs.Holding.{AreLastCalls, AreLinesOf, AreLogged, AreSteps, ChainsLogFirst, ChainsLoseNothing, Hold, PassesHolding, SendsLogged, StepsLogFirst, StepsLoseNothing}
 use Rattle.gw_service.specs.Holding.{counting, failed, held, link_last, link_turns, over, step_events, straight, waits_too, written}
 use Rattle.gw_service.specs.declared.holding.Holding.{Holding}
 

@@ -25,7 +25,7 @@ use Rattle.gw_service.specs.declared.holding.Holding.{Holding}
 use Rattle.gw_service.specs.Kept.{EndsRun, Given, KeepsFirst, LeavesKept, Rest, RunsBy, RunsFrom, RunsFromHolding, holding_manner_of, manner_of, no_more, outcome_by, reporting_of, unkept_of, watched_holding_manner_of, watched_manner_of}
 use Rattle.gw_notices.specs.Notices.{no_troubles, notice_of}
 use Rattle.gw_notices.specs.metrics.Writing.{Metering, nothing_written}
-use Rattle.gw_service.specs.Metering.{lost_by, metered}
+use Rattle.gw_service.specs.Metering.{metered}
 use Rattle.gw_service.specs.Serving.{Ends, Service, ends, log_held}
 use Rattle.gw_service.specs.Start.{BeginsAs, counts_of}
 use Rattle.gw_notices.specs.Reload.{counts_since}

@@ -34,7 +34,7 @@ use Rattle.gw_service.specs.Serving.{served as served_by}
 use Rattle.gw_service.specs.Stats.{Reporting, due_by, end_by, is_due, minute_text, troubles_text}
 use Rattle.gw_turns.specs.declared.serving.Served.{Served}
 use Rattle.gw_turns.specs.declared.tally.Tally.{Tally}
-use Rattle.gw_service.specs.Watch.{IsAuditNamed, IsTrialNamed, IsUnwatched, IsWatcherUnder, WatchNames, is_watched, watch_names}
+use Rattle.gw_service.specs.Watch.{IsAuditNamed, IsTrialNamed, IsUnwatched, IsWatcherUnder, WatchNames, is_watched}
 use Rattle.gw_service.specs.declared.edition.Edition.{Edition}
 use Rattle.gw_service.specs.declared.fault.ServiceFault.{ServiceFault}
 use Rattle.gw_service.specs.declared.fault.ServiceFault.TheVariants as fault

@@ -1,5 +1,5 @@
 -- What a watcher's logs and counts are after a run.
-use Rattle.std.proofs.Common.{◌≡◌, ◌⊎◌, inl, inr, ◌∙◌, refl, sym, ap, subst, ℕ, ◌+◌, ◌-◌, ◌^◌, ◌<◌, suc, Bool, true, false, List, [], ◌∷◌, ◌++◌, length, Option, Some, None, arith}
+use Rattle.std.proofs.Common.{◌≡◌, ◌⊎◌, inl, inr, ◌∙◌, refl, sym, ap, subst, ℕ, ◌+◌, ◌-◌, ◌^◌, ◌<◌, Bool, true, false, List, [], ◌∷◌, ◌++◌, length, Option, Some, None, arith}
 use Rattle.std.specs.Prelude.{is_some, ◌||◌, min, if◌then◌else◌, slice_index}
 use Rattle.std.specs.Io.KnownBytes.{Appends}
 use Rattle.std.proofs.KnownBytes.{Appends-nil, Appends-trans}
@@ -11,8 +11,8 @@ use Rattle.gw_core.specs.declared.asked.Asked.{Asked}
 use Rattle.gw_rules.specs.declared.rule.Rule.{Rule}
 use Rattle.gw_script.specs.Event.{Event}
 use Rattle.gw_turns.specs.Serve.{Turn, empty_turn, events_of, failed_turn, lost_event, taken_event, turn_events}
-use Rattle.gw_turns.specs.Stretch.{AreGuarded, GoOn, GuardsTurn, Moment}
-use Rattle.gw_watchers.specs.Beside.{IsEnded, IsRecorded, IsWritten, IsLost, ended}
+use Rattle.gw_turns.specs.Stretch.{AreGuarded, GuardsTurn}
+use Rattle.gw_watchers.specs.Beside.{IsRecorded, IsWritten, IsLost, ended}
 use Rattle.gw_service.specs.WatchedRuns.{AuditIsWhole, CountsAreWhole, TrialIsWhole}
 use Rattle.gw_watchers.specs.Laws.{run_records}
 use Rattle.gw_watchers.specs.Records.{Line, audit_front, audited_by, last_number, lines_of, records, trial_front, tried_by}

@@ -1,5 +1,5 @@
 -- The text of a state, whose second line has its counts.
-use Rattle.std.proofs.Common.{◌≡◌, ◌∙◌, ◌++◌, refl, sym, ap, List, ℕ, drop}
+use Rattle.std.proofs.Common.{◌≡◌, ◌++◌, refl, List, ℕ}
 use Rattle.gw_state.specs.Saved.{Saved}
 use Rattle.gw_state_text.specs.Place.{IsPlaceOf}
 use Rattle.gw_state_text.specs.Text.{counts_line, end_line, first_line, object_text, port_text, route_line, state_text}

@@ -1,15 +1,12 @@
 -- A run that is watched is one that isn't, but for what is reported.
-use Rattle.std.proofs.Common.{◌≡◌, ℕ, List, [], ◌∷◌, ◌++◌, ◌&&◌, Bool, true, false, true≢false, refl, sym, ap, subst, inl, ◌∙◌, Option, Some}
+use Rattle.std.proofs.Common.{◌≡◌, ℕ, List, [], ◌∷◌, ◌++◌, Bool, true, false, true≢false, refl, sym, ap, inl, ◌∙◌, Option, Some}
 use Rattle.std.specs.Prelude.{Result, Ok, Err}
 use Rattle.gw_configuration.specs.Configuration.{Configuration}
-use Rattle.gw_core.specs.State.{State}
-use Rattle.gw_core.specs.History.{state_from}
 use Rattle.gw_script.specs.Event.{Event}
 use Rattle.gw_script.specs.Event as event
 use Rattle.gw_turns.specs.Both.{second_moment}
-use Rattle.gw_core.specs.Guard.{LetsAllGo, PassesBoth}
-use Rattle.gw_turns.specs.Serve.{Turn, empty_turn, failed_turn, lost_event, taken_event, turn_events}
-use Rattle.gw_turns.specs.Stretch.{AreGuarded, GoOn, GuardsTurn, Moment}
+use Rattle.gw_core.specs.Guard.{LetsAllGo}
+use Rattle.gw_turns.specs.Serve.{Turn, taken_event}
 use Rattle.gw_core.specs.declared.guard.Both.{Both}
 use Rattle.gw_turns.specs.declared.serving.ServeFault.{ServeFault}
 use Rattle.gw_turns.proofs.BothLemmas.{second_goes, second_withheld, under_second}

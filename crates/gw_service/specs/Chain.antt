@@ -14,7 +14,7 @@ use Rattle.gw_script.specs.declared.sink.WriteFailed.{WriteFailed}
 use Rattle.gw_turns.specs.Announcing.{Announces, with_due}
 use Rattle.gw_turns.specs.declared.announcing.Announcing.{Announcing}
 use Rattle.gw_turns.specs.Serve.{Try, Turn, scene, taken_event}
-use Rattle.gw_turns.specs.Stretch.{EndsFaulty, GoOn, IsWithheld, Moment, moment}
+use Rattle.gw_turns.specs.Stretch.{EndsFaulty, GoOn, IsWithheld, Moment}
 use Rattle.gw_wire.specs.Wire.{Call}
 use Rattle.gw_turns.specs.declared.serving.ServeFault.{ServeFault}
 use Rattle.gw_turns.specs.declared.serving.Served.{Served}

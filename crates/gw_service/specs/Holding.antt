@@ -9,7 +9,7 @@ use Rattle.gw_core.specs.State.{State}
 use Rattle.gw_script.specs.Event.{Event}
 use Rattle.gw_turns.specs.Announcing.{Announces}
 use Rattle.gw_turns.specs.Pace.{one_more}
-use Rattle.gw_turns.specs.Serve.{AreTurns, Turn, calls_of, events_of, lines_of, log_of, scene}
+use Rattle.gw_turns.specs.Serve.{AreTurns, Turn, calls_of, events_of, log_of, scene}
 use Rattle.gw_turns.specs.Stretch.{moment}
 use Rattle.gw_turns.specs.declared.announcing.Announcing.{Announcing}
 use Rattle.gw_turns.specs.declared.serving.ServeFault.{ServeFault}

@@ -1,5 +1,5 @@
 -- What a run leaves whose log in a file has stamps and notes: what the log holds is seen without them.
-use Rattle.std.specs.Prelude.{◌≡◌, ⊤, ℕ, Bool, true, false, List, Option, Some, None, OnOk, Result, codes}
+use Rattle.std.specs.Prelude.{⊤, ℕ, Bool, true, false, List, Option, Some, None, OnOk, Result, codes}
 use Rattle.std.specs.Io.KnownBytes.{Keeps}
 use Rattle.gw_script.specs.declared.sink.WriteFailed.{WriteFailed}
 use Rattle.gw_log_words.specs.Noted.{IsNoted}

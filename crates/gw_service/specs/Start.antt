@@ -1,5 +1,5 @@
 -- From where a gateway begins that keeps its state: what its file holds, and the last denial of its log.
-use Rattle.std.specs.Prelude.{◌≡◌, ⊤, ℕ, ◌^◌, ◌||◌, nat_eq, List, [], ◌++◌, Bool, true, false, map, codes, Option, Some, None, Result, Ok, Err}
+use Rattle.std.specs.Prelude.{◌≡◌, ⊤, ℕ, ◌^◌, ◌||◌, nat_eq, List, [], ◌++◌, Bool, true, false, codes, Option, Some, None, Result, Ok, Err}
 use Rattle.gw_configuration.specs.Configuration.{Configuration}
 use Rattle.gw_core.specs.History.{state_after, no_counts}
 use Rattle.gw_core.specs.Resumed.{carried}

@@ -1,4 +1,4 @@
-use Rattle.std.proofs.Common.{◌≡◌, ◌∙◌, ℕ, ◌+◌, ◌<◌, List, [], ◌∷◌, ◌++◌, length, take, take_all, arith, ap, get_or}
+use Rattle.std.proofs.Common.{◌≡◌, ◌∙◌, [], ◌∷◌, ◌++◌, length, arith, ap, get_or}
 use Rattle.gw_notices.specs.declared.metrics.counts.PortCounts.{PortCounts}
 use Rattle.gw_relay.specs.declared.port.PortState.{PortState}
 use Rattle.gw_service.specs.Metrics.{counts_from, port_counts}

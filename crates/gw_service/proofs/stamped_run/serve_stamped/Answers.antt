@@ -1,4 +1,4 @@
-use Rattle.std.proofs.Common.{◌≡◌, List, Option, Some, ℕ}
+use Rattle.std.proofs.Common.{◌≡◌, Option, Some}
 use Rattle.std.specs.Io.Buffered.{writer_contents}
 use Rattle.gw_log_words.specs.declared.noted.Noted.{Noted}
 use Rattle.gw_log_words.specs.declared.stamped.Stamped.{Stamped}

@@ -1,4 +1,4 @@
-use Rattle.std.proofs.Common.{◌≡◌, ◌∙◌, ◌++◌, ◌==◌, ap, length, refl, subst, sym}
+use Rattle.std.proofs.Common.{◌∙◌, ◌++◌, ◌==◌, ap, length, refl, subst, sym}
 use Rattle.gw_notices.proofs.AppendLemmas.{appends_two}
 use Rattle.gw_service.specs.Kept.{is_stopped}
 use Rattle.gw_system.specs.Requests.{IsAsking}

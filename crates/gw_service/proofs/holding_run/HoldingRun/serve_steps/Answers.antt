@@ -1,4 +1,4 @@
-use Rattle.std.proofs.Common.{◌≡◌, ◌+◌, ◌-◌, ◌<◌, Result, Ok, Option, None, Some, arith, refl, subst}
+use Rattle.std.proofs.Common.{◌≡◌, ◌+◌, ◌-◌, ◌<◌, Result, Ok, Option, arith, refl, subst}
 use Rattle.gw_configuration.specs.Configuration.{Configuration}
 use Rattle.gw_script.proofs.Passing.{passes_on}
 use Rattle.gw_turns.specs.declared.serving.ServeFault.{ServeFault}

@@ -1,7 +1,6 @@
-use Rattle.std.proofs.Common.{◌≡◌, ◌∙◌, ◌++◌, List, ℕ, Option, ap, refl, subst, sym}
-use Rattle.std.specs.Prelude.{Ok, None}
+use Rattle.std.proofs.Common.{◌∙◌, ◌++◌, sym}
 use Rattle.gw_notices.proofs.AppendLemmas.{appends_two}
-use Rattle.gw_service.specs.Holding.{GoesTo, hold, holding_manner, stage_of}
+use Rattle.gw_service.specs.Holding.{hold, holding_manner, stage_of}
 use Rattle.gw_service.specs.Scheduled.{reporting_by}
 use Rattle.gw_service.proofs.HoldingRunLemmas.{goes_on_by, goes_written}
 use Rattle.gw_service.proofs.holding_run.HoldingRun.step.Goals as goal

@@ -1,4 +1,4 @@
-use Rattle.std.proofs.Common.{◌≡◌, ◌∙◌, ◌++◌, List, [], ℕ, Bool, Option, ap, if◌then◌else◌, length, refl, subst, sym}
+use Rattle.std.proofs.Common.{◌∙◌, ◌++◌, List, [], ℕ, Bool, Option, ap, if◌then◌else◌, length, refl, subst, sym}
 use Rattle.std.specs.Prelude.{Result, Ok, Err, None}
 use Rattle.std.proofs.lemmas.List.{append-nil}
 use Rattle.std.specs.Io.KnownBytes.{Appends}

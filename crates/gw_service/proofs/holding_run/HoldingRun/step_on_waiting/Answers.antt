@@ -1,5 +1,4 @@
-use Rattle.std.proofs.Common.{List, ℕ, Option, Some, refl, subst, sym}
-use Rattle.gw_service.specs.Chain.{FailsToLast, WasLasting, edge}
+use Rattle.std.proofs.Common.{ℕ, refl, subst, sym}
 use Rattle.gw_service.specs.Holding.{GoesTo, counting, hold, holding_manner, stage_of}
 use Rattle.gw_service.specs.Scheduled.{reporting_by}
 use Rattle.gw_service.proofs.HoldingRunLemmas.{goes_over_waiting}
