@@ -4,7 +4,7 @@ ghost use Rattle.std.specs.Prelude.{◌≡◌, ◌<◌, ◌≤◌, length, optio
 ghost use Rattle.gw_addr.specs.declared.TheConstants.{MAX_PORTS};
 ghost use Rattle.gw_notices.specs.metrics.Writing.{nothing_written};
 ghost use Rattle.gw_service.specs.Metering.{failing_by, lost_by, metered};
-ghost use Rattle.gw_service.specs.Metrics.{AreCounts, PutsDue, PutsInto, PutsLast, PutsNow, drops_of, port_counts, ports_of, reloads_of};
+ghost use Rattle.gw_service.specs.Metrics.{AreCounts, PutsDue, PutsLast, drops_of, port_counts, ports_of, reloads_of};
 
 use crate::keeping::StateKeeper;
 use arrayvec::ArrayVec;
@@ -134,38 +134,6 @@ fn counts_of<'a>(
     }
 }
 
-/// Puts the text of what was measured into a store, if it is due.
-fn put_into<S: Store + Drop>(
-    alloc: Global,
-    metrics: &mut Metrics<S>,
-    measures: &Measures,
-    gateway: &Gateway,
-    decisions: &Option<Tally>,
-)
-    ensures { PutsInto S.held metrics.old measures.now gateway.now decisions.now metrics.new }
-{
-    let ports = ports_of(&measures.report, gateway.relay().ports());
-    let lost = metrics.lost();
-    let counts = counts_of(measures, gateway.rules(), decisions, ports.as_slice(), lost);
-    metrics.at_tick(alloc, measures.report.seconds, &counts);
-}
-
-/// Puts the text of what was measured into a store, whether it is due or not.
-fn put_now<S: Store + Drop>(
-    alloc: Global,
-    metrics: &mut Metrics<S>,
-    measures: &Measures,
-    gateway: &Gateway,
-    decisions: &Option<Tally>,
-)
-    ensures { PutsNow S.held metrics.old measures.now gateway.now decisions.now metrics.new }
-{
-    let ports = ports_of(&measures.report, gateway.relay().ports());
-    let lost = metrics.lost();
-    let counts = counts_of(measures, gateway.rules(), decisions, ports.as_slice(), lost);
-    metrics.put_now(alloc, measures.report.seconds, &counts);
-}
-
 /// Puts the text of what was measured into a store, if there is one and something was measured, whether it is due or not.
 pub(crate) fn put_last<K: StateKeeper, S: Store + Drop>(
     alloc: Global,
@@ -179,13 +147,11 @@ pub(crate) fn put_last<K: StateKeeper, S: Store + Drop>(
     if let Some(metrics) = metrics {
         if let Some(measures) = measured {
             let nothing = None;
-            put_now(
-                alloc,
-                metrics,
-                measures,
-                gateway,
-                keeper.decisions(&nothing),
-            );
+            let decisions = keeper.decisions(&nothing);
+            let ports = ports_of(&measures.report, gateway.relay().ports());
+            let lost = metrics.lost();
+            let counts = counts_of(measures, gateway.rules(), decisions, ports.as_slice(), lost);
+            metrics.put_now(alloc, measures.report.seconds, &counts);
         }
     }
 }
@@ -203,13 +169,11 @@ pub(crate) fn put_due<K: StateKeeper, S: Store + Drop>(
     if let Some(metrics) = metrics {
         if let Some(measures) = measured {
             let nothing = None;
-            put_into(
-                alloc,
-                metrics,
-                measures,
-                gateway,
-                keeper.decisions(&nothing),
-            );
+            let decisions = keeper.decisions(&nothing);
+            let ports = ports_of(&measures.report, gateway.relay().ports());
+            let lost = metrics.lost();
+            let counts = counts_of(measures, gateway.rules(), decisions, ports.as_slice(), lost);
+            metrics.at_tick(alloc, measures.report.seconds, &counts);
         }
     }
 }
