@@ -30,19 +30,22 @@ use Rattle.gw_cases.proofs.written.Written.new.Code as code
 abbrev stayed : Stays (it.ended).signature.params (it.ended).kept
 stayed = tt
 
-module _ {M : Type 1} {𝓤 : Ura M} (𝓛 : Logic 𝓤) (at_mem : Memory → SProp 𝓤) (run : Routine → Fun 𝓤) (C : Calls 𝓤 𝓛.H) (Λ : Loops 𝓤 𝓛.H) where
+module _ {M : Type 1} {𝓤 : Ura M} (𝓛 : Logic 𝓤) (at_mem : Memory → SProp 𝓤) (run : Routine → Fun 𝓤)
+    (C : Calls 𝓤 𝓛.H) (Λ : Loops 𝓤 𝓛.H) where
   open 𝓛 use {H}
 
   abbrev bound : (walk_of 𝓛 it.ended stayed (it.clauses 𝓛 at_mem run)).Ghost
   bound = ((tt, tt, tt, tt, tt), tt)
 
-  walk : ent 𝓤 (on_entry 𝓛 it.signature tt tt tt tt) (WpFn 𝓤 H C Λ code.function [] ((walk_of 𝓛 it.ended stayed (it.clauses 𝓛 at_mem run)).post bound))
+  walk : ent 𝓤 (on_entry 𝓛 it.signature tt tt tt tt)
+      (WpFn 𝓤 H C Λ code.function [] ((walk_of 𝓛 it.ended stayed (it.clauses 𝓛 at_mem run)).post bound))
   walk =
       qed 𝓛 (raw (alive 𝓛 it.signature tt tt) ∷ ‵ (owns [] tt tt) ∷ []) ∵ enter ! C Λ code.function [] _ $
       alloc_all ! (λ l. pass_all ! refl tt $ sets ! (agg ! (no_more !)) refl (tt, tt) $
       returns ! (look_at ! 0 refl) $ free_all ! refl $
       suffices ! _ (ends_at 𝓛 it.ended stayed (it.clauses 𝓛 at_mem run) bound (vstruct vnil) (record { octets = [] }) tt tt) $
-      says ! refl $ pure_i ! (T.the_row.own_val (record { octets = [] }) (vstruct vnil ∷ [])) ((λ vss. (tt, tt)), tt) ((tt, (refl, tt)), tt) $
+      says ! refl $
+      pure_i ! (T.the_row.own_val (record { octets = [] }) (vstruct vnil ∷ [])) ((λ vss. (tt, tt)), tt) ((tt, (refl, tt)), tt) $
       move ! (1 ∷ 2 ∷ 0 ∷ []) $ done !)
 
   walks : Walks 𝓛 it.ended stayed (WpFn 𝓤 H C Λ code.function) (it.clauses 𝓛 at_mem run)
