@@ -4,7 +4,7 @@
 //! what the machine is like, as `log 9` for a log with room for 9 octets; and after a line `input`
 //! standard input. Each file has the text of the last configuration, but for `unreadable`.
 
-ghost use Rattle.std.specs.Prelude.{◌≡◌, ◌++◌, ⊤, [], ℕ, List, Err, None, Some, false, map, string_bytes, MatchResult};
+ghost use Rattle.std.specs.Prelude.{◌≡◌, ◌++◌, ⊤, [], ℕ, List, Err, None, Some, false, map, string_bytes, IfOk, MatchResult};
 ghost use Rattle.std.specs.Process.{exit_status};
 ghost use Rattle.gw_shell.specs.Program.{IsChoiceOf};
 ghost use Rattle.gw_system.specs.Requests.{known};
@@ -600,7 +600,8 @@ fn run_on(
 ) -> ExitCode
     ensures { streams.old.errors.room ≡ None → (written : List ℕ)
         × (streams.new.errors.written.octets ≡ streams.old.errors.written.octets ++ written)
-        × IsReported (λ choice. MatchResult words
+        × IsReported (λ _ read. IfOk read (λ octets. octets ≡ text.now))
+        (λ choice. MatchResult words
         (λ w. IsChoiceOf (map string_bytes w.items) choice)
         (λ f. choice ≡ Err f)) written (exit_status result) }
 {

@@ -13,6 +13,7 @@ returns c = λ takes_all. let ran = c.run.ensures.run in (
     place = ran.place;
     words = ran.words;
     quiet = ran.quiet;
+    placed = ran.placed;
     lines = refl;
     status = ran.status;
   },
