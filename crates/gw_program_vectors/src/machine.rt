@@ -4,7 +4,7 @@
 //! what the machine is like, as `log 9` for a log with room for 9 octets; and after a line `input`
 //! standard input. Each file has the text of the last configuration, but for `unreadable`.
 
-ghost use Rattle.std.specs.Prelude.{◌≡◌, ◌++◌, ⊤, [], ℕ, List, Err, None, Some, false, map, string_bytes, IfOk, MatchResult};
+ghost use Rattle.std.specs.Prelude.{◌≡◌, ◌++◌, ⊤, [], ℕ, List, Err, None, Some, false, map, option_map, string_bytes, IfOk, MatchResult};
 ghost use Rattle.std.specs.Process.{exit_status};
 ghost use Rattle.gw_shell.specs.Program.{IsChoiceOf};
 ghost use Rattle.gw_system.specs.Requests.{known};
@@ -128,16 +128,17 @@ impl Wire for MemSockets {
     }
 }
 
-/// A store that shows the last text that was put into it, or fails.
+/// A store that holds and shows the last text that was put into it, or fails.
 #[derive(Drop)]
 pub struct MemStore<'a> {
     alloc: Global,
     fault: Option<StoreFault>,
+    text: Option<Vec<u8>>,
     shown: &'a RefCell<Vec<u8>>,
 }
 
-impl<'a> Store for MemStore<'a> {
-    ghost held = { λ _. None };
+impl Store for MemStore<'_> {
+    ghost held = { λ store. option_map (λ text. text.items) store.text };
 
     ghost NeverFails = { λ _. ⊥ };
 
@@ -148,7 +149,11 @@ impl<'a> Store for MemStore<'a> {
         let Ok(text) = Vec::from_slice(self.alloc, octets) else {
             return Err(StoreFault::Memory);
         };
-        let _ = self.shown.try_replace(text);
+        let Ok(shown) = Vec::from_slice(self.alloc, octets) else {
+            return Err(StoreFault::Memory);
+        };
+        self.text = Some(text);
+        let _ = self.shown.try_replace(shown);
         Ok(())
     }
 }
@@ -383,6 +388,7 @@ impl<'a> Host for MemHost<'a> {
         Ok(MemStore {
             alloc,
             fault: self.unkept,
+            text: None,
             shown,
         })
     }
