@@ -1,5 +1,5 @@
 -- What was asked and answered in memory.
-use Rattle.std.specs.Prelude.{List, Option, Some, None, map}
+use Rattle.std.specs.Prelude.{Option, Some, None, map}
 use Rattle.std.specs.Global.{Vec}
 use Rattle.gw_system.specs.Requests.{Asking, Exchange, answered, asked_by, known, silent}
 use Rattle.gw_program_vectors.specs.declared.mem_requests.Exchange.{Exchange as Kept}
