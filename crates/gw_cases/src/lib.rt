@@ -8,6 +8,9 @@ mod edits;
 mod memory;
 mod notation;
 mod sections;
+mod sink;
+mod source;
+mod written;
 
 pub use edits::edited;
 pub use memory::{MemReader, MemWriter, Streams};
@@ -16,3 +19,6 @@ pub use notation::{
     put_octets, put_other, put_word, unfolded, wanted,
 };
 pub use sections::{Case, Kinds, write_groups, write_sections};
+pub use sink::MemSink;
+pub use source::MemSource;
+pub use written::Written;

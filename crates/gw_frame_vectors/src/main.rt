@@ -8,6 +8,7 @@ mod counts;
 mod denials;
 mod frames;
 mod logs;
+mod named_logs;
 mod rules;
 mod texts;
 mod values;
@@ -39,6 +40,7 @@ impl Kinds for FrameKinds {
             "told" => logs::told(alloc, line, out),
             "since" => logs::since(alloc, line, out),
             "last" => logs::last(alloc, line, out),
+            "renamed" => named_logs::renamed(alloc, line, out),
             "counts" => counts::counts(alloc, line, out),
             "rules" => rules::rules(alloc, line, out),
             "limits" => rules::limits(alloc, line, out),

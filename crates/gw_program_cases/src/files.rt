@@ -1,8 +1,8 @@
 //! Files in memory.
 
-ghost use Rattle.std.specs.Prelude.{⊤};
+ghost use Rattle.std.specs.Prelude.{◌≡◌, Some, IfOk};
 
-use gw_cases::MemReader;
+use gw_cases::MemSource;
 use gw_ending::Fault;
 use gw_ending::reading::ConfigFiles;
 use gw_system::Obstacle;
@@ -19,18 +19,18 @@ pub struct MemFiles<'a> {
 }
 
 impl<'a> ConfigFiles for MemFiles<'a> {
-    type Log = MemReader<'a>;
+    type Log = MemSource<'a>;
 
-    ghost ReadsLog = { λ _ _ _. ⊤ };
+    ghost ReadsLog = { λ files _ log. IfOk log (λ left. left ≡ Some files.text.now) };
 
-    fn open_log(&self, name: &str) -> Result<MemReader<'a>, Fault> {
+    fn open_log(&self, name: &str) -> Result<MemSource<'a>, Fault> {
         if name == UNREADABLE {
             return Err(Fault::LogUnreadable(Obstacle::NotPermitted));
         }
-        Ok(MemReader::new(self.text.as_bytes(), None))
+        Ok(MemSource::new(self.text.as_bytes(), false))
     }
 
-    ghost Reads = { λ _ _ _. ⊤ };
+    ghost Reads = { λ files _ read. IfOk read (λ octets. octets ≡ files.text.now) };
 
     fn read(&self, alloc: Global, name: &str) -> Result<Vec<u8>, Fault> {
         if name.starts_with(UNREADABLE) {
@@ -43,7 +43,7 @@ impl<'a> ConfigFiles for MemFiles<'a> {
         !name.starts_with(UNREADABLE)
     }
 
-    ghost ReadsState = { λ _ _ _. ⊤ };
+    ghost ReadsState = { λ files _ read. IfOk read (λ octets. octets ≡ files.text.now) };
 
     fn read_state(&self, alloc: Global, name: &str) -> Result<Vec<u8>, Fault> {
         if name == UNREADABLE {

@@ -3,8 +3,10 @@
 //! A section has the words on its first line, with a bar between two of them; then lines that say what the machine is like;
 //! and after a line `input` standard input.
 
+ghost use Rattle.std.specs.Prelude.{◌≡◌, [], IfOk};
+
 use crate::words::{call, put, status_text};
-use gw_cases::{MemReader, MemWriter, number_behind};
+use gw_cases::{MemSink, MemSource, MemWriter, number_behind};
 use gw_ending::Fault;
 use itoa::Buffer;
 use std::alloc::{AllocError, Global};
@@ -64,17 +66,12 @@ impl<'a> Section<'a> {
     }
 
     /// Standard input.
-    pub fn reader(&self) -> MemReader<'a> {
-        let fails = if self.has("input fails") {
-            Some(0)
-        } else {
-            None
-        };
-        MemReader::new(self.input.as_bytes(), fails)
+    fn reader(&self) -> MemSource<'a> {
+        MemSource::new(self.input.as_bytes(), self.has("input fails"))
     }
 
     /// Standard output, which has room for so many octets after its buffer.
-    pub fn output(&self, alloc: Global, room: usize) -> Result<BufWriter<MemWriter>, AllocError> {
+    fn output(&self, alloc: Global, room: usize) -> Result<BufWriter<MemWriter>, AllocError> {
         let narrow = MemWriter::with_room(alloc, room, !self.has("flushes fail"))?;
         let capacity = self.number("buffer ").unwrap_or(CAPACITY);
         match BufWriter::with_capacity(alloc, capacity, narrow) {
@@ -83,9 +80,23 @@ impl<'a> Section<'a> {
         }
     }
 
-    /// Standard error.
-    pub fn errors(&self, alloc: Global) -> Result<MemWriter, AllocError> {
-        MemWriter::with_room(alloc, self.number("errors ").unwrap_or(AMPLE), true)
+    /// Standard error, which takes all unless the section says how much.
+    fn errors(&self, alloc: Global) -> Result<MemSink, AllocError>
+        ensures { IfOk result (λ errors. errors.written.octets ≡ []) }
+    {
+        let room = self.number("errors ");
+        MemSink::new(alloc, room, room.unwrap_or(AMPLE))
+    }
+
+    /// The standard streams, the output with room for so many octets after its buffer.
+    pub fn streams(&self, alloc: Global, room: usize) -> Result<RunStreams<'a>, AllocError>
+        ensures { IfOk result (λ streams. streams.errors.written.octets ≡ []) }
+    {
+        Ok(RunStreams {
+            input: self.reader(),
+            output: self.output(alloc, room)?,
+            errors: self.errors(alloc)?,
+        })
     }
 
     /// For how many octets standard output has room after its buffer.
@@ -94,12 +105,36 @@ impl<'a> Section<'a> {
     }
 }
 
+/// The standard streams of a run.
+#[derive(Drop)]
+pub struct RunStreams<'a> {
+    pub input: MemSource<'a>,
+    pub output: BufWriter<MemWriter>,
+    pub errors: MemSink,
+}
+
+impl RunStreams<'_> {
+    /// What a run leaves that ended with this status.
+    pub fn left(self, code: ExitCode) -> Left
+        ensures errors { result.errors ≡ self.entry.errors }
+        ensures code { result.code ≡ code }
+    {
+        let RunStreams { output, errors, .. } = self;
+        let (output, _unwritten) = output.into_parts();
+        Left {
+            code,
+            output,
+            errors,
+        }
+    }
+}
+
 /// What a run leaves: its exit status and both streams.
 #[derive(Drop)]
 pub struct Left {
     pub code: ExitCode,
     pub output: MemWriter,
-    pub errors: MemWriter,
+    pub errors: MemSink,
 }
 
 /// A program on a machine in memory.
@@ -121,7 +156,7 @@ pub trait Program {
 pub fn put_left(left: &Left, out: &mut Vec<u8>) -> Result<(), AllocError> {
     put(out, &["status ", status_text(left.code), "\n"])?;
     put_lines("out ", left.output.held(), out)?;
-    put_lines("err ", left.errors.held(), out)
+    put_lines("err ", left.errors.shown()?, out)
 }
 
 /// Each line of a text after a word.
@@ -156,7 +191,7 @@ pub fn put_fronts<P: Program>(
     let whole = ample.output.held();
     for room in 0..whole.len() {
         let left = program.run(alloc, config, &section, room)?;
-        if !is_front(program.name(), &left, &whole[..room]) {
+        if !is_front(program.name(), &left, &whole[..room])? {
             put(out, &["not a front at ", Buffer::new().format(room), "\n"])?;
         }
     }
@@ -167,9 +202,11 @@ pub fn put_fronts<P: Program>(
 }
 
 /// Whether a run of the program of this name left this front and reported that a write failed.
-fn is_front(program: &str, left: &Left, front: &[u8]) -> bool {
-    left.code == ExitCode::FAILURE
-        && left.output.held() == front
-        && left.errors.held().strip_prefix(program.as_bytes())
-            == Some(b": write failed\n".as_slice())
+fn is_front(program: &str, left: &Left, front: &[u8]) -> Result<bool, AllocError> {
+    let line = left.errors.shown()?.strip_prefix(program.as_bytes());
+    Ok(
+        left.code == ExitCode::FAILURE
+            && left.output.held() == front
+            && line == Some(b": write failed\n".as_slice()),
+    )
 }

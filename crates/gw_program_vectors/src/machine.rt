@@ -4,23 +4,31 @@
 //! what the machine is like, as `log 9` for a log with room for 9 octets; and after a line `input`
 //! standard input. Each file has the text of the last configuration, but for `unreadable`.
 
-ghost use Rattle.std.specs.Prelude.{◌≡◌, ⊤, None, Some, false};
-ghost use Rattle.gw_system.specs.Requests.{silent};
+ghost use Rattle.std.specs.Prelude.{◌≡◌, ◌++◌, ⊤, [], ℕ, List, Err, None, Some, false, map, option_map, string_bytes, IfOk, MatchResult};
+ghost use Rattle.std.specs.Process.{exit_status};
+ghost use Rattle.gw_shell.specs.Program.{IsChoiceOf};
+ghost use Rattle.gw_system.specs.Requests.{known};
+ghost use Rattle.gw_program_vectors.specs.Exchanges.{asking_of};
+ghost use Rattle.gw_program_vectors.specs.Reported.{IsReported};
 
 use crate::mem_log::{Failing, MemLog};
+use crate::mem_requests::MemRequests;
 use gw_addr::BipAddr;
 use gw_cases::MemWriter;
 use gw_configuration::Port;
 use gw_log_words::{Calendar, Moment, moment_after};
-use gw_program_cases::{Left, MemFiles, Program, Section, UNREADABLE, put, put_left, put_lines};
+use gw_program_cases::{
+    Left, MemFiles, Program, RunStreams, Section, UNREADABLE, put, put_left, put_lines,
+};
 use gw_script::append_send;
-use gw_shell::{FailedStep, Host, LogFailure, Obstacle, Reason, SocketFailure, Step, run};
-use gw_system::{ReadFailure, Request, Requests, StoreKind};
+use gw_shell::{FailedStep, Fault, Host, LogFailure, Obstacle, Reason, SocketFailure, Step, run};
+use gw_system::{ReadFailure, Request, StoreKind};
 use gw_wire::{Got, RECEIVE_ROOM, Store, StoreFault, Wire, WireFault};
 use itoa::Buffer;
 use std::alloc::{AllocError, Global};
 use std::cell::RefCell;
 use std::io;
+use std::process::ExitCode;
 
 /// The name of the configuration that is on trial.
 const TRIAL: &str = "trial";
@@ -120,16 +128,17 @@ impl Wire for MemSockets {
     }
 }
 
-/// A store that shows the last text that was put into it, or fails.
+/// A store that holds and shows the last text that was put into it, or fails.
 #[derive(Drop)]
 pub struct MemStore<'a> {
     alloc: Global,
     fault: Option<StoreFault>,
+    text: Option<Vec<u8>>,
     shown: &'a RefCell<Vec<u8>>,
 }
 
-impl<'a> Store for MemStore<'a> {
-    ghost held = { λ _. None };
+impl Store for MemStore<'_> {
+    ghost held = { λ store. option_map (λ text. text.items) store.text };
 
     ghost NeverFails = { λ _. ⊥ };
 
@@ -140,29 +149,12 @@ impl<'a> Store for MemStore<'a> {
         let Ok(text) = Vec::from_slice(self.alloc, octets) else {
             return Err(StoreFault::Memory);
         };
-        let _ = self.shown.try_replace(text);
+        let Ok(shown) = Vec::from_slice(self.alloc, octets) else {
+            return Err(StoreFault::Memory);
+        };
+        self.text = Some(text);
+        let _ = self.shown.try_replace(shown);
         Ok(())
-    }
-}
-
-/// Requests in memory: one at the first look. They keep what they were answered.
-#[derive(Drop)]
-pub struct MemRequests<'a> {
-    asked: Option<Request>,
-    answers: &'a RefCell<Vec<u8>>,
-}
-
-impl Requests for MemRequests<'_> {
-    ghost recorded = { λ _. silent };
-
-    fn take(&mut self, _alloc: Global, _most: usize) -> Option<Request> {
-        self.asked.take()
-    }
-
-    fn answer(&mut self, text: &[u8]) {
-        if let Ok(mut answers) = self.answers.try_borrow_mut() {
-            let _ = answers.extend_from_slice(text);
-        }
     }
 }
 
@@ -279,11 +271,11 @@ impl<'a> Host for MemHost<'a> {
 
     ghost StoreOpens = { λ _ _ _ _. ⊤ };
 
-    ghost ReloadsOpen = { λ _ _ _ _. ⊤ };
+    ghost ReloadsOpen = { λ _ _ _ requests. asking_of requests.exchanges ≡ known [] };
 
     ghost LogOpens = { λ _ _ _. ⊤ };
 
-    ghost LogIsCut = { λ _ _ _. ⊤ };
+    ghost LogIsCut = { λ host _ is_cut. host.is_cut ≡ is_cut };
 
     ghost SocketsOpen = { λ _ _ _. ⊤ };
 
@@ -309,7 +301,9 @@ impl<'a> Host for MemHost<'a> {
         }
     }
 
-    fn is_cut(&self, _name: &str) -> bool {
+    fn is_cut(&self, _name: &str) -> bool
+        ensures { self.now.is_cut ≡ result }
+    {
         self.is_cut
     }
 
@@ -394,6 +388,7 @@ impl<'a> Host for MemHost<'a> {
         Ok(MemStore {
             alloc,
             fault: self.unkept,
+            text: None,
             shown,
         })
     }
@@ -408,10 +403,7 @@ impl<'a> Host for MemHost<'a> {
             Some(text) => Some(request_of(alloc, text)?),
             None => None,
         };
-        Ok(MemRequests {
-            asked,
-            answers: self.answers,
-        })
+        Ok(MemRequests::new(alloc, asked, self.answers))
     }
 
     fn make_request(
@@ -604,6 +596,33 @@ fn taken_from(alloc: Global, text: &RefCell<Vec<u8>>) -> Vec<u8> {
     text.try_replace(Vec::new(alloc)).unwrap_or(Vec::new(alloc))
 }
 
+/// Runs the program on these words, with all files of one text. If standard error takes all, it gets exactly what a run reports.
+fn run_on(
+    alloc: Global,
+    words: Result<Vec<String>, Fault>,
+    text: &str,
+    host: &mut MemHost<'_>,
+    streams: &mut RunStreams<'_>,
+) -> ExitCode
+    ensures { streams.old.errors.room ≡ None → (written : List ℕ)
+        × (streams.new.errors.written.octets ≡ streams.old.errors.written.octets ++ written)
+        × IsReported (λ _ read. IfOk read (λ octets. octets ≡ text.now))
+        (λ choice. MatchResult words
+        (λ w. IsChoiceOf (map string_bytes w.items) choice)
+        (λ f. choice ≡ Err f)) written (exit_status result) }
+{
+    let files = MemFiles { text };
+    run(
+        alloc,
+        words,
+        &files,
+        host,
+        &mut streams.input,
+        &mut streams.output,
+        &mut streams.errors,
+    )
+}
+
 /// Runs the program of a section, whose output has room for so many octets.
 fn run_with(
     alloc: Global,
@@ -648,25 +667,10 @@ fn run_with(
         reload: reload_of(alloc, section, config)?,
         closed: None,
     };
-    let mut output = section.output(alloc, room)?;
-    let mut errors = section.errors(alloc)?;
-    let files = MemFiles { text: config };
-    let code = run(
-        alloc,
-        words,
-        &files,
-        &mut host,
-        &mut section.reader(),
-        &mut output,
-        &mut errors,
-    );
-    let (output, _unwritten) = output.into_parts();
+    let mut streams = section.streams(alloc, room)?;
+    let code = run_on(alloc, words, config, &mut host, &mut streams);
     Ok(Served {
-        left: Left {
-            code,
-            output,
-            errors,
-        },
+        left: streams.left(code),
         closed: host.closed,
         opened: taken_from(alloc, &opened),
         answers: taken_from(alloc, &answers),

@@ -3,9 +3,12 @@
 
 mod disks;
 mod explanations;
+mod file_requests;
 mod machine;
 mod mem_disk;
+mod mem_folder;
 mod mem_log;
+mod mem_requests;
 mod words;
 
 use gw_cases::{Case, Kinds, write_groups};
@@ -24,6 +27,7 @@ impl Kinds for ProgramKinds {
         match case.kind() {
             "words" => words::words(alloc, case.text, out),
             "disk" => disks::replaced(alloc, case.text, out),
+            "requests" => file_requests::requests(alloc, case.text, out),
             _ => Err(ErrorKind::InvalidData.into()),
         }
     }

@@ -2,7 +2,7 @@
 
 ghost use Rattle.std.specs.Prelude.{⊤};
 
-use gw_cases::{MemReader, edited};
+use gw_cases::{MemSource, edited};
 use gw_ending::Fault;
 use gw_ending::reading::ConfigFiles;
 use gw_log_words::{Calendar, Moment, moment_after};
@@ -98,11 +98,11 @@ impl<'a> ToolFiles<'a> {
 }
 
 impl<'a> ConfigFiles for ToolFiles<'a> {
-    type Log = MemReader<'a>;
+    type Log = MemSource<'a>;
 
     ghost ReadsLog = { λ _ _ _. ⊤ };
 
-    fn open_log(&self, name: &str) -> Result<MemReader<'a>, Fault> {
+    fn open_log(&self, name: &str) -> Result<MemSource<'a>, Fault> {
         self.files().open_log(name)
     }
 
@@ -195,8 +195,7 @@ impl Program for Bacgwctl {
         let machine = MemMachine {
             answer: answer_of(alloc, section)?,
         };
-        let mut output = section.output(alloc, room)?;
-        let mut errors = section.errors(alloc)?;
+        let mut streams = section.streams(alloc, room)?;
         let now = edited_text(alloc, config, section)?;
         let files = ToolFiles {
             now: now.as_str(),
@@ -207,16 +206,11 @@ impl Program for Bacgwctl {
             words,
             &files,
             &machine,
-            &mut section.reader(),
-            &mut output,
-            &mut errors,
+            &mut streams.input,
+            &mut streams.output,
+            &mut streams.errors,
         );
-        let (output, _unwritten) = output.into_parts();
-        Ok(Left {
-            code,
-            output,
-            errors,
-        })
+        Ok(streams.left(code))
     }
 }
 
