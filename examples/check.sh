@@ -462,39 +462,37 @@ same 'the log has the denials with their ticks behind a line that was cut' \
 2 . 1 1:7F030005BAC0 read dst=100 svc=12 obj=5,2 prop=85 prio=- rule=hide'
 
 # A gateway that is asked to stop keeps its state, answers, and ends well. What is no request stays, and is told of once.
-if "$program" run --help | grep -q -e --reload; then
-    rm -f "$work/stopped.state" "$work/request" "$work/request.answer"
-    printf 'stop\n' > "$work/request"
-    timeout 9 "$program" run --config "$work/served.toml" --state "$work/stopped.state" --reload "$work/request" < /dev/null > "$work/out" 2> "$work/err"
-    same 'a gateway stops' "$? $(cat "$work/request.answer")" '0 stopped'
-    same 'a request to stop is taken away' "$(ls "$work/request" 2> /dev/null)" ''
-    same 'the state of a gateway that stopped' "$(sed -n 's/^counts [0-9]* \([0-9]*\) .*/\1/p' "$work/stopped.state")" 1
-    rm -f "$work/stopped.state" "$work/request.answer"
-    timeout 20 "$program" run --config "$work/served.toml" --state "$work/stopped.state" --reload "$work/request" < /dev/null > "$work/out" 2> "$work/err" &
-    server=$!
-    sleep 1
-    "$tool" status --reload "$work/request" < /dev/null > "$work/told" 2>&1
-    same 'bacgwctl status' "$? $(sed -n 's/^\(stats seconds=\).*/\1/p' "$work/told")" '0 stats seconds='
-    asking=()
-    for number in 1 2 3; do
-        { "$tool" status --reload "$work/request" < /dev/null > "$work/told.$number" 2>&1 || true; } &
-        asking+=($!)
-    done
-    wait "${asking[@]}"
-    same 'three requests at once' "$(cut -c-14 "$work"/told.[123] | grep -c '^stats seconds=') $(ls "$work"/request* 2> /dev/null)" '3 '
-    "$tool" stop --reload "$work/request" < /dev/null > "$work/told" 2>&1
-    same 'bacgwctl stop' "$? $(cat "$work/told")" '0 stopped'
-    wait "$server"
-    same 'the gateway that it stopped' "$? $(ls "$work/request" "$work/request.answer" 2> /dev/null)" '0 '
-    "$tool" stop --reload "$work/request" < /dev/null > "$work/told" 2>&1
-    same 'bacgwctl stop where none runs' "$? $(cat "$work/told") $(ls "$work/request" 2> /dev/null)" '1 bacgwctl: no answer '
-    printf 'halt\n' > "$work/request"
-    timeout 5 "$program" run --config "$work/served.toml" --reload "$work/request" < /dev/null > "$work/out" 2> "$work/err"
-    same 'what is no request stays, and is told of once' "$(cat "$work/request" "$work/err")" \
-        "halt
+rm -f "$work/stopped.state" "$work/request" "$work/request.answer"
+printf 'stop\n' > "$work/request"
+timeout 9 "$program" run --config "$work/served.toml" --state "$work/stopped.state" --reload "$work/request" < /dev/null > "$work/out" 2> "$work/err"
+same 'a gateway stops' "$? $(cat "$work/request.answer")" '0 stopped'
+same 'a request to stop is taken away' "$(ls "$work/request" 2> /dev/null)" ''
+same 'the state of a gateway that stopped' "$(sed -n 's/^counts [0-9]* \([0-9]*\) .*/\1/p' "$work/stopped.state")" 1
+rm -f "$work/stopped.state" "$work/request.answer"
+timeout 20 "$program" run --config "$work/served.toml" --state "$work/stopped.state" --reload "$work/request" < /dev/null > "$work/out" 2> "$work/err" &
+server=$!
+sleep 1
+"$tool" status --reload "$work/request" < /dev/null > "$work/told" 2>&1
+same 'bacgwctl status' "$? $(sed -n 's/^\(stats seconds=\).*/\1/p' "$work/told")" '0 stats seconds='
+asking=()
+for number in 1 2 3; do
+    { "$tool" status --reload "$work/request" < /dev/null > "$work/told.$number" 2>&1 || true; } &
+    asking+=($!)
+done
+wait "${asking[@]}"
+same 'three requests at once' "$(cut -c-14 "$work"/told.[123] | grep -c '^stats seconds=') $(ls "$work"/request* 2> /dev/null)" '3 '
+"$tool" stop --reload "$work/request" < /dev/null > "$work/told" 2>&1
+same 'bacgwctl stop' "$? $(cat "$work/told")" '0 stopped'
+wait "$server"
+same 'the gateway that it stopped' "$? $(ls "$work/request" "$work/request.answer" 2> /dev/null)" '0 '
+"$tool" stop --reload "$work/request" < /dev/null > "$work/told" 2>&1
+same 'bacgwctl stop where none runs' "$? $(cat "$work/told") $(ls "$work/request" 2> /dev/null)" '1 bacgwctl: no answer '
+printf 'halt\n' > "$work/request"
+timeout 5 "$program" run --config "$work/served.toml" --reload "$work/request" < /dev/null > "$work/out" 2> "$work/err"
+same 'what is no request stays, and is told of once' "$(cat "$work/request" "$work/err")" \
+    "halt
 bacgw: request isn't taken: it is none, or can't be read or taken away"
-    rm -f "$work/request"
-fi
+rm -f "$work/request"
 
 # A log that is copied and cut while it is served goes on at its front. One that is renamed or removed goes on in a new file.
 : > "$work/log"
@@ -521,7 +519,7 @@ TIME 2 . 1 1:7F030005BAC0 read dst=100 svc=12 obj=5,2 prop=85 prio=- rule=hide'
 
 # A send of fewer octets than it was given is a failure. The system makes none of a datagram, so a library that is loaded before the
 # program does, and the counts tell of it.
-if command -v cc > /dev/null && "$program" run --help | grep -q -e --stats; then
+if command -v cc > /dev/null; then
     cc -std=c11 -O2 -fPIC -shared -o "$work/short_send.so" "$here/../bench/short_send.c"
     for number in 0 1; do
         SHORT_SEND=$number python3 "$here/loopback.py" short "$program" "$work/served.toml" "$work/short_send.so" > "$work/out" 2>&1
@@ -598,25 +596,23 @@ ln -s "$work/state" "$work/link"
 ran 1 "bacgw: state isn't kept: not permitted: $work/link" --config "$work/served.toml" --state "$work/link" --turns 1
 
 # Metrics are written at the first tick; a collector reads them, and their place must be there.
-if "$program" run --help | grep -q -e --metrics; then
-    timeout 3 "$program" run --config "$work/served.toml" --metrics "$work/bacgw.prom" --turns 200 < /dev/null > "$work/out" 2> "$work/err"
-    same 'the ticks of metrics' "$(sed -n 's/^bacgw_ticks_total //p' "$work/bacgw.prom")" 1
-    same 'the ports of metrics' "$(grep -c '^bacgw_foreign_devices{' "$work/bacgw.prom")" 2
-    same 'the sends by port of metrics' "$(sed -n 's/^bacgw_port_sends_total//p' "$work/bacgw.prom" | xargs)" '{port=1} 0 {port=2} 0'
-    same 'the families of metrics' "$(grep -c '^# TYPE ' "$work/bacgw.prom")" 25
-    same 'the version in metrics' "$(sed -n 's/^bacgw_build_info//p' "$work/bacgw.prom")" '{version="0.1.0"} 1'
-    same 'the checksum of a configuration' "$(sed -n 's/^bacgw_configuration_info//p' "$work/bacgw.prom")" \
-        "{sha256=\"$(sha256sum < "$work/served.toml" | cut -d' ' -f1)\"} 1"
-    same 'the age of a configuration' "$(sed -n 's/^bacgw_configuration_age_seconds //p' "$work/bacgw.prom")" 1
-    same 'the mode of metrics' "$(stat -c %a "$work/bacgw.prom")" 644
-    (umask 077; timeout 3 "$program" run --config "$work/served.toml" --metrics "$work/masked.prom" --turns 3 < /dev/null > "$work/out" 2> "$work/err")
-    same 'their mode under another mask' "$(stat -c %a "$work/masked.prom")" 644
-    if command -v promtool > /dev/null; then
-        promtool check metrics < "$work/bacgw.prom" > "$work/out" 2>&1
-        same 'promtool reads the metrics' "$?" 0
-    fi
-    ran 1 "bacgw: metrics failed: refused by the system: $work/nowhere/prom" --config "$work/served.toml" --metrics "$work/nowhere/prom" --turns 1
+timeout 3 "$program" run --config "$work/served.toml" --metrics "$work/bacgw.prom" --turns 200 < /dev/null > "$work/out" 2> "$work/err"
+same 'the ticks of metrics' "$(sed -n 's/^bacgw_ticks_total //p' "$work/bacgw.prom")" 1
+same 'the ports of metrics' "$(grep -c '^bacgw_foreign_devices{' "$work/bacgw.prom")" 2
+same 'the sends by port of metrics' "$(sed -n 's/^bacgw_port_sends_total//p' "$work/bacgw.prom" | xargs)" '{port=1} 0 {port=2} 0'
+same 'the families of metrics' "$(grep -c '^# TYPE ' "$work/bacgw.prom")" 25
+same 'the version in metrics' "$(sed -n 's/^bacgw_build_info//p' "$work/bacgw.prom")" '{version="0.1.0"} 1'
+same 'the checksum of a configuration' "$(sed -n 's/^bacgw_configuration_info//p' "$work/bacgw.prom")" \
+    "{sha256=\"$(sha256sum < "$work/served.toml" | cut -d' ' -f1)\"} 1"
+same 'the age of a configuration' "$(sed -n 's/^bacgw_configuration_age_seconds //p' "$work/bacgw.prom")" 1
+same 'the mode of metrics' "$(stat -c %a "$work/bacgw.prom")" 644
+(umask 077; timeout 3 "$program" run --config "$work/served.toml" --metrics "$work/masked.prom" --turns 3 < /dev/null > "$work/out" 2> "$work/err")
+same 'their mode under another mask' "$(stat -c %a "$work/masked.prom")" 644
+if command -v promtool > /dev/null; then
+    promtool check metrics < "$work/bacgw.prom" > "$work/out" 2>&1
+    same 'promtool reads the metrics' "$?" 0
 fi
+ran 1 "bacgw: metrics failed: refused by the system: $work/nowhere/prom" --config "$work/served.toml" --metrics "$work/nowhere/prom" --turns 1
 
 # A gateway takes over the configuration that it is asked to read, and refuses a faulty one.
 cp "$work/served.toml" "$work/changed.toml"
@@ -672,7 +668,7 @@ same 'an audit' "$(sed -E 's/ [0-9]+ 1 1:/ . 1 1:/' "$work/log.audit")" \
     "allow 1 . 1 $asked,1 prop=85 prio=- rule=all $sent
 allow 2 . 1 $asked,1 prop=85 prio=- rule=all $sent"
 # So do the numbers of files with stamps, though the last line is a note once a second gateway began.
-rm -f "$work/state"
+rm -f "$work/state" "$work/stamped"
 python3 "$here/loopback.py" watched "$program" "$work/audited.toml" "$work/trial.toml" "$work/stamped" --stamp --state "$work/state" > "$work/out" 2>&1
 for name in stamped stamped.trial stamped.audit; do
     numbers='1 2'
