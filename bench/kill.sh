@@ -9,8 +9,9 @@
 # have one of these. Then each point's value, slots and default and the table are read, and each answer must be that of a gateway in
 # memory (`bacgw replay`) after all acknowledged writes. If strace is there, the gateway is then killed at each of the first 60 calls of
 # the system that a kept state takes (openat, write, fsync, rename). If a tmpfs can be mounted, the state is kept on one of 1 MiB that is
-# then filled: a granted write gets no answer, a read does, and once there is room again all that was written outlives a kill. If strace is
-# there, each fsync then takes two seconds and fails: each read must be answered within three, also while the state is tried, and it is
+# then filled: a granted write gets no answer, a read does, and once there is room again all that was written outlives a kill. So it is
+# on one that is read-only for a while, where a state that somebody removes is there again once a write is granted. If strace is there, each
+# fsync then takes two seconds and fails: each read must be answered within three, also while the state is tried, and it is
 # tried after 1, 2, 4, 8 and 16 seconds alone. Of 600 granted writes at once those beyond 64 in a second get no answer. The last
 # line says how many starts there were, how many acknowledged writes, how many were missing, and how many reads were compared and
 # differed; the status is 0 if none was missing, refused or other.
@@ -326,17 +327,44 @@ def fill(folder):
         kill(gateway)
 
 
-# Then on a disk that is full for a while.
-folder = work / "full"
-folder.mkdir()
-counts["full"] = 0
-if subprocess.run(["mount", "-t", "tmpfs", "-o", "size=1m", "none", str(folder)], capture_output=True).returncode == 0:
-    try:
-        fill(folder)
-    finally:
-        subprocess.run(["umount", str(folder)], check=True)
-else:
-    print("no tmpfs can be mounted: a full disk isn't tried")
+def forbid(folder):
+    """A state on a disk that is read-only for a while, and a state that is removed."""
+    global state
+    state = folder / "state"
+    gateway = start()
+    if gateway is None:
+        return
+    is_so("a write is acknowledged", write(1, 1001), "forbidden")
+    subprocess.run(["mount", "-o", "remount,ro", str(folder)], check=True)
+    kept = state.read_bytes()
+    is_so("a write on a read-only disk gets no answer", not write(2, 2001), "forbidden")
+    is_so("the gateway says so", told(gateway, "bacgw: state isn't kept: read-only"), "forbidden")
+    is_so("a read is answered", read(1) == 1001, "forbidden")
+    is_so("the old state stays", state.read_bytes() == kept, "forbidden")
+    subprocess.run(["mount", "-o", "remount,rw", str(folder)], check=True)
+    is_so("the gateway says that it is kept again", told(gateway, "bacgw: state is kept again", 20), "forbidden")
+    state.unlink()
+    is_so("a write is acknowledged again", write(3, 3001), "forbidden")
+    is_so("a removed state is there again", state.exists(), "forbidden")
+    kill(gateway)
+    gateway = start()
+    if gateway is not None:
+        is_so("what was written outlives a kill", [read(1), read(2), read(3)] == [1001, 2001, 3001], "forbidden")
+        kill(gateway)
+
+
+# Then on a disk that is full for a while, and on one that is read-only for a while.
+for kind, tried in (("full", fill), ("forbidden", forbid)):
+    folder = work / kind
+    folder.mkdir()
+    counts[kind] = 0
+    if subprocess.run(["mount", "-t", "tmpfs", "-o", "size=1m", "none", str(folder)], capture_output=True).returncode == 0:
+        try:
+            tried(folder)
+        finally:
+            subprocess.run(["umount", str(folder)], check=True)
+    else:
+        print(f"no tmpfs can be mounted: a {kind} disk isn't tried")
 
 
 def slow(folder):
