@@ -5,10 +5,12 @@
 #
 # Of 20 denied reads, four in each of five seconds, fdatasync must be called after each of these seconds and in no other; with a log that
 # is a pipe the gateway must go on although it fails there. If the second fdatasync fails (strace), the run must end with the name of the
-# log and status 1, and the log must have the lines of the first two seconds. The last line says how often it looked and how often
-# something was not so; the status is 0 if that is never.
+# log and status 1, and the log must have the lines of the first two seconds. If a tmpfs can be mounted, the log is on one of 1 MiB that is
+# full for a while, and the gateway is to hold: a denied read gets no answer, an allowed one does, and once there is room again the log
+# has a whole line of each denial, numbered without a gap. The last line says how often it looked and how often something was not so; the
+# status is 0 if that is never.
 #
-# It wants python3, strace and the built program: ./bacgw prove.
+# It wants python3, strace and the built program: ./bacgw prove. It wants root for the tmpfs.
 set -euo pipefail
 
 top=$(cd "$(dirname "$0")/.." && pwd)
@@ -49,6 +51,7 @@ address = "{GATEWAY}:{UDP}"
 broadcast = "127.6.0.255:{UDP}"
 """)
 READ = bytes.fromhex("810a00160124006401" "01ff" "0005010c0c01400002" "1955")
+NAME = bytes.fromhex("810a00160124006401" "01ff" "0005020c0c020004d2" "194d")
 line = socket.socket(socket.AF_INET, socket.SOCK_DGRAM)
 line.bind((CLIENT, UDP))
 looked = wrong = 0
@@ -124,6 +127,83 @@ is_so("the run ends with status 1", status == 1)
 is_so("the fault names the log", gateway.stderr.read().splitlines()[-1:] == [f"bacgw: log failed: {log}"])
 is_so("the lines before are there", log.read_text().count("\n") in (8, 12))
 
+
+
+def answer():
+    """The first datagram that comes within a second and a half, if any."""
+    line.settimeout(1.5)
+    try:
+        return line.recv(1508)
+    except OSError:
+        return None
+
+
+def asked(octets):
+    """The answer to this one, after all that came before it."""
+    line.settimeout(0.1)
+    try:
+        while True:
+            line.recv(1508)
+    except OSError:
+        pass
+    line.sendto(octets, (GATEWAY, UDP))
+    return answer()
+
+
+def hold(folder):
+    """A log on a disk that is full for a while, of a gateway that holds."""
+    config.write_text(config.read_text() + """[[rule]]
+name = "hide"
+allow = false
+object_type = [5]
+[[rule]]
+name = "all"
+allow = true
+""")
+    log = folder / "held.log"
+    words = [program, "run", "--config", str(config), "--log", str(log), "--on-log-failure", "hold"]
+    with open(work / "said", "w") as said:
+        gateway = subprocess.Popen(words, stdin=subprocess.DEVNULL, stderr=said)
+    time.sleep(2)
+    denied = 4
+    is_so("a denied read is answered", all(asked(READ) is not None for _ in range(denied)))
+    with open(folder / "filler", "wb", buffering=0) as filler:
+        for size in (4096, 1):
+            try:
+                while filler.write(bytes(size)):
+                    pass
+            except OSError:
+                pass
+    # A page of the log may have room still.
+    for _ in range(60):
+        line.sendto(READ, (GATEWAY, UDP))
+    denied += 61
+    time.sleep(1)
+    is_so("a denied read on a full disk gets no answer", asked(READ) is None)
+    is_so("an allowed one does", asked(NAME) is not None)
+    is_so("not each denial has a line", log.read_text().count("\n") < denied)
+    time.sleep(5)
+    is_so("an allowed read is answered later too", asked(NAME) is not None)
+    (folder / "filler").unlink()
+    time.sleep(3)
+    numbers = [entry.split()[0] for entry in log.read_text().splitlines()]
+    is_so("each denial has its line, in order", numbers == [str(number) for number in range(1, denied + 1)])
+    is_so("a denied read is answered again", asked(READ) is not None)
+    notes = ["bacgw: log failed, denied messages wait", "bacgw: log written again"]
+    is_so("the gateway says both", (work / "said").read_text().splitlines() == notes)
+    gateway.kill()
+    gateway.wait()
+
+
+folder = work / "full"
+folder.mkdir()
+if subprocess.run(["mount", "-t", "tmpfs", "-o", "size=1m", "none", str(folder)], capture_output=True).returncode == 0:
+    try:
+        hold(folder)
+    finally:
+        subprocess.run(["umount", str(folder)], check=True)
+else:
+    print("no tmpfs can be mounted: a log that is held isn't tried")
 print(f"{looked} looked at, {wrong} not so")
 sys.exit(0 if wrong == 0 else 1)
 PYTHON
