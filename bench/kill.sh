@@ -9,12 +9,13 @@
 # have one of these. Then each point's value, slots and default and the table are read, and each answer must be that of a gateway in
 # memory (`bacgw replay`) after all acknowledged writes. If strace is there, the gateway is then killed at each of the first 60 calls of
 # the system that a kept state takes (openat, write, fsync, rename). If a tmpfs can be mounted, the state is kept on one of 1 MiB that is
-# then filled: a granted write gets no answer, a read does, and once there is room again all that was written outlives a kill. So it is
-# on one that is read-only for a while, where a state that somebody removes is there again once a write is granted. If strace is there, each
-# fsync then takes two seconds and fails: each read must be answered within three, also while the state is tried, and it is
-# tried after 1, 2, 4, 8 and 16 seconds alone. Of 600 granted writes at once those beyond 64 in a second get no answer. The last
-# line says how many starts there were, how many acknowledged writes, how many were missing, and how many reads were compared and
-# differed; the status is 0 if none was missing, refused or other.
+# then filled: a granted write gets no answer, a read does, and once there is room again all that was written outlives a kill. So it is on
+# one that is read-only for a while, where a state that somebody removes is there again once a write is granted. If strace is there, each
+# fsync then takes two seconds and fails: each read must be answered within three, also while the state is tried, and it is tried after 1,
+# 2, 4, 8 and 16 seconds alone. Of 600 granted writes at once those beyond 64 in a second get no answer. A gateway that is stopped for
+# FROZEN seconds, 10 by default, answers a read within the second after. The last line says how many starts there were, how many
+# acknowledged writes, how many were missing, and how many reads were compared and differed; the status is 0 if none was missing, refused
+# or other.
 #
 # It wants python3 and the built program: ./bacgw prove.
 set -euo pipefail
@@ -41,6 +42,7 @@ from pathlib import Path
 program, work, times = sys.argv[1], Path(sys.argv[2]), int(sys.argv[3])
 CLIENT, GATEWAY, UDP = "127.5.0.5", "127.5.0.10", 47808
 POINTS = range(1, 9)
+FROZEN = int(os.environ.get("FROZEN", "10"))  # for how many seconds it doesn't run
 CALLS = int(os.environ.get("CALLS", "60"))  # at how many calls of each kind it is killed
 chance = random.Random(1)
 
@@ -411,8 +413,31 @@ def flood(folder):
     kill(gateway)
 
 
+def freeze(folder):
+    """A gateway that doesn't run for a while, as a machine that is suspended: the seconds that are due don't deafen it."""
+    global state
+    state = folder / "state"
+    gateway = start()
+    if gateway is None:
+        return
+    is_so("a write is acknowledged", write(1, 1002), "frozen")
+    os.kill(gateway.pid, signal.SIGSTOP)
+    time.sleep(FROZEN)
+    is_so("a read gets no answer", read(1, 0.5) is None, "frozen")
+    os.kill(gateway.pid, signal.SIGCONT)
+    is_so("a read is answered within a second", read(1, 1) is not None, "frozen")
+    is_so("a write within another", write(2, 2002), "frozen")
+    kill(gateway)
+    gateway = start()
+    if gateway is not None:
+        is_so("what was written outlives a kill", [read(1), read(2)] == [1002, 2002], "frozen")
+        kill(gateway)
+
+
 counts["flood"] = 0
 flood(work)
+counts["frozen"] = 0
+freeze(work)
 counts["slow"] = 0
 if shutil.which("strace"):
     slow(work)

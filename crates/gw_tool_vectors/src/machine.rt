@@ -6,12 +6,13 @@ use gw_cases::{MemSource, edited};
 use gw_ending::Fault;
 use gw_ending::reading::ConfigFiles;
 use gw_log_words::{Calendar, Moment, moment_after};
-use gw_program_cases::{Left, MemFiles, Program, Section, put_left};
+use gw_program_cases::{Left, MemFiles, Program, RunStreams, Section, put_left};
 use gw_system::ReadFailure;
 use gw_tools::{Machine, run};
 use gw_wire::StoreFault;
 use std::alloc::{AllocError, Global};
 use std::io;
+use std::process::ExitCode;
 
 /// A clock that always shows the first second of 1970.
 #[derive(Drop)]
@@ -175,6 +176,25 @@ fn answer_of(alloc: Global, section: &Section<'_>) -> Result<Option<Vec<u8>>, Al
     )
 }
 
+/// Runs the program on these words, over these files and this machine.
+fn run_on(
+    alloc: Global,
+    words: Result<Vec<String>, Fault>,
+    files: &ToolFiles<'_>,
+    machine: &MemMachine,
+    streams: &mut RunStreams<'_>,
+) -> ExitCode {
+    run(
+        alloc,
+        words,
+        files,
+        machine,
+        &mut streams.input,
+        &mut streams.output,
+        &mut streams.errors,
+    )
+}
+
 /// The program on a machine in memory.
 #[derive(Clone, Copy)]
 pub struct Bacgwctl;
@@ -201,15 +221,7 @@ impl Program for Bacgwctl {
             now: now.as_str(),
             was: config,
         };
-        let code = run(
-            alloc,
-            words,
-            &files,
-            &machine,
-            &mut streams.input,
-            &mut streams.output,
-            &mut streams.errors,
-        );
+        let code = run_on(alloc, words, &files, &machine, &mut streams);
         Ok(streams.left(code))
     }
 }
