@@ -7,7 +7,7 @@
 #     bench/slips.sh --anew          # all, also those that were tried on these sources
 #     bench/slips.sh --count         # tries nothing: says how many were refused by what, and which weren't tried on these sources
 #     bench/slips.sh --minutes 20    # ends after so many minutes; the next run goes on from there
-#     bench/slips.sh --jobs 2        # so many crates side by side; else JOBS or RT_JOBS says how many, else one for each two processors
+#     bench/slips.sh --jobs 2        # so many crates side by side; else JOBS or RT_JOBS says how many, else as many as the gate proves
 #     LOGS=FOLDER bench/slips.sh     # keeps what each check said
 #
 # bench/slips.tsv has a line for each slip that was tried: its crate and name, what refused it, the goal, and the checksum of the crate's
@@ -15,9 +15,10 @@
 # tried, so a run that is interrupted, or ends for want of time, loses the check under way alone.
 #
 # A slip has the form of the gate's own edits in must-fail/. Where it lies in one function, it is written into a copy of that function
-# under another name, with its contract and its proof, so that one check of the crate tries them all: the function itself stays, and
-# with it its callers' proofs. A slip elsewhere (in a constant, a type, a trait's method, a function of a cycle, several functions), and
-# one whose copy is proved, is tried in its place, a check each. All is done on a copy of the crate, over what `rt check` has kept in out/.
+# under another name, with its contract and its proof, so that one check tries all of a crate: of these copies, of the functions as they
+# are, which must be proved, and of what they call. A slip elsewhere (in a constant, a type, a trait's method, a function of a cycle,
+# several functions), and one whose copy is proved, is tried in its place, a check each: of the modules that it changes, and if these are
+# proved, of the whole crate. All is done on a copy of the crate, over what `rt check` has kept in out/.
 #
 # An answer of a hand-written proof that misfits a slip is left out, and the check run again, so that the search meets the goal. Beside
 # it the function as it is gets a copy whose proof lacks the same answers. For each slip a line says what refused it:
@@ -36,7 +37,7 @@ set -euo pipefail
 
 top=$(cd "$(dirname "$0")/.." && pwd)
 cd "$top"
-exec python3 - "$top" "${JOBS:-${RT_JOBS:-$((($(nproc) + 1) / 2))}}" "${LOGS:-}" "$@" <<'PYTHON'
+exec python3 - "$top" "${JOBS:-$(.ci/lanes)}" "${LOGS:-}" "$@" <<'PYTHON'
 import argparse
 import fcntl
 import hashlib
@@ -80,6 +81,11 @@ def sum_of(name):
     for path in sorted(it for part in PARTS for it in (top / "crates" / name / part).glob("**/*") if it.is_file()):
         found.update(repr((str(path.relative_to(top)), path.read_bytes())).encode())
     return found.hexdigest()
+
+
+def size_of(name):
+    """How many octets the sources of a crate have."""
+    return sum(it.stat().st_size for part in PARTS for it in (top / "crates" / name / part).glob("**/*"))
 
 
 class Record:
@@ -152,7 +158,14 @@ if options.count:
             print(f"not tried on these sources: {len(untried)} of {name}: {', '.join(untried)}")
     print(", ".join(f"{total[kind]} refused by a {kind}" for kind in REFUSED) + f", {total[None]} not tried on these sources")
     sys.exit(0 if not total[None] else 1)
-crates = [name for name in crates if wanted_of(name)]
+# The largest come first, so that the last ones end at about one time.
+crates = sorted((name for name in crates if wanted_of(name)), key=lambda name: -size_of(name))
+
+
+def module_of(file):
+    """The module of a file of src/, as the names of its path."""
+    module = Path(file).relative_to("src").with_suffix("")
+    return [] if str(module) in ("lib", "main") else list(module.parts)
 
 
 class Function:
@@ -160,6 +173,11 @@ class Function:
 
     def __init__(self, file, name, owner, start, end):
         self.file, self.name, self.owner, self.start, self.end = file, name, owner, start, end
+        self.home = module_of(file)
+
+    def path(self, name=None):
+        """The path below the crate of the function, or of its copy of this name."""
+        return "::".join([*self.home, *([self.owner] if self.owner else []), name or self.name])
 
     def same(self, other):
         return (self.file, self.start) == (other.file, other.start)
@@ -171,6 +189,9 @@ class Copy:
     def __init__(self, function, name, slip, left_out=()):
         self.function, self.name, self.slip = function, name, slip
         self.left_out = set(left_out)
+
+    def path(self):
+        return self.function.path(self.name)
 
     def control(self):
         """The copy without its slip, whose proof lacks the same answers."""
@@ -403,10 +424,11 @@ for number in (signal.SIGINT, signal.SIGTERM, signal.SIGHUP):
     signal.signal(number, runs.end)
 
 
-def check(crate, count, label):
+def check(crate, paths, label):
+    """What a check says of the functions and modules of these paths and of what they call, or of the whole crate if there is none."""
     started = time.time()
-    status, said, _ = runs.run(["rt", "check", "--jobs", str(count)], cwd=crate, stdin=subprocess.DEVNULL,
-                               stdout=subprocess.PIPE, stderr=subprocess.STDOUT, text=True, errors="replace")
+    command = ["rt", "check", "--jobs", "1", *(word for path in paths for word in ("--only", path))]
+    status, said, _ = runs.run(command, cwd=crate, stdin=subprocess.DEVNULL, stdout=subprocess.PIPE, stderr=subprocess.STDOUT, text=True, errors="replace")
     if logs:
         Path(logs).mkdir(parents=True, exist_ok=True)
         (Path(logs) / f"{crate.name}_{label}.log").write_text(f"{time.time() - started:.0f} s\n{said}", encoding="utf-8")
@@ -414,7 +436,7 @@ def check(crate, count, label):
 
 
 def is_verdict(status, said):
-    return status == 0 or re.search(r"^logic=not-proved", said, re.MULTILINE) is not None
+    return status == 0 or status == 1 and re.search(r"^(logic=not-proved|only=\d+ )", said, re.MULTILINE) is not None
 
 
 def restore(name, crate):
@@ -425,15 +447,16 @@ def restore(name, crate):
             subprocess.run(["cp", "-a", top / "crates" / name / part, crate], check=True)
 
 
-def judged(said, name):
+def judged(said, path):
     """What the check says of a function and its closures: how it is refused, or that it is proved, or nothing; and the goals left."""
-    lines = re.findall(rf"^fn (?:\S*::)?{name}(?:::\S*)?: (.*)$", said, re.MULTILINE)
+    name = path.rpartition("::")[2]
+    lines = re.findall(rf"^fn \w+::{re.escape(path)}(?:::\S*)?: (.*)$", said, re.MULTILINE)
     open_lines = [line for line in lines if line != "proved"]
     if not open_lines:
         return ("proved" if lines else "nothing"), ""
     unmet = [re.findall(r"`([^`]+)`", line.partition("did not prove")[2]) for line in open_lines]
     goals = [goal for them in unmet for goal in them]
-    goals += re.findall(rf"^note: `([^`]+)` of proofs/\S*\b{name}/\S+ must prove", said, re.MULTILINE)
+    goals += re.findall(rf"^note: `([^`]+)` of proofs/\S*\b{re.escape(name)}/\S+ must prove", said, re.MULTILINE)
     if goals:
         return "clause", ", ".join(sorted(set(goals))[:4])
     return "proof", open_lines[0][:160]
@@ -452,11 +475,12 @@ class Trial:
         self.name, self.crate = name, crate
         self.slips = {it: read_slip(top / "crates" / name / "slips" / f"{it}.edit") for it in wanted_of(name)}
         self.found = {}
+        self.proved = {}
         self.checks = 0
 
-    def check(self, count=1):
+    def check(self, paths=()):
         self.checks += 1
-        return check(self.crate, count, self.checks)
+        return check(self.crate, paths, self.checks)
 
     def tell(self, slip, verdict, more):
         self.found[slip] = verdict
@@ -487,11 +511,17 @@ class Trial:
             if not copies:
                 return
             self.write(copies)
-            status, said = self.check()
+            status, said = self.check(self.paths_of(copies))
             if not is_verdict(status, said):
                 self.try_readable(copies, said)
                 return
             copies = self.tell_known(copies, said, turn == TURNS)
+
+    def paths_of(self, copies):
+        """The copies, those without a slip beside them, and the functions as they are."""
+        names = [copy.name for copy in copies] + [copy.control().name for copy in copies if copy.left_out]
+        homes = [copy.function for copy in copies] + [copy.function for copy in copies if copy.left_out]
+        return sorted({home.path(name) for home, name in zip(homes, names)} | {home.path() for home in homes})
 
     def tell_known(self, copies, said, last):
         """Says what refuses each copy, but for those that need another check, which it gives: some of their answers misfit."""
@@ -525,52 +555,80 @@ class Trial:
 
     def leave_out(self, copy, said):
         """Notes the answers that misfit a copy which nothing else refuses; whether there were any."""
-        if judged(said, copy.name)[0] != "proof":
+        if judged(said, copy.path())[0] != "proof":
             return False
         new = {(path.name, name) for path, name in misfits(said, self.crate) if copy.name in path.parts} - copy.left_out
         copy.left_out |= new
         return bool(new)
 
     def tell_copy(self, copy, said):
-        verdict, goals = judged(said, copy.name)
+        verdict, goals = judged(said, copy.path())
         if verdict in ("proved", "nothing"):
             return
         home = copy.function
-        if verdict == "clause" and copy.left_out and judged(said, copy.control().name)[0] != "proved":
+        if judged(said, home.path())[0] != "proved":
+            self.tell(copy.slip, "NOT TRIED", f"{home.path()} isn't proved itself")
+            return
+        if verdict == "clause" and copy.left_out and judged(said, copy.control().path())[0] != "proved":
             verdict = "goal"
         self.tell(copy.slip, verdict, f"{home.owner + '::' if home.owner else ''}{home.name}: {goals}")
 
+    def is_proved(self, paths):
+        """Whether the crate as it is is proved, as far as a check of these paths goes."""
+        if paths not in self.proved:
+            restore(self.name, self.crate)
+            self.proved[paths] = self.check(paths)[0] == 0
+        return self.proved[paths]
+
+    def modules_of(self, slip):
+        """The modules that a slip changes, or none if it changes anything else."""
+        files = {path for path, _, _ in self.slips[slip]}
+        modules = ["::".join(module_of(file)) if file.startswith("src/") else "" for file in files]
+        return tuple(sorted(modules)) if all(modules) else ()
+
     def try_in_place(self, slip):
-        """Tries a slip where it is."""
+        """Tries a slip where it is: a check of the modules that it changes, and then one of the whole crate."""
+        modules = self.modules_of(slip)
+        if modules and self.is_proved(modules) and self.try_check(slip, modules):
+            return
+        if not self.is_proved(()):
+            self.tell(slip, "NOT TRIED", "the crate isn't proved itself")
+        elif not self.try_check(slip, ()):
+            self.try_cases(slip)
+
+    def try_check(self, slip, paths):
+        """Whether a check of these paths says that a slip is refused where it is, or that it can't be tried."""
         left_out = set()
         for _ in range(TURNS):
             restore(self.name, self.crate)
             fault = write_slip(self.slips[slip], self.crate) or self.drop(left_out)
             if fault:
-                return self.tell(slip, "NOT TRIED", fault)
-            status, said = self.check()
+                self.tell(slip, "NOT TRIED", fault)
+                return True
+            status, said = self.check(paths)
             if status == 0:
-                return self.try_cases(slip)
-            if not is_verdict(status, said):
-                return self.tell(slip, "NOT TRIED", short(said))
-            left = re.findall(r"^fn (\S+): (?!proved$)", said, re.MULTILINE)
-            if not left:
-                return self.tell(slip, "NOT TRIED", "no function is named")
-            by_clause = [name for name in left if judged(said, re.escape(name))[0] == "clause"]
+                return False
+            left = re.findall(r"^fn \w+::(\S+): (?!proved$)", said, re.MULTILINE)
+            if not is_verdict(status, said) or not left:
+                if not paths:
+                    self.tell(slip, "NOT TRIED", "no function is named" if is_verdict(status, said) else short(said))
+                return not paths
+            by_clause = [path for path in left if judged(said, path)[0] == "clause"]
             new = {(path.relative_to(self.crate), name) for path, name in misfits(said, self.crate)} - left_out
             if by_clause or not new:
                 break
             left_out |= new
         verdict = "clause" if by_clause else "proof"
-        name = (by_clause or left)[0]
-        goals = judged(said, re.escape(name))[1]
+        path = (by_clause or left)[0]
+        goals = judged(said, path)[1]
         if by_clause and left_out:
             restore(self.name, self.crate)
             self.drop(left_out)
-            _, said = self.check()
-            verdict = "clause" if judged(said, re.escape(name))[0] == "proved" else "goal"
+            _, said = self.check(paths)
+            verdict = "clause" if judged(said, path)[0] == "proved" else "goal"
         more = f", and {len(left) - 1} more" if len(left) > 1 else ""
-        return self.tell(slip, verdict, f"{name.partition('::')[2]}: {goals}{more}")
+        self.tell(slip, verdict, f"{path}: {goals}{more}")
+        return True
 
     def try_cases(self, slip):
         """Runs the cases over a slip that the check proves, if its file names a program of them."""
@@ -614,10 +672,6 @@ def try_crate(name):
         trial = Trial(name, Path(folder) / "crates" / name)
         try:
             copy_crates(name, Path(folder))
-            status, said = trial.check(2)
-            if status != 0:
-                print(f"NOT TRIED: {name} isn't proved itself: {short(said)}", flush=True)
-                return Counter({"NOT TRIED": len(wanted)})
             trial.try_all()
         except Ended:
             pass
