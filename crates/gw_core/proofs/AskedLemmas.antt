@@ -1,17 +1,18 @@
 -- What is asked, with its verdicts.
-use Rattle.std.proofs.Common.{◌≡◌, ◌∙◌, sym, ap, refl, Bool, true, false, List, [], ◌∷◌, Option, Some, None}
+use Rattle.std.proofs.Common.{◌≡◌, ◌∙◌, sym, ap, refl, Bool, true, false, List, [], ◌∷◌, map, Option, Some, None}
 use Rattle.gw_rules.specs.Ask.{Ask}
 use Rattle.gw_rules.specs.Asker.{verdicts_of}
 use Rattle.gw_rules.specs.Authorizer.{denied_of, refusal}
 use Rattle.gw_rules.specs.RuleList.{allows, first, is_quiet_by}
 use Rattle.gw_rules.specs.declared.refusal.Refusal.{Refusal}
 use Rattle.gw_rules.specs.declared.rule.Rule.{Rule}
+use Rattle.gw_rules.specs.declared.verdict.Verdict.{Verdict}
 use Rattle.gw_objects.specs.Objects.{Database}
 use Rattle.gw_relay.specs.Cast.{accepts, is_unregistered}
 use Rattle.gw_relay.specs.Message.{Message, message_view}
 use Rattle.gw_relay.specs.State.{Relay}
 use Rattle.gw_script.specs.Event.{Event, Tick}
-use Rattle.gw_core.specs.Asked.{asked_at, asked_of, refused_of}
+use Rattle.gw_core.specs.Asked.{asked_at, asked_from, asked_of, refused_of}
 use Rattle.gw_core.specs.Asks.{asks, asks_for}
 use Rattle.gw_core.specs.Receive.{Origin, Received, admit, dropped, unregistered, message, message_origin, origin, receive}
 use Rattle.gw_core.specs.State.{State}
@@ -88,3 +89,17 @@ asked_is w e = refl
 pub asked_at-tick : (w : State) → asked_at w Tick ≡ []
 unfolding asked_at receive
 asked_at-tick w = refl
+
+-- where nothing is asked, nothing is said to be asked
+pub none_asked : (w : State) (e : Event) → asks w e ≡ [] → asked_at w e ≡ []
+unfolding asked_at
+none_asked w e none = ap (λ (l : List Ask). asked_of (origin (receive w e)) (verdicts_of w.rules l)) none ∙ of_nobody (origin (receive w e))
+  where
+    of_nobody : (from : Option Origin) → asked_of from [] ≡ []
+    of_nobody None = refl
+    of_nobody (Some from) = refl
+
+-- and where nothing is said to be asked, there is no verdict
+pub no_verdict : (from : Origin) (verdicts : List Verdict) → map (asked_from from) verdicts ≡ [] → verdicts ≡ []
+no_verdict from [] none = refl
+no_verdict from (verdict ∷ verdicts) none = absurd cc

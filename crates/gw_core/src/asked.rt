@@ -8,8 +8,8 @@ ghost use Rattle.gw_core.specs.Asked.{asked_of, refused_of};
 ghost use Rattle.gw_core.specs.Receive.{Origin};
 ghost use Rattle.gw_core.specs.internal.View.{origin_of};
 
-use crate::denial::origin_of;
 use crate::receive::Received;
+use crate::seen::SeenAsks;
 use gw_addr::{Sequence, Source};
 use gw_rule_index::Policy;
 use gw_rules::{Asker, Authorizer, Recorder, Refusal, Refusals, Verdict};
@@ -89,7 +89,7 @@ impl Reporter for Recorder<'_, Policy> {
     ghost use Rattle.gw_rules.specs.Asker.{verdicts_of};
     ghost use Rattle.gw_core.specs.internal.Reports.{none_from};
 
-    type Asked = AllAsked;
+    type Asked = SeenAsks;
 
     ghost asked = { λ from rules asks. asked_of from (verdicts_of rules asks) };
 
@@ -97,37 +97,13 @@ impl Reporter for Recorder<'_, Policy> {
         self,
         alloc: Global,
         received: &Received<'_>,
-    ) -> Result<Report<AllAsked>, AllocError> {
-        let verdicts = self.verdicts();
-        let refusals = refused_of(alloc, verdicts)?;
-        let asked = asked_of(alloc, received, verdicts)?;
+    ) -> Result<Report<SeenAsks>, AllocError> {
+        let refusals = refused_of(alloc, self.verdicts())?;
+        let asked = SeenAsks::of(alloc, received, self.into_verdicts());
         Ok(Report { refusals, asked })
     }
 
     ghost unasked = { λ from rules. none_from from };
-}
-
-/// The asks of what is received, with their verdicts. If there is none it takes no memory.
-pub(crate) fn asked_of(
-    alloc: Global,
-    received: &Received<'_>,
-    verdicts: &[Verdict],
-) -> Result<AllAsked, AllocError>
-    ensures asked { IfOk result (λ asked. asked ≡ asked_of (origin_of received.now) verdicts.now) }
-    ensures silent { verdicts.now ≡ [] → IsOk result }
-{
-    let mut asked = AllAsked::new(alloc);
-    let Some(from) = origin_of(received) else {
-        return Ok(asked);
-    };
-    for verdict in verdicts {
-        asked.push(Asked {
-            port: from.here.port.number,
-            source: from.source_of(&verdict.ask),
-            verdict: *verdict,
-        })?;
-    }
-    Ok(asked)
 }
 
 /// The refusals among verdicts, which are those that deny, but by quiet rules. If there is none it takes no memory.

@@ -8,6 +8,7 @@ ghost use Rattle.gw_core.specs.internal.View.{origin_of, origin_view};
 
 use crate::event::Counts;
 use crate::receive::Received;
+use crate::seen::Whom;
 use gw_addr::{BipAddr, Source};
 use gw_audit::{Denial, Denials};
 use gw_relay::{Message, PortState, local_source};
@@ -63,6 +64,18 @@ impl Origin<'_> {
             Some(message) if ask.operation != Some(Operation::Enter.number()) => message.claim(),
             _ => local_source(self.here.port.network, self.link),
         }
+    }
+
+    /// Whom asks are of, for keeps.
+    pub(crate) fn whom(&self) -> Whom
+        ensures { result ≡ origin_view self.now }
+    {
+        let link = local_source(self.here.port.network, self.link);
+        let source = match self.message {
+            Some(message) => message.claim(),
+            None => link,
+        };
+        Whom::new(self.here.port.number, source, link)
     }
 }
 

@@ -5,8 +5,8 @@ ghost use Rattle.gw_script.specs.Event.{Event};
 ghost use Rattle.gw_core.specs.State.{State};
 ghost use Rattle.gw_core.specs.Guard.{IsSeen, IsTaken, PassesBoth};
 
-use crate::asked::AllAsked;
 use crate::gateway::{Gateway, Taken};
+use crate::seen::SeenAsks;
 use std::alloc::Global;
 
 /// What is done about an event that was taken and whose denials are logged, before anything of it is sent.
@@ -29,7 +29,7 @@ pub trait Guard {
         alloc: Global,
         gateway: &Gateway,
         taken: &Taken,
-        asked: Option<&AllAsked>,
+        asked: Option<&SeenAsks>,
     ) -> bool
         ensures { (w : State) (event : Event) → IsTaken w event gateway.now taken.now →
             IsSeen (watching self.old) w event (option_map (λ a. a.now) asked.entry) → Passes self.old w event self.new result };
@@ -55,7 +55,7 @@ impl Guard for Unguarded {
         _alloc: Global,
         _gateway: &Gateway,
         _taken: &Taken,
-        _asked: Option<&AllAsked>,
+        _asked: Option<&SeenAsks>,
     ) -> bool {
         true
     }
@@ -84,7 +84,7 @@ impl<G: Guard, H: Guard> Guard for Both<G, H> {
         alloc: Global,
         gateway: &Gateway,
         taken: &Taken,
-        asked: Option<&AllAsked>,
+        asked: Option<&SeenAsks>,
     ) -> bool {
         let first = self.first.pass(alloc, gateway, taken, asked);
         let second = self.second.pass(alloc, gateway, taken, asked);

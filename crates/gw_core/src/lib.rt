@@ -17,6 +17,7 @@ mod reply;
 mod reporting;
 mod respond;
 mod saving;
+mod seen;
 mod whole_run;
 
 pub use asked::{AllAsked, Asked};
@@ -33,5 +34,6 @@ pub use gw_configuration::{Config, ConfigFault};
 pub use gw_relay::{Batch, Sends};
 pub use gw_script::{Event, script_laws};
 pub use receive::Arrival;
-pub use reporting::{AllAsks, DenialsAlone, Reporting};
+pub use reporting::{AllAsks, AsksSeen, DenialsAlone, Reporting};
+pub use seen::{SeenAsks, Whom};
 pub use whole_run::{run, take_event, take_event_to};

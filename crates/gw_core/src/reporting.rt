@@ -11,6 +11,7 @@ use crate::asked::AllAsked;
 use crate::fault::StepFault;
 use crate::gateway::{Gateway, Taken};
 use crate::receive::Arrival;
+use crate::seen::SeenAsks;
 use gw_rules::{Authorizer, Recorder};
 use std::alloc::Global;
 
@@ -88,6 +89,33 @@ impl Reporting for AllAsks {
         arrival: &Arrival<'_>,
         taken: &mut Taken,
     ) -> Result<AllAsked, StepFault> {
+        let seen = AsksSeen::outcome(gateway, alloc, arrival, taken)?;
+        Ok(seen.to_all(alloc)?)
+    }
+}
+
+/// The same, with whom the asks are of kept once, as a guard sees it.
+#[derive(Clone, Copy, Default)]
+pub struct AsksSeen;
+
+impl Reporting for AsksSeen {
+    ghost use Rattle.gw_core.specs.Asked.{asked_at};
+
+    type Asked = SeenAsks;
+
+    ghost asked = { asked_at };
+
+    fn nothing(alloc: Global) -> SeenAsks {
+        SeenAsks::none(alloc)
+    }
+
+    #[inline(always)]
+    fn outcome(
+        gateway: &Gateway,
+        alloc: Global,
+        arrival: &Arrival<'_>,
+        taken: &mut Taken,
+    ) -> Result<SeenAsks, StepFault> {
         let asker = Recorder::new(alloc, gateway.policy());
         gateway.outcome(alloc, arrival, asker, taken)
     }

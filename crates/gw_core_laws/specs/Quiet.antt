@@ -77,7 +77,8 @@ QuietRulesLogLess = (w : State) (e : Event) → OnlyLogsLess w e
 -- So does each list of events, one after the other; and the log is that without the denials by quiet rules, numbered on.
 pub record RunOnlyLogsLess (w : State) (l : List Event) : Type 0 where
   pub sends : map (λ given. given.sends) (run_from w l) ≡ map (λ given. given.sends) (run_from (under (without_quiet w.rules) w) l)
-  pub log : log (run_from w l) ≡ numbered_on (w.denials + 1) (filter (is_loud w.rules) (log (run_from (under (without_quiet w.rules) w) l)))
+  pub log : log (run_from w l)
+      ≡ numbered_on (w.denials + 1) (filter (is_loud w.rules) (log (run_from (under (without_quiet w.rules) w) l)))
   pub state : counting 0 (under (without_quiet w.rules) (state_from w l)) ≡ counting 0 (state_from (under (without_quiet w.rules) w) l)
 
 abbrev pub QuietRulesRunLogLess : Type 0

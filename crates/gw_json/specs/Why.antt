@@ -61,7 +61,8 @@ plain_value rules notes ask =
     object_of (verdict_members rules notes (allows rules (ask_shown ask)) (first rules (ask_shown ask)) ++ ask_members ask)
 
 -- a line that says an ask, and the answer to it
-pub record IsAnswerIn (rules : List Rule) (notes : List (List ℕ)) (place : Option ℕ → List (List ℕ × Json)) (line text : List ℕ) : Type 0 where
+pub record IsAnswerIn (rules : List Rule) (notes : List (List ℕ)) (place : Option ℕ → List (List ℕ × Json)) (line text : List ℕ)
+    : Type 0 where
   pub ask : ShownAsk
   pub translates : ShowsAsk line ask
   pub answer : text ≡ line_of (answer_value rules notes place ask)
@@ -71,5 +72,6 @@ abbrev pub SaysNoAsk : List ℕ → Type 0
 SaysNoAsk line = (ask : ShownAsk) → ¬ (ShowsAsk line ask)
 
 -- what is left written, by its outcome; a line that says no ask ends it, or one of more than 4096 octets
-abbrev pub LeavesVerdicts : List Rule → List (List ℕ) → (place : Option ℕ → List (List ℕ × Json)) → Result (Unit {0}) LinesFault → (text before after : List ℕ) → Type 0
+abbrev pub LeavesVerdicts : List Rule → List (List ℕ) → (place : Option ℕ → List (List ℕ × Json)) → Result (Unit {0}) LinesFault
+    → (text before after : List ℕ) → Type 0
 LeavesVerdicts rules notes place = LeavesLines (IsAnswerIn rules notes place) SaysNoAsk

@@ -59,7 +59,8 @@ struct Answers<'a> {
 }
 
 impl<'a> LineTranslator for Answers<'a> {
-    ghost Translates = { λ answers line text. IsAnswerIn answers.config.now.rules answers.config.now.notes (place_members answers.config.now.tables answers.lines.now) line text };
+    ghost Translates = { λ answers line text. IsAnswerIn answers.config.now.rules answers.config.now.notes
+        (place_members answers.config.now.tables answers.lines.now) line text };
 
     ghost Refuses = { λ _ line. SaysNoAsk line };
 

@@ -25,8 +25,8 @@ IsSyncedIf Syncs true was (Ok done) is = Syncs was.file (Ok done) is.file × (is
 IsSyncedIf Syncs true was (Err failed) is = Syncs was.file (Err failed) is.file
 IsSyncedIf Syncs false was outcome is = (outcome ≡ Ok tt) × (is ≡ was)
 
-pub record IsFileSynced {F File : Type 0} (Syncs : File → Result (Unit {0}) WriteFailed → File → Type 0) (held : File → Option (List ℕ))
-    (was : NamedLog F File) (outcome : Result (Unit {0}) WriteFailed) (is : NamedLog F File) : Type 0 where
+pub record IsFileSynced {F File : Type 0} (Syncs : File → Result (Unit {0}) WriteFailed → File → Type 0)
+    (held : File → Option (List ℕ)) (was : NamedLog F File) (outcome : Result (Unit {0}) WriteFailed) (is : NamedLog F File) : Type 0 where
   pub synced : IsSyncedIf Syncs was.is_unsynced was outcome is
   pub files : is.files ≡ was.files
   pub keeps : Keeps (held was.file) (held is.file)

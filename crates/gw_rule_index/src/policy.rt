@@ -1,5 +1,6 @@
 //! What a gateway judges by: its rules, and their index if that pays.
-ghost use Rattle.std.specs.Prelude.{◌≡◌, IfOk, IfSome};
+ghost use Rattle.std.specs.Prelude.{◌≡◌, is_some, length, nat_le, IfOk, IfSome};
+ghost use Rattle.gw_rule_index.specs.declared.policy.TheConstants.{LEAST_INDEXED};
 ghost use Rattle.gw_rule_index.specs.internal.Index.{IsBuiltFrom};
 
 use crate::RuleIndex;
@@ -25,15 +26,17 @@ impl Drop for Policy {
 }
 
 impl Model for Policy {
-    ghost use Rattle.std.specs.Prelude.{IfSome, List};
+    ghost use Rattle.std.specs.Prelude.{◌≡◌, IfSome, List, is_some, length, nat_le};
     ghost use Rattle.gw_rules.specs.declared.rule.Rule.{Rule};
+    ghost use Rattle.gw_rule_index.specs.declared.policy.TheConstants.{LEAST_INDEXED};
     ghost use Rattle.gw_rule_index.specs.internal.Index.{IsBuiltFrom};
 
     ghost Value = { List Rule };
 
     ghost view = { λ policy. policy.rules };
 
-    ghost invariant = { λ policy. IfSome policy.index (λ index. IsBuiltFrom index policy.rules) };
+    ghost invariant = { λ policy. IfSome policy.index (λ index. IsBuiltFrom index policy.rules)
+        × (is_some policy.index ≡ nat_le LEAST_INDEXED (length policy.rules)) };
 }
 
 impl Policy {
@@ -51,11 +54,19 @@ impl Policy {
     {
         &self.rules
     }
+
+    /// Whether an index answers: from 32 rules on.
+    pub fn is_indexed(&self) -> bool
+        ensures { result ≡ nat_le LEAST_INDEXED (length self.now) }
+    {
+        self.index.is_some()
+    }
 }
 
 /// The index of rules, if they are so many that it pays.
 fn index_of(alloc: Global, rules: &RuleList) -> Result<Option<RuleIndex>, AllocError>
-    ensures { IfOk result (λ index. IfSome index (λ index. IsBuiltFrom index rules.now)) }
+    ensures built { IfOk result (λ index. IfSome index (λ index. IsBuiltFrom index rules.now)) }
+    ensures indexed { IfOk result (λ index. is_some index ≡ nat_le LEAST_INDEXED (length rules.now)) }
 {
     if rules.rules().len() < LEAST_INDEXED {
         return Ok(None);
@@ -82,6 +93,13 @@ impl Judge for Policy {
 
     fn is_quiet(&self, by: Option<u16>) -> bool {
         self.rules.is_quiet(by)
+    }
+
+    fn verdict(&self, ask: &Ask) -> (Option<u16>, bool) {
+        match &self.index {
+            Some(index) => index.verdict(ask),
+            None => Judge::verdict(&self.rules, ask),
+        }
     }
 
     fn decide(&self, ask: &Ask) -> Decision {

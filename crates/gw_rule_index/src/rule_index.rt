@@ -192,6 +192,11 @@ impl Judge for RuleIndex {
         }
     }
 
+    fn verdict(&self, ask: &Ask) -> (Option<u16>, bool) {
+        let by = RuleIndex::first(self, ask);
+        (by, self.allows_first(by))
+    }
+
     fn decide(&self, ask: &Ask) -> Decision {
         let by = RuleIndex::first(self, ask);
         if self.allows_first(by) {

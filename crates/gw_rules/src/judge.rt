@@ -24,6 +24,15 @@ pub trait Judge {
     fn is_quiet(&self, by: Option<u16>) -> bool
         ensures { (rules : List Rule) → StandsFor self.now rules → result ≡ is_quiet_by rules by };
 
+    /// Both at once: the number of the first rule that matches the ask, and whether it says allow. A judge that finds both by one
+    /// walk says so by a body of its own.
+    fn verdict(&self, ask: &Ask) -> (Option<u16>, bool)
+        ensures first { (rules : List Rule) → StandsFor self.now rules → result.0 ≡ first rules ask.now }
+        ensures allows { (rules : List Rule) → StandsFor self.now rules → result.1 ≡ allows rules ask.now }
+    {
+        (self.first(ask), self.allows(ask))
+    }
+
     /// Both at once: whether the ask is allowed, and which rule denies it. A judge that finds both by
     /// one walk says so by a body of its own.
     fn decide(&self, ask: &Ask) -> Decision
@@ -52,6 +61,10 @@ impl Judge for RuleList {
 
     fn is_quiet(&self, by: Option<u16>) -> bool {
         RuleList::is_quiet(self, by)
+    }
+
+    fn verdict(&self, ask: &Ask) -> (Option<u16>, bool) {
+        RuleList::verdict(self, ask)
     }
 
     fn decide(&self, ask: &Ask) -> Decision {

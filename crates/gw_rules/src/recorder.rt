@@ -55,8 +55,7 @@ impl<'a, J: Judge> Recorder<'a, J> {
         ensures judge { self.new.judge ≡ self.old.judge }
         ensures err { OnErr result (self.new ≡ self.old) }
     {
-        let is_allowed = self.judge.allows(ask);
-        let by = self.judge.first(ask);
+        let (by, is_allowed) = self.judge.verdict(ask);
         self.verdicts.push(Verdict {
             ask: *ask,
             is_allowed,
@@ -71,5 +70,12 @@ impl<'a, J: Judge> Recorder<'a, J> {
         ensures { result.now ≡ self.now.verdicts }
     {
         self.verdicts.as_slice()
+    }
+
+    /// The verdicts in order, for keeps.
+    pub fn into_verdicts(self) -> Verdicts
+        ensures { result ≡ self.entry.verdicts }
+    {
+        self.verdicts
     }
 }

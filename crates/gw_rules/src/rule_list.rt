@@ -139,7 +139,7 @@ impl RuleList {
     /// The number of the first rule that matches the ask, and whether it says allow.
     #[inline(always)]
     #[tactic(auto, unfolding(crate::specs::RuleList::first, crate::specs::RuleList::allows))]
-    fn verdict(&self, ask: &Ask) -> (Option<u16>, bool)
+    pub(crate) fn verdict(&self, ask: &Ask) -> (Option<u16>, bool)
         ensures first { result.0 ≡ first self.now ask.now }
         ensures within { IfSome result.0 (IsNumberOf self.now) }
         ensures allows { result.1 ≡ allows self.now ask.now }

@@ -6,7 +6,7 @@ ghost use Rattle.gw_service.specs.Holding.{AdoptsHolding, DoesHolding, PassesHol
 
 use crate::keeping::StateKeeper;
 use crate::successor::Successor;
-use gw_core::{AllAsked, Gateway, Guard, Taken};
+use gw_core::{Gateway, Guard, SeenAsks, Taken};
 use gw_decisions::tally::Tally;
 use gw_notices::metrics::StateTries;
 use gw_notices::{Losses, Troubles};
@@ -79,7 +79,7 @@ impl<K: Guard> Guard for Holding<K> {
         alloc: Global,
         gateway: &Gateway,
         taken: &Taken,
-        asked: Option<&AllAsked>,
+        asked: Option<&SeenAsks>,
     ) -> bool {
         let passes = self.keeper.pass(alloc, gateway, taken, asked);
         if self.withholds(taken) {

@@ -11,7 +11,7 @@ ghost use Rattle.gw_notices.specs.declared.losses.Losses.{Losses};
 ghost use Rattle.gw_notices.specs.declared.troubles.Troubles.{Troubles};
 
 use crate::successor::Successor;
-use gw_core::{AllAsked, Gateway, Guard, Taken};
+use gw_core::{Gateway, Guard, SeenAsks, Taken};
 use gw_decisions::tally::Tally;
 use gw_notices::metrics::StateTries;
 use gw_notices::{Losses, Troubles};
@@ -117,7 +117,7 @@ impl<S: Store + Drop> Guard for Kept<S> {
         alloc: Global,
         gateway: &Gateway,
         taken: &Taken,
-        asked: Option<&AllAsked>,
+        asked: Option<&SeenAsks>,
     ) -> bool {
         match self {
             Kept::Nowhere => true,

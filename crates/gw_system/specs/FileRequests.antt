@@ -33,6 +33,11 @@ pub record AreFilesOf {F : Type 0} (place : F) (name config_name : List ℕ) (fi
 abbrev pub HasSameNames : {F : Type 0} → (before after : RequestFiles F) → Type 0
 HasSameNames before after = after ≡ record before { folder = after.folder; told = after.told }
 
+-- What is known of every other file is as before.
+abbrev pub KeepsOthers : {F : Type 0} → (F → List ℕ → Known) → (before after : RequestFiles F) → Type 0
+KeepsOthers known before after = (other : List ℕ) → other ≢ before.request → other ≢ before.answer →
+    known after.folder other ≡ known before.folder other
+
 -- A request of this text was taken away, and so was an older answer.
 pub record IsTaken {F : Type 0} (known : F → List ℕ → Known) (before after : RequestFiles F) (line : List ℕ) : Type 0 where
   pub held : Holds (known before.folder before.request) (Some line)

@@ -1,8 +1,8 @@
 //! What asks a running gateway to read its configuration again, to stop, or to say what it counts.
 
-ghost use Rattle.std.specs.Prelude.{◌≡◌, ◌≢◌, ◌++◌, ◌∷◌, [], ℕ, Some, None, true, false, if◌then◌else◌, codes, string_bytes, IfOk, IfSome};
+ghost use Rattle.std.specs.Prelude.{◌≡◌, ◌≢◌, ◌++◌, ◌∷◌, [], ℕ, List, Some, None, true, false, if◌then◌else◌, codes, string_bytes, IfOk, IfSome};
 ghost use Rattle.gw_system.specs.Folder.{Holds, IsAnswer, IsTakenAway};
-ghost use Rattle.gw_system.specs.FileRequests.{AreFilesOf, HasSameNames, IsAnswered, IsTaken, IsTakenBy, IsTakenSo, IsTold, RequestFiles};
+ghost use Rattle.gw_system.specs.FileRequests.{AreFilesOf, HasSameNames, IsAnswered, IsTaken, IsTakenBy, IsTakenSo, IsTold, KeepsOthers, RequestFiles};
 ghost use Rattle.gw_system.specs.Request.{is_request};
 ghost use Rattle.gw_system.specs.Requests.{Asking, GoesOn, IsAsking, answered, asked_by, silent, recorded_by};
 
@@ -123,6 +123,8 @@ fn take_request<F: Folder>(folder: &mut F, asked: &AskedFile) -> bool
     ensures taken { result ≡ true → IsTakenAway (F.known folder.old (string_bytes asked.now.request.name))
         (F.known folder.new (string_bytes asked.now.request.name)) }
     ensures unanswered { result ≡ true → Holds (F.known folder.new (string_bytes asked.now.answer.name)) None }
+    ensures others { (other : List ℕ) → other ≢ string_bytes asked.now.request.name →
+        other ≢ string_bytes asked.now.answer.name → F.known folder.new other ≡ F.known folder.old other }
 {
     if folder.take_away(&asked.answer.name).is_err() {
         return false;
@@ -170,6 +172,7 @@ impl<F: Folder> FileRequests<F> {
         ensures taken { result ≡ true → IsTaken F.known self.old self.new line.now }
         ensures names { HasSameNames self.old self.new }
         ensures told { self.new.told ≡ (if result then false else self.old.told) }
+        ensures others { KeepsOthers F.known self.old self.new }
     {
         let taken = take_request(&mut self.folder, &self.asked);
         if taken {
@@ -182,6 +185,7 @@ impl<F: Folder> FileRequests<F> {
     fn tell(&mut self) -> Option<Request>
         ensures told { IsTold F.known self.old self.new result }
         ensures names { HasSameNames self.old self.new }
+        ensures others { KeepsOthers F.known self.old self.new }
     {
         let was_told = self.told;
         self.told = self.folder.has(&self.asked.request.name);
@@ -207,6 +211,7 @@ impl<F: Folder> FileRequests<F> {
         ensures names { HasSameNames self.old self.new }
         ensures told { IfSome result (λ _. self.new.told ≡ false) }
         ensures untold { result ≡ None → self.new.told ≡ self.old.told }
+        ensures others { KeepsOthers F.known self.old self.new }
     {
         match self.find(alloc) {
             Some(line) => {
@@ -224,6 +229,7 @@ impl<F: Folder> FileRequests<F> {
     fn look(&mut self, alloc: Global, most: usize) -> Option<Request>
         ensures taken { IsTakenBy F.known self.old self.new result }
         ensures names { HasSameNames self.old self.new }
+        ensures others { KeepsOthers F.known self.old self.new }
     {
         match self.take_found(alloc) {
             Some(line) => Some(self.read_for(alloc, &line, most)),
@@ -238,6 +244,7 @@ impl<F: Folder> Requests for FileRequests<F> {
     fn take(&mut self, alloc: Global, most: usize) -> Option<Request>
         ensures taken { IsTakenBy F.known self.old self.new result }
         ensures names { HasSameNames self.old self.new }
+        ensures others { KeepsOthers F.known self.old self.new }
     {
         self.look(alloc, most)
     }

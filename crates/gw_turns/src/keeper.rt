@@ -10,7 +10,7 @@ ghost use Rattle.gw_wire.specs.Store.{Holds};
 use crate::ahead::{is_ahead, number_for};
 use crate::alike::{Part, is_same};
 use crate::pace::{Pace, one_more};
-use gw_core::{AllAsked, Gateway, Guard, Taken};
+use gw_core::{Gateway, Guard, SeenAsks, Taken};
 use gw_state::{Origin, Saved};
 use gw_state_text::put_state;
 use gw_wire::{Store, StoreFault};
@@ -308,7 +308,7 @@ impl<S: Store + Drop> Guard for Keeper<S> {
         alloc: Global,
         gateway: &Gateway,
         taken: &Taken,
-        _asked: Option<&AllAsked>,
+        _asked: Option<&SeenAsks>,
     ) -> bool {
         !taken.lasts || self.keep_lasting(alloc, gateway)
     }

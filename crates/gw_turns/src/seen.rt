@@ -8,7 +8,7 @@ ghost use Rattle.gw_core.specs.Effects.{NeedsNoMemory, passes_end};
 ghost use Rattle.gw_core.specs.Guard.{IsSeen, IsTaken};
 
 use crate::pace::one_more;
-use gw_core::{AllAsked, AllAsks, DenialsAlone, Gateway, StepFault, Taken, take_event};
+use gw_core::{AsksSeen, DenialsAlone, Gateway, SeenAsks, StepFault, Taken, take_event};
 use gw_script::Event;
 use std::alloc::Global;
 use std::marker::Model;
@@ -59,7 +59,7 @@ pub(crate) fn take_seen(
     gateway: &mut Gateway,
     event: &Event<'_>,
     is_watched: bool,
-    asked: &mut Option<AllAsked>,
+    asked: &mut Option<SeenAsks>,
     refusals: &mut Refusals,
 ) -> Result<Taken, StepFault>
     requires none { asked.old ≡ None }
@@ -73,7 +73,7 @@ pub(crate) fn take_seen(
     ensures refused { refusals.new ≡ refusals_after refusals.old result }
 {
     if is_watched {
-        match take_event::<AllAsks>(alloc, gateway, event) {
+        match take_event::<AsksSeen>(alloc, gateway, event) {
             Ok(watched) => {
                 *asked = Some(watched.asked);
                 return Ok(watched.taken);

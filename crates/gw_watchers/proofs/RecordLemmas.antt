@@ -1,10 +1,12 @@
 -- How records, their lines and counts go on.
-use Rattle.std.proofs.Common.{◌≡◌, ◌∙◌, refl, sym, ap, subst, ℕ, ◌+◌, ◌≤◌, ◌<◌, suc, List, [], ◌∷◌, ◌++◌, length, Option, Some, None, append_assoc, arith}
-use Rattle.std.proofs.lemmas.List.{append-nil, length-append}
+use Rattle.std.proofs.Common.{◌≡◌, ◌∙◌, refl, sym, ap, subst, ℕ, ◌+◌, ◌≤◌, ◌<◌, suc, List, [], ◌∷◌, ◌++◌, length, map, take, slice_index_or, Option, Some, None, append_assoc, arith}
+use Rattle.std.proofs.Math.Seq.{take-suc}
+use Rattle.std.proofs.lemmas.List.{append-nil, length-append, map-append}
 use Rattle.std.proofs.lemmas.Grind.{flat_map-append}
 use Rattle.gw_audit.specs.Line.{line_text}
 use Rattle.gw_core.specs.declared.asked.Asked.{Asked}
 use Rattle.gw_rules.specs.declared.rule.Rule.{Rule}
+use Rattle.gw_rules.specs.declared.verdict.Verdict.{Verdict}
 use Rattle.gw_decisions.specs.tally.Tally.{one_more}
 use Rattle.gw_watchers.specs.Beside.{IsEnded, IsPut, IsRecorded, ended}
 use Rattle.gw_watchers.specs.declared.beside.Beside.{Beside}
@@ -67,6 +69,21 @@ put_next chosen front rules last tick done a start b c old mid new begun p q =
     subst (λ (l : List Line). IsPut l start old new c) (sym (records_along chosen front rules last tick done (a ∷ [])))
     (put_along so_far (records chosen front rules (last_number last so_far) tick (a ∷ [])) start b c old mid new p
     (subst (λ (n : ℕ). IsPut (records chosen front rules n tick (a ∷ [])) b mid new c) number q))
+
+-- one verdict more
+pub put_on_one : (asked : Verdict → Asked) (chosen : Asked → Option (Option ℕ)) (front : Asked → List ℕ) (rules : List Rule) (last tick : ℕ)
+    (verdicts : List Verdict) (place : ℕ) (other : Verdict) (start b c : Put) (old mid new : List ℕ) → place < length verdicts → start.last ≡ last
+    → IsPut (records chosen front rules last tick (map asked (take place verdicts))) start old mid b
+    → IsPut (records chosen front rules b.last tick (asked (slice_index_or verdicts place other) ∷ [])) b mid new c
+    → IsPut (records chosen front rules last tick (map asked (take (place + 1) verdicts))) start old new c
+put_on_one asked chosen front rules last tick verdicts place other start b c old mid new within begun p q =
+    let done = take place verdicts in
+    let verdict = slice_index_or verdicts place other in
+    let next : place + 1 ≡ suc place = omega arith in
+    let more : map asked (take (place + 1) verdicts) ≡ map asked done ++ asked verdict ∷ [] =
+    ap (λ (n : ℕ). map asked (take n verdicts)) next ∙ ap (map asked) (take-suc verdicts place other within) ∙ map-append asked done (verdict ∷ []) in
+    subst (λ (l : List Asked). IsPut (records chosen front rules last tick l) start old new c) (sym more)
+    (put_next chosen front rules last tick (map asked done) (asked verdict) start b c old mid new begun p q)
 
 -- there are at most as many records as asks
 pub few_records : (chosen : Asked → Option (Option ℕ)) (front : Asked → List ℕ) (rules : List Rule) (last tick : ℕ) (asked : List Asked)

@@ -5,8 +5,8 @@ ghost use Rattle.gw_watchers.specs.Records.{audited_by, is_marked, is_marked_at}
 
 use crate::choice::Choice;
 use gw_addr::put_slice;
-use gw_core::{Asked, rule_name};
-use gw_rules::{RuleList, RuleName};
+use gw_core::rule_name;
+use gw_rules::{RuleList, RuleName, Verdict};
 use std::alloc::{AllocError, Global};
 use std::marker::Model;
 
@@ -65,9 +65,9 @@ impl Choice for Marks {
 
     ghost front = { λ _ _ _. codes "allow " };
 
-    fn chosen(&self, asked: &Asked) -> Option<Option<u16>> {
-        let by = asked.verdict.by;
-        if asked.verdict.is_allowed && self.is_marked(by) {
+    fn chosen(&self, verdict: &Verdict) -> Option<Option<u16>> {
+        let by = verdict.by;
+        if verdict.is_allowed && self.is_marked(by) {
             Some(by)
         } else {
             None
@@ -81,7 +81,7 @@ impl Choice for Marks {
     fn put_front(
         &self,
         _rules: &RuleList,
-        _asked: &Asked,
+        _verdict: &Verdict,
         out: &mut Vec<u8>,
     ) -> Result<(), AllocError> {
         put_slice(out, b"allow ")

@@ -6,7 +6,7 @@ ghost use Rattle.gw_watchers.specs.Beside.{IsEnded, IsRecorded, ended};
 
 use crate::choice::Choice;
 use crate::writing::{Put, Writing};
-use gw_core::{Asked, Gateway};
+use gw_core::{Gateway, SeenAsks};
 use gw_script::{OctetSink, write_whole};
 
 /// A log beside the log of denials: of what was asked it has a line for each ask that is chosen. If a line can't be made
@@ -44,7 +44,7 @@ impl<C: Choice, S: OctetSink> Beside<C, S> {
     }
 
     /// Records the asks that are chosen. The text is only a place to make their lines.
-    pub(crate) fn record_asks(&mut self, gateway: &Gateway, asked: &[Asked], text: &mut Vec<u8>)
+    pub(crate) fn record_asks(&mut self, gateway: &Gateway, asked: &SeenAsks, text: &mut Vec<u8>)
         ensures { let rules = C.naming self.old.choice gateway.now.rules in
             let front = C.front self.old.choice gateway.now.rules in
             let due = records (C.chosen self.old.choice) front rules self.old.number gateway.now.ticks asked.now in
@@ -52,12 +52,14 @@ impl<C: Choice, S: OctetSink> Beside<C, S> {
     {
         text.clear();
         let is_begun = self.begin_text(text);
+        let (whom, verdicts) = asked.parts();
         let writing = Writing {
             choice: &self.choice,
             rules: gateway.rules(),
             tick: gateway.counts().ticks,
+            whom,
         };
-        let put = writing.put_all(self.number, asked, text);
+        let put = writing.put_all(self.number, verdicts, text);
         if put.count == 0 {
             return;
         }

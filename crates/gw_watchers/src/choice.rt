@@ -1,12 +1,13 @@
 //! Which asks are recorded beside the log, and how.
 
 ghost use Rattle.std.specs.Prelude.{◌≡◌, ◌++◌, ℕ, List, OnOk, Option};
+ghost use Rattle.gw_core.specs.Asked.{asked_from};
 ghost use Rattle.gw_core.specs.Denials.{rule_name};
+ghost use Rattle.gw_core.specs.Receive.{Origin};
 ghost use Rattle.gw_core.specs.declared.asked.Asked.{Asked};
 ghost use Rattle.gw_rules.specs.declared.rule.Rule.{Rule};
 
-use gw_core::Asked;
-use gw_rules::{RuleList, RuleName};
+use gw_rules::{RuleList, RuleName, Verdict};
 use std::alloc::AllocError;
 
 /// Which asks are recorded beside the log, and how their lines begin.
@@ -21,19 +22,21 @@ pub trait Choice {
     ghost front: { Self → List Rule → Asked → List ℕ };
 
     /// Whether an ask is recorded, and then the number of the rule that its line names, if one decides it.
-    fn chosen(&self, asked: &Asked) -> Option<Option<u16>>
-        ensures { result ≡ chosen self.now asked.now };
+    /// It is the same whoever the ask is of.
+    fn chosen(&self, verdict: &Verdict) -> Option<Option<u16>>
+        ensures { (from : Origin) → result ≡ chosen self.now (asked_from from verdict.now) };
 
     /// The name of the rule of this number, or `default`. These rules are in force.
     fn name(&self, rules: &RuleList, by: Option<u16>) -> RuleName
         ensures { result ≡ rule_name (naming self.now rules.now) by };
 
-    /// Appends how the line of an ask begins. These rules are in force.
+    /// Appends how the line of an ask begins, which is the same whoever it is of. These rules are in force.
     fn put_front(
         &self,
         rules: &RuleList,
-        asked: &Asked,
+        verdict: &Verdict,
         out: &mut Vec<u8>,
     ) -> Result<(), AllocError>
-        ensures { OnOk result (out.new.items ≡ out.old.items ++ front self.now rules.now asked.now) };
+        ensures { (from : Origin) →
+            OnOk result (out.new.items ≡ out.old.items ++ front self.now rules.now (asked_from from verdict.now)) };
 }

@@ -1,13 +1,15 @@
 //! A policy on trial: the asks that it decides otherwise than the rules in force, or all that it denies, but by quiet rules.
 
 ghost use Rattle.std.specs.Prelude.{◌≡◌, ◌++◌, OnOk};
+ghost use Rattle.gw_core.specs.Asked.{asked_from};
+ghost use Rattle.gw_core.specs.Receive.{Origin};
 ghost use Rattle.gw_watchers.specs.Records.{decided_otherwise, denied_by, other_front, trial_front, tried_by};
 
 use crate::choice::Choice;
 use gw_addr::put_slice;
-use gw_core::{Asked, rule_name};
+use gw_core::rule_name;
 use gw_rule_index::Policy;
-use gw_rules::{Decision, Judge, RuleList, RuleName};
+use gw_rules::{Decision, Judge, RuleList, RuleName, Verdict};
 use std::alloc::AllocError;
 
 /// A policy on trial, and which asks are recorded of it.
@@ -21,10 +23,10 @@ pub struct Trial {
 }
 
 /// The first rule of a policy that matches an ask, or none, if the policy denies it, but by a quiet rule.
-fn denied_by(policy: &Policy, asked: &Asked) -> Option<Option<u16>>
-    ensures { result ≡ denied_by policy.now asked.now }
+fn denied_by(policy: &Policy, verdict: &Verdict) -> Option<Option<u16>>
+    ensures { (from : Origin) → result ≡ denied_by policy.now (asked_from from verdict.now) }
 {
-    match policy.decide(&asked.verdict.ask) {
+    match policy.decide(&verdict.ask) {
         Decision::Allow => None,
         Decision::Deny { by } if policy.is_quiet(by) => None,
         Decision::Deny { by } => Some(by),
@@ -32,28 +34,29 @@ fn denied_by(policy: &Policy, asked: &Asked) -> Option<Option<u16>>
 }
 
 /// The first rule of a policy that matches an ask, or none, if the policy decides it otherwise than was decided.
-fn decided_otherwise(policy: &Policy, asked: &Asked) -> Option<Option<u16>>
-    ensures { result ≡ decided_otherwise policy.now asked.now }
+fn decided_otherwise(policy: &Policy, verdict: &Verdict) -> Option<Option<u16>>
+    ensures { (from : Origin) → result ≡ decided_otherwise policy.now (asked_from from verdict.now) }
 {
-    match policy.decide(&asked.verdict.ask) {
-        Decision::Allow if asked.verdict.is_allowed => None,
-        Decision::Allow => Some(policy.first(&asked.verdict.ask)),
-        Decision::Deny { by } if asked.verdict.is_allowed => Some(by),
+    match policy.decide(&verdict.ask) {
+        Decision::Allow if verdict.is_allowed => None,
+        Decision::Allow => Some(policy.first(&verdict.ask)),
+        Decision::Deny { by } if verdict.is_allowed => Some(by),
         Decision::Deny { by: _ } => None,
     }
 }
 
 /// Appends what was decided of an ask, by which of the rules in force, and what the rules on trial decide, which is otherwise.
-fn put_other_front(rules: &RuleList, asked: &Asked, out: &mut Vec<u8>) -> Result<(), AllocError>
-    ensures { OnOk result (out.new.items ≡ out.old.items ++ other_front rules.now asked.now) }
+fn put_other_front(rules: &RuleList, verdict: &Verdict, out: &mut Vec<u8>) -> Result<(), AllocError>
+    ensures { (from : Origin) →
+        OnOk result (out.new.items ≡ out.old.items ++ other_front rules.now (asked_from from verdict.now)) }
 {
-    let (was, is) = if asked.verdict.is_allowed {
+    let (was, is) = if verdict.is_allowed {
         ("allow ", " -> deny ")
     } else {
         ("deny ", " -> allow ")
     };
     put_slice(out, was.as_bytes())?;
-    put_slice(out, rule_name(rules, asked.verdict.by).as_str().as_bytes())?;
+    put_slice(out, rule_name(rules, verdict.by).as_str().as_bytes())?;
     put_slice(out, is.as_bytes())
 }
 
@@ -64,11 +67,11 @@ impl Choice for Trial {
 
     ghost front = { trial_front };
 
-    fn chosen(&self, asked: &Asked) -> Option<Option<u16>> {
+    fn chosen(&self, verdict: &Verdict) -> Option<Option<u16>> {
         if self.has_all_denied {
-            denied_by(&self.policy, asked)
+            denied_by(&self.policy, verdict)
         } else {
-            decided_otherwise(&self.policy, asked)
+            decided_otherwise(&self.policy, verdict)
         }
     }
 
@@ -79,12 +82,12 @@ impl Choice for Trial {
     fn put_front(
         &self,
         rules: &RuleList,
-        asked: &Asked,
+        verdict: &Verdict,
         out: &mut Vec<u8>,
     ) -> Result<(), AllocError> {
         if self.has_all_denied {
             return Ok(());
         }
-        put_other_front(rules, asked, out)
+        put_other_front(rules, verdict, out)
     }
 }

@@ -1,14 +1,13 @@
 //! What watches the asks of a gateway, and withholds nothing.
 
 ghost use Rattle.std.specs.Prelude.{◌≡◌, ◌+◌, ◌-◌, option_map, false, true};
-ghost use Rattle.gw_core.specs.declared.asked.Asked.{Asked};
 ghost use Rattle.gw_watchers.specs.Watching.{HasWatched, Missed, Watches, Watching, ended_by, is_watching, with_marks};
 
 use crate::audit::Marks;
 use crate::beside::Beside;
 use crate::files::is_same_format;
 use crate::trial::Trial;
-use gw_core::{AllAsked, Asked, Gateway, Guard, Taken};
+use gw_core::{Gateway, Guard, SeenAsks, Taken};
 use gw_decisions::count_asked;
 use gw_decisions::tally::Tally;
 use gw_rules::Format;
@@ -139,7 +138,7 @@ impl<T: OctetSink + Drop, A: OctetSink + Drop> Watcher<T, A> {
     }
 
     /// Watches what an event asked.
-    fn watch(&mut self, gateway: &Gateway, asked: &[Asked])
+    fn watch(&mut self, gateway: &Gateway, asked: &SeenAsks)
         ensures { Watches T.held A.held self.old gateway.now asked.now self.new }
     {
         if let Some(trial) = &mut self.trial {
@@ -177,10 +176,10 @@ impl<T: OctetSink + Drop, A: OctetSink + Drop> Guard for Watcher<T, A> {
         _alloc: Global,
         gateway: &Gateway,
         _taken: &Taken,
-        asked: Option<&AllAsked>,
+        asked: Option<&SeenAsks>,
     ) -> bool {
         match asked {
-            Some(asked) => self.watch(gateway, asked.as_slice()),
+            Some(asked) => self.watch(gateway, asked),
             None => self.miss(),
         }
         true

@@ -1,14 +1,15 @@
 //! The lines of recorded asks, one after the other.
 
-ghost use Rattle.std.specs.Prelude.{◌≡◌, ◌++◌, ◌∷◌, ◌<◌, ◌-◌, ◌^◌, [], OnOk};
+ghost use Rattle.std.specs.Prelude.{◌≡◌, ◌++◌, ◌∷◌, ◌<◌, ◌-◌, ◌^◌, [], map, OnOk};
 ghost use Rattle.gw_audit.specs.Line.{line_text};
+ghost use Rattle.gw_core.specs.Asked.{asked_from};
 ghost use Rattle.gw_watchers.specs.Records.{record_of, records};
 ghost use Rattle.gw_watchers.specs.Beside.{IsPut, start};
 
 use crate::choice::Choice;
 use gw_audit::line;
-use gw_core::{Asked, Denial};
-use gw_rules::RuleList;
+use gw_core::{Denial, Whom};
+use gw_rules::{RuleList, Verdict};
 use std::alloc::AllocError;
 
 /// How asks are recorded: which, under whose names, and at which tick.
@@ -20,6 +21,8 @@ pub(crate) struct Writing<'a, C> {
     pub rules: &'a RuleList,
     /// How many ticks there were.
     pub tick: u64,
+    /// Whom the asks are of.
+    pub whom: &'a Whom,
 }
 
 /// What came of recording some asks.
@@ -38,36 +41,38 @@ impl<C: Choice> Writing<'_, C> {
     fn put(
         &self,
         number: u64,
-        asked: &Asked,
+        verdict: &Verdict,
         by: Option<u16>,
         text: &mut Vec<u8>,
     ) -> Result<(), AllocError>
         ensures { let rules = C.naming self.now.choice.now self.now.rules.now in
-            let front = C.front self.now.choice.now self.now.rules.now asked.now in
-            let line = record_of front rules number self.now.tick asked.now by in
+            let asked = asked_from self.now.whom.now verdict.now in
+            let front = C.front self.now.choice.now self.now.rules.now asked in
+            let line = record_of front rules number self.now.tick asked by in
             OnOk result (text.new.items ≡ text.old.items ++ (line.front ++ line_text line.denial)) }
     {
-        self.choice.put_front(self.rules, asked, text)?;
+        self.choice.put_front(self.rules, verdict, text)?;
         let denial = Denial {
             number,
             tick: self.tick,
-            port: asked.port,
-            source: asked.source,
-            ask: asked.verdict.ask,
+            port: self.whom.port(),
+            source: *self.whom.source_of(&verdict.ask),
+            ask: verdict.ask,
             rule: self.choice.name(self.rules, by),
         };
         line(&denial, text)
     }
 
     /// Appends the line of an ask, if it is chosen.
-    fn put_next(&self, so_far: Put, asked: &Asked, text: &mut Vec<u8>) -> Put
+    fn put_next(&self, so_far: Put, verdict: &Verdict, text: &mut Vec<u8>) -> Put
         requires { so_far.count < 2 ^ 64 - 1 }
         ensures { let rules = C.naming self.now.choice.now self.now.rules.now in
             let front = C.front self.now.choice.now self.now.rules.now in
-            let due = records (C.chosen self.now.choice.now) front rules so_far.last self.now.tick (asked.now ∷ []) in
+            let due = records (C.chosen self.now.choice.now) front rules so_far.last self.now.tick
+            (asked_from self.now.whom.now verdict.now ∷ []) in
             IsPut due so_far text.old.items text.new.items result }
     {
-        let Some(by) = self.choice.chosen(asked) else {
+        let Some(by) = self.choice.chosen(verdict) else {
             return so_far;
         };
         let mut next = Put {
@@ -76,7 +81,7 @@ impl<C: Choice> Writing<'_, C> {
             is_whole: false,
         };
         if so_far.is_whole {
-            match self.put(next.last, asked, by, text) {
+            match self.put(next.last, verdict, by, text) {
                 Ok(()) => next.is_whole = true,
                 Err(_) => {}
             }
@@ -86,10 +91,11 @@ impl<C: Choice> Writing<'_, C> {
 
     /// Appends the lines of the asks that are chosen, numbered on from the number of the last record. If a growth is
     /// refused, a part of them may be there.
-    pub(crate) fn put_all(&self, last: u64, asked: &[Asked], text: &mut Vec<u8>) -> Put
+    pub(crate) fn put_all(&self, last: u64, verdicts: &[Verdict], text: &mut Vec<u8>) -> Put
         ensures { let rules = C.naming self.now.choice.now self.now.rules.now in
             let front = C.front self.now.choice.now self.now.rules.now in
-            let due = records (C.chosen self.now.choice.now) front rules last self.now.tick asked.now in
+            let due = records (C.chosen self.now.choice.now) front rules last self.now.tick
+            (map (asked_from self.now.whom.now) verdicts.now) in
             IsPut due (start last) text.old.items text.new.items result }
     {
         let mut put = Put {
@@ -97,8 +103,8 @@ impl<C: Choice> Writing<'_, C> {
             count: 0,
             is_whole: true,
         };
-        for one in asked {
-            put = self.put_next(put, one, text);
+        for verdict in verdicts {
+            put = self.put_next(put, verdict, text);
         }
         put
     }

@@ -5,4 +5,4 @@ use Rattle.gw_core.proofs.asked.RecorderPolicyReporter.into_report.Goals as goal
 
 pub returns-clause-refusals : goal.returns-clause-refusals
 returns-clause-refusals c = λ rules asks kept.
-    c.in_ok-refusals.ensures.refusals ∙ ap refused_of (c.verdicts-verdicts.ensures ∙ kept) ∙ refused_are rules asks
+    c.in_ok-refusals.ensures.refusals ∙ ap refused_of (c.verdicts.ensures ∙ kept) ∙ refused_are rules asks

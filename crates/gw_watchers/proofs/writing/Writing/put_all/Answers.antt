@@ -1,40 +1,37 @@
-use Rattle.std.proofs.Common.{◌≡◌, ℕ, List, ◌++◌, ◌+◌, suc, [], ◌∷◌, take, length, sym, ap, subst, refl, ◌∙◌, arith}
-use Rattle.std.proofs.Math.Seq.{take-suc}
-use Rattle.std.proofs.lemmas.List.{length-take}
-use Rattle.gw_core.specs.declared.asked.Asked.{Asked}
-use Rattle.gw_watchers.specs.Beside.{IsPut, start}
-use Rattle.gw_watchers.specs.Records.{records}
-use Rattle.gw_watchers.proofs.RecordLemmas.{few_records, put_next, put_none}
+use Rattle.std.proofs.Common.{map, take, refl, arith}
+use Rattle.std.proofs.lemmas.List.{length-map, length-take}
+use Rattle.gw_core.specs.Asked.{asked_from}
+use Rattle.gw_watchers.specs.Beside.{start}
+use Rattle.gw_watchers.proofs.RecordLemmas.{few_records, put_none, put_on_one}
 use Rattle.gw_watchers.proofs.writing.Writing.put_all.Goals as goal
 
-pub loop-one-init : goal.loop-one-init
-loop-one-init g c = put_none c.args.text.now.items (start c.args.last)
+pub loop-verdict-init : goal.loop-verdict-init
+loop-verdict-init g c = put_none c.args.text.now.items (start c.args.last)
 
 pub put_next-put-requires : goal.put_next-put-requires
 put_next-put-requires g c =
     let w = c.args.self.now in
-    let i = c.loop-one.one-index in
-    let asked = c.args.asked.now in
+    let i = c.loop-verdict.verdict-index in
+    let verdicts = c.args.verdicts.now in
+    let from = asked_from w.whom.now in
     let chosen = g.C.Choice.chosen w.choice.now in
     let front = g.C.Choice.front w.choice.now w.rules.now in
     let rules = g.C.Choice.naming w.choice.now w.rules.now in
-    let so_far = c.loop-one.invariant in
-    omega (arith, so_far.count, few_records chosen front rules c.args.last w.tick (take i asked), length-take i asked, c.loop-one-test.true)
+    let so_far = c.loop-verdict.invariant in
+    omega (
+      arith,
+      so_far.count,
+      few_records chosen front rules c.args.last w.tick (map from (take i verdicts)),
+      length-map (take i verdicts) from,
+      length-take i verdicts,
+      c.loop-verdict-test.true,
+    )
 
-pub loop-one-preserved : goal.loop-one-preserved
-loop-one-preserved g c =
+pub loop-verdict-preserved : goal.loop-verdict-preserved
+loop-verdict-preserved g c =
     let w = c.args.self.now in
-    let i = c.loop-one.one-index in
-    let asked = c.args.asked.now in
-    let chosen = g.C.Choice.chosen w.choice.now in
-    let front = g.C.Choice.front w.choice.now w.rules.now in
-    let rules = g.C.Choice.naming w.choice.now w.rules.now in
-    let one = c.one-item.result in
-    let done = take i asked in
-    let next : i + 1 ≡ suc i = omega arith in
-    let taken : take (i + 1) asked ≡ done ++ one ∷ [] =
-    ap (λ (n : ℕ). take n asked) next ∙ take-suc asked i one c.loop-one-test.true ∙ ap (λ a. done ++ a ∷ []) (sym c.one-item.is) in
-    subst (λ (l : List Asked). IsPut (records chosen front rules c.args.last w.tick l) (start c.args.last) c.args.text.now.items
-    c.put_next-put.new.text.items c.put_next-put.result) (sym taken)
-    (put_next chosen front rules c.args.last w.tick done one (start c.args.last) c.loop-one.put c.put_next-put.result c.args.text.now.items
-    c.loop-one.text.items c.put_next-put.new.text.items refl c.loop-one.invariant c.put_next-put.ensures)
+    let text = c.args.text.now.items in
+    put_on_one (asked_from w.whom.now) (g.C.Choice.chosen w.choice.now) (g.C.Choice.front w.choice.now w.rules.now)
+    (g.C.Choice.naming w.choice.now w.rules.now) c.args.last w.tick c.args.verdicts.now c.loop-verdict.verdict-index _ (start c.args.last)
+    c.loop-verdict.put c.put_next-put.result text c.loop-verdict.text.items c.put_next-put.new.text.items c.loop-verdict-test.true refl
+    c.loop-verdict.invariant c.put_next-put.ensures
