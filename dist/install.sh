@@ -1,6 +1,7 @@
 #!/usr/bin/env bash
-# Installs the gateway: both programs, their manual pages and completions for shells, the unit for systemd with its drop-in, the size of its
-# journal, the settings of the kernel, the firewall, the file for logrotate and a configuration to begin with.
+# Installs the gateway: both programs, their manual pages and completions for shells, the unit for systemd with its drop-in, another drop-in
+# for metrics (in share/doc/bacgw), the size of its journal, the settings of the kernel, the firewall, the file for logrotate and a
+# configuration to begin with.
 #
 #     dist/install.sh [--prefix DIR] [--root DIR]      # DIR is /usr/local, and the root / by default
 #
@@ -83,11 +84,21 @@ leave() {
 units=/etc/systemd/system
 [ "$prefix" != /usr ] || units=/usr/lib/systemd/system
 unit=$(mktemp)
-trap 'rm -f "$unit"' EXIT
+metrics=$(mktemp)
+trap 'rm -f "$unit" "$metrics"' EXIT
 sed "s|/usr/local/bin/bacgw|$prefix/bin/bacgw|g" "$here/bacgw.service" > "$unit"
+sed "s|/usr/local/bin/bacgw|$prefix/bin/bacgw|g" "$here/bacgw.metrics.conf" > "$metrics"
 place "$unit" "$units/bacgw.service"
-place "$here/bacgw.journald" "$prefix/lib/systemd/journald@bacgw.conf.d/size.conf"
-place "$here/bacgw.sysctl" "$prefix/lib/sysctl.d/60-bacgw.conf"
+place "$metrics" "$prefix/share/doc/bacgw/bacgw.metrics.conf"
+# The system reads these below /etc, /usr and /usr/local alone.
+settings=$prefix/lib
+journal=$prefix/lib/systemd
+case $prefix in
+    /usr | /usr/local) ;;
+    *) settings=/etc journal=/etc/systemd ;;
+esac
+place "$here/bacgw.journald" "$journal/journald@bacgw.conf.d/size.conf"
+place "$here/bacgw.sysctl" "$settings/sysctl.d/60-bacgw.conf"
 place "$here/bacgw.logrotate" /etc/logrotate.d/bacgw
 leave "$here/bacgw.site.conf" /etc/systemd/system/bacgw.service.d/site.conf
 leave "$here/bacgw.nft" /etc/bacgw/bacgw.nft

@@ -18,7 +18,7 @@ complete -c bacgw -n '__fish_seen_subcommand_from run' -l stats -x -d 'Reports w
 complete -c bacgw -n '__fish_seen_subcommand_from run' -l stats-rules -d 'Counts the asks of each rule in each report; with --stats'
 complete -c bacgw -n '__fish_seen_subcommand_from run' -l verbose -d 'Reports what is served, or where a fault is, and each minute what is dropped or fails'
 complete -c bacgw -n '__fish_seen_subcommand_from run' -l state -r -F -d 'The file in which run keeps the state'
-complete -c bacgw -n '__fish_seen_subcommand_from run' -l reload -r -F -d 'The file that asks to read the configuration again'
+complete -c bacgw -n '__fish_seen_subcommand_from run' -l reload -r -F -d 'The file of requests to reload, to stop, or for what is counted'
 complete -c bacgw -n '__fish_seen_subcommand_from run' -l trial -r -F -d 'A configuration whose rules are only tried'
 complete -c bacgw -n '__fish_seen_subcommand_from run' -l trial-log -r -F -d 'What the asks are appended to that the rules of --trial decide otherwise'
 complete -c bacgw -n '__fish_seen_subcommand_from run' -l trial-all -d 'Also those that the rules in force deny; with --trial'
