@@ -7,8 +7,8 @@
 # is a pipe the gateway must go on although it fails there. If the second fdatasync fails (strace), the run must end with the name of the
 # log and status 1, and the log must have the lines of the first two seconds. If a tmpfs can be mounted, the log is on one of 1 MiB that is
 # full for a while, and the gateway is to hold: a denied read gets no answer, an allowed one does, and once there is room again the log
-# has a whole line of each denial, numbered without a gap. The last line says how often it looked and how often something was not so; the
-# status is 0 if that is never.
+# has a whole line of each denial, numbered without a gap; also if the log is removed to make room while its last line is cut, with the
+# new file of its name. The last line says how often it looked and how often something was not so; the status is 0 if that is never.
 #
 # It wants python3, strace and the built program: ./bacgw prove. It wants root for the tmpfs.
 set -euo pipefail
@@ -150,30 +150,64 @@ def asked(octets):
     return answer()
 
 
-def hold(folder):
-    """A log on a disk that is full for a while, of a gateway that holds."""
-    config.write_text(config.read_text() + """[[rule]]
-name = "hide"
-allow = false
-object_type = [5]
-[[rule]]
-name = "all"
-allow = true
-""")
-    log = folder / "held.log"
-    words = [program, "run", "--config", str(config), "--log", str(log), "--on-log-failure", "hold"]
-    with open(work / "said", "w") as said:
-        gateway = subprocess.Popen(words, stdin=subprocess.DEVNULL, stderr=said)
-    time.sleep(2)
-    denied = 4
-    is_so("a denied read is answered", all(asked(READ) is not None for _ in range(denied)))
-    with open(folder / "filler", "wb", buffering=0) as filler:
+def fill(file):
+    """Leaves no room on the disk of this file."""
+    with open(file, "wb", buffering=0) as filler:
         for size in (4096, 1):
             try:
                 while filler.write(bytes(size)):
                     pass
             except OSError:
                 pass
+
+
+def start_holding(log):
+    """A gateway with this log that holds if the log fails."""
+    words = [program, "run", "--config", str(config), "--log", str(log), "--on-log-failure", "hold"]
+    with open(work / "said", "w") as said:
+        gateway = subprocess.Popen(words, stdin=subprocess.DEVNULL, stderr=said)
+    time.sleep(2)
+    return gateway
+
+
+def numbers(text):
+    """The numbers of the denials of a log."""
+    return [entry.split()[0] for entry in text.splitlines()]
+
+
+def removed(folder):
+    """A log that is removed while its disk is full and its last line is cut: the rest goes to a new file of its name."""
+    log = folder / "removed.log"
+    gateway = start_holding(log)
+    denied = 36
+    is_so("each denied read is answered", all(asked(READ) is not None for _ in range(denied)))
+    fill(folder / "filler")
+    for _ in range(30):
+        line.sendto(READ, (GATEWAY, UDP))
+    denied += 30
+    time.sleep(1)
+    is_so("a denied read on a full disk gets no answer", asked(READ) is None)
+    denied += 1
+    old = log.read_text()
+    is_so("the log's last line is cut", not old.endswith("\n"))
+    log.unlink()
+    time.sleep(4)
+    new = log.read_text() if log.exists() else ""
+    whole = numbers(old + new)
+    is_so("the old and the new file have each line, in order", whole == [str(number) for number in range(1, denied + 1)])
+    is_so("a denied read is answered again", asked(READ) is not None)
+    gateway.kill()
+    gateway.wait()
+    (folder / "filler").unlink()
+
+
+def hold(folder):
+    """A log on a disk that is full for a while, of a gateway that holds."""
+    log = folder / "held.log"
+    gateway = start_holding(log)
+    denied = 4
+    is_so("a denied read is answered", all(asked(READ) is not None for _ in range(denied)))
+    fill(folder / "filler")
     # A page of the log may have room still.
     for _ in range(60):
         line.sendto(READ, (GATEWAY, UDP))
@@ -186,8 +220,8 @@ allow = true
     is_so("an allowed read is answered later too", asked(NAME) is not None)
     (folder / "filler").unlink()
     time.sleep(3)
-    numbers = [entry.split()[0] for entry in log.read_text().splitlines()]
-    is_so("each denial has its line, in order", numbers == [str(number) for number in range(1, denied + 1)])
+    whole = numbers(log.read_text())
+    is_so("each denial has its line, in order", whole == [str(number) for number in range(1, denied + 1)])
     is_so("a denied read is answered again", asked(READ) is not None)
     notes = ["bacgw: log failed, denied messages wait", "bacgw: log written again"]
     is_so("the gateway says both", (work / "said").read_text().splitlines() == notes)
@@ -198,8 +232,17 @@ allow = true
 folder = work / "full"
 folder.mkdir()
 if subprocess.run(["mount", "-t", "tmpfs", "-o", "size=1m", "none", str(folder)], capture_output=True).returncode == 0:
+    config.write_text(config.read_text() + """[[rule]]
+name = "hide"
+allow = false
+object_type = [5]
+[[rule]]
+name = "all"
+allow = true
+""")
     try:
         hold(folder)
+        removed(folder)
     finally:
         subprocess.run(["umount", str(folder)], check=True)
 else:

@@ -42,13 +42,13 @@ echo '# newer' >> "$pack/bacgw.journald"
 "$pack/install.sh" --root "$root" > /dev/null
 for file in "${edited[@]}"; do [ "$(tail -1 "$file")" = '# mine' ] && [ -f "$file.new" ]; done
 [ "$(tail -1 "$root/usr/local/lib/systemd/journald@bacgw.conf.d/size.conf")" = '# newer' ]
-grep -q '^ExecStart=/usr/bin/env --ignore-signal=HUP,USR1,USR2 /usr/local/bin/bacgw ' "$root/etc/systemd/system/bacgw.service"
+grep -q '^ExecStart=/usr/bin/env --ignore-signal=HUP,USR1,USR2,PIPE,XFSZ /usr/local/bin/bacgw ' "$root/etc/systemd/system/bacgw.service"
 grep -q '^ExecReload=/usr/local/bin/bacgwctl ' "$root/etc/systemd/system/bacgw.service"
 for name in bacgw bacgwctl; do
     [ -f "$root/usr/local/share/man/man1/$name.1" ] && [ -f "$root/usr/local/share/bash-completion/completions/$name" ]
 done
 [ -f "$root/etc/logrotate.d/bacgw" ]
-grep -q '^ExecStart=/usr/bin/env --ignore-signal=HUP,USR1,USR2 /usr/local/bin/bacgw ' "$root/usr/local/share/doc/bacgw/bacgw.metrics.conf"
+grep -q '^ExecStart=/usr/bin/env --ignore-signal=HUP,USR1,USR2,PIPE,XFSZ /usr/local/bin/bacgw ' "$root/usr/local/share/doc/bacgw/bacgw.metrics.conf"
 echo "installed again: the configuration, and what was edited, stays as it is"
 
 # The settings of the kernel and of the journal are where the system reads them, below whatever prefix the programs are.
@@ -56,15 +56,15 @@ echo "installed again: the configuration, and what was edited, stays as it is"
 for file in sysctl.d/60-bacgw.conf systemd/journald@bacgw.conf.d/size.conf; do
     [ -f "$root/usr/local/lib/$file" ] && [ -f "$work/other/etc/$file" ]
 done
-grep -q '^ExecStart=/usr/bin/env --ignore-signal=HUP,USR1,USR2 /opt/bacgw/bin/bacgw ' "$work/other/etc/systemd/system/bacgw.service"
+grep -q '^ExecStart=/usr/bin/env --ignore-signal=HUP,USR1,USR2,PIPE,XFSZ /opt/bacgw/bin/bacgw ' "$work/other/etc/systemd/system/bacgw.service"
 echo "installed below another prefix"
 
 for package in "$from"/*.deb; do
     [ -e "$package" ] || continue
     dpkg-deb --extract "$package" "$work/debian"
     answers "$work/debian/usr/bin" "$work/debian/etc/bacgw/site.toml"
-    grep -q '^ExecStart=/usr/bin/env --ignore-signal=HUP,USR1,USR2 /usr/bin/bacgw ' "$work/debian/usr/lib/systemd/system/bacgw.service"
+    grep -q '^ExecStart=/usr/bin/env --ignore-signal=HUP,USR1,USR2,PIPE,XFSZ /usr/bin/bacgw ' "$work/debian/usr/lib/systemd/system/bacgw.service"
     grep -q '^ExecReload=/usr/bin/bacgwctl ' "$work/debian/usr/lib/systemd/system/bacgw.service"
-    grep -q '^ExecStart=/usr/bin/env --ignore-signal=HUP,USR1,USR2 /usr/bin/bacgw ' "$work/debian/usr/share/doc/bacgw/bacgw.metrics.conf"
+    grep -q '^ExecStart=/usr/bin/env --ignore-signal=HUP,USR1,USR2,PIPE,XFSZ /usr/bin/bacgw ' "$work/debian/usr/share/doc/bacgw/bacgw.metrics.conf"
     [ -f "$work/debian/usr/lib/sysctl.d/60-bacgw.conf" ]
 done
