@@ -179,20 +179,31 @@ fn judged_choice(alloc: Global, options: RunOptions) -> Result<Choice, WordsFaul
     }
 }
 
+/// How long a run lasts, how often it reports, and whether it goes on if its log fails.
+#[derive(Clone, Copy)]
+struct Course {
+    turns: u64,
+    stats: Option<u64>,
+    holds: bool,
+}
+
 /// What `run` is asked for by the values of its options.
 fn options_of(
     alloc: Global,
     matches: &ArgMatches<'_>,
     config: String,
-    turns: u64,
-    stats: Option<u64>,
-    holds: bool,
+    course: Course,
 ) -> Result<RunOptions, AllocError>
-    requires few { turns < 2 ^ 63 }
-    requires seconds { IfSome stats (λ n. 0 < n) }
+    requires few { course.turns < 2 ^ 63 }
+    requires seconds { IfSome course.stats (λ n. 0 < n) }
     ensures { IfOk result (λ options. service options
-        ≡ service_at (string_bytes config) (first_value (found_of matches.now)) turns stats holds) }
+        ≡ service_at (string_bytes config) (first_value (found_of matches.now)) course.turns course.stats course.holds) }
 {
+    let Course {
+        turns,
+        stats,
+        holds,
+    } = course;
     Ok(RunOptions {
         config,
         log: file_of(alloc, matches, "log")?,
@@ -225,7 +236,12 @@ fn run_choice(alloc: Global, matches: &ArgMatches<'_>, config: String) -> Result
     let Some(holds) = holds_of(matches, "on-log-failure") else {
         return Ok(Choice::Usage(String::from_str(alloc, WORDS_LINE)?));
     };
-    let options = options_of(alloc, matches, config, turns, stats, holds)?;
+    let course = Course {
+        turns,
+        stats,
+        holds,
+    };
+    let options = options_of(alloc, matches, config, course)?;
     judged_choice(alloc, options)
 }
 

@@ -16,7 +16,7 @@ use std::alloc::{AllocError, Global};
 
 /// What is below the help on `run`.
 const RUN_EXAMPLE: &str = "Example:
-  bacgw run --config site.toml --log /var/log/bacgw.log --verbose";
+  bacgw run --config site.toml --log /var/log/bacgw/denials.log --verbose";
 
 fn make_check<'a>(alloc: Global) -> Result<Command<'a>, AllocError>
     ensures app { IfOk result (λ command. app_of command ≡ check) }
@@ -92,7 +92,8 @@ fn make_run_of_state<'a>(alloc: Global) -> Result<Command<'a>, AllocError>
 {
     let help = "Keeps the state in this file, and begins with what it holds";
     let state = make_option(alloc, "state", FILE, help);
-    let help = "Reads the configuration again if this file is there, and takes the file away";
+    let help =
+        "Looks in this file for requests: to read the configuration again, to stop, to say what is counted";
     let reload = make_option(alloc, "reload", FILE, help);
     make_run_of_reports(alloc)?.arg(state)?.arg(reload)
 }

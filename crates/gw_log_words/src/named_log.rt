@@ -29,13 +29,15 @@ pub trait NamedFiles {
         ensures { left self.new ≡ joined (left self.old) (Self.File.held file) };
 }
 
-/// A log in the file that has a name: if that was renamed or removed, a line goes to a new file of the name. What was
-/// written is what the files were given, in their order. It takes no notes.
+/// A log in the file that has a name: if that was renamed or removed, a line goes to a new file of the name, and so does the rest
+/// of one of which a write failed. What was written is what the files were given, in their order. It takes no notes.
 #[derive(Drop)]
 pub struct NamedLog<F: NamedFiles> {
     files: F,
     file: F::File,
     is_at_line: bool,
+    /// Whether the last write failed: then a file of the name is looked for within a line, too.
+    is_stuck: bool,
     is_anew: bool,
     /// Whether something was written to the file since it was made to last.
     is_unsynced: bool,
@@ -50,6 +52,7 @@ impl<F: NamedFiles> NamedLog<F> {
             files,
             file,
             is_at_line: true,
+            is_stuck: false,
             is_anew: false,
             is_unsynced: false,
             has_failed: false,
@@ -80,12 +83,13 @@ impl<F: NamedFiles> NamedLog<F> {
         }
     }
 
-    /// Goes on in a new file if a line begins and that of the log has its name no more.
+    /// Goes on in a new file if that of the log has its name no more, and a line begins or the last write failed: who has removed a
+    /// file on a full disk has room for the rest of its last line.
     fn follow_at_line(&mut self)
         ensures { Keeps (joined (F.left self.old.files) (F.File.held self.old.file))
             (joined (F.left self.new.files) (F.File.held self.new.file)) }
     {
-        if self.is_at_line {
+        if self.is_at_line || self.is_stuck {
             self.follow_name();
         }
     }
@@ -99,7 +103,9 @@ impl<F: NamedFiles> NamedLog<F> {
         ensures unsynced { self.new.is_unsynced ≡ true }
     {
         self.is_unsynced = true;
+        self.is_stuck = true;
         let count = self.file.write_octets(text)?;
+        self.is_stuck = false;
         self.is_at_line = text[..count].ends_with(b"\n");
         Ok(count)
     }

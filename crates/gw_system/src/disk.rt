@@ -88,7 +88,7 @@ pub(crate) fn create_file<R: Files>(rt: &R, name: &str, mode: u32) -> io::Result
 }
 
 /// Waits until it is on the disk which files a folder has.
-fn sync_names<R: Files>(rt: &R, folder: &str) -> io::Result<()> {
+pub(crate) fn sync_names<R: Files>(rt: &R, folder: &str) -> io::Result<()> {
     fs::open(rt, folder)?.sync_all()
 }
 

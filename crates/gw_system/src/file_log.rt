@@ -2,6 +2,7 @@
 
 ghost use Rattle.std.specs.Prelude.{None, ⊤, ◌≤◌, length, IfOk};
 
+use crate::disk::{folder_of, sync_names};
 use crate::host::{MODE, is_link};
 use crate::opening::LogFailure;
 use crate::store::name_with;
@@ -115,6 +116,8 @@ fn open_file<R: Files>(rt: &R, name: &str) -> io::Result<LogFile<R>> {
         .create(true)
         .mode(MODE)
         .open(rt, name)?;
+    // The name lasts too, as far as the system lets it.
+    let _ = sync_names(rt, folder_of(name));
     let place = match file.metadata() {
         Ok(metadata) => Some(Place::of(&metadata)),
         Err(_) => None,

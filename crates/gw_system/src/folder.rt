@@ -85,7 +85,7 @@ impl<R: Files> Folder for SystemFolder<'_, R> {
     }
 
     fn make(&mut self, name: &str) -> Result<bool, StoreFault> {
-        match create_file(self.rt, name, Access::Owner.mode()) {
+        match create_file(self.rt, name, Access::Everyone.mode()) {
             Ok(_made) => Ok(true),
             Err(error) => match error.kind() {
                 ErrorKind::AlreadyExists => Ok(false),

@@ -259,8 +259,8 @@ impl<F: Folder> Requests for FileRequests<F> {
 /// How many octets of an answer are read.
 const MAX_ANSWER: usize = 65_536;
 
-/// The answer to a request, if there is one. What is there while the request is, is an older one: whoever takes a request
-/// takes that away first.
+/// The answer to a request, if there is one: a regular file, and no link to one. What is there while the request is, is an older one:
+/// whoever takes a request takes that away first.
 fn answer_to<F: Folder>(
     folder: &F,
     alloc: Global,
@@ -269,7 +269,7 @@ fn answer_to<F: Folder>(
     ensures { IfOk result (λ found. IfSome found (λ text. IsAnswer (F.known folder.now (string_bytes asked.now.request.name))
         (F.known folder.now (string_bytes asked.now.answer.name)) text.items)) }
 {
-    if folder.has(&asked.request.name) {
+    if folder.has(&asked.request.name) || !folder.is_regular(&asked.answer.name) {
         return Ok(None);
     }
     folder.read(alloc, &asked.answer.name, MAX_ANSWER)
