@@ -27,8 +27,8 @@ pub fn one_more(count: u64) -> u64
     if count < u64::MAX { count + 1 } else { count }
 }
 
-/// How long it rests after a try that failed, by how long it rested before: 1, 2, 4, 8, 16, 32, and then 60 ticks.
-fn next_pause(pause: u64) -> u64
+/// The pause after a try that failed, by the pause before it: 1, 2, 4, 8, 16, 32, and then 60 ticks.
+pub(crate) fn next_pause(pause: u64) -> u64
     ensures { result ≡ next_pause pause }
 {
     if pause == 0 {

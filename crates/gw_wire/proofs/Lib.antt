@@ -1,3 +1,4 @@
+mod DeferLemmas
 mod HoldLemmas
 mod PortLemmas
 mod SpacedLemmas

@@ -1,10 +1,10 @@
 //! The ports and a clock: each second that passes is a tick, and where nothing waits it is waited for.
 
-ghost use Rattle.std.specs.Prelude.{◌≡◌, ◌+◌, ◌-◌, ◌*◌, ◌<◌, ◌^◌, ◌∷◌, ◌||◌, [], length, min, nat_lt, slice_index_or, true, false, IfOk, OnErr, OnOk, None};
+ghost use Rattle.std.specs.Prelude.{◌≡◌, ◌+◌, ◌-◌, ◌*◌, ◌<◌, ◌^◌, ◌∷◌, ◌||◌, [], length, min, slice_index_or, true, false, IfOk, OnErr, OnOk, None};
 ghost use Rattle.std.specs.Duration.{as_nanos, max_nanos};
 ghost use Rattle.gw_wire.specs.Wire.{IsHandedIn, Records, failures_of, receive_answer, receive_call, send_call};
 ghost use Rattle.gw_wire.specs.Ports.{HasSentOn};
-ghost use Rattle.gw_wire.specs.Timed.{ComesNext, FollowsNext, HasLooked, HasWaited, IsCounted, IsLookedInTime, IsReceived, IsReceivedLater, KeepsCount, handing, is_idle, is_tick, rest_between, second, seconds_between, with_due, with_ports};
+ghost use Rattle.gw_wire.specs.Timed.{ComesNext, FollowsNext, HasLooked, HasWaited, IsCounted, IsLookedInTime, IsReceived, IsReceivedLater, KeepsCount, deferred_after, defers_due, handing, is_idle, is_tick, rest_between, second, seconds_between, with_due, with_ports};
 ghost use Rattle.gw_wire.specs.Watch.{HasSent};
 
 use crate::ports::Ports;
@@ -22,12 +22,16 @@ use std::time::Duration;
 /// already.
 pub(crate) const MOST_UNLOOKED: u8 = 7;
 
+/// How many ticks in a row defer what is due to the next one, while that is due already.
+pub(crate) const MOST_DEFERRED: u8 = 9;
+
 /// The ports as a wire in time. Before each receive the whole seconds are counted that passed since
 /// the last look at the clock, and so many ticks are due. Where nothing waits it waits for a
 /// datagram, up to the next second, and then asks once more. Only sockets are asked at which
 /// something may wait, by what the waiter says. While something may wait already, seven receives go
 /// by before the next asks the waiter, so that what came elsewhere has its turn. After a tick is handed in it asks the waiter too,
-/// and hands in the next one only once each socket was asked at which something may have waited then.
+/// and hands in the next one only once each socket was asked at which something may have waited then. It is behind after a tick
+/// while another one is due, but for every tenth of such ticks in a row: so what is due at a tick is done also if it never catches up.
 #[derive(Drop)]
 pub struct TimedPorts<S, C, P> {
     /// The sockets of all ports, and the ticks that are due.
@@ -42,6 +46,8 @@ pub struct TimedPorts<S, C, P> {
     pub unlooked: u8,
     /// Whether a tick was handed in since the waiter last reported so.
     pub ticked: bool,
+    /// How many ticks in a row deferred what is due to the next one, at most nine.
+    pub deferred: u8,
 }
 
 /// Whether a tick came.
@@ -49,6 +55,17 @@ fn is_tick(came: &Result<Got, WireFault>) -> bool
     ensures { result ≡ is_tick came.now }
 {
     matches!(came, Ok(Got::Tick))
+}
+
+/// How many ticks in a row deferred what is due to the next one, after one more: one more if another is due, but none after nine of them.
+fn deferred_after(is_due: bool, deferred: u8) -> u8
+    ensures { result ≡ deferred_after is_due deferred }
+{
+    if is_due && deferred < MOST_DEFERRED {
+        deferred + 1
+    } else {
+        0
+    }
 }
 
 /// Whether nothing came.
@@ -94,6 +111,7 @@ impl<S: Sock, C: Timepiece, P: Waiter> TimedPorts<S, C, P> {
         ensures now { IfOk result (λ timed. C.Shows timed.clock (as_nanos timed.counted)) }
         ensures unlooked { IfOk result (λ timed. timed.unlooked ≡ 0) }
         ensures ticked { IfOk result (λ timed. timed.ticked ≡ false) }
+        ensures deferred { IfOk result (λ timed. timed.deferred ≡ 0) }
     {
         let counted = clock.elapsed()?;
         Ok(TimedPorts {
@@ -103,6 +121,7 @@ impl<S: Sock, C: Timepiece, P: Waiter> TimedPorts<S, C, P> {
             counted,
             unlooked: 0,
             ticked: false,
+            deferred: 0,
         })
     }
 
@@ -121,6 +140,7 @@ impl<S: Sock, C: Timepiece, P: Waiter> TimedPorts<S, C, P> {
         ensures waiter { self.new.waiter ≡ self.old.waiter }
         ensures unlooked { self.new.unlooked ≡ self.old.unlooked }
         ensures ticked { self.new.ticked ≡ self.old.ticked }
+        ensures deferred { self.new.deferred ≡ self.old.deferred }
     {
         let passed = now.saturating_sub(self.counted);
         let seconds = passed.as_secs();
@@ -136,6 +156,7 @@ impl<S: Sock, C: Timepiece, P: Waiter> TimedPorts<S, C, P> {
         ensures waiter { self.new.waiter ≡ self.old.waiter }
         ensures unlooked { self.new.unlooked ≡ self.old.unlooked }
         ensures ticked { self.new.ticked ≡ self.old.ticked }
+        ensures deferred { self.new.deferred ≡ self.old.deferred }
         ensures pairs { self.new.ports.pairs ≡ self.old.ports.pairs }
         ensures count { length self.new.ports.pairs ≡ length self.old.ports.pairs }
         ensures failures { self.new.ports.failures ≡ self.old.ports.failures }
@@ -208,7 +229,10 @@ impl<S: Sock, C: Timepiece, P: Waiter> TimedPorts<S, C, P> {
         ensures count { length self.new.ports.pairs ≡ length self.old.ports.pairs }
     {
         let came = next_of(&mut self.ports, buf);
-        self.ticked = is_tick(&came) || self.ticked;
+        if is_tick(&came) {
+            self.ticked = true;
+            self.deferred = deferred_after(self.ports.is_behind(), self.deferred);
+        }
         came
     }
 
@@ -270,14 +294,14 @@ impl<S: Sock, C: Timepiece, P: Waiter> Wire for TimedPorts<S, C, P> {
 
     ghost calls = { λ _. None };
 
-    ghost behind = { λ timed. nat_lt 0 timed.ports.ticks };
+    ghost behind = { defers_due };
 
     fn ports(&self) -> u8 {
         self.ports.ports()
     }
 
     fn is_behind(&self) -> bool {
-        self.ports.is_behind()
+        self.ports.is_behind() && self.deferred > 0
     }
 
     fn failures(&self) -> u128 {
@@ -315,7 +339,7 @@ impl<S: Sock, C: Timepiece, P: Waiter> Wire for TimedPorts<S, C, P> {
         ensures calls { let call = send_call result
             (record { port = port; to = to; octets = octets.now }) in
             Records None None (call ∷ []) }
-        ensures behind { nat_lt 0 self.new.ports.ticks ≡ nat_lt 0 self.old.ports.ticks }
+        ensures behind { defers_due self.new ≡ defers_due self.old }
         ensures failures { self.new.ports.failures
             ≡ self.old.ports.failures + failures_of result }
     {

@@ -50,7 +50,7 @@ pub trait Wire {
     /// Its calls so far, in order, if it reports them.
     ghost calls: { Self → Option (List Call) };
 
-    /// A tick is due already.
+    /// What is due at a tick may be left to another one, which is due already.
     ghost behind: { Self → Bool };
 
     /// How many ports it has. No call changes it.
@@ -61,7 +61,7 @@ pub trait Wire {
     fn failures(&self) -> u128
         ensures { result ≡ failure_count self.now };
 
-    /// Whether a tick is due already, so that what is to be done once a second can wait for it.
+    /// Whether what is to be done once a second may be left to another tick, which is due already.
     fn is_behind(&self) -> bool
         ensures { result ≡ behind self.now };
 
