@@ -36,7 +36,6 @@ NOTES = {
     "gw_report": "a site on a page",
     "gw_verdicts": "which rules decide",
     "gw_cases": "how tests are written",
-    "gw_frame_vectors": "the tests of frames and rules",
     "gw_gateway_vectors": "the tests of a gateway",
     "gw_tool_line": "what bacgwctl's words ask for",
     "gw_program_cases": "what two of them share",

@@ -184,12 +184,11 @@ def check_definition(page, name, quoted, files):
 
 
 def check_cases():
-    """The sections of cases that the tables of docs/BTL.md name in italics, of frames where (F) is before one."""
+    """The sections of cases that the tables of docs/BTL.md name in italics."""
     page = "docs/BTL.md"
-    for frames, name in re.findall(r"(\(F\) )?(?<!\*)\*([^*\n]+)\*(?!\*)", open(page).read()):
-        crate = "gw_frame_vectors" if frames else "gw_gateway_vectors"
-        lines = open(f"crates/{crate}/stdin").read().split("\n")
-        say(f"== {name}" in lines or f"== script {name}" in lines, page, f"no case {name} in {crate}")
+    lines = open("crates/gw_gateway_vectors/stdin").read().split("\n")
+    for name in re.findall(r"(?<!\*)\*([^*\n]+)\*(?!\*)", open(page).read()):
+        say(f"== {name}" in lines or f"== script {name}" in lines, page, f"no case {name} in gw_gateway_vectors")
 
 
 WORDS = code_words()

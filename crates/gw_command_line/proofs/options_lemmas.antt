@@ -1,2 +1,3 @@
+pub mod BuildLemmas
 pub mod ParseLemmas
 pub mod ValueLemmas

@@ -33,105 +33,155 @@ fn make_replay<'a>(alloc: Global) -> Result<Command<'a>, AllocError>
     ensures app { IfOk result (λ command. app_of command ≡ replay) }
     ensures local { IfOk result (λ command. (out-Command command).has_globals ≡ false) }
 {
-    let help = "Also reports at the end how many asks each rule decided";
-    let stats = make_flag(alloc, "stats", help);
-    make_replay_of_explanation(alloc)?.arg(stats)
+    make_replay_of_explanation(alloc)?.arg(make_flag(
+        alloc,
+        "stats",
+        "Also reports at the end how many asks each rule decided",
+    ))
 }
 
 fn make_replay_of_explanation<'a>(alloc: Global) -> Result<Command<'a>, AllocError>
     ensures app { IfOk result (λ command. app_of command ≡ replay_of_explanation) }
     ensures local { IfOk result (λ command. (out-Command command).has_globals ≡ false) }
 {
-    let help = "The configuration, in TOML; without it the built-in one";
-    let config = make_option(alloc, "config", FILE, help);
-    let help = "Also prints each ask, and which rule decides it";
-    let explain = make_flag(alloc, "explain", help);
     Command::new(alloc, "replay")
         .about("Plays the events of standard input and prints what the gateway gives for each")
-        .arg(config)?
-        .arg(explain)
+        .arg(make_option(
+            alloc,
+            "config",
+            FILE,
+            "The configuration, in TOML; without it the built-in one",
+        ))?
+        .arg(make_flag(
+            alloc,
+            "explain",
+            "Also prints each ask, and which rule decides it",
+        ))
 }
 
 fn make_run<'a>(alloc: Global) -> Result<Command<'a>, AllocError>
     ensures app { IfOk result (λ command. app_of command ≡ run) }
     ensures local { IfOk result (λ command. (out-Command command).has_globals ≡ false) }
 {
-    let help = "Keeps the counts in this file, for a collector of metrics";
-    let metrics = make_option(alloc, "metrics", FILE, help);
-    make_run_of_audit(alloc)?.arg(metrics)
+    make_run_of_audit(alloc)?.arg(make_option(
+        alloc,
+        "metrics",
+        FILE,
+        "Keeps the counts in this file, for a collector of metrics",
+    ))
 }
 
 fn make_run_of_audit<'a>(alloc: Global) -> Result<Command<'a>, AllocError>
     ensures app { IfOk result (λ command. app_of command ≡ run_of_audit) }
     ensures local { IfOk result (λ command. (out-Command command).has_globals ≡ false) }
 {
-    let help = "What the asks are appended to that a rule with audit = true allows";
-    let audit = make_option(alloc, "audit", FILE, help);
-    let help = "Begins each line of the log with the time, and adds notes; with --log";
-    let stamp = make_flag(alloc, "stamp", help);
-    make_run_of_trial(alloc)?.arg(audit)?.arg(stamp)
+    make_run_of_trial(alloc)?
+        .arg(make_option(
+            alloc,
+            "audit",
+            FILE,
+            "What the asks are appended to that a rule with audit = true allows",
+        ))?
+        .arg(make_flag(
+            alloc,
+            "stamp",
+            "Begins each line of the log with the time, and adds notes; with --log",
+        ))
 }
 
 fn make_run_of_trial<'a>(alloc: Global) -> Result<Command<'a>, AllocError>
     ensures app { IfOk result (λ command. app_of command ≡ run_of_trial) }
     ensures local { IfOk result (λ command. (out-Command command).has_globals ≡ false) }
 {
-    let help = "A configuration whose rules are only tried; with --trial-log";
-    let trial = make_option(alloc, "trial", FILE, help);
-    let help = "What the asks are appended to that the rules of --trial decide otherwise";
-    let log = make_option(alloc, "trial-log", FILE, help);
-    let help =
-        "Appends each ask that they deny, also where the rules in force deny it; with --trial";
-    let all = make_flag(alloc, "trial-all", help);
-    make_run_of_state(alloc)?.arg(trial)?.arg(log)?.arg(all)
+    make_run_of_state(alloc)?
+        .arg(make_option(
+            alloc,
+            "trial",
+            FILE,
+            "A configuration whose rules are only tried; with --trial-log",
+        ))?
+        .arg(make_option(
+            alloc,
+            "trial-log",
+            FILE,
+            "What the asks are appended to that the rules of --trial decide otherwise",
+        ))?
+        .arg(make_flag(
+            alloc,
+            "trial-all",
+            "Appends each ask that they deny, also where the rules in force deny it; with --trial",
+        ))
 }
 
 fn make_run_of_state<'a>(alloc: Global) -> Result<Command<'a>, AllocError>
     ensures app { IfOk result (λ command. app_of command ≡ run_of_state) }
     ensures local { IfOk result (λ command. (out-Command command).has_globals ≡ false) }
 {
-    let help = "Keeps the state in this file, and begins with what it holds";
-    let state = make_option(alloc, "state", FILE, help);
-    let help =
-        "Looks in this file for requests: to read the configuration again, to stop, to say what is counted";
-    let reload = make_option(alloc, "reload", FILE, help);
-    make_run_of_reports(alloc)?.arg(state)?.arg(reload)
+    make_run_of_reports(alloc)?
+        .arg(make_option(
+            alloc,
+            "state",
+            FILE,
+            "Keeps the state in this file, and begins with what it holds",
+        ))?
+        .arg(make_option(
+            alloc,
+            "reload",
+            FILE,
+            "Looks in this file for requests: to read the configuration again, to stop, to say what is counted",
+        ))
 }
 
 fn make_run_of_reports<'a>(alloc: Global) -> Result<Command<'a>, AllocError>
     ensures app { IfOk result (λ command. app_of command ≡ run_of_reports) }
     ensures local { IfOk result (λ command. (out-Command command).has_globals ≡ false) }
 {
-    let help =
-        "Reports at the start what is served, or where a fault is, and each minute what is dropped or fails";
-    let verbose = make_flag(alloc, "verbose", help);
-    let help = "Reports what was done, each so many seconds, from 1 to 4294967295, and at the end";
-    let stats = make_number(alloc, "stats", "SECONDS", MAX_SECONDS, help);
-    let help =
-        "Counts the asks of each rule in each report, not only in the first of an hour; with --stats";
-    let rules = make_flag(alloc, "stats-rules", help);
     make_run_of_turns(alloc)?
-        .arg(verbose)?
-        .arg(stats)?
-        .arg(rules)
+        .arg(make_flag(
+            alloc,
+            "verbose",
+            "Reports at the start what is served, or where a fault is, and each minute what is dropped or fails",
+        ))?
+        .arg(make_number(
+            alloc,
+            "stats",
+            "SECONDS",
+            MAX_SECONDS,
+            "Reports what was done, each so many seconds, from 1 to 4294967295, and at the end",
+        ))?
+        .arg(make_flag(
+            alloc,
+            "stats-rules",
+            "Counts the asks of each rule in each report, not only in the first of an hour; with --stats",
+        ))
 }
 
 fn make_run_of_turns<'a>(alloc: Global) -> Result<Command<'a>, AllocError>
     ensures app { IfOk result (λ command. app_of command ≡ run_of_turns) }
     ensures local { IfOk result (λ command. (out-Command command).has_globals ≡ false) }
 {
-    let help = "What the log is appended to; without it standard output";
-    let log = make_option(alloc, "log", FILE, help);
-    let help = "What is done if the log fails: end, the default, or hold; with --log";
-    let failure = make_option(alloc, "on-log-failure", WORD, help);
-    let help = "How many turns are served, from 1 to 9223372036854775807, the default";
-    let turns = make_number(alloc, "turns", NUMBER, MAX_COUNT, help);
     let about = "Serves the ports of a configuration over UDP";
     make_of_file(alloc, "run", about)?
         .after_help(RUN_EXAMPLE)
-        .arg(log)?
-        .arg(failure)?
-        .arg(turns)
+        .arg(make_option(
+            alloc,
+            "log",
+            FILE,
+            "What the log is appended to; without it standard output",
+        ))?
+        .arg(make_option(
+            alloc,
+            "on-log-failure",
+            WORD,
+            "What is done if the log fails: end, the default, or hold; with --log",
+        ))?
+        .arg(make_number(
+            alloc,
+            "turns",
+            NUMBER,
+            MAX_COUNT,
+            "How many turns are served, from 1 to 9223372036854775807, the default",
+        ))
 }
 
 /// The program, with no command yet.

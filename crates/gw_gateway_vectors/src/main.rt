@@ -1,10 +1,12 @@
-//! Answers cases of a configuration, of its objects, and of a gateway under it: its scripts, its wires and whose turn it is.
+//! Answers cases of what a gateway is built on, of a configuration, of its objects, and of a gateway under it: its scripts, its wires
+//! and whose turn it is.
 #![tactic(auto)]
 
 mod announcing;
 mod configurations;
 mod keeping;
 mod objects;
+mod parts;
 mod reads;
 mod replays;
 mod serving;
@@ -17,7 +19,7 @@ use gw_cases::{Case, Kinds, write_groups};
 use gw_policy_text::SETTING;
 use std::alloc::Global;
 use std::io;
-use std::io::{BufWriter, ErrorKind, Write};
+use std::io::{BufWriter, Write};
 
 /// The kinds of cases of a configuration and a gateway.
 struct GatewayKinds;
@@ -40,7 +42,7 @@ impl Kinds for GatewayKinds {
             "turns" => sockets::turns(alloc, line, out),
             "watches" => sockets::watches(alloc, line, out),
             "seconds" => sockets::seconds(alloc, line, out),
-            _ => Err(ErrorKind::InvalidData.into()),
+            _ => parts::answer_line(alloc, case, out),
         }
     }
 
@@ -58,6 +60,7 @@ impl Kinds for GatewayKinds {
             "list" => Some(replays::list(alloc, config, body, out)),
             "behind" => Some(replays::behind(alloc, config, section.sections, out)),
             "check" => Some(configurations::check(alloc, body, out)),
+            "texts" => Some(parts::texts::texts(out)),
             _ => None,
         }
     }

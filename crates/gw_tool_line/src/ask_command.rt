@@ -38,43 +38,66 @@ fn make_ask_of_stations<'a>(alloc: Global) -> Result<Command<'a>, AllocError>
     ensures app { IfOk result (λ command. app_of command ≡ ask_of_stations) }
     ensures local { IfOk result (λ command. (out-Command command).has_globals ≡ false) }
 {
-    let from = make_from(alloc);
-    let help =
-        "Who is asked: the same, or device, which is the gateway's own; of --who-is a network";
-    let to = make_option(alloc, "to", STATION, help);
     let about = "Says whether a station may do something, and by which rules";
-    make_of_file(alloc, "ask", about)?.arg(from)?.arg(to)
+    make_of_file(alloc, "ask", about)?
+        .arg(make_from(alloc))?
+        .arg(make_option(
+            alloc,
+            "to",
+            STATION,
+            "Who is asked: the same, or device, which is the gateway's own; of --who-is a network",
+        ))
 }
 
 fn make_ask_to_read<'a>(alloc: Global) -> Result<Command<'a>, AllocError>
     ensures app { IfOk result (λ command. app_of command ≡ ask_to_read) }
     ensures local { IfOk result (λ command. (out-Command command).has_globals ≡ false) }
 {
-    let help = "What it reads: TYPE,INSTANCE or TYPE,INSTANCE,PROPERTY";
-    let read = make_option(alloc, "read", OBJECT, help);
-    make_ask_of_stations(alloc)?.after_help(EXAMPLE).arg(read)
+    make_ask_of_stations(alloc)?
+        .after_help(EXAMPLE)
+        .arg(make_option(
+            alloc,
+            "read",
+            OBJECT,
+            "What it reads: TYPE,INSTANCE or TYPE,INSTANCE,PROPERTY",
+        ))
 }
 
 fn make_ask_to_write<'a>(alloc: Global) -> Result<Command<'a>, AllocError>
     ensures app { IfOk result (λ command. app_of command ≡ ask_to_write) }
     ensures local { IfOk result (λ command. (out-Command command).has_globals ≡ false) }
 {
-    let help = "What it writes: TYPE,INSTANCE or TYPE,INSTANCE,PROPERTY";
-    let write = make_option(alloc, "write", OBJECT, help);
-    let help = "The priority of a write, from 1 to 16";
-    let priority = make_option(alloc, "priority", NUMBER, help);
-    make_ask_to_read(alloc)?.arg(write)?.arg(priority)
+    make_ask_to_read(alloc)?
+        .arg(make_option(
+            alloc,
+            "write",
+            OBJECT,
+            "What it writes: TYPE,INSTANCE or TYPE,INSTANCE,PROPERTY",
+        ))?
+        .arg(make_option(
+            alloc,
+            "priority",
+            NUMBER,
+            "The priority of a write, from 1 to 16",
+        ))
 }
 
 fn make_ask_to_serve<'a>(alloc: Global) -> Result<Command<'a>, AllocError>
     ensures app { IfOk result (λ command. app_of command ≡ ask_to_serve) }
     ensures local { IfOk result (λ command. (out-Command command).has_globals ≡ false) }
 {
-    let help = "Which confirmed service it asks for, as SubscribeCOV";
-    let service = make_option(alloc, "service", SERVICE, help);
-    let help = "Whether its Who-Is is heard, on each network without --to";
-    let who_is = make_flag(alloc, "who-is", help);
-    make_ask_to_write(alloc)?.arg(service)?.arg(who_is)
+    make_ask_to_write(alloc)?
+        .arg(make_option(
+            alloc,
+            "service",
+            SERVICE,
+            "Which confirmed service it asks for, as SubscribeCOV",
+        ))?
+        .arg(make_flag(
+            alloc,
+            "who-is",
+            "Whether its Who-Is is heard, on each network without --to",
+        ))
 }
 
 /// The command.
@@ -82,7 +105,9 @@ pub fn make_ask<'a>(alloc: Global) -> Result<Command<'a>, AllocError>
     ensures app { IfOk result (λ command. app_of command ≡ ask) }
     ensures local { IfOk result (λ command. (out-Command command).has_globals ≡ false) }
 {
-    let help = "Whether it may register as a foreign device; without --to";
-    let register = make_flag(alloc, "register", help);
-    make_ask_to_serve(alloc)?.arg(register)
+    make_ask_to_serve(alloc)?.arg(make_flag(
+        alloc,
+        "register",
+        "Whether it may register as a foreign device; without --to",
+    ))
 }

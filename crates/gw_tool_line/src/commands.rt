@@ -56,21 +56,25 @@ fn make_check<'a>(alloc: Global) -> Result<Command<'a>, AllocError>
     ensures app { IfOk result (λ command. app_of command ≡ check) }
     ensures local { IfOk result (λ command. (out-Command command).has_globals ≡ false) }
 {
-    let help = "Prints a JSON object instead";
-    let json = make_flag(alloc, "json", help);
     let about = "Says what a configuration has, or its first fault";
-    make_of_file(alloc, "check", about)?.arg(json)
+    make_of_file(alloc, "check", about)?.arg(make_flag(
+        alloc,
+        "json",
+        "Prints a JSON object instead",
+    ))
 }
 
 fn make_explain<'a>(alloc: Global) -> Result<Command<'a>, AllocError>
     ensures app { IfOk result (λ command. app_of command ≡ explain) }
     ensures local { IfOk result (λ command. (out-Command command).has_globals ≡ false) }
 {
-    let help = "Also prints which rules never decide";
-    let lint = make_flag(alloc, "lint", help);
     let about =
         "Says what a configuration has, who may do what, what is hidden from whom, and warnings";
-    make_of_file(alloc, "explain", about)?.arg(lint)
+    make_of_file(alloc, "explain", about)?.arg(make_flag(
+        alloc,
+        "lint",
+        "Also prints which rules never decide",
+    ))
 }
 
 fn make_lint<'a>(alloc: Global) -> Result<Command<'a>, AllocError>
@@ -95,9 +99,11 @@ fn make_why<'a>(alloc: Global) -> Result<Command<'a>, AllocError>
     ensures app { IfOk result (λ command. app_of command ≡ why) }
     ensures local { IfOk result (λ command. (out-Command command).has_globals ≡ false) }
 {
-    let help = "Ends at a line that isn't an ask alone; without it any text may be around an ask";
-    let strict = make_flag(alloc, "strict", help);
-    make_why_of_form(alloc)?.arg(strict)
+    make_why_of_form(alloc)?.arg(make_flag(
+        alloc,
+        "strict",
+        "Ends at a line that isn't an ask alone; without it any text may be around an ask",
+    ))
 }
 
 fn make_why_of_form<'a>(alloc: Global) -> Result<Command<'a>, AllocError>
@@ -105,137 +111,147 @@ fn make_why_of_form<'a>(alloc: Global) -> Result<Command<'a>, AllocError>
     ensures local { IfOk result (λ command. (out-Command command).has_globals ≡ false) }
 {
     let about = "Says which rule decides each ask of standard input, in the words of the log";
-    let count = make_flag(
-        alloc,
-        "count",
-        "Prints how many asks each rule decides instead",
-    );
-    let json = make_flag(alloc, "json", "Answers by a JSON object a line instead");
     make_of_file(alloc, "why", about)?
         .after_help(WHY_EXAMPLE)
-        .arg(count)?
-        .arg(json)
+        .arg(make_flag(
+            alloc,
+            "count",
+            "Prints how many asks each rule decides instead",
+        ))?
+        .arg(make_flag(alloc, "json", "Answers by a JSON object a line instead"))
 }
 
 fn make_compare<'a>(alloc: Global) -> Result<Command<'a>, AllocError>
     ensures app { IfOk result (λ command. app_of command ≡ compare) }
     ensures local { IfOk result (λ command. (out-Command command).has_globals ≡ false) }
 {
-    let help = "Also prints how many steps the comparison took";
-    let steps = make_flag(alloc, "steps", help);
-    let help = "Prints a JSON object instead; without --steps";
-    let json = make_flag(alloc, "json", help);
-    make_compare_of_most(alloc)?.arg(steps)?.arg(json)
+    make_compare_of_most(alloc)?
+        .arg(make_flag(
+            alloc,
+            "steps",
+            "Also prints how many steps the comparison took",
+        ))?
+        .arg(make_flag(
+            alloc,
+            "json",
+            "Prints a JSON object instead; without --steps",
+        ))
 }
 
 fn make_compare_of_most<'a>(alloc: Global) -> Result<Command<'a>, AllocError>
     ensures app { IfOk result (λ command. app_of command ≡ compare_of_most) }
     ensures local { IfOk result (λ command. (out-Command command).has_globals ≡ false) }
 {
-    let with = make_needed(alloc, "with", "The other configuration, in TOML");
-    let most = make_number(alloc, "most", NUMBER, MAX_COUNT, MOST_HELP);
     let about = "Says which asks the rules of two configurations decide otherwise";
     make_of_file(alloc, "compare", about)?
         .after_help(COMPARE_EXAMPLE)
-        .arg(with)?
-        .arg(most)
+        .arg(make_needed(alloc, "with", "The other configuration, in TOML"))?
+        .arg(make_number(alloc, "most", NUMBER, MAX_COUNT, MOST_HELP))
 }
 
 fn make_log<'a>(alloc: Global) -> Result<Command<'a>, AllocError>
     ensures app { IfOk result (λ command. app_of command ≡ log) }
     ensures local { IfOk result (λ command. (out-Command command).has_globals ≡ false) }
 {
-    let help = "Also shows when each denial was, if the log began then: 2026-11-25T08:00:00+01:00";
-    let start = make_option(alloc, "start", "TIME", help);
-    let help = "Makes each line a JSON object instead; without --start";
-    let json = make_flag(alloc, "json", help);
-    make_log_of_file(alloc)?.arg(start)?.arg(json)
+    make_log_of_file(alloc)?
+        .arg(make_option(
+            alloc,
+            "start",
+            "TIME",
+            "Also shows when each denial was, if the log began then: 2026-11-25T08:00:00+01:00",
+        ))?
+        .arg(make_flag(
+            alloc,
+            "json",
+            "Makes each line a JSON object instead; without --start",
+        ))
 }
 
 fn make_log_of_file<'a>(alloc: Global) -> Result<Command<'a>, AllocError>
     ensures app { IfOk result (λ command. app_of command ≡ log_of_file) }
     ensures local { IfOk result (λ command. (out-Command command).has_globals ≡ false) }
 {
-    let file = make_positional(alloc, "file", "The log; without it standard input");
     Command::new(alloc, "log")
         .about("Says each line of a log in words")
         .after_help(LOG_EXAMPLE)
-        .arg(file)
+        .arg(make_positional(alloc, "file", "The log; without it standard input"))
 }
 
 fn make_report<'a>(alloc: Global) -> Result<Command<'a>, AllocError>
     ensures app { IfOk result (λ command. app_of command ≡ report) }
     ensures local { IfOk result (λ command. (out-Command command).has_globals ≡ false) }
 {
-    let help = "The log whose denials it also shows";
-    let log = make_option(alloc, "log", FILE, help);
     let about = "Writes a page of HTML: the site, who may do what, the rules, and what was denied";
     make_of_file(alloc, "report", about)?
         .after_help(REPORT_EXAMPLE)
-        .arg(log)
+        .arg(make_option(alloc, "log", FILE, "The log whose denials it also shows"))
 }
 
 fn make_state<'a>(alloc: Global) -> Result<Command<'a>, AllocError>
     ensures app { IfOk result (λ command. app_of command ≡ state) }
     ensures local { IfOk result (λ command. (out-Command command).has_globals ≡ false) }
 {
-    let state = make_needed(alloc, "state", "The file in which run keeps the state");
     let about = "Says what a kept state holds, and what of it a configuration takes over";
     make_of_file(alloc, "state", about)?
         .after_help(STATE_EXAMPLE)
-        .arg(state)
+        .arg(make_needed(alloc, "state", "The file in which run keeps the state"))
 }
 
 fn make_suggest<'a>(alloc: Global) -> Result<Command<'a>, AllocError>
     ensures app { IfOk result (λ command. app_of command ≡ suggest) }
     ensures local { IfOk result (λ command. (out-Command command).has_globals ≡ false) }
 {
-    let help = "Lets each station do what it did with each object that it asked for";
-    let fill = make_flag(alloc, "fill", help);
-    let exact = make_flag(
-        alloc,
-        "exact",
-        "Keeps the services of reads and lists apart",
-    );
     let about = "Writes rules that allow the asks of standard input, to be put in front";
     make_of_file(alloc, "suggest", about)?
         .after_help(SUGGEST_EXAMPLE)
-        .arg(fill)?
-        .arg(exact)
+        .arg(make_flag(
+            alloc,
+            "fill",
+            "Lets each station do what it did with each object that it asked for",
+        ))?
+        .arg(make_flag(
+            alloc,
+            "exact",
+            "Keeps the services of reads and lists apart",
+        ))
 }
 
 fn make_reload<'a>(alloc: Global) -> Result<Command<'a>, AllocError>
     ensures app { IfOk result (λ command. app_of command ≡ reload) }
     ensures local { IfOk result (λ command. (out-Command command).has_globals ≡ false) }
 {
-    let help = "The configuration that the gateway has; prints first what the new one changes";
-    let was = make_option(alloc, "was", FILE, help);
-    let most = make_number(alloc, "most", NUMBER, MAX_COUNT, MOST_HELP);
-    make_reload_of_request(alloc)?.arg(was)?.arg(most)
+    make_reload_of_request(alloc)?
+        .arg(make_option(
+            alloc,
+            "was",
+            FILE,
+            "The configuration that the gateway has; prints first what the new one changes",
+        ))?
+        .arg(make_number(alloc, "most", NUMBER, MAX_COUNT, MOST_HELP))
 }
 
 fn make_reload_of_request<'a>(alloc: Global) -> Result<Command<'a>, AllocError>
     ensures app { IfOk result (λ command. app_of command ≡ reload_of_request) }
     ensures local { IfOk result (λ command. (out-Command command).has_globals ≡ false) }
 {
-    let help = "The file that run --reload looks for";
-    let request = make_needed(alloc, "reload", help);
     let about = "Asks a running gateway to read its configuration again, and says what it did";
     make_of_file(alloc, "reload", about)?
         .after_help(RELOAD_EXAMPLE)
-        .arg(request)
+        .arg(make_needed(alloc, "reload", "The file that run --reload looks for"))
 }
 
 fn make_objects<'a>(alloc: Global) -> Result<Command<'a>, AllocError>
     ensures app { IfOk result (λ command. app_of command ≡ objects) }
     ensures local { IfOk result (λ command. (out-Command command).has_globals ≡ false) }
 {
-    let help = "As comma-separated values, a line for each object; has to be given";
-    let csv = make_needed_flag(alloc, "csv", help);
     let about = "Lists the objects of a configuration for engineering tools";
     make_of_file(alloc, "objects", about)?
         .after_help(OBJECTS_EXAMPLE)
-        .arg(csv)
+        .arg(make_needed_flag(
+            alloc,
+            "csv",
+            "As comma-separated values, a line for each object; has to be given",
+        ))
 }
 
 fn make_rules<'a>(alloc: Global) -> Result<Command<'a>, AllocError>
@@ -253,28 +269,30 @@ fn make_stop<'a>(alloc: Global) -> Result<Command<'a>, AllocError>
     ensures app { IfOk result (λ command. app_of command ≡ stop) }
     ensures local { IfOk result (λ command. (out-Command command).has_globals ≡ false) }
 {
-    let request = make_needed(alloc, "reload", "The file that run --reload looks for");
-    let help = "Waits for the answer up to 4 minutes, in the place of 10 seconds";
-    let wait = make_flag(alloc, "wait", help);
     Command::new(alloc, "stop")
         .about("Asks a running gateway to keep its state and stop, and says whether it did")
         .after_help(STOP_EXAMPLE)
-        .arg(request)?
-        .arg(wait)
+        .arg(make_needed(alloc, "reload", "The file that run --reload looks for"))?
+        .arg(make_flag(
+            alloc,
+            "wait",
+            "Waits for the answer up to 4 minutes, in the place of 10 seconds",
+        ))
 }
 
 fn make_status<'a>(alloc: Global) -> Result<Command<'a>, AllocError>
     ensures app { IfOk result (λ command. app_of command ≡ status) }
     ensures local { IfOk result (λ command. (out-Command command).has_globals ≡ false) }
 {
-    let request = make_needed(alloc, "reload", "The file that run --reload looks for");
-    let help = "Waits for the answer up to 4 minutes, in the place of 10 seconds";
-    let wait = make_flag(alloc, "wait", help);
     Command::new(alloc, "status")
         .about("Asks a running gateway what it counts: datagrams, denials, rules, foreign devices")
         .after_help(STATUS_EXAMPLE)
-        .arg(request)?
-        .arg(wait)
+        .arg(make_needed(alloc, "reload", "The file that run --reload looks for"))?
+        .arg(make_flag(
+            alloc,
+            "wait",
+            "Waits for the answer up to 4 minutes, in the place of 10 seconds",
+        ))
 }
 
 /// The program, with no command yet.

@@ -33,27 +33,40 @@ fn make_init_of_ports<'a>(alloc: Global) -> Result<Command<'a>, AllocError>
     ensures app { IfOk result (λ command. app_of command ≡ init_of_ports) }
     ensures local { IfOk result (λ command. (out-Command command).has_globals ≡ false) }
 {
-    let help =
-        "A port: its address and its subnet; given for each, the first is port 1 on network 1";
-    let port = make_many_needed(alloc, "port", "ADDRESS/PREFIX", help);
-    let help = "Another broadcast manager, with its subnet, that shares broadcasts with a port";
-    let peer = make_many(alloc, "peer", "PORT=ADDRESS/PREFIX", help);
     Command::new(alloc, "init")
         .about("Writes a configuration to begin with")
         .after_help(EXAMPLE)
-        .arg(port)?
-        .arg(peer)
+        .arg(make_many_needed(
+            alloc,
+            "port",
+            "ADDRESS/PREFIX",
+            "A port: its address and its subnet; given for each, the first is port 1 on network 1",
+        ))?
+        .arg(make_many(
+            alloc,
+            "peer",
+            "PORT=ADDRESS/PREFIX",
+            "Another broadcast manager, with its subnet, that shares broadcasts with a port",
+        ))
 }
 
 fn make_init_of_stations<'a>(alloc: Global) -> Result<Command<'a>, AllocError>
     ensures app { IfOk result (λ command. app_of command ≡ init_of_stations) }
     ensures local { IfOk result (λ command. (out-Command command).has_globals ≡ false) }
 {
-    let help = "A network behind another router, and the router's address";
-    let router = make_many(alloc, "router", "NETWORK=ADDRESS", help);
-    let help = "A station that may write; without one nobody may";
-    let operator = make_many(alloc, "operator", "ADDRESS", help);
-    make_init_of_ports(alloc)?.arg(router)?.arg(operator)
+    make_init_of_ports(alloc)?
+        .arg(make_many(
+            alloc,
+            "router",
+            "NETWORK=ADDRESS",
+            "A network behind another router, and the router's address",
+        ))?
+        .arg(make_many(
+            alloc,
+            "operator",
+            "ADDRESS",
+            "A station that may write; without one nobody may",
+        ))
 }
 
 /// The command.
@@ -61,7 +74,10 @@ pub fn make_init<'a>(alloc: Global) -> Result<Command<'a>, AllocError>
     ensures app { IfOk result (λ command. app_of command ≡ init) }
     ensures local { IfOk result (λ command. (out-Command command).has_globals ≡ false) }
 {
-    let help = "The broadcast manager that the subnet of a port has already";
-    let manager = make_many(alloc, "bbmd", "PORT=ADDRESS", help);
-    make_init_of_stations(alloc)?.arg(manager)
+    make_init_of_stations(alloc)?.arg(make_many(
+        alloc,
+        "bbmd",
+        "PORT=ADDRESS",
+        "The broadcast manager that the subnet of a port has already",
+    ))
 }

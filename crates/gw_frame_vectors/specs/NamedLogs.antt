@@ -1,9 +1,0 @@
--- A log in files in memory.
-use Rattle.std.specs.Prelude.{ℕ, List, ◌++◌}
-use Rattle.gw_log_words.specs.declared.named_log.NamedLog.{NamedLog}
-use Rattle.gw_frame_vectors.specs.declared.named_logs.MemFile.{MemFile}
-use Rattle.gw_frame_vectors.specs.declared.named_logs.MemNamedFiles.{MemNamedFiles}
-
--- what its files were given, one after the other
-abbrev pub given : NamedLog MemNamedFiles MemFile → List ℕ
-given log = log.files.left.octets ++ log.file.octets.items
