@@ -1,5 +1,5 @@
 -- How time passes at the ports: in whole seconds, each of which is a tick.
-use Rattle.std.specs.Prelude.{◌≡◌, ◌⊎◌, ℕ, zero, suc, ◌+◌, ◌-◌, ◌*◌, ◌/◌, ◌%◌, ◌^◌, ◌≤◌, ◌<◌, ◌&&◌, ◌||◌, if◌then◌else◌, min, nat_lt, Bool, true, false, List, Result, Ok, Err}
+use Rattle.std.specs.Prelude.{◌≡◌, ◌⊎◌, ℕ, ◌+◌, ◌-◌, ◌*◌, ◌/◌, ◌%◌, ◌^◌, ◌≤◌, ◌<◌, ◌&&◌, ◌||◌, if◌then◌else◌, min, nat_lt, Bool, true, false, List, Result, Ok, Err}
 use Rattle.std.specs.Duration.{as_nanos, max_nanos}
 use Rattle.std.specs.List.{list_any}
 use Rattle.gw_wire.specs.declared.wire.Got.{Got}
@@ -11,7 +11,7 @@ use Rattle.gw_wire.specs.Waking.{AreAllHolding, AreAllWoken, is_awake, is_tick_h
 use Rattle.gw_wire.specs.Watch.{HasReceived}
 use Rattle.gw_wire.specs.declared.timed.TimedPorts.{TimedPorts}
 use Rattle.gw_wire.specs.declared.watch.Watch.{Watch}
-use Rattle.gw_wire.specs.declared.timed.TheConstants.{MOST_DEFERRED, MOST_UNLOOKED}
+use Rattle.gw_wire.specs.declared.timed.TheConstants.{LONGEST_DEFERRED, MOST_UNLOOKED}
 
 -- how many nanoseconds a second has
 abbrev pub second : ℕ
@@ -29,6 +29,10 @@ rest_between from to = (to - from) % second
 abbrev pub with_due : {S : Type 0} → ℕ → Ports S → Ports S
 with_due ticks ports = record ports { ticks = min (ports.ticks + ticks) (2 ^ 63) }
 
+-- so many seconds more, up to the end of 64 bits
+abbrev pub since_more : ℕ → ℕ → ℕ
+since_more seconds since = min (since + seconds) (2 ^ 64 - 1)
+
 -- The clock gave a moment. The whole seconds until then are counted, each a tick that is due, and
 -- so long is left to the next.
 pub record IsCounted {S C P : Type 0} (Shows : C → ℕ → Type 0) (before after : TimedPorts S C P) (left : ℕ)
@@ -42,7 +46,8 @@ pub record IsCounted {S C P : Type 0} (Shows : C → ℕ → Type 0) (before aft
   pub waiter : after.waiter ≡ before.waiter
   pub unlooked : after.unlooked ≡ before.unlooked
   pub ticked : after.ticked ≡ before.ticked
-  pub deferred : after.deferred ≡ before.deferred
+  pub defers : after.defers ≡ before.defers
+  pub since : after.since ≡ since_more (seconds_between (as_nanos before.counted) moment) before.since
 
 -- these ports, and all else as it was
 abbrev pub with_ports : {S C P : Type 0} → Ports (Watch S) → TimedPorts S C P → TimedPorts S C P
@@ -91,40 +96,39 @@ pub data ComesNext {S : Type 0} (looks : S → ℕ) (empty : S → Bool) (Answer
 abbrev pub FollowsNext : {S : Type 0} → (S → ℕ) → (S → Bool) → (S → S → Answer → List ℕ → Type 0) → Following S
 FollowsNext looks empty Answered before after buffer given = ComesNext looks empty Answered before after buffer (Ok given)
 
--- How many ticks in a row deferred what is due to the next one, once one more was handed in, by whether another is due: one more if it is;
--- but after nine of them none, so that what is due is done at every tenth at the latest.
-abbrev pub deferred_after : Bool → ℕ → ℕ
-deferred_after due deferred = if due && nat_lt deferred MOST_DEFERRED then deferred + 1 else 0
+-- After a tick what is due is deferred to the next one if that is due already, unless ten seconds were counted since it was done.
+abbrev pub defers : (due : Bool) → (since : ℕ) → Bool
+defers due since = due && nat_lt since LONGEST_DEFERRED
 
--- the same of what was handed in: only a tick counts
-abbrev pub deferred_by : Bool → Bool → ℕ → ℕ
-deferred_by true due deferred = deferred_after due deferred
-deferred_by false due deferred = deferred
+-- whether what was handed in defers it, by whether that is a tick; and how many seconds were counted since it was done
+abbrev pub defers_by : Bool → (due : Bool) → (since : ℕ) → Bool → Bool
+defers_by true due since before = defers due since
+defers_by false due since before = before
 
--- how many did after so many ticks more, behind each of which another is due
-unfoldable pub deferred_in : ℕ → ℕ → ℕ
-deferred_in zero deferred = deferred
-deferred_in (suc ticks) deferred = deferred_after true (deferred_in ticks deferred)
-
--- They are never more than nine.
-abbrev pub DeferredStaysFew : Type 0
-DeferredStaysFew = (due : Bool) (deferred : ℕ) → deferred ≤ 9 → deferred_after due deferred ≤ 9
-
--- Of ten ticks in a row one does what is due, however many are due behind them.
-abbrev pub OneOfTenDoes : Type 0
-OneOfTenDoes = (deferred : ℕ) → deferred ≤ 9 → (ticks : ℕ) × (ticks ≤ 9) × (deferred_in (suc ticks) deferred ≡ 0)
+abbrev pub since_by : Bool → (due : Bool) → (since : ℕ) → ℕ
+since_by true due since = if defers due since then since else 0
+since_by false due since = since
 
 -- what is due is deferred to the next tick, which is due already
 abbrev pub defers_due : {S C P : Type 0} → TimedPorts S C P → Bool
-defers_due timed = nat_lt 0 timed.ports.ticks && nat_lt 0 timed.deferred
+defers_due timed = nat_lt 0 timed.ports.ticks && timed.defers
 
--- these ports, once this was handed in, and noted whether it is a tick, and how many in a row deferred what is due
+-- these ports, once this was handed in, and noted whether it is a tick, and whether that defers what is due
 abbrev pub handing : {S C P : Type 0} → Result Got WireFault → Ports (Watch S) → TimedPorts S C P → TimedPorts S C P
 handing given ports before = record before {
   ports = ports;
   ticked = is_tick given || before.ticked;
-  deferred = deferred_by (is_tick given) (nat_lt 0 ports.ticks) before.deferred;
+  defers = defers_by (is_tick given) (nat_lt 0 ports.ticks) before.since before.defers;
+  since = since_by (is_tick given) (nat_lt 0 ports.ticks) before.since;
 }
+
+-- Ten seconds after what is due was done a tick does it, whatever is due.
+abbrev pub IsDoneInTime : Type 0
+IsDoneInTime = (due : Bool) (since : ℕ) → 10 ≤ since → defers due since ≡ false
+
+-- As long as ticks defer it the seconds are counted on.
+abbrev pub DeferringCountsOn : Type 0
+DeferringCountsOn = (due : Bool) (since : ℕ) → defers due since ≡ true → since_by true due since ≡ since
 
 -- It was waited so long at most, and then noted where something may have come.
 pub record HasWaited {S C P : Type 0} (Waited Quiet : P → ℕ → Type 0) (before after : TimedPorts S C P) (most : ℕ)
@@ -135,7 +139,8 @@ pub record HasWaited {S C P : Type 0} (Waited Quiet : P → ℕ → Type 0) (bef
   pub clock : after.clock ≡ before.clock
   pub unlooked : after.unlooked ≡ 0
   pub ticked : after.ticked ≡ before.ticked
-  pub deferred : after.deferred ≡ before.deferred
+  pub defers : after.defers ≡ before.defers
+  pub since : after.since ≡ before.since
 
 -- After a tick was handed in the waiter reported, without a wait, where something came, and each socket at which something may wait
 -- then holds the next tick. Else, where something may wait at a socket, seven receives pass by, of which nothing changes but their

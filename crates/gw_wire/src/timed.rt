@@ -4,7 +4,7 @@ ghost use Rattle.std.specs.Prelude.{◌≡◌, ◌+◌, ◌-◌, ◌*◌, ◌<�
 ghost use Rattle.std.specs.Duration.{as_nanos, max_nanos};
 ghost use Rattle.gw_wire.specs.Wire.{IsHandedIn, Records, failures_of, receive_answer, receive_call, send_call};
 ghost use Rattle.gw_wire.specs.Ports.{HasSentOn};
-ghost use Rattle.gw_wire.specs.Timed.{ComesNext, FollowsNext, HasLooked, HasWaited, IsCounted, IsLookedInTime, IsReceived, IsReceivedLater, KeepsCount, deferred_after, defers_due, handing, is_idle, is_tick, rest_between, second, seconds_between, with_due, with_ports};
+ghost use Rattle.gw_wire.specs.Timed.{ComesNext, FollowsNext, HasLooked, HasWaited, IsCounted, IsLookedInTime, IsReceived, IsReceivedLater, KeepsCount, defers_due, handing, is_idle, is_tick, rest_between, second, seconds_between, since_more, with_due, with_ports};
 ghost use Rattle.gw_wire.specs.Watch.{HasSent};
 
 use crate::ports::Ports;
@@ -22,8 +22,8 @@ use std::time::Duration;
 /// already.
 pub(crate) const MOST_UNLOOKED: u8 = 7;
 
-/// How many ticks in a row defer what is due to the next one, while that is due already.
-pub(crate) const MOST_DEFERRED: u8 = 9;
+/// After how many seconds what is due at a tick isn't deferred to the next one, though that is due already.
+pub(crate) const LONGEST_DEFERRED: u64 = 10;
 
 /// The ports as a wire in time. Before each receive the whole seconds are counted that passed since
 /// the last look at the clock, and so many ticks are due. Where nothing waits it waits for a
@@ -31,7 +31,8 @@ pub(crate) const MOST_DEFERRED: u8 = 9;
 /// something may wait, by what the waiter says. While something may wait already, seven receives go
 /// by before the next asks the waiter, so that what came elsewhere has its turn. After a tick is handed in it asks the waiter too,
 /// and hands in the next one only once each socket was asked at which something may have waited then. It is behind after a tick
-/// while another one is due, but for every tenth of such ticks in a row: so what is due at a tick is done also if it never catches up.
+/// while another one is due, unless ten seconds were counted since a tick after which it wasn't: so what is due at a tick is done also if
+/// it never catches up.
 #[derive(Drop)]
 pub struct TimedPorts<S, C, P> {
     /// The sockets of all ports, and the ticks that are due.
@@ -46,8 +47,10 @@ pub struct TimedPorts<S, C, P> {
     pub unlooked: u8,
     /// Whether a tick was handed in since the waiter last reported so.
     pub ticked: bool,
-    /// How many ticks in a row deferred what is due to the next one, at most nine.
-    pub deferred: u8,
+    /// Whether the last tick defers what is due to the next one.
+    pub defers: bool,
+    /// How many seconds were counted since a tick that didn't. It stays at 2^64 - 1.
+    pub since: u64,
 }
 
 /// Whether a tick came.
@@ -55,17 +58,6 @@ fn is_tick(came: &Result<Got, WireFault>) -> bool
     ensures { result ≡ is_tick came.now }
 {
     matches!(came, Ok(Got::Tick))
-}
-
-/// How many ticks in a row deferred what is due to the next one, after one more: one more if another is due, but none after nine of them.
-fn deferred_after(is_due: bool, deferred: u8) -> u8
-    ensures { result ≡ deferred_after is_due deferred }
-{
-    if is_due && deferred < MOST_DEFERRED {
-        deferred + 1
-    } else {
-        0
-    }
 }
 
 /// Whether nothing came.
@@ -111,7 +103,8 @@ impl<S: Sock, C: Timepiece, P: Waiter> TimedPorts<S, C, P> {
         ensures now { IfOk result (λ timed. C.Shows timed.clock (as_nanos timed.counted)) }
         ensures unlooked { IfOk result (λ timed. timed.unlooked ≡ 0) }
         ensures ticked { IfOk result (λ timed. timed.ticked ≡ false) }
-        ensures deferred { IfOk result (λ timed. timed.deferred ≡ 0) }
+        ensures defers { IfOk result (λ timed. timed.defers ≡ false) }
+        ensures since { IfOk result (λ timed. timed.since ≡ 0) }
     {
         let counted = clock.elapsed()?;
         Ok(TimedPorts {
@@ -121,7 +114,8 @@ impl<S: Sock, C: Timepiece, P: Waiter> TimedPorts<S, C, P> {
             counted,
             unlooked: 0,
             ticked: false,
-            deferred: 0,
+            defers: false,
+            since: 0,
         })
     }
 
@@ -140,11 +134,13 @@ impl<S: Sock, C: Timepiece, P: Waiter> TimedPorts<S, C, P> {
         ensures waiter { self.new.waiter ≡ self.old.waiter }
         ensures unlooked { self.new.unlooked ≡ self.old.unlooked }
         ensures ticked { self.new.ticked ≡ self.old.ticked }
-        ensures deferred { self.new.deferred ≡ self.old.deferred }
+        ensures defers { self.new.defers ≡ self.old.defers }
+        ensures since { self.new.since ≡ since_more (seconds_between (as_nanos self.old.counted) (as_nanos now)) self.old.since }
     {
         let passed = now.saturating_sub(self.counted);
         let seconds = passed.as_secs();
         self.ports.due(seconds);
+        self.since = self.since.saturating_add(seconds);
         self.counted = self.counted.saturating_add(Duration::from_secs(seconds));
         let rest = Duration::from_nanos(u64::from(passed.subsec_nanos()));
         Duration::from_secs(1).saturating_sub(rest)
@@ -156,7 +152,6 @@ impl<S: Sock, C: Timepiece, P: Waiter> TimedPorts<S, C, P> {
         ensures waiter { self.new.waiter ≡ self.old.waiter }
         ensures unlooked { self.new.unlooked ≡ self.old.unlooked }
         ensures ticked { self.new.ticked ≡ self.old.ticked }
-        ensures deferred { self.new.deferred ≡ self.old.deferred }
         ensures pairs { self.new.ports.pairs ≡ self.old.ports.pairs }
         ensures count { length self.new.ports.pairs ≡ length self.old.ports.pairs }
         ensures failures { self.new.ports.failures ≡ self.old.ports.failures }
@@ -231,7 +226,8 @@ impl<S: Sock, C: Timepiece, P: Waiter> TimedPorts<S, C, P> {
         let came = next_of(&mut self.ports, buf);
         if is_tick(&came) {
             self.ticked = true;
-            self.deferred = deferred_after(self.ports.is_behind(), self.deferred);
+            self.defers = self.ports.is_behind() && self.since < LONGEST_DEFERRED;
+            self.since = if self.defers { self.since } else { 0 };
         }
         came
     }
@@ -301,7 +297,7 @@ impl<S: Sock, C: Timepiece, P: Waiter> Wire for TimedPorts<S, C, P> {
     }
 
     fn is_behind(&self) -> bool {
-        self.ports.is_behind() && self.deferred > 0
+        self.ports.is_behind() && self.defers
     }
 
     fn failures(&self) -> u128 {
